@@ -81,8 +81,8 @@ is_in_checked_in state e = search rules
 -- sent.
 abbrev pub PairOf : (RequesterRecord → ResponderRecord → Type 0) → Type 0
 PairOf P =
-    (txn : Qualifiers) (x : RequesterRecord) (y : ResponderRecord) (told heard : List (Option Apdu)) → RequesterStands txn x told → ResponderStands txn y heard → AreIssued told y.issued
-    → AreIssued heard x.issued → P x y
+    (txn : Qualifiers) (x : RequesterRecord) (y : ResponderRecord) (requester_sent responder_sent : List (Option Apdu)) → RequesterStands txn x requester_sent → ResponderStands txn y responder_sent → AreIssued requester_sent y.issued
+    → AreIssued responder_sent x.issued → P x y
 
 -- A state that is one of NOT-SUPPLIED, SHIPPED and later is NOT-SUPPLIED, or one of SHIPPED and later.
 split_final : (state : State) → is_among (states.NotSupplied ∷ later) state ≡ true
@@ -91,25 +91,25 @@ split_final states.NotSupplied is = inl refl
 split_final state is = inr is
 
 -- A responder that stands, and has issued a Shipped, is not in CANCELLED.
-shipped_is_later : (y : ResponderRecord) (txn : Qualifiers) (heard : List (Option Apdu)) → ResponderStands txn y heard
+shipped_is_later : (y : ResponderRecord) (txn : Qualifiers) (responder_sent : List (Option Apdu)) → ResponderStands txn y responder_sent
     → has is_shipped y.issued ≡ true → y.state ≡ states.Cancelled → ⊥
-shipped_is_later y txn heard responder_stands shipped e =
+shipped_is_later y txn responder_sent responder_stands shipped e =
     let no : has is_shipped y.issued ≡ false = responder_stands.ends.shipped ∙ ap (is_among shipped_states) e in
     let both : true ≡ false = sym shipped ∙ no in
     search rules
 
 -- If the responder is in CANCELLED, the requester is neither in NOT-SUPPLIED nor in SHIPPED or later.
-no_other_end : (txn : Qualifiers) (x : RequesterRecord) (y : ResponderRecord) (told heard : List (Option Apdu))
-    → RequesterStands txn x told → ResponderStands txn y heard → AreIssued told y.issued
+no_other_end : (txn : Qualifiers) (x : RequesterRecord) (y : ResponderRecord) (requester_sent responder_sent : List (Option Apdu))
+    → RequesterStands txn x requester_sent → ResponderStands txn y responder_sent → AreIssued requester_sent y.issued
     → y.state ≡ states.Cancelled → is_among (states.NotSupplied ∷ later) x.state ≡ false
-no_other_end txn x y told heard requester_stands responder_stands issued e = go (is_among (states.NotSupplied ∷ later) x.state) refl
+no_other_end txn x y requester_sent responder_sent requester_stands responder_stands issued e = go (is_among (states.NotSupplied ∷ later) x.state) refl
   where
     go : (b : Bool) → is_among (states.NotSupplied ∷ later) x.state ≡ b → b ≡ false
     go false is = refl
     go true is =
         elim (split_final x.state is) [
-          | inl ended ↦ let no : states.Cancelled ≡ states.NotSupplied = sym e ∙ not_supplied_faces txn x y told heard requester_stands responder_stands issued ended in search rules
-          | inr shipped ↦ absurd (shipped_is_later y txn heard responder_stands (shipped_by txn x y told heard x.due requester_stands responder_stands issued refl (requester_stands.rules.parts.due ∙ shipped)) e)
+          | inl ended ↦ let no : states.Cancelled ≡ states.NotSupplied = sym e ∙ not_supplied_faces txn x y requester_sent responder_sent requester_stands responder_stands issued ended in search rules
+          | inr shipped ↦ absurd (shipped_is_later y txn responder_sent responder_stands (shipped_by txn x y requester_sent responder_sent x.due requester_stands responder_stands issued refl (requester_stands.rules.parts.due ∙ shipped)) e)
         ]
 
 -- Equal APDUs have equal bodies.
@@ -117,11 +117,11 @@ body_of : (a b : Apdu) → ◌≡◌ {A = Option Apdu} (Some a) (Some b) → a.b
 body_of a b e = let same : a ≡ b = search rules in ap (λ (x : Apdu). x.body) same
 
 -- If the responder has issued a Cancel-Reply yes to c, Cancel c is open at the requester.
-pub cancel_is_open : (txn : Qualifiers) (x : RequesterRecord) (y : ResponderRecord) (told heard : List (Option Apdu))
-    → RequesterStands txn x told → ResponderStands txn y heard → AreIssued told y.issued
-    → AreIssued heard x.issued → (m c : ℕ) (a : Apdu) → message y.issued m ≡ Some a
+pub cancel_is_open : (txn : Qualifiers) (x : RequesterRecord) (y : ResponderRecord) (requester_sent responder_sent : List (Option Apdu))
+    → RequesterStands txn x requester_sent → ResponderStands txn y responder_sent → AreIssued requester_sent y.issued
+    → AreIssued responder_sent x.issued → (m c : ℕ) (a : Apdu) → message y.issued m ≡ Some a
     → a.body ≡ types.CancelReply c true → requester.is_open x c ≡ true
-cancel_is_open txn x y told heard requester_stands responder_stands issued heeded m c a at is =
+cancel_is_open txn x y requester_sent responder_sent requester_stands responder_stands issued heeded m c a at is =
     let ends : is_cancelled a.body ≡ true = ap is_cancelled is in
     let cancelled : y.state ≡ states.Cancelled = is_in_cancelled y.state (sym responder_stands.ends.cancelled ∙ message_says is_cancelled y.issued m a at ends) in
     let cancels_it : responder.cancels c a.body ≡ true = ap (responder.cancels c) is ∙ eq-eqb c c refl in
@@ -130,7 +130,7 @@ cancel_is_open txn x y told heard requester_stands responder_stands issued heede
     let says = tells_cancel asked_for.0.number c asked_for.0.body asked_for.2 in
     let number : there.0 ≡ c = sym (message_number x.txn x.issued there.0 asked_for.0 requester_stands.rules.numbered there.1).1 ∙ says.1 in
     let issued_it : was is_cancel x.issued c ≡ true = ap (is_there is_cancel) (ap (message x.issued) (sym number) ∙ there.1) ∙ says.0 in
-    let final = no_other_end txn x y told heard requester_stands responder_stands issued cancelled in
+    let final = no_other_end txn x y requester_sent responder_sent requester_stands responder_stands issued cancelled in
     go issued_it final (requester.is_open x c) refl
   where
     go : was is_cancel x.issued c ≡ true → is_among (states.NotSupplied ∷ later) x.state ≡ false → (b : Bool) → requester.is_open x c ≡ b → b ≡ true
@@ -148,30 +148,30 @@ cancel_is_open txn x y told heard requester_stands responder_stands issued heede
 
 -- Two records that stand by each other's messages are right on each other.
 pub says_true : PairOf SaysTrue
-says_true txn x y told heard requester_stands responder_stands issued heeded = record {
+says_true txn x y requester_sent responder_sent requester_stands responder_stands issued heeded = record {
   returned =
       λ is.
       let known = responder_stands.knows responder.SentBack is in
-      is_in_returned x.state (sym requester_stands.rules.issued.returned ∙ has_issued x.issued heard is_returned known.0 heeded known.1 (tells_sent_back known.0.number known.0.body known.2));
+      is_in_returned x.state (sym requester_stands.rules.issued.returned ∙ has_issued x.issued responder_sent is_returned known.0 heeded known.1 (tells_sent_back known.0.number known.0.body known.2));
   cancelled =
       λ e.
       let ended : has is_cancelled y.issued ≡ true = responder_stands.ends.cancelled ∙ ap (is_among (states.Cancelled ∷ [])) e in
       let at = says_message is_cancelled y.issued ended in
       let by = cancels_with at.1.body at.3 in
-      (and_parts _ _ (cancel_is_open txn x y told heard requester_stands responder_stands issued heeded at.0 by.0 at.1 at.2 by.1)).0;
+      (and_parts _ _ (cancel_is_open txn x y requester_sent responder_sent requester_stands responder_stands issued heeded at.0 by.0 at.1 at.2 by.1)).0;
   received =
       λ is.
       let known = responder_stands.knows responder.Arrived is in
-      has_issued x.issued heard is_received known.0 heeded known.1 (tells_arrived known.0.number known.0.body known.2);
+      has_issued x.issued responder_sent is_received known.0 heeded known.1 (tells_arrived known.0.number known.0.body known.2);
   checked_in =
       λ is.
       let known = requester_stands.knows requester.GivenBack is in
-      is_in_checked_in y.state (sym responder_stands.rules.issued.checked_in ∙ has_issued y.issued told is_checked_in known.0 issued known.1 (tells_given_back known.0.body known.2));
+      is_in_checked_in y.state (sym responder_stands.rules.issued.checked_in ∙ has_issued y.issued requester_sent is_checked_in known.0 issued known.1 (tells_given_back known.0.body known.2));
 }
 
 -- Of two records that stand by each other's messages, the requester's due date is not later than the responder's.
 not_later : PairOf IsNotLater
-not_later txn x y told heard requester_stands responder_stands issued heeded =
+not_later txn x y requester_sent responder_sent requester_stands responder_stands issued heeded =
     λ d e.
     let known = requester_stands.knows (requester.Granted d) e in
     let at = issued known.0 known.1 in
@@ -181,26 +181,26 @@ not_later txn x y told heard requester_stands responder_stands issued heeded =
 
 -- A fact of all such pairs of records holds of two sides that stand by each other's messages.
 facing : (P : RequesterRecord → ResponderRecord → Type 0) → PairOf P
-    → (txn : Qualifiers) (x y : Side) (told heard : List (Option Apdu)) → RequesterSideStands txn x told
-    → ResponderSideStands txn y heard
-    → AreIssued told (issued_of y) → AreIssued heard (issued_of x) → Facing P x y
-facing P pair txn (sides.Requester x) (sides.Responder y) told heard requester_stands responder_stands issued heeded = pair txn x y told heard requester_stands responder_stands issued heeded
-facing P pair txn (sides.Responder x) y told heard requester_stands responder_stands issued heeded = absurd requester_stands
-facing P pair txn (sides.Requester x) (sides.Requester y) told heard requester_stands responder_stands issued heeded = absurd responder_stands
+    → (txn : Qualifiers) (x y : Side) (requester_sent responder_sent : List (Option Apdu)) → RequesterSideStands txn x requester_sent
+    → ResponderSideStands txn y responder_sent
+    → AreIssued requester_sent (issued_of y) → AreIssued responder_sent (issued_of x) → Facing P x y
+facing P pair txn (sides.Requester x) (sides.Responder y) requester_sent responder_sent requester_stands responder_stands issued heeded = pair txn x y requester_sent responder_sent requester_stands responder_stands issued heeded
+facing P pair txn (sides.Responder x) y requester_sent responder_sent requester_stands responder_stands issued heeded = absurd requester_stands
+facing P pair txn (sides.Requester x) (sides.Requester y) requester_sent responder_sent requester_stands responder_stands issued heeded = absurd responder_stands
 
 of_both_facing : (P : RequesterRecord → ResponderRecord → Type 0) → PairOf P → (txn : Qualifiers) (w : Parties) → Invariant txn w → OfBoth (Facing P) w
 of_both_facing P pair txn w stands =
     let sent = w.responder.sent in
-    let heard = w.requester.sent in
+    let responder_sent = w.requester.sent in
     let live = live_issues w.responder stands.responder.saved in
     let landed = landed_issues w.responder stands.responder.saved in
     let heeded = live_issues w.requester stands.requester.saved in
     let heeded_landed = landed_issues w.requester stands.requester.saved in
     record {
-      live = facing P pair txn w.requester.live w.responder.live sent heard stands.requester.live stands.responder.live live heeded;
-      live_landed = facing P pair txn w.requester.live w.responder.landed sent heard stands.requester.live stands.responder.landed landed heeded;
-      landed_live = facing P pair txn w.requester.landed w.responder.live sent heard stands.requester.landed stands.responder.live live heeded_landed;
-      landed = facing P pair txn w.requester.landed w.responder.landed sent heard stands.requester.landed stands.responder.landed landed heeded_landed;
+      live = facing P pair txn w.requester.live w.responder.live sent responder_sent stands.requester.live stands.responder.live live heeded;
+      live_landed = facing P pair txn w.requester.live w.responder.landed sent responder_sent stands.requester.live stands.responder.landed landed heeded;
+      landed_live = facing P pair txn w.requester.landed w.responder.live sent responder_sent stands.requester.landed stands.responder.live live heeded_landed;
+      landed = facing P pair txn w.requester.landed w.responder.landed sent responder_sent stands.requester.landed stands.responder.landed landed heeded_landed;
     }
 
 -- ---- one answer, and one end
@@ -211,22 +211,22 @@ once_sent : (answered : Body → Option ℕ) (p : Party) → SendsSaved p
 once_sent answered p saved once = λ m n k a b at_m at_n is_a is_b. once m n k a b (saved.landed m a at_m) (saved.landed n b at_n) is_a is_b
 
 -- No two messages of a requester's side that stands reply to one number.
-replies_once : (txn : Qualifiers) (side : Side) (told : List (Option Apdu)) → RequesterSideStands txn side told
+replies_once : (txn : Qualifiers) (side : Side) (requester_sent : List (Option Apdu)) → RequesterSideStands txn side requester_sent
     → AnswersOnce requester.replied_number (message (issued_of side))
-replies_once txn (sides.Requester x) told stands = answers_once requester.replied_number x.issued stands.replies.distinct
-replies_once txn (sides.Responder y) told stands = absurd stands
+replies_once txn (sides.Requester x) requester_sent stands = answers_once requester.replied_number x.issued stands.replies.distinct
+replies_once txn (sides.Responder y) requester_sent stands = absurd stands
 
 -- No two messages of a responder's side that stands answer one Cancel.
-cancels_once : (txn : Qualifiers) (side : Side) (told : List (Option Apdu)) → ResponderSideStands txn side told
+cancels_once : (txn : Qualifiers) (side : Side) (requester_sent : List (Option Apdu)) → ResponderSideStands txn side requester_sent
     → AnswersOnce (responder.answered_number responder.MayCancel) (message (issued_of side))
-cancels_once txn (sides.Responder y) told stands = answers_once (responder.answered_number responder.MayCancel) y.issued stands.cancels.distinct
-cancels_once txn (sides.Requester x) told stands = absurd stands
+cancels_once txn (sides.Responder y) requester_sent stands = answers_once (responder.answered_number responder.MayCancel) y.issued stands.cancels.distinct
+cancels_once txn (sides.Requester x) requester_sent stands = absurd stands
 
 -- No two messages of a responder's side that stands answer one Renew.
-renewals_once : (txn : Qualifiers) (side : Side) (told : List (Option Apdu)) → ResponderSideStands txn side told
+renewals_once : (txn : Qualifiers) (side : Side) (requester_sent : List (Option Apdu)) → ResponderSideStands txn side requester_sent
     → AnswersOnce (responder.answered_number responder.MayRenew) (message (issued_of side))
-renewals_once txn (sides.Responder y) told stands = answers_once (responder.answered_number responder.MayRenew) y.issued stands.renewals.distinct
-renewals_once txn (sides.Requester x) told stands = absurd stands
+renewals_once txn (sides.Responder y) requester_sent stands = answers_once (responder.answered_number responder.MayRenew) y.issued stands.renewals.distinct
+renewals_once txn (sides.Requester x) requester_sent stands = absurd stands
 
 -- A Bool counts as one at most.
 pub at_most_one : (b : Bool) → (if b then 1 else 0) ≤ 1
@@ -234,10 +234,10 @@ at_most_one true = omega arith
 at_most_one false = omega arith
 
 -- A message of a responder's side that stands, if it ends the request, is the last that does.
-ends_once : (txn : Qualifiers) (side : Side) (told : List (Option Apdu)) → ResponderSideStands txn side told → EndsOnce side
-ends_once txn (sides.Responder y) told stands =
+ends_once : (txn : Qualifiers) (side : Side) (requester_sent : List (Option Apdu)) → ResponderSideStands txn side requester_sent → EndsOnce side
+ends_once txn (sides.Responder y) requester_sent stands =
     λ n a at is. one_end y.txn y.issued n a stands.rules.numbered (omega (arith, stands.ends.once, at_most_one (is_among responder.ended y.state))) at is
-ends_once txn (sides.Requester x) told stands = absurd stands
+ends_once txn (sides.Requester x) requester_sent stands = absurd stands
 
 -- If a responder's side that stands has conditions as accepted, the requester has sent the acceptance, and has it.
 accepted_by : (txn : Qualifiers) (w : Parties) (side : Side) → SendsSaved w.requester
@@ -255,20 +255,20 @@ agrees txn w stands =
     let requester_stands = stands.requester in
     let responder_stands = stands.responder in
     let sent = w.responder.sent in
-    let heard = w.requester.sent in
+    let responder_sent = w.requester.sent in
     record {
       answered = record {
         conditions = (replies_once txn w.requester.live sent requester_stands.live, once_sent requester.replied_number w.requester requester_stands.saved (replies_once txn w.requester.landed sent requester_stands.landed));
         cancels = (
-          cancels_once txn w.responder.live heard responder_stands.live,
-          once_sent (responder.answered_number responder.MayCancel) w.responder responder_stands.saved (cancels_once txn w.responder.landed heard responder_stands.landed),
+          cancels_once txn w.responder.live responder_sent responder_stands.live,
+          once_sent (responder.answered_number responder.MayCancel) w.responder responder_stands.saved (cancels_once txn w.responder.landed responder_sent responder_stands.landed),
         );
         renewals = (
-          renewals_once txn w.responder.live heard responder_stands.live,
-          once_sent (responder.answered_number responder.MayRenew) w.responder responder_stands.saved (renewals_once txn w.responder.landed heard responder_stands.landed),
+          renewals_once txn w.responder.live responder_sent responder_stands.live,
+          once_sent (responder.answered_number responder.MayRenew) w.responder responder_stands.saved (renewals_once txn w.responder.landed responder_sent responder_stands.landed),
         );
       };
-      ended = (ends_once txn w.responder.live heard responder_stands.live, ends_once txn w.responder.landed heard responder_stands.landed);
+      ended = (ends_once txn w.responder.live responder_sent responder_stands.live, ends_once txn w.responder.landed responder_sent responder_stands.landed);
       accepted = (accepted_by txn w w.responder.live requester_stands.saved responder_stands.live, accepted_by txn w w.responder.landed requester_stands.saved responder_stands.landed);
       dates = of_both_facing IsNotLater not_later txn w stands;
       says = of_both_facing SaysTrue says_true txn w stands;

@@ -54,10 +54,10 @@ decides_changes p (Ok new) = tt
 decides_changes p (Err refusal) = refl
 
 -- A failed save changes at most the landed side.
-fails_changes : (p : Party) (told : List (Option Apdu)) (of : Who) (landed : Bool)
-    → OnlyLands p (happens_to p told (events.SaveFault of landed)).1
-fails_changes p told of true = record { live = refl; released = refl; sent = refl }
-fails_changes p told of false = same_lands p
+fails_changes : (p : Party) (partner_sent : List (Option Apdu)) (of : Who) (landed : Bool)
+    → OnlyLands p (happens_to p partner_sent (events.SaveFault of landed)).1
+fails_changes p partner_sent of true = record { live = refl; released = refl; sent = refl }
+fails_changes p partner_sent of false = same_lands p
 
 -- The outcome of a Send allows its change.
 sends_changes : (p : Party) (n : ℕ) (found : Option Apdu) (released : Bool)
@@ -81,16 +81,16 @@ receives_changes rows p (Some a) =
     ]
 
 -- The outcome of each event allows the change of the party.
-party_changes : Quiet → (p : Party) (told : List (Option Apdu)) (event : Event)
-    → MayChange OnlyLands (happens_to p told event).0 p (happens_to p told event).1
-party_changes rows p told (events.Wish wish) = decides_changes p (acts p.live (actions.Wish wish))
-party_changes rows p told (events.Deed deed today) = decides_changes p (acts p.live (actions.Deed deed today))
-party_changes rows p told (events.Save of) = tt
-party_changes rows p told (events.SaveFault of landed) = fails_changes p told of landed
-party_changes rows p told (events.Send of n) = sends_changes p n _ _
-party_changes rows p told (events.Deliver of n) = receives_changes rows p (sent_message told n)
-party_changes rows p told (events.Noise of bytes) = nothing_changes (hears p (apdu_at bytes)) p
-party_changes rows p told (events.Restart of) = tt
+party_changes : Quiet → (p : Party) (partner_sent : List (Option Apdu)) (event : Event)
+    → MayChange OnlyLands (happens_to p partner_sent event).0 p (happens_to p partner_sent event).1
+party_changes rows p partner_sent (events.Wish wish) = decides_changes p (acts p.live (actions.Wish wish))
+party_changes rows p partner_sent (events.Deed deed today) = decides_changes p (acts p.live (actions.Deed deed today))
+party_changes rows p partner_sent (events.Save of) = tt
+party_changes rows p partner_sent (events.SaveFault of landed) = fails_changes p partner_sent of landed
+party_changes rows p partner_sent (events.Send of n) = sends_changes p n _ _
+party_changes rows p partner_sent (events.Deliver of n) = receives_changes rows p (sent_message partner_sent n)
+party_changes rows p partner_sent (events.Noise of bytes) = nothing_changes (hears p (apdu_at bytes)) p
+party_changes rows p partner_sent (events.Restart of) = tt
 
 -- ---- the world
 

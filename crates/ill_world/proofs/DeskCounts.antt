@@ -188,9 +188,9 @@ module _ (May : Qualifiers → Type 0) (p : DeskParty) (of : Qualifiers) where
 
 -- `May` holds of each transaction that an event may begin: that of a wish, or of a message that comes.
 abbrev pub Permits : (Qualifiers → Type 0) → List Sending → DeskEvent → Type 0
-Permits May told (desk_events.Wish of wish) = May of
-Permits May told (desk_events.Deliver role of n) = (a : Apdu) → sent_message (sent_for of told) n ≡ Some a → May a.txn
-Permits May told other = Unit {0}
+Permits May partner_sent (desk_events.Wish of wish) = May of
+Permits May partner_sent (desk_events.Deliver role of n) = (a : Apdu) → sent_message (sent_for of partner_sent) n ≡ Some a → May a.txn
+Permits May partner_sent other = Unit {0}
 
 module _ (grows : RowsGrow) (May : Qualifiers → Type 0) (p : DeskParty) where
   -- A decision puts its side, or the desk stays.
@@ -240,16 +240,16 @@ module _ (grows : RowsGrow) (May : Qualifiers → Type 0) (p : DeskParty) where
   held_txns = map-map txn_of (λ (held : DeskEntry). held.side) p.live.held
 
   -- An event leads on.
-  pub event_leads : (told : List Sending) (event : DeskEvent) → Permits May told event → LeadsTo May p (desk_happens_to p told event).1
-  event_leads told (desk_events.Wish of wish) may = decides_leads of (actions.Wish wish) (λ is. may) (is_same_role p.live.role who.Requester)
-  event_leads told (desk_events.Deed of deed today) may = decides_leads of (actions.Deed deed today) (λ is. absurd (true≢false (sym is))) (is_same_role p.live.role who.Responder)
-  event_leads told (desk_events.Save role) may = lands (map-map txn_held whole (map (λ (held : DeskEntry). held.side) p.live.held) ∙ held_txns) held_txns
-  event_leads told (desk_events.SaveFault role true) may = lands refl held_txns
-  event_leads told (desk_events.SaveFault role false) may = stays refl refl
-  event_leads told (desk_events.Send role of n) may = send_leads of n (found_by txn_held of p.live.held)
-  event_leads told (desk_events.Deliver role of n) may = receives_leads (sent_message (sent_for of told) n) may
-  event_leads told (desk_events.Noise role bytes) may = stays refl refl
-  event_leads told (desk_events.Restart role) may = returns (map-map txn_held whole p.landed.sides) refl
+  pub event_leads : (partner_sent : List Sending) (event : DeskEvent) → Permits May partner_sent event → LeadsTo May p (desk_happens_to p partner_sent event).1
+  event_leads partner_sent (desk_events.Wish of wish) may = decides_leads of (actions.Wish wish) (λ is. may) (is_same_role p.live.role who.Requester)
+  event_leads partner_sent (desk_events.Deed of deed today) may = decides_leads of (actions.Deed deed today) (λ is. absurd (true≢false (sym is))) (is_same_role p.live.role who.Responder)
+  event_leads partner_sent (desk_events.Save role) may = lands (map-map txn_held whole (map (λ (held : DeskEntry). held.side) p.live.held) ∙ held_txns) held_txns
+  event_leads partner_sent (desk_events.SaveFault role true) may = lands refl held_txns
+  event_leads partner_sent (desk_events.SaveFault role false) may = stays refl refl
+  event_leads partner_sent (desk_events.Send role of n) may = send_leads of n (found_by txn_held of p.live.held)
+  event_leads partner_sent (desk_events.Deliver role of n) may = receives_leads (sent_message (sent_for of partner_sent) n) may
+  event_leads partner_sent (desk_events.Noise role bytes) may = stays refl refl
+  event_leads partner_sent (desk_events.Restart role) may = returns (map-map txn_held whole p.landed.sides) refl
 
 -- ---- facts that each event of two desks keeps
 
@@ -324,17 +324,17 @@ sent_known w stands of n a sent =
     )
 
 -- The requester's desk may begin every transaction.
-all_permitted : (told : List Sending) (event : DeskEvent) → Permits (λ txn. Unit {0}) told event
-all_permitted told (desk_events.Wish of wish) = tt
-all_permitted told (desk_events.Deliver role of n) = λ a sent. tt
-all_permitted told event = tt
+all_permitted : (partner_sent : List Sending) (event : DeskEvent) → Permits (λ txn. Unit {0}) partner_sent event
+all_permitted partner_sent (desk_events.Wish of wish) = tt
+all_permitted partner_sent (desk_events.Deliver role of n) = λ a sent. tt
+all_permitted partner_sent event = tt
 
 -- An event begins at the responder's desk only a transaction that the requester's has.
 known_permitted : (w : DeskParties) → DesksStand w → (event : DeskEvent) → who_of (plain event) ≡ who.Responder
     → Permits (IsKnown (live_txns w.requester) (landed_txns w.requester)) w.requester.sent event
 known_permitted w stands (desk_events.Wish of wish) is = search rules
 known_permitted w stands (desk_events.Deliver role of n) is =
-    λ a sent. subst (IsKnown (live_txns w.requester) (landed_txns w.requester)) ((keeps_to w who.Responder stands).told_of of n a sent) (sent_known w stands of n a sent)
+    λ a sent. subst (IsKnown (live_txns w.requester) (landed_txns w.requester)) ((keeps_to w who.Responder stands).txn_of_sent of n a sent) (sent_known w stands of n a sent)
 known_permitted w stands event is = tt
 
 -- An event leaves the transactions of two desks few and known.

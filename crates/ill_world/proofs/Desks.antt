@@ -68,40 +68,40 @@ seen_at txn w who.Responder event seen =
 -- ---- the roles to which two desks keep
 
 -- A side that stands as a requester's is in the role of the requester.
-requesters : (txn : Qualifiers) (side : Side) (told : List (Option Apdu)) → RequesterSideStands txn side told
+requesters : (txn : Qualifiers) (side : Side) (partner_sent : List (Option Apdu)) → RequesterSideStands txn side partner_sent
     → role_of side ≡ who.Requester
-requesters txn (sides.Requester x) told stands = refl
-requesters txn (sides.Responder y) told stands = absurd stands
+requesters txn (sides.Requester x) partner_sent stands = refl
+requesters txn (sides.Responder y) partner_sent stands = absurd stands
 
 -- A side that stands as a responder's is in the role of the responder.
-responders : (txn : Qualifiers) (side : Side) (told : List (Option Apdu)) → ResponderSideStands txn side told
+responders : (txn : Qualifiers) (side : Side) (partner_sent : List (Option Apdu)) → ResponderSideStands txn side partner_sent
     → role_of side ≡ who.Responder
-responders txn (sides.Responder y) told stands = refl
-responders txn (sides.Requester x) told stands = absurd stands
+responders txn (sides.Responder y) partner_sent stands = refl
+responders txn (sides.Requester x) partner_sent stands = absurd stands
 
 -- Each message that a requester's side that stands has issued is of its transaction.
-requesters_txn : (txn : Qualifiers) (side : Side) (told : List (Option Apdu)) (n : ℕ) (a : Apdu)
-    → RequesterSideStands txn side told → message (issued_of side) n ≡ Some a → txn ≡ a.txn
-requesters_txn txn (sides.Requester x) told n a stands at = sym (same_is a.txn x.txn (message_number x.txn x.issued n a stands.rules.numbered at).0 ∙ stands.same_txn)
-requesters_txn txn (sides.Responder y) told n a stands at = absurd stands
+requesters_txn : (txn : Qualifiers) (side : Side) (partner_sent : List (Option Apdu)) (n : ℕ) (a : Apdu)
+    → RequesterSideStands txn side partner_sent → message (issued_of side) n ≡ Some a → txn ≡ a.txn
+requesters_txn txn (sides.Requester x) partner_sent n a stands at = sym (same_is a.txn x.txn (message_number x.txn x.issued n a stands.rules.numbered at).0 ∙ stands.same_txn)
+requesters_txn txn (sides.Responder y) partner_sent n a stands at = absurd stands
 
 -- Each message that a responder's side that stands has issued is of its transaction.
-responders_txn : (txn : Qualifiers) (side : Side) (told : List (Option Apdu)) (n : ℕ) (a : Apdu)
-    → ResponderSideStands txn side told → message (issued_of side) n ≡ Some a → txn ≡ a.txn
-responders_txn txn (sides.Responder y) told n a stands at = sym (same_is a.txn y.txn (message_number y.txn y.issued n a stands.rules.numbered at).0 ∙ stands.same_txn)
-responders_txn txn (sides.Requester x) told n a stands at = absurd stands
+responders_txn : (txn : Qualifiers) (side : Side) (partner_sent : List (Option Apdu)) (n : ℕ) (a : Apdu)
+    → ResponderSideStands txn side partner_sent → message (issued_of side) n ≡ Some a → txn ≡ a.txn
+responders_txn txn (sides.Responder y) partner_sent n a stands at = sym (same_is a.txn y.txn (message_number y.txn y.issued n a stands.rules.numbered at).0 ∙ stands.same_txn)
+responders_txn txn (sides.Requester x) partner_sent n a stands at = absurd stands
 
 -- Each of two desks that stand keeps to its role.
 pub keeps_to : (w : DeskParties) (role : Who) → DesksStand w → KeepsTo role (party w role) (party w (other role)).sent
 keeps_to w who.Requester stands = record {
   role_is = stands.requester.0;
   role_held = λ txn. requesters txn (held_for txn w.requester.live).side (sent_for txn w.responder.sent) (stands.each txn).requester.live;
-  told_of = λ txn n a at. let responder = (stands.each txn).responder in responders_txn txn _ _ n a responder.landed (responder.saved.landed n a at);
+  txn_of_sent = λ txn n a at. let responder = (stands.each txn).responder in responders_txn txn _ _ n a responder.landed (responder.saved.landed n a at);
 }
 keeps_to w who.Responder stands = record {
   role_is = stands.responder.0;
   role_held = λ txn. responders txn (held_for txn w.responder.live).side (sent_for txn w.requester.sent) (stands.each txn).responder.live;
-  told_of = λ txn n a at. let requester = (stands.each txn).requester in requesters_txn txn _ _ n a requester.landed (requester.saved.landed n a at);
+  txn_of_sent = λ txn n a at. let requester = (stands.each txn).requester in requesters_txn txn _ _ n a requester.landed (requester.saved.landed n a at);
 }
 
 -- By the laws of the rows, `Projects` holds of each event at two desks that stand.
@@ -155,17 +155,17 @@ send_role role p of n None is = is
 send_role role p of n (Some held) is = sends_role role p _ _ _ is (λ a. is)
 
 -- A desk keeps its role at each event.
-role_kept : (role : Who) (p : DeskParty) (told : List Sending) (event : DeskEvent) → IsDeskOf role p
-    → IsDeskOf role (desk_happens_to p told event).1
-role_kept role p told (events.Wish of wish) is = decided_role role p (actions.Wish wish) (reached p.live of (begins (actions.Wish wish))) (is_same_role p.live.role who.Requester) is
-role_kept role p told (events.Deed of deed today) is = decided_role role p (actions.Deed deed today) (reached p.live of (begins (actions.Deed deed today))) (is_same_role p.live.role who.Responder) is
-role_kept role p told (events.Save at) is = (is.0, is.0)
-role_kept role p told (events.SaveFault at true) is = (is.0, is.0)
-role_kept role p told (events.SaveFault at false) is = is
-role_kept role p told (events.Send at of n) is = send_role role p of n (found_by txn_held of p.live.held) is
-role_kept role p told (events.Deliver at of n) is = receives_role role p (sent_message (sent_for of told) n) is
-role_kept role p told (events.Noise at bytes) is = is
-role_kept role p told (events.Restart at) is = (is.1, is.1)
+role_kept : (role : Who) (p : DeskParty) (partner_sent : List Sending) (event : DeskEvent) → IsDeskOf role p
+    → IsDeskOf role (desk_happens_to p partner_sent event).1
+role_kept role p partner_sent (events.Wish of wish) is = decided_role role p (actions.Wish wish) (reached p.live of (begins (actions.Wish wish))) (is_same_role p.live.role who.Requester) is
+role_kept role p partner_sent (events.Deed of deed today) is = decided_role role p (actions.Deed deed today) (reached p.live of (begins (actions.Deed deed today))) (is_same_role p.live.role who.Responder) is
+role_kept role p partner_sent (events.Save at) is = (is.0, is.0)
+role_kept role p partner_sent (events.SaveFault at true) is = (is.0, is.0)
+role_kept role p partner_sent (events.SaveFault at false) is = is
+role_kept role p partner_sent (events.Send at of n) is = send_role role p of n (found_by txn_held of p.live.held) is
+role_kept role p partner_sent (events.Deliver at of n) is = receives_role role p (sent_message (sent_for of partner_sent) n) is
+role_kept role p partner_sent (events.Noise at bytes) is = is
+role_kept role p partner_sent (events.Restart at) is = (is.1, is.1)
 
 -- Both desks keep their roles at each event.
 roles_kept : (w : DeskParties) (role : Who) (event : DeskEvent) → IsDeskOf who.Requester w.requester

@@ -52,32 +52,32 @@ made_due x (Ok made) new keeps e = let is : sides.Requester made ≡ new = searc
 made_due x (Err refusal) new keeps e = search rules
 
 -- An action that is done leaves the due date of a requester's side.
-acts_due : RowsKeepDue → (txn : Qualifiers) (old new : Side) (action : Action) (told : List (Option Apdu))
-    → acts old action ≡ Ok new → RequesterSideStands txn old told → due_date_of new ≡ due_date_of old
-acts_due rows txn (sides.Requester x) new (actions.Wish wish) told e stands = made_due x (requester_actions.acts x wish) new (λ made is. rows.acts x made wish is) e
-acts_due rows txn (sides.Requester x) new (actions.Deed deed today) told e stands = search rules
-acts_due rows txn (sides.Responder y) new action told e stands = absurd stands
+acts_due : RowsKeepDue → (txn : Qualifiers) (old new : Side) (action : Action) (partner_sent : List (Option Apdu))
+    → acts old action ≡ Ok new → RequesterSideStands txn old partner_sent → due_date_of new ≡ due_date_of old
+acts_due rows txn (sides.Requester x) new (actions.Wish wish) partner_sent e stands = made_due x (requester_actions.acts x wish) new (λ made is. rows.acts x made wish is) e
+acts_due rows txn (sides.Requester x) new (actions.Deed deed today) partner_sent e stands = search rules
+acts_due rows txn (sides.Responder y) new action partner_sent e stands = absurd stands
 
 -- A message that is taken keeps or raises the due date of a requester's side.
-takes_due : RowsKeepDue → (txn : Qualifiers) (old : Side) (a : Apdu) (told : List (Option Apdu))
-    → RequesterSideStands txn old told → KeepsDue (due_date_of old) (due_date_of (takes old a).1)
-takes_due rows txn (sides.Requester x) a told stands = rows.takes x a stands.rules.parts.due
-takes_due rows txn (sides.Responder y) a told stands = absurd stands
+takes_due : RowsKeepDue → (txn : Qualifiers) (old : Side) (a : Apdu) (partner_sent : List (Option Apdu))
+    → RequesterSideStands txn old partner_sent → KeepsDue (due_date_of old) (due_date_of (takes old a).1)
+takes_due rows txn (sides.Requester x) a partner_sent stands = rows.takes x a stands.rules.parts.due
+takes_due rows txn (sides.Responder y) a partner_sent stands = absurd stands
 
 -- A decision keeps or raises the requester's live due date, and leaves its landed side.
 decides_due : RowsKeepDue
-    → (txn : Qualifiers) (p : Party) (told : List (Option Apdu)) (action : Action) (result : Result Side Refusal)
-    → acts p.live action ≡ result → RequesterSideStands txn p.live told
+    → (txn : Qualifiers) (p : Party) (partner_sent : List (Option Apdu)) (action : Action) (result : Result Side Refusal)
+    → acts p.live action ≡ result → RequesterSideStands txn p.live partner_sent
     → KeepsDue (due_date_of p.live) (due_date_of (decides p result).1.live) × ((decides p result).1.landed ≡ p.landed)
-decides_due rows txn p told action (Ok new) e stands = (inr (inl (acts_due rows txn p.live new action told e stands)), refl)
-decides_due rows txn p told action (Err refusal) e stands = (stays (due_date_of p.live), refl)
+decides_due rows txn p partner_sent action (Ok new) e stands = (inr (inl (acts_due rows txn p.live new action partner_sent e stands)), refl)
+decides_due rows txn p partner_sent action (Err refusal) e stands = (stays (due_date_of p.live), refl)
 
 -- A delivery keeps or raises the requester's live due date, and leaves its landed side.
-receives_due : RowsKeepDue → (txn : Qualifiers) (p : Party) (told : List (Option Apdu)) (found : Option Apdu)
-    → RequesterSideStands txn p.live told
+receives_due : RowsKeepDue → (txn : Qualifiers) (p : Party) (partner_sent : List (Option Apdu)) (found : Option Apdu)
+    → RequesterSideStands txn p.live partner_sent
     → KeepsDue (due_date_of p.live) (due_date_of (receives p found).1.live) × ((receives p found).1.landed ≡ p.landed)
-receives_due rows txn p told None stands = (stays (due_date_of p.live), refl)
-receives_due rows txn p told (Some a) stands = (takes_due rows txn p.live a told stands, refl)
+receives_due rows txn p partner_sent None stands = (stays (due_date_of p.live), refl)
+receives_due rows txn p partner_sent (Some a) stands = (takes_due rows txn p.live a partner_sent stands, refl)
 
 -- A Send leaves the live and the landed side.
 sends_same : (p : Party) (n : ℕ) (found : Option Apdu) (released : Bool)
@@ -97,20 +97,20 @@ live_kept : (p q : Party) → KeepsDue (due_date_of p.live) (due_date_of q.live)
 live_kept p q both kept = subst (λ side. KeepsDue (due_date_of side) (due_date_of q.live)) (sym both.1) (keeps_on (due_date_of p.landed) (due_date_of p.live) (due_date_of q.live) kept both.0)
 
 -- After each event the requester's live due date is the landed one or later, if it was so before.
-pub due_after : RowsKeepDue → (txn : Qualifiers) (p : Party) (told : List (Option Apdu)) (event : Event)
-    → RequesterSideStands txn p.live told → KeepsDue (due_date_of p.landed) (due_date_of p.live)
-    → KeepsDue (due_date_of (happens_to p told event).1.landed) (due_date_of (happens_to p told event).1.live)
-due_after rows txn p told (events.Wish wish) stands kept =
-    live_kept p (happens_to p told (events.Wish wish)).1 (decides_due rows txn p told (actions.Wish wish) (acts p.live (actions.Wish wish)) refl stands) kept
-due_after rows txn p told (events.Deed deed today) stands kept =
-    live_kept p (happens_to p told (events.Deed deed today)).1 (decides_due rows txn p told (actions.Deed deed today) (acts p.live (actions.Deed deed today)) refl stands) kept
-due_after rows txn p told (events.Save of) stands kept = stays (due_date_of p.live)
-due_after rows txn p told (events.SaveFault of true) stands kept = stays (due_date_of p.live)
-due_after rows txn p told (events.SaveFault of false) stands kept = kept
-due_after rows txn p told (events.Send of n) stands kept = same_dates p (happens_to p told (events.Send of n)).1 (sends_same p n (message (issued_of p.live) n) (nat_le n p.released)) kept
-due_after rows txn p told (events.Deliver of n) stands kept = live_kept p (happens_to p told (events.Deliver of n)).1 (receives_due rows txn p told (sent_message told n) stands) kept
-due_after rows txn p told (events.Noise of bytes) stands kept = kept
-due_after rows txn p told (events.Restart of) stands kept = stays (due_date_of p.landed)
+pub due_after : RowsKeepDue → (txn : Qualifiers) (p : Party) (partner_sent : List (Option Apdu)) (event : Event)
+    → RequesterSideStands txn p.live partner_sent → KeepsDue (due_date_of p.landed) (due_date_of p.live)
+    → KeepsDue (due_date_of (happens_to p partner_sent event).1.landed) (due_date_of (happens_to p partner_sent event).1.live)
+due_after rows txn p partner_sent (events.Wish wish) stands kept =
+    live_kept p (happens_to p partner_sent (events.Wish wish)).1 (decides_due rows txn p partner_sent (actions.Wish wish) (acts p.live (actions.Wish wish)) refl stands) kept
+due_after rows txn p partner_sent (events.Deed deed today) stands kept =
+    live_kept p (happens_to p partner_sent (events.Deed deed today)).1 (decides_due rows txn p partner_sent (actions.Deed deed today) (acts p.live (actions.Deed deed today)) refl stands) kept
+due_after rows txn p partner_sent (events.Save of) stands kept = stays (due_date_of p.live)
+due_after rows txn p partner_sent (events.SaveFault of true) stands kept = stays (due_date_of p.live)
+due_after rows txn p partner_sent (events.SaveFault of false) stands kept = kept
+due_after rows txn p partner_sent (events.Send of n) stands kept = same_dates p (happens_to p partner_sent (events.Send of n)).1 (sends_same p n (message (issued_of p.live) n) (nat_le n p.released)) kept
+due_after rows txn p partner_sent (events.Deliver of n) stands kept = live_kept p (happens_to p partner_sent (events.Deliver of n)).1 (receives_due rows txn p partner_sent (sent_message partner_sent n) stands) kept
+due_after rows txn p partner_sent (events.Noise of bytes) stands kept = kept
+due_after rows txn p partner_sent (events.Restart of) stands kept = stays (due_date_of p.landed)
 
 -- Equal sides have equal due dates.
 same_date : (a b : Side) → b ≡ a → KeepsDue (due_date_of a) (due_date_of b)

@@ -52,24 +52,24 @@ rest_in x y s t over at_s at_t ends faces = record {
 }
 
 -- If the loan is over for a requester's record that stands, it is at rest with the responder's.
-records_rest : (txn : Qualifiers) (x : RequesterRecord) (y : ResponderRecord) (told heard : List (Option Apdu))
-    → RequesterStands txn x told → ResponderStands txn y heard → AreIssued told y.issued → AreIssued heard x.issued
+records_rest : (txn : Qualifiers) (x : RequesterRecord) (y : ResponderRecord) (requester_sent responder_sent : List (Option Apdu))
+    → RequesterStands txn x requester_sent → ResponderStands txn y responder_sent → AreIssued requester_sent y.issued → AreIssued responder_sent x.issued
     → is_over (sides.Requester x) ≡ true → AtRest x y
-records_rest txn x y told heard requester_stands responder_stands issued heeded over =
+records_rest txn x y requester_sent responder_sent requester_stands responder_stands issued heeded over =
     elim (over_means x.state (is_declined x) x.checked_in requester_stands.rules.parts.role over) [
-      | inl cancelled ↦ rest_in x y states.Cancelled states.Cancelled over cancelled (cancelled_faces txn x y told heard requester_stands responder_stands issued cancelled) refl refl
-      | inr (inl ended) ↦ rest_in x y states.NotSupplied states.NotSupplied over ended (not_supplied_faces txn x y told heard requester_stands responder_stands issued ended) refl refl
+      | inl cancelled ↦ rest_in x y states.Cancelled states.Cancelled over cancelled (cancelled_faces txn x y requester_sent responder_sent requester_stands responder_stands issued cancelled) refl refl
+      | inr (inl ended) ↦ rest_in x y states.NotSupplied states.NotSupplied over ended (not_supplied_faces txn x y requester_sent responder_sent requester_stands responder_stands issued ended) refl refl
       | inr (inr (returned, marked)) ↦
-          rest_in x y states.Returned states.CheckedIn over returned ((says_true txn x y told heard requester_stands responder_stands issued heeded).checked_in marked) refl refl
+          rest_in x y states.Returned states.CheckedIn over returned ((says_true txn x y requester_sent responder_sent requester_stands responder_stands issued heeded).checked_in marked) refl refl
     ]
 
 -- If the loan is over for a requester's side that stands, it is at rest with the responder's.
-sides_rest : (txn : Qualifiers) (x y : Side) (told heard : List (Option Apdu)) → RequesterSideStands txn x told
-    → ResponderSideStands txn y heard → AreIssued told (issued_of y) → AreIssued heard (issued_of x)
+sides_rest : (txn : Qualifiers) (x y : Side) (requester_sent responder_sent : List (Option Apdu)) → RequesterSideStands txn x requester_sent
+    → ResponderSideStands txn y responder_sent → AreIssued requester_sent (issued_of y) → AreIssued responder_sent (issued_of x)
     → is_over x ≡ true → Facing AtRest x y
-sides_rest txn (sides.Requester x) (sides.Responder y) told heard requester_stands responder_stands issued heeded over = records_rest txn x y told heard requester_stands responder_stands issued heeded over
-sides_rest txn (sides.Responder x) y told heard requester_stands responder_stands issued heeded over = absurd requester_stands
-sides_rest txn (sides.Requester x) (sides.Requester y) told heard requester_stands responder_stands issued heeded over = absurd responder_stands
+sides_rest txn (sides.Requester x) (sides.Responder y) requester_sent responder_sent requester_stands responder_stands issued heeded over = records_rest txn x y requester_sent responder_sent requester_stands responder_stands issued heeded over
+sides_rest txn (sides.Responder x) y requester_sent responder_sent requester_stands responder_stands issued heeded over = absurd requester_stands
+sides_rest txn (sides.Requester x) (sides.Requester y) requester_sent responder_sent requester_stands responder_stands issued heeded over = absurd responder_stands
 
 -- Both sides of a world that stands are at rest if the loan is over for the requester.
 pub at_rest : (txn : Qualifiers) (w : Parties) → Invariant txn w → is_over w.requester.live ≡ true → AreAtRest w
@@ -95,10 +95,10 @@ over_is_silent (sides.Requester x) over = ap not over
 over_is_silent (sides.Responder y) over = ap (λ b. not b || false) over
 
 -- A responder that was asked wants sending.
-asked_wants : (txn : Qualifiers) (side : Side) (heard : List (Option Apdu)) → ResponderSideStands txn side heard
+asked_wants : (txn : Qualifiers) (side : Side) (responder_sent : List (Option Apdu)) → ResponderSideStands txn side responder_sent
     → wants_sending true side ≡ true
-asked_wants txn (sides.Responder y) heard stands = or_right (not (is_over (sides.Responder y))) true refl
-asked_wants txn (sides.Requester x) heard stands = absurd stands
+asked_wants txn (sides.Responder y) responder_sent stands = or_right (not (is_over (sides.Responder y))) true refl
+asked_wants txn (sides.Requester x) responder_sent stands = absurd stands
 
 -- For a responder in IDLE the loan is not over.
 idle_is_open : (s : State) → is_among (states.Idle ∷ []) s ≡ true → is_nobodys (responder_turn_in s) ≡ false
@@ -106,14 +106,14 @@ idle_is_open states.Idle is = refl
 idle_is_open s is = search rules
 
 -- If the requester has issued nothing, the loan is not over for the responder.
-unasked_is_open : (txn : Qualifiers) (side : Side) (heard : List (Option Apdu)) (apdus : List Apdu)
-    → ResponderSideStands txn side heard → AreIssued heard apdus → is_none apdus ≡ true → is_over side ≡ false
-unasked_is_open txn (sides.Responder y) heard apdus stands heeded none = go (is_among (states.Idle ∷ []) y.state) refl
+unasked_is_open : (txn : Qualifiers) (side : Side) (responder_sent : List (Option Apdu)) (apdus : List Apdu)
+    → ResponderSideStands txn side responder_sent → AreIssued responder_sent apdus → is_none apdus ≡ true → is_over side ≡ false
+unasked_is_open txn (sides.Responder y) responder_sent apdus stands heeded none = go (is_among (states.Idle ∷ []) y.state) refl
   where
     go : (idle : Bool) → is_among (states.Idle ∷ []) y.state ≡ idle → is_over (sides.Responder y) ≡ false
     go true is = idle_is_open y.state is
     go false is = let known = stands.knows responder.Requested is in let there = heeded known.0 known.1 in absurd (idle_issued apdus there.0 known.0 none there.1)
-unasked_is_open txn (sides.Requester x) heard apdus stands heeded none = absurd stands
+unasked_is_open txn (sides.Requester x) responder_sent apdus stands heeded none = absurd stands
 
 -- ---- the events of a night
 

@@ -51,7 +51,7 @@ asks x a = (requester_deliveries.takes x a).1
 abbrev lends : ResponderRecord → Apdu → ResponderRecord
 lends y a = (responder_deliveries.takes y a).1
 
--- A record that takes a message has heard it, until a later one reopens it. While it takes messages, a responder
+-- A record that takes a message has responder_sent it, until a later one reopens it. While it takes messages, a responder
 -- issues nothing but an ILL-Answer unfilled.
 pub record RowsHear : Type 0 where
   pub requester_txn : (x : RequesterRecord) (a : Apdu) → (asks x a).txn ≡ x.txn
@@ -188,7 +188,7 @@ module _ (rows : RowsHear) where
 
   -- ---- both
 
-  module _ (txn : Qualifiers) (x : RequesterRecord) (y : ResponderRecord) (heard told told_after : List (Option Apdu)) where
+  module _ (txn : Qualifiers) (x : RequesterRecord) (y : ResponderRecord) (responder_sent requester_sent requester_sent_after : List (Option Apdu)) where
     -- Returns the responder after it takes all messages of the requester.
     abbrev lender_new : ResponderRecord
     lender_new = taking lends y x.issued
@@ -197,8 +197,8 @@ module _ (rows : RowsHear) where
     abbrev borrower_new : RequesterRecord
     borrower_new = taking asks x lender_new.issued
 
-    module _ (borrower : RequesterStands txn x heard) (lender : ResponderStands txn y told) (lender_after : ResponderStands txn lender_new told_after) where
-      -- The requester has heard message i + 1, unless a later one reopens it.
+    module _ (borrower : RequesterStands txn x responder_sent) (lender : ResponderStands txn y requester_sent) (lender_after : ResponderStands txn lender_new requester_sent_after) where
+      -- The requester has responder_sent message i + 1, unless a later one reopens it.
       requester_heard : (i : ℕ) (a : Apdu) → slice_get lender_new.issued i ≡ Some a → ((j : ℕ) (b : Apdu) → slice_get lender_new.issued j ≡ Some b → i < j → notices.reopens b.body a.body ≡ false)
           → notices.has_heard borrower_new a.number a.body ≡ true
       requester_heard i a at none =
@@ -211,7 +211,7 @@ module _ (rows : RowsHear) where
             not-true _ (each (λ body. not (is_requesters body)) lender_new.issued i a lender_after.rules.role at),
           ) none
 
-      -- The responder has heard message i + 1 of the requester.
+      -- The responder has responder_sent message i + 1 of the requester.
       responder_heard : (i : ℕ) (a : Apdu) → slice_get x.issued i ≡ Some a → records.has_heard lender_new a.number a.body ≡ true
       responder_heard i a at =
           heard_later lends (λ r. r.txn ≡ txn) (λ b. (is_same_txn b.txn txn ≡ true) × (is_requesters b.body ≡ true)) records.has_heard records.reopens (record {
@@ -261,11 +261,11 @@ module _ (rows : RowsHear) where
       number_left (inl ended) undecided = absurd (ended_decides (has_prefix is_end y.issued lender_new.issued (responder_grows y x.issued) ended) undecided)
       number_left (inr left) undecided = subst (λ l. length l < 255) (sym (issues_nothing y x.issued undecided)) left
 
-      -- If the responder could answer before the round, each record has heard all that the other has issued.
+      -- If the responder could answer before the round, each record has responder_sent all that the other has issued.
       pub have_heard : (has is_end y.issued ≡ true) ⊎ (length y.issued < 255) → HaveHeard borrower_new lender_new
       have_heard can = record { requester = plain_heard; last = last_heard; responder = all_heard; can_answer = number_left can }
         where
-          -- The requester has heard each plain message.
+          -- The requester has responder_sent each plain message.
           plain_heard : (n : ℕ) (a : Apdu) → message lender_new.issued n ≡ Some a → names_conditions a.body ≡ false → notices.has_heard borrower_new a.number a.body ≡ true
           plain_heard zero a at plain = search rules
           plain_heard (suc i) a at plain =
@@ -275,7 +275,7 @@ module _ (rows : RowsHear) where
               before_itself : {i j : ℕ} → suc j < suc i → i < j → ⊥
               before_itself first later = omega (arith, first, later)
 
-          -- The requester has heard the last message.
+          -- The requester has responder_sent the last message.
           last_heard : (a : Apdu) → message lender_new.issued (length lender_new.issued) ≡ Some a → notices.has_heard borrower_new a.number a.body ≡ true
           last_heard a at = go (length lender_new.issued) refl at
             where
@@ -283,7 +283,7 @@ module _ (rows : RowsHear) where
               go zero is at = search rules
               go (suc i) is at = requester_heard i a at (λ j b there later. absurd (omega (arith, is, later, slice_get_within lender_new.issued j b there)))
 
-          -- The responder has heard each message.
+          -- The responder has responder_sent each message.
           all_heard : (n : ℕ) (a : Apdu) → message borrower_new.issued n ≡ Some a → records.has_heard lender_new a.number a.body ≡ true
           all_heard zero a at = search rules
           all_heard (suc i) a at = responder_heard i a (subst (λ l. slice_get l i ≡ Some a) requester_same at)
@@ -291,31 +291,31 @@ module _ (rows : RowsHear) where
   -- ---- worlds
 
   -- A requester that stands has issued at most 255 messages.
-  requester_few : (txn : Qualifiers) (side : Side) (told : List (Option Apdu)) → RequesterSideStands txn side told → length (issued_of side) ≤ 255
-  requester_few txn (sides.Requester x) told stands = stands.few
-  requester_few txn (sides.Responder y) told stands = absurd stands
+  requester_few : (txn : Qualifiers) (side : Side) (requester_sent : List (Option Apdu)) → RequesterSideStands txn side requester_sent → length (issued_of side) ≤ 255
+  requester_few txn (sides.Requester x) requester_sent stands = stands.few
+  requester_few txn (sides.Responder y) requester_sent stands = absurd stands
 
   -- A responder that stands has issued at most 255 messages.
-  responder_few : (txn : Qualifiers) (side : Side) (told : List (Option Apdu)) → ResponderSideStands txn side told → length (issued_of side) ≤ 255
-  responder_few txn (sides.Responder y) told stands = stands.few
-  responder_few txn (sides.Requester x) told stands = absurd stands
+  responder_few : (txn : Qualifiers) (side : Side) (requester_sent : List (Option Apdu)) → ResponderSideStands txn side requester_sent → length (issued_of side) ≤ 255
+  responder_few txn (sides.Responder y) requester_sent stands = stands.few
+  responder_few txn (sides.Requester x) requester_sent stands = absurd stands
 
   -- If each side has taken all messages of the other, and the responder could answer, the two are in step.
-  sides_in_step : (txn : Qualifiers) (requester responder requester_after responder_after : Side) (heard told heard_after told_after : List (Option Apdu)) → RequesterSideStands txn requester heard
-      → ResponderSideStands txn responder told → RequesterSideStands txn requester_after heard_after → ResponderSideStands txn responder_after told_after → AreIssued heard_after (issued_of responder_after)
-      → AreIssued told_after (issued_of requester_after) → CanAnswer responder → responder_after ≡ takes_all responder (issued_of requester) → requester_after ≡ takes_all requester (issued_of responder_after)
+  sides_in_step : (txn : Qualifiers) (requester responder requester_after responder_after : Side) (responder_sent requester_sent responder_sent_after requester_sent_after : List (Option Apdu)) → RequesterSideStands txn requester responder_sent
+      → ResponderSideStands txn responder requester_sent → RequesterSideStands txn requester_after responder_sent_after → ResponderSideStands txn responder_after requester_sent_after → AreIssued responder_sent_after (issued_of responder_after)
+      → AreIssued requester_sent_after (issued_of requester_after) → CanAnswer responder → responder_after ≡ takes_all responder (issued_of requester) → requester_after ≡ takes_all requester (issued_of responder_after)
       → Facing InStep requester_after responder_after
-  sides_in_step txn (sides.Requester x) (sides.Responder y) (sides.Requester x_after) (sides.Responder y_after) heard told heard_after told_after borrower lender borrower_after lender_after issued heeded can lends_it asks_it =
+  sides_in_step txn (sides.Requester x) (sides.Responder y) (sides.Requester x_after) (sides.Responder y_after) responder_sent requester_sent responder_sent_after requester_sent_after borrower lender borrower_after lender_after issued heeded can lends_it asks_it =
       let y_is : y_after ≡ taking lends y x.issued = same_responder _ _ (lends_it ∙ responder_taking y x.issued) in
       let x_is : x_after ≡ taking asks x y_after.issued = same_requester _ _ (asks_it ∙ requester_taking x y_after.issued) in
       let x_too : x_after ≡ taking asks x (taking lends y x.issued).issued = x_is ∙ ap (λ (r : ResponderRecord). taking asks x r.issued) y_is in
-      let hear = have_heard txn x y heard told told_after borrower lender (subst (λ r. ResponderStands txn r told_after) y_is lender_after) can in
+      let hear = have_heard txn x y responder_sent requester_sent requester_sent_after borrower lender (subst (λ r. ResponderStands txn r requester_sent_after) y_is lender_after) can in
       let hear_after : HaveHeard x_after y_after = subst (HaveHeard x_after) (sym y_is) (subst (λ r. HaveHeard r (taking lends y x.issued)) (sym x_too) hear) in
-      in_step txn x_after y_after heard_after told_after borrower_after lender_after issued heeded hear_after
-  sides_in_step txn (sides.Responder y) responder requester_after responder_after heard told heard_after told_after borrower lender borrower_after lender_after issued heeded can lends_it asks_it = absurd borrower
-  sides_in_step txn (sides.Requester x) (sides.Requester z) requester_after responder_after heard told heard_after told_after borrower lender borrower_after lender_after issued heeded can lends_it asks_it = absurd lender
-  sides_in_step txn (sides.Requester x) (sides.Responder y) (sides.Responder z) responder_after heard told heard_after told_after borrower lender borrower_after lender_after issued heeded can lends_it asks_it = absurd borrower_after
-  sides_in_step txn (sides.Requester x) (sides.Responder y) (sides.Requester x_after) (sides.Requester z) heard told heard_after told_after borrower lender borrower_after lender_after issued heeded can lends_it asks_it = absurd lender_after
+      in_step txn x_after y_after responder_sent_after requester_sent_after borrower_after lender_after issued heeded hear_after
+  sides_in_step txn (sides.Responder y) responder requester_after responder_after responder_sent requester_sent responder_sent_after requester_sent_after borrower lender borrower_after lender_after issued heeded can lends_it asks_it = absurd borrower
+  sides_in_step txn (sides.Requester x) (sides.Requester z) requester_after responder_after responder_sent requester_sent responder_sent_after requester_sent_after borrower lender borrower_after lender_after issued heeded can lends_it asks_it = absurd lender
+  sides_in_step txn (sides.Requester x) (sides.Responder y) (sides.Responder z) responder_after responder_sent requester_sent responder_sent_after requester_sent_after borrower lender borrower_after lender_after issued heeded can lends_it asks_it = absurd borrower_after
+  sides_in_step txn (sides.Requester x) (sides.Responder y) (sides.Requester x_after) (sides.Requester z) responder_sent requester_sent responder_sent_after requester_sent_after borrower lender borrower_after lender_after issued heeded can lends_it asks_it = absurd lender_after
 
   -- Both sides of a world that stands are in step after a round.
   pub one_round : (txn : Qualifiers) → ((w : Parties) (event : Event) → Invariant txn w → Invariant txn (happens w event).1) → (w : Parties) → Invariant txn w → CanAnswer w.responder.live → AreInStep (run_of w (round_of w))

@@ -120,16 +120,16 @@ done_seen make (Ok new) seen = refl
 done_seen make (Err refusal) seen = seen
 
 -- A requester's side that stands has no refusal of a wish but one that can be an outcome.
-wish_seen : (txn : Qualifiers) (side : Side) (told : List (Option Apdu)) (wish : Wish)
-    → RequesterSideStands txn side told → is_seen (acts side (actions.Wish wish)) ≡ true
-wish_seen txn (sides.Requester x) told wish stands = done_seen sides.Requester (requester_actions.acts x wish) (wish_done x _ _ (wish_line x wish) (number_seen x.issued))
-wish_seen txn (sides.Responder y) told wish stands = absurd stands
+wish_seen : (txn : Qualifiers) (side : Side) (partner_sent : List (Option Apdu)) (wish : Wish)
+    → RequesterSideStands txn side partner_sent → is_seen (acts side (actions.Wish wish)) ≡ true
+wish_seen txn (sides.Requester x) partner_sent wish stands = done_seen sides.Requester (requester_actions.acts x wish) (wish_done x _ _ (wish_line x wish) (number_seen x.issued))
+wish_seen txn (sides.Responder y) partner_sent wish stands = absurd stands
 
 -- A responder's side that stands has no refusal of a deed but one that can be an outcome.
-deed_seen : (txn : Qualifiers) (side : Side) (told : List (Option Apdu)) (deed : Deed) (today : Date)
-    → ResponderSideStands txn side told → is_seen (acts side (actions.Deed deed today)) ≡ true
-deed_seen txn (sides.Responder y) told deed today stands = done_seen sides.Responder (responder_actions.acts y deed today) (deed_done y _ _ (deed_line y deed today) (number_seen y.issued))
-deed_seen txn (sides.Requester x) told deed today stands = absurd stands
+deed_seen : (txn : Qualifiers) (side : Side) (partner_sent : List (Option Apdu)) (deed : Deed) (today : Date)
+    → ResponderSideStands txn side partner_sent → is_seen (acts side (actions.Deed deed today)) ≡ true
+deed_seen txn (sides.Responder y) partner_sent deed today stands = done_seen sides.Responder (responder_actions.acts y deed today) (deed_done y _ _ (deed_line y deed today) (number_seen y.issued))
+deed_seen txn (sides.Requester x) partner_sent deed today stands = absurd stands
 
 -- If all APDUs of a list pass a test, each message passes it.
 message_passes : (test : Apdu → Bool) (apdus : List Apdu) (n : ℕ) (a : Apdu) → message apdus n ≡ Some a
@@ -150,29 +150,29 @@ negated true is = refl
 negated false is = search rules
 
 -- Each message that a responder's side that stands has issued is of no type of a requester.
-pub responders_own : (txn : Qualifiers) (side : Side) (told : List (Option Apdu)) (n : ℕ) (a : Apdu)
-    → ResponderSideStands txn side told → message (issued_of side) n ≡ Some a → is_requesters a.body ≡ false
-responders_own txn (sides.Responder y) told n a stands at = opposite (is_requesters a.body) (message_passes (λ a. not (is_requesters a.body)) y.issued n a at stands.rules.role)
-responders_own txn (sides.Requester x) told n a stands at = absurd stands
+pub responders_own : (txn : Qualifiers) (side : Side) (partner_sent : List (Option Apdu)) (n : ℕ) (a : Apdu)
+    → ResponderSideStands txn side partner_sent → message (issued_of side) n ≡ Some a → is_requesters a.body ≡ false
+responders_own txn (sides.Responder y) partner_sent n a stands at = opposite (is_requesters a.body) (message_passes (λ a. not (is_requesters a.body)) y.issued n a at stands.rules.role)
+responders_own txn (sides.Requester x) partner_sent n a stands at = absurd stands
 
 -- Each message that a requester's side that stands has issued is of a requester's type.
-pub requesters_own : (txn : Qualifiers) (side : Side) (told : List (Option Apdu)) (n : ℕ) (a : Apdu)
-    → RequesterSideStands txn side told → message (issued_of side) n ≡ Some a → is_requesters a.body ≡ true
-requesters_own txn (sides.Requester x) told n a stands at = message_passes (λ a. is_requesters a.body) x.issued n a at stands.rules.role
-requesters_own txn (sides.Responder y) told n a stands at = absurd stands
+pub requesters_own : (txn : Qualifiers) (side : Side) (partner_sent : List (Option Apdu)) (n : ℕ) (a : Apdu)
+    → RequesterSideStands txn side partner_sent → message (issued_of side) n ≡ Some a → is_requesters a.body ≡ true
+requesters_own txn (sides.Requester x) partner_sent n a stands at = message_passes (λ a. is_requesters a.body) x.issued n a at stands.rules.role
+requesters_own txn (sides.Responder y) partner_sent n a stands at = absurd stands
 
 -- The answer of a requester's side that stands to a responder's message can be an outcome.
-asking_seen : (txn : Qualifiers) (side : Side) (told : List (Option Apdu)) (a : Apdu)
-    → RequesterSideStands txn side told → is_requesters a.body ≡ false → is_seen (takes side a).0 ≡ true
-asking_seen txn (sides.Requester x) told a stands others = not_own (is_same_txn a.txn x.txn) (is_requesters a.body) x _ others (requester_answer x a a.body)
-asking_seen txn (sides.Responder y) told a stands others = absurd stands
+asking_seen : (txn : Qualifiers) (side : Side) (partner_sent : List (Option Apdu)) (a : Apdu)
+    → RequesterSideStands txn side partner_sent → is_requesters a.body ≡ false → is_seen (takes side a).0 ≡ true
+asking_seen txn (sides.Requester x) partner_sent a stands others = not_own (is_same_txn a.txn x.txn) (is_requesters a.body) x _ others (requester_answer x a a.body)
+asking_seen txn (sides.Responder y) partner_sent a stands others = absurd stands
 
 -- The answer of a responder's side that stands to a requester's message can be an outcome.
-asked_seen : (txn : Qualifiers) (side : Side) (told : List (Option Apdu)) (a : Apdu)
-    → ResponderSideStands txn side told → is_requesters a.body ≡ true → is_seen (takes side a).0 ≡ true
-asked_seen txn (sides.Responder y) told a stands others =
+asked_seen : (txn : Qualifiers) (side : Side) (partner_sent : List (Option Apdu)) (a : Apdu)
+    → ResponderSideStands txn side partner_sent → is_requesters a.body ≡ true → is_seen (takes side a).0 ≡ true
+asked_seen txn (sides.Responder y) partner_sent a stands others =
     not_own (is_same_txn a.txn y.txn) (not (is_requesters a.body)) y _ (negated (is_requesters a.body) others) (responder_answer y a a.body)
-asked_seen txn (sides.Requester x) told a stands others = absurd stands
+asked_seen txn (sides.Requester x) partner_sent a stands others = absurd stands
 
 -- ---- events
 

@@ -209,7 +209,7 @@ desk_decides_seen grows p of action may txn =
 
 -- Returns the expected outcome and party of a transaction after message n is delivered in it.
 abbrev received : DeskParty → List Sending → ℕ → Qualifiers → Outcome × Party
-received p told n txn = receives (party_for txn p) (sent_message (sent_for txn told) n)
+received p partner_sent n txn = receives (party_for txn p) (sent_message (sent_for txn partner_sent) n)
 
 -- A side that refuses a message stays as it was.
 taken_by : Quiet → (side new : Side) (a : Apdu) (refusal : Refusal) → takes side a ≡ (Err refusal, new) → new ≡ side
@@ -219,38 +219,38 @@ taken_by rows side new a refusal e =
       | inr same ↦ sym (ap (λ (r : Result Taking Refusal × Side). r.1) e) ∙ same
     ]
 
-module _ (grows : RowsGrow) (rows : Quiet) (p : DeskParty) (told : List Sending) (n : ℕ) (a : Apdu) (was : sent_message (sent_for a.txn told) n ≡ Some a) where
+module _ (grows : RowsGrow) (rows : Quiet) (p : DeskParty) (partner_sent : List Sending) (n : ℕ) (a : Apdu) (was : sent_message (sent_for a.txn partner_sent) n ≡ Some a) where
   abbrev desk_took : Result Taking DeskFault × DeskContents → DeskOutcome × DeskParty
   desk_took result = (taking_seen result.0, record p { live = result.1 })
 
   -- The party of the transaction of `a` has the expected outcome and side after it receives `a`.
-  here : (answer : Result Taking Refusal) (new : Side) → takes (held_for a.txn p.live).side a ≡ (answer, new) → received p told n a.txn ≡ (answer_to answer, record (party_for a.txn p) { live = new })
+  here : (answer : Result Taking Refusal) (new : Side) → takes (held_for a.txn p.live).side a ≡ (answer, new) → received p partner_sent n a.txn ≡ (answer_to answer, record (party_for a.txn p) { live = new })
   here answer new e = ap (receives (party_for a.txn p)) was ∙ ap (λ (r : Result Taking Refusal × Side). (answer_to r.0, record (party_for a.txn p) { live = r.1 })) e
 
   -- A message that the held side takes is seen as expected in all transactions.
   takes_held : (answer : Result Taking Refusal) (new : Side) → takes (held_for a.txn p.live).side a ≡ (answer, new) → (txn : Qualifiers)
-      → Seen (received p told n) a.txn p txn (desk_took (took_at p.live (held_for a.txn p.live) (answer, new)))
+      → Seen (received p partner_sent n) a.txn p txn (desk_took (took_at p.live (held_for a.txn p.live) (answer, new)))
   takes_held (Ok taking) new e txn =
-      goes_on (received p told n) a.txn p new (Answered taking) (row_txn grows (held_for a.txn p.live).side new (took a (ap (λ (r : Result Taking Refusal × Side). r.1) e)) ∙ held_txn a.txn p.live) (here (Ok taking) new e) txn
+      goes_on (received p partner_sent n) a.txn p new (Answered taking) (row_txn grows (held_for a.txn p.live).side new (took a (ap (λ (r : Result Taking Refusal × Side). r.1) e)) ∙ held_txn a.txn p.live) (here (Ok taking) new e) txn
   takes_held (Err refusal) new e txn =
-      nothing_done (received p told n) a.txn p (Refused refusal)
+      nothing_done (received p partner_sent n) a.txn p (Refused refusal)
       (here (Err refusal) new e ∙ ap (λ side. (Refused refusal, record (party_for a.txn p) { live = side })) (taken_by rows (held_for a.txn p.live).side new a refusal e)) txn
 
-  takes_found : (found : Result DeskEntry DeskFault) → Reaches (held_for a.txn p.live) found → (txn : Qualifiers) → Seen (received p told n) a.txn p txn (desk_took (takes_reached p.live a found))
+  takes_found : (found : Result DeskEntry DeskFault) → Reaches (held_for a.txn p.live) found → (txn : Qualifiers) → Seen (received p partner_sent n) a.txn p txn (desk_took (takes_reached p.live a found))
   takes_found (Ok held) is txn =
       let side = (held_for a.txn p.live).side in
-      subst (λ h. Seen (received p told n) a.txn p txn (desk_took (took_at p.live h (takes h.side a)))) (sym is) (takes_held (takes side a).0 (takes side a).1 refl txn)
-  takes_found (Err fault) is txn = not_reached (received p told n) a.txn p fault is txn
+      subst (λ h. Seen (received p partner_sent n) a.txn p txn (desk_took (took_at p.live h (takes h.side a)))) (sym is) (takes_held (takes side a).0 (takes side a).1 refl txn)
+  takes_found (Err fault) is txn = not_reached (received p partner_sent n) a.txn p fault is txn
 
   -- A message is seen as expected in all transactions, if the side refuses what its own role issues.
   desk_takes_seen : (own : Bool) → is_own p.live.role a.body ≡ own → (own ≡ true → takes (held_for a.txn p.live).side a ≡ (Err WrongRole, (held_for a.txn p.live).side)) → (txn : Qualifiers)
-      → Seen (received p told n) a.txn p txn (desk_receives p (Some a))
+      → Seen (received p partner_sent n) a.txn p txn (desk_receives p (Some a))
   desk_takes_seen own e refused txn =
-      subst (λ b. Seen (received p told n) a.txn p txn (desk_took (if b then (Err (faults.Core WrongRole), p.live) else takes_reached p.live a (reached p.live a.txn (is_ill_request a.body))))) (sym e) (go own refused)
+      subst (λ b. Seen (received p partner_sent n) a.txn p txn (desk_took (if b then (Err (faults.Core WrongRole), p.live) else takes_reached p.live a (reached p.live a.txn (is_ill_request a.body))))) (sym e) (go own refused)
     where
       go : (own : Bool) → (own ≡ true → takes (held_for a.txn p.live).side a ≡ (Err WrongRole, (held_for a.txn p.live).side))
-          → Seen (received p told n) a.txn p txn (desk_took (if own then (Err (faults.Core WrongRole), p.live) else takes_reached p.live a (reached p.live a.txn (is_ill_request a.body))))
-      go true refused = nothing_done (received p told n) a.txn p (Refused WrongRole) (here (Err WrongRole) (held_for a.txn p.live).side (refused refl)) txn
+          → Seen (received p partner_sent n) a.txn p txn (desk_took (if own then (Err (faults.Core WrongRole), p.live) else takes_reached p.live a (reached p.live a.txn (is_ill_request a.body))))
+      go true refused = nothing_done (received p partner_sent n) a.txn p (Refused WrongRole) (here (Err WrongRole) (held_for a.txn p.live).side (refused refl)) txn
       go false refused =
           takes_found (reached p.live a.txn (is_ill_request a.body))
           (reaches (is_ill_request a.body) (nat_lt (length p.live.held) most_sides) (idle_held p.live.role a.txn) (found_by txn_held a.txn p.live.held)) txn
@@ -305,15 +305,15 @@ restarts_seen p txn = ap (λ (h : DeskEntry). record (party_for txn p) { live = 
 
 -- Outcome and party of `txn` are as expected after an event, or the party stays as it was.
 abbrev pub PartySeen : Qualifiers → DeskParty → List Sending → DeskEvent → Type 0
-PartySeen txn p told event =
-    let after = desk_happens_to p told event in
-    IsSeenAs (if_reached after.0 (concerns txn event)) (happens_to (party_for txn p) (sent_for txn told) (plain event)) (party_for txn p) after.0 (party_for txn after.1)
+PartySeen txn p partner_sent event =
+    let after = desk_happens_to p partner_sent event in
+    IsSeenAs (if_reached after.0 (concerns txn event)) (happens_to (party_for txn p) (sent_for txn partner_sent) (plain event)) (party_for txn p) after.0 (party_for txn after.1)
 
--- A desk keeps to its role, with all its sides. A message that it is told in a transaction is of this transaction.
-pub record KeepsTo (role : Who) (p : DeskParty) (told : List Sending) : Type 0 where
+-- A desk keeps to its role, with all its sides. A message that it is partner_sent in a transaction is of this transaction.
+pub record KeepsTo (role : Who) (p : DeskParty) (partner_sent : List Sending) : Type 0 where
   pub role_is : p.live.role ≡ role
   pub role_held : (txn : Qualifiers) → role_of (held_for txn p.live).side ≡ role
-  pub told_of : (txn : Qualifiers) (n : ℕ) (a : Apdu) → sent_message (sent_for txn told) n ≡ Some a → txn ≡ a.txn
+  pub txn_of_sent : (txn : Qualifiers) (n : ℕ) (a : Apdu) → sent_message (sent_for txn partner_sent) n ≡ Some a → txn ≡ a.txn
 
 -- A side refuses an APDU of its transaction that its own role issues.
 own_refused : (side : Side) (a : Apdu) → txn_of side ≡ a.txn → is_own (role_of side) a.body ≡ true
@@ -326,14 +326,14 @@ own_refused (sides.Responder y) a is own =
     rw (same, own) refl
 
 -- A delivery at a desk that keeps to its role is seen as expected in all transactions.
-delivers_seen : RowsGrow → Quiet → (role : Who) (p : DeskParty) (told : List Sending) → KeepsTo role p told
-    → (to : Who) (of : Qualifiers) (n : ℕ) (found : Option Apdu) → sent_message (sent_for of told) n ≡ found
+delivers_seen : RowsGrow → Quiet → (role : Who) (p : DeskParty) (partner_sent : List Sending) → KeepsTo role p partner_sent
+    → (to : Who) (of : Qualifiers) (n : ℕ) (found : Option Apdu) → sent_message (sent_for of partner_sent) n ≡ found
     → (txn : Qualifiers)
-    → Seen (received p told n) of p txn (desk_receives p found)
-delivers_seen grows rows role p told keeps to of n None e txn = nothing_done (received p told n) of p NotSent (ap (receives (party_for of p)) e) txn
-delivers_seen grows rows role p told keeps to of n (Some a) e txn =
-    subst (λ t. Seen (received p told n) t p txn (desk_receives p (Some a))) (sym (keeps.told_of of n a e))
-    (desk_takes_seen grows rows p told n a (subst (λ t. sent_message (sent_for t told) n ≡ Some a) (keeps.told_of of n a e) e) (is_own p.live.role a.body) refl
+    → Seen (received p partner_sent n) of p txn (desk_receives p found)
+delivers_seen grows rows role p partner_sent keeps to of n None e txn = nothing_done (received p partner_sent n) of p NotSent (ap (receives (party_for of p)) e) txn
+delivers_seen grows rows role p partner_sent keeps to of n (Some a) e txn =
+    subst (λ t. Seen (received p partner_sent n) t p txn (desk_receives p (Some a))) (sym (keeps.txn_of_sent of n a e))
+    (desk_takes_seen grows rows p partner_sent n a (subst (λ t. sent_message (sent_for t partner_sent) n ≡ Some a) (keeps.txn_of_sent of n a e) e) (is_own p.live.role a.body) refl
     (λ own. own_refused (held_for a.txn p.live).side a (held_txn a.txn p.live) (ap (λ r. is_own r a.body) (keeps.role_held a.txn ∙ sym keeps.role_is) ∙ own)) txn)
 
 -- `is_same_role` holds of a role and itself.
@@ -346,13 +346,13 @@ pub may_act : (p : DeskParty) (role : Who) → p.live.role ≡ role → is_same_
 may_act p role is = ap (λ r. is_same_role r role) is ∙ same_role role
 
 -- Each event at a desk that keeps to its role is seen as expected in all transactions.
-pub party_seen : RowsGrow → Quiet → (p : DeskParty) (told : List Sending) (event : DeskEvent)
-    → KeepsTo (who_of (plain event)) p told → (txn : Qualifiers) → PartySeen txn p told event
-party_seen grows rows p told (events.Wish of wish) keeps txn = desk_decides_seen grows p of (actions.Wish wish) (may_act p who.Requester keeps.role_is) txn
-party_seen grows rows p told (events.Deed of deed today) keeps txn = desk_decides_seen grows p of (actions.Deed deed today) (may_act p who.Responder keeps.role_is) txn
-party_seen grows rows p told (events.Save role) keeps txn = (refl, saves_seen p txn)
-party_seen grows rows p told (events.SaveFault role landed) keeps txn = (refl, fault_of_save p txn landed)
-party_seen grows rows p told (events.Send role of n) keeps txn = desk_sends_seen p of n (found_by txn_held of p.live.held) refl txn
-party_seen grows rows p told (events.Deliver role of n) keeps txn = delivers_seen grows rows role p told keeps role of n (sent_message (sent_for of told) n) refl txn
-party_seen grows rows p told (events.Noise role bytes) keeps txn = refl
-party_seen grows rows p told (events.Restart role) keeps txn = (refl, restarts_seen p txn)
+pub party_seen : RowsGrow → Quiet → (p : DeskParty) (partner_sent : List Sending) (event : DeskEvent)
+    → KeepsTo (who_of (plain event)) p partner_sent → (txn : Qualifiers) → PartySeen txn p partner_sent event
+party_seen grows rows p partner_sent (events.Wish of wish) keeps txn = desk_decides_seen grows p of (actions.Wish wish) (may_act p who.Requester keeps.role_is) txn
+party_seen grows rows p partner_sent (events.Deed of deed today) keeps txn = desk_decides_seen grows p of (actions.Deed deed today) (may_act p who.Responder keeps.role_is) txn
+party_seen grows rows p partner_sent (events.Save role) keeps txn = (refl, saves_seen p txn)
+party_seen grows rows p partner_sent (events.SaveFault role landed) keeps txn = (refl, fault_of_save p txn landed)
+party_seen grows rows p partner_sent (events.Send role of n) keeps txn = desk_sends_seen p of n (found_by txn_held of p.live.held) refl txn
+party_seen grows rows p partner_sent (events.Deliver role of n) keeps txn = delivers_seen grows rows role p partner_sent keeps role of n (sent_message (sent_for of partner_sent) n) refl txn
+party_seen grows rows p partner_sent (events.Noise role bytes) keeps txn = refl
+party_seen grows rows p partner_sent (events.Restart role) keeps txn = (refl, restarts_seen p txn)

@@ -80,7 +80,7 @@ delivers_reaches : (w : DeskParties) (role : Who) → DesksStand w
 delivers_reaches w role stands txn n a found is sent =
     let keeps = keeps_to w role stands in
     subst (λ o. ReachesAt (is_ill_request a.body) (party w role) txn (desk_receives (party w role) o).0) (sym is)
-    (subst (λ t. ReachesAt (is_ill_request a.body) (party w role) t (desk_receives (party w role) (Some a)).0) (sym (keeps.told_of txn n a sent))
+    (subst (λ t. ReachesAt (is_ill_request a.body) (party w role) t (desk_receives (party w role) (Some a)).0) (sym (keeps.txn_of_sent txn n a sent))
     (takes_reaches (party w role) a (ap (λ r. is_own r a.body) keeps.role_is ∙ sent_by_other w role stands txn n a sent)))
 
 -- `ReachesSide` holds of each event at two desks that stand.

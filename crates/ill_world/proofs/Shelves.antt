@@ -99,13 +99,13 @@ NamesOther txn (events.Deliver role of n) = IsOther txn of
 NamesOther txn whole = Unit {0}
 
 -- An event that names another transaction begins only others: a message is of the transaction in which it was sent.
-permits_other : (txn : Qualifiers) (told : List Sending) (event : DeskEvent)
-    → ((of : Qualifiers) (n : ℕ) (a : Apdu) → sent_message (sent_for of told) n ≡ Some a → of ≡ a.txn)
+permits_other : (txn : Qualifiers) (partner_sent : List Sending) (event : DeskEvent)
+    → ((of : Qualifiers) (n : ℕ) (a : Apdu) → sent_message (sent_for of partner_sent) n ≡ Some a → of ≡ a.txn)
     → NamesOther txn event
-    → Permits (IsOther txn) told event
-permits_other txn told (events.Wish of wish) told_of names = names
-permits_other txn told (events.Deliver role of n) told_of names = λ a sent. subst (IsOther txn) (told_of of n a sent) names
-permits_other txn told event told_of names = tt
+    → Permits (IsOther txn) partner_sent event
+permits_other txn partner_sent (events.Wish of wish) txn_of_sent names = names
+permits_other txn partner_sent (events.Deliver role of n) txn_of_sent names = λ a sent. subst (IsOther txn) (txn_of_sent of n a sent) names
+permits_other txn partner_sent event txn_of_sent names = tt
 
 -- Two desks that lack a transaction lack it after an event of another.
 lack_at : RowsGrow → (txn : Qualifiers) (w : DeskParties) (event : DeskEvent) → DesksStand w → NamesOther txn event
@@ -114,14 +114,14 @@ lack_at : RowsGrow → (txn : Qualifiers) (w : DeskParties) (event : DeskEvent) 
 lack_at grows txn w event stands names lack who.Requester =
     let new = (desk_happens_to w.requester w.responder.sent event).1 in (
       lacks_still txn (live_txns w.requester) (landed_txns w.requester) (live_txns new) (landed_txns new)
-          (event_leads grows (IsOther txn) w.requester w.responder.sent event (permits_other txn w.responder.sent event (keeps_to w who.Requester stands).told_of names)) lack.0,
+          (event_leads grows (IsOther txn) w.requester w.responder.sent event (permits_other txn w.responder.sent event (keeps_to w who.Requester stands).txn_of_sent names)) lack.0,
       lack.1,
     )
 lack_at grows txn w event stands names lack who.Responder =
     let new = (desk_happens_to w.responder w.requester.sent event).1 in (
       lack.0,
       lacks_still txn (live_txns w.responder) (landed_txns w.responder) (live_txns new) (landed_txns new)
-          (event_leads grows (IsOther txn) w.responder w.requester.sent event (permits_other txn w.requester.sent event (keeps_to w who.Responder stands).told_of names)) lack.1,
+          (event_leads grows (IsOther txn) w.responder w.requester.sent event (permits_other txn w.requester.sent event (keeps_to w who.Responder stands).txn_of_sent names)) lack.1,
     )
 
 -- A transaction of another group is not the one of an event at these desks.

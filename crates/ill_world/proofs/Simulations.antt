@@ -120,28 +120,28 @@ answers_on whole broken rest rest_broken trace trace_on count next_count prefix 
     )
 answers_on whole broken rest rest_broken trace trace_on count next_count prefix shown events says breaks shows counts (Err (Script m)) text left written answers =
     λ more e.
-    let told = answers more e in
+    let answered = answers more e in
     let said = ap whole (append_assoc prefix text more) ∙ says (text ++ more) in
     subst (λ (s : Said _). (s.bad ≡ Some m) × (shown ++ written ≡ trace s.events)) (sym said)
-    (told.0, ap (λ t. shown ++ t) told.1 ∙ sym (shows (rest (text ++ more)).events))
+    (answered.0, ap (λ t. shown ++ t) answered.1 ∙ sym (shows (rest (text ++ more)).events))
 answers_on whole broken rest rest_broken trace trace_on count next_count prefix shown events says breaks shows counts (Err Read) text left written answers = (
   ap (λ (s : Said _). s.bad) (breaks text) ∙ answers.0,
   ap (λ t. shown ++ t) answers.1 ∙ sym (shows (rest_broken text).events) ∙ ap (λ (s : Said _). trace s.events) (sym (breaks text)),
 )
 answers_on whole broken rest rest_broken trace trace_on count next_count prefix shown events says breaks shows counts (Err Write) text left written answers =
     λ more e.
-    let told = answers more e in
+    let answered = answers more e in
     let said = ap whole (append_assoc prefix text more) ∙ says (text ++ more) in
     subst (λ (s : Said _). IsPrefix (shown ++ written) (trace s.events)) (sym said)
-    (told.0, shows (rest (text ++ more)).events ∙ ap (λ t. shown ++ t) told.1 ∙ sym (append_assoc shown written told.0))
+    (answered.0, shows (rest (text ++ more)).events ∙ ap (λ t. shown ++ t) answered.1 ∙ sym (append_assoc shown written answered.0))
 answers_on whole broken rest rest_broken trace trace_on count next_count prefix shown events says breaks shows counts (Err OutOfMemory) text left written answers =
     λ more e.
-    let told = answers more e in
+    let answered = answers more e in
     let said = ap whole (append_assoc prefix text more) ∙ says (text ++ more) in
     subst (λ (s : Said _). (es : List _) × IsPrefix es s.events × (shown ++ written ≡ trace es)) (sym said) (
-      events ++ told.0,
-      (told.1.0, ap (λ es. events ++ es) told.1.1 ∙ sym (append_assoc events told.0 told.1.0)),
-      ap (λ t. shown ++ t) told.2 ∙ sym (shows told.0),
+      events ++ answered.0,
+      (answered.1.0, ap (λ es. events ++ es) answered.1.1 ∙ sym (append_assoc events answered.0 answered.1.0)),
+      ap (λ t. shown ++ t) answered.2 ∙ sym (shows answered.0),
     )
 
 -- ---- a line, and the rest after it

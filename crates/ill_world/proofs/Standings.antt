@@ -35,7 +35,7 @@ use Rattle.ill_world.specs.declared.event.Event.{Event}
 use Rattle.ill_world.specs.Invariant.{WasSent, RequesterStands, ResponderStands, RequesterSideStands, ResponderSideStands, PartyStands, Invariant}
 use Rattle.ill_world.proofs.DueDates.{RowsKeepDue, due_after}
 use Rattle.ill_world.proofs.Sendings.{prefix_of_itself}
-use Rattle.ill_world.proofs.Kept.{RowsGrow, Keeps, party_kept, told_more, was_sent_still}
+use Rattle.ill_world.proofs.Kept.{RowsGrow, Keeps, party_kept, more_sent, was_sent_still}
 use Rattle.ill_core.specs.declared.state.State.{State}
 use Rattle.ill_core.specs.declared.state.State.TheVariants.{Idle, CancelPending, Cancelled}
 use Rattle.ill_core.specs.State.{is_among, place_of}
@@ -176,25 +176,25 @@ done_is make (Ok made) new e = (made, refl, search rules)
 done_is make (Err refusal) new e = search rules
 
 -- By `RequesterActs`, an action that is done leads a requester's side that stands to one that stands.
-requester_acts : RequesterActs → (txn : Qualifiers) (old new : Side) (action : Action) (told : List (Option Apdu))
-    → acts old action ≡ Ok new → RequesterSideStands txn old told → RequesterSideStands txn new told
-requester_acts law txn (sides.Requester x) new (actions.Wish wish) told e stands =
+requester_acts : RequesterActs → (txn : Qualifiers) (old new : Side) (action : Action) (partner_sent : List (Option Apdu))
+    → acts old action ≡ Ok new → RequesterSideStands txn old partner_sent → RequesterSideStands txn new partner_sent
+requester_acts law txn (sides.Requester x) new (actions.Wish wish) partner_sent e stands =
     let is = done_is sides.Requester (requester_actions.acts x wish) new e in
-    subst (λ side. RequesterSideStands txn side told) is.2 (law txn x is.0 wish told is.1 stands)
-requester_acts law txn (sides.Requester x) new (actions.Deed deed today) told e stands = search rules
-requester_acts law txn (sides.Responder y) new action told e stands = absurd stands
+    subst (λ side. RequesterSideStands txn side partner_sent) is.2 (law txn x is.0 wish partner_sent is.1 stands)
+requester_acts law txn (sides.Requester x) new (actions.Deed deed today) partner_sent e stands = search rules
+requester_acts law txn (sides.Responder y) new action partner_sent e stands = absurd stands
 
--- By `RequesterTakes`, a requester's side that stands does so after it takes a message from `told`.
-requester_takes : RequesterTakes → (txn : Qualifiers) (old : Side) (a : Apdu) (told : List (Option Apdu))
-    → WasSent told a → RequesterSideStands txn old told → RequesterSideStands txn (takes old a).1 told
-requester_takes law txn (sides.Requester x) a told was stands = law txn x a told was stands
-requester_takes law txn (sides.Responder y) a told was stands = absurd stands
+-- By `RequesterTakes`, a requester's side that stands does so after it takes a message from `partner_sent`.
+requester_takes : RequesterTakes → (txn : Qualifiers) (old : Side) (a : Apdu) (partner_sent : List (Option Apdu))
+    → WasSent partner_sent a → RequesterSideStands txn old partner_sent → RequesterSideStands txn (takes old a).1 partner_sent
+requester_takes law txn (sides.Requester x) a partner_sent was stands = law txn x a partner_sent was stands
+requester_takes law txn (sides.Responder y) a partner_sent was stands = absurd stands
 
--- A requester's side that stands by `told` stands by `more`, if each message of `told` is in `more`.
-requester_more : (txn : Qualifiers) (side : Side) (told more : List (Option Apdu))
-    → ((a : Apdu) → WasSent told a → WasSent more a) → RequesterSideStands txn side told
+-- A requester's side that stands by `partner_sent` stands by `more`, if each message of `partner_sent` is in `more`.
+requester_more : (txn : Qualifiers) (side : Side) (partner_sent more : List (Option Apdu))
+    → ((a : Apdu) → WasSent partner_sent a → WasSent more a) → RequesterSideStands txn side partner_sent
     → RequesterSideStands txn side more
-requester_more txn (sides.Requester x) told more stays stands = record {
+requester_more txn (sides.Requester x) partner_sent more stays stands = record {
   same_txn = stands.same_txn;
   rules = stands.rules;
   replies = stands.replies;
@@ -202,28 +202,28 @@ requester_more txn (sides.Requester x) told more stays stands = record {
   notices = λ notice reflects. let known = stands.notices notice reflects in (known.0, stays known.0 known.1, known.2);
   few = stands.few;
 }
-requester_more txn (sides.Responder y) told more stays stands = absurd stands
+requester_more txn (sides.Responder y) partner_sent more stays stands = absurd stands
 
 -- By `ResponderActs`, an action that is done leads a responder's side that stands to one that stands.
-responder_acts : ResponderActs → (txn : Qualifiers) (old new : Side) (action : Action) (told : List (Option Apdu))
-    → acts old action ≡ Ok new → ResponderSideStands txn old told → ResponderSideStands txn new told
-responder_acts law txn (sides.Responder y) new (actions.Deed deed today) told e stands =
+responder_acts : ResponderActs → (txn : Qualifiers) (old new : Side) (action : Action) (partner_sent : List (Option Apdu))
+    → acts old action ≡ Ok new → ResponderSideStands txn old partner_sent → ResponderSideStands txn new partner_sent
+responder_acts law txn (sides.Responder y) new (actions.Deed deed today) partner_sent e stands =
     let is = done_is sides.Responder (responder_actions.acts y deed today) new e in
-    subst (λ side. ResponderSideStands txn side told) is.2 (law txn y is.0 deed today told is.1 stands)
-responder_acts law txn (sides.Responder y) new (actions.Wish wish) told e stands = search rules
-responder_acts law txn (sides.Requester x) new action told e stands = absurd stands
+    subst (λ side. ResponderSideStands txn side partner_sent) is.2 (law txn y is.0 deed today partner_sent is.1 stands)
+responder_acts law txn (sides.Responder y) new (actions.Wish wish) partner_sent e stands = search rules
+responder_acts law txn (sides.Requester x) new action partner_sent e stands = absurd stands
 
--- By `ResponderTakes`, a responder's side that stands does so after it takes a message from `told`.
-responder_takes : ResponderTakes → (txn : Qualifiers) (old : Side) (a : Apdu) (told : List (Option Apdu))
-    → WasSent told a → ResponderSideStands txn old told → ResponderSideStands txn (takes old a).1 told
-responder_takes law txn (sides.Responder y) a told was stands = law txn y a told was stands
-responder_takes law txn (sides.Requester x) a told was stands = absurd stands
+-- By `ResponderTakes`, a responder's side that stands does so after it takes a message from `partner_sent`.
+responder_takes : ResponderTakes → (txn : Qualifiers) (old : Side) (a : Apdu) (partner_sent : List (Option Apdu))
+    → WasSent partner_sent a → ResponderSideStands txn old partner_sent → ResponderSideStands txn (takes old a).1 partner_sent
+responder_takes law txn (sides.Responder y) a partner_sent was stands = law txn y a partner_sent was stands
+responder_takes law txn (sides.Requester x) a partner_sent was stands = absurd stands
 
--- A responder's side that stands by `told` stands by `more`, if each message of `told` is in `more`.
-responder_more : (txn : Qualifiers) (side : Side) (told more : List (Option Apdu))
-    → ((a : Apdu) → WasSent told a → WasSent more a) → ResponderSideStands txn side told
+-- A responder's side that stands by `partner_sent` stands by `more`, if each message of `partner_sent` is in `more`.
+responder_more : (txn : Qualifiers) (side : Side) (partner_sent more : List (Option Apdu))
+    → ((a : Apdu) → WasSent partner_sent a → WasSent more a) → ResponderSideStands txn side partner_sent
     → ResponderSideStands txn side more
-responder_more txn (sides.Responder y) told more stays stands = record {
+responder_more txn (sides.Responder y) partner_sent more stays stands = record {
   same_txn = stands.same_txn;
   rules = stands.rules;
   ends = stands.ends;
@@ -239,7 +239,7 @@ responder_more txn (sides.Responder y) told more stays stands = record {
   grants_first = stands.grants_first;
   few = stands.few;
 }
-responder_more txn (sides.Requester x) told more stays stands = absurd stands
+responder_more txn (sides.Requester x) partner_sent more stays stands = absurd stands
 
 -- If `RequesterActs` and `RequesterTakes` hold, rows and further messages keep `RequesterSideStands`.
 pub requester_keeps : RequesterActs → RequesterTakes → (txn : Qualifiers) → Keeps (RequesterSideStands txn)
@@ -262,10 +262,10 @@ pub none_sent : (n : ℕ) (a : Apdu) → sent_message (replicate 255 None) n ≡
 none_sent zero a e = search rules
 none_sent (suc n) a e = none_there 255 n a e
 
--- A first party stands, if `K` holds of its idle side with the messages in `told`.
-first_stands : (K : Side → List (Option Apdu) → Type 0) (idle : Side) (told : List (Option Apdu)) → K idle told
-    → PartyStands K (first_party idle) told
-first_stands K idle told stands = record {
+-- A first party stands, if `K` holds of its idle side with the messages in `partner_sent`.
+first_stands : (K : Side → List (Option Apdu) → Type 0) (idle : Side) (partner_sent : List (Option Apdu)) → K idle partner_sent
+    → PartyStands K (first_party idle) partner_sent
+first_stands K idle partner_sent stands = record {
   saved = record {
     landed = λ n a e. absurd (none_sent n a e);
     prefix = prefix_of_itself (issued_of idle);
@@ -288,12 +288,12 @@ world_kept : RowsKeepDue → (txn : Qualifiers) (w : Parties) (of : Who) (event 
 world_kept rows txn w who.Requester event grows requester_kept responder_kept stands = record {
   requester = party_kept (RequesterSideStands txn) w.requester w.responder.sent event grows requester_kept stands.requester;
   responder =
-      told_more (ResponderSideStands txn) w.responder w.requester.sent _ responder_kept (was_sent_still w.requester w.responder.sent event stands.requester.saved) stands.responder;
+      more_sent (ResponderSideStands txn) w.responder w.requester.sent _ responder_kept (was_sent_still w.requester w.responder.sent event stands.requester.saved) stands.responder;
   due = due_after rows txn w.requester w.responder.sent event stands.requester.live stands.due;
 }
 world_kept rows txn w who.Responder event grows requester_kept responder_kept stands = record {
   requester =
-      told_more (RequesterSideStands txn) w.requester w.responder.sent _ requester_kept (was_sent_still w.responder w.requester.sent event stands.responder.saved) stands.requester;
+      more_sent (RequesterSideStands txn) w.requester w.responder.sent _ requester_kept (was_sent_still w.responder w.requester.sent event stands.responder.saved) stands.requester;
   responder = party_kept (ResponderSideStands txn) w.responder w.requester.sent event grows responder_kept stands.responder;
   due = stands.due;
 }

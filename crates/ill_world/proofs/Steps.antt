@@ -123,9 +123,9 @@ module _ {W E C : Type 0} (play : Play W E C) where
   pub line_stops : (c : C) (n : ℕ) (w next : W) (count next_count : ℕ) (old new before after : Option (List ℕ)) (bytes text : List ℕ) (fault : SimFault) → n ≤ 100000 → IsLine bytes
       → Consumes old new text → Begins c n bytes text new → PerformsLine play (play.says c bytes).0 n w count before after (Err fault) next next_count → Plays play c n w count old new before after (Err fault)
   line_stops c n w next count next_count old new before after bytes text fault few is read begins fails =
-      let told =
+      let partner_sent =
       line_fails c n w next count next_count bytes text new before after (line_at play c n bytes).0 fault refl begins (performs_at c n w next count next_count bytes before after (Err fault) few is fails) in
-      (text, told.0, read, told.1, told.2)
+      (text, partner_sent.0, read, partner_sent.1, partner_sent.2)
 
   -- If nothing follows the last LF, the rest of the script ends well, with no more events.
   pub nothing_follows : (c : C) (n : ℕ) (w : W) (count : ℕ) (old new before : Option (List ℕ)) (bytes : List ℕ) → length bytes ≡ 0 → Consumes old new bytes → IsAtEnd new

@@ -94,11 +94,11 @@ pub record SendsSaved (p : Party) : Type 0 where
   pub released : p.released ≤ length (issued_of p.landed)
   pub places : length p.sent ≡ 255
 
--- A party sends only what it has saved. `K` holds of its live and its landed side with the messages in `told`.
-pub record PartyStands (K : Side → List (Option Apdu) → Type 0) (p : Party) (told : List (Option Apdu)) : Type 0 where
+-- A party sends only what it has saved. `K` holds of its live and its landed side with the messages in `partner_sent`.
+pub record PartyStands (K : Side → List (Option Apdu) → Type 0) (p : Party) (partner_sent : List (Option Apdu)) : Type 0 where
   pub saved : SendsSaved p
-  pub live : K p.live told
-  pub landed : K p.landed told
+  pub live : K p.live partner_sent
+  pub landed : K p.landed partner_sent
 
 -- ---- a world
 

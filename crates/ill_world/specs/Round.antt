@@ -103,8 +103,8 @@ pub data OutOfStep (x : RequesterRecord) (y : ResponderRecord) : Type 0 where
   unmarked : is_among later y.state ≡ true → has is_received x.issued ≡ true → y.received ≡ false → OutOfStep x y
   unreceived : is_among later y.state ≡ true → has is_received x.issued ≡ false → y.received ≡ true → OutOfStep x y
   -- the item was checked in, and the requester does not know it; or it was not, and the requester says so
-  not_told : y.state ≡ states.CheckedIn → x.checked_in ≡ false → OutOfStep x y
-  told_early : (y.state ≡ states.CheckedIn → ⊥) → x.checked_in ≡ true → OutOfStep x y
+  not_yet_checked_in : y.state ≡ states.CheckedIn → x.checked_in ≡ false → OutOfStep x y
+  checked_in_early : (y.state ≡ states.CheckedIn → ⊥) → x.checked_in ≡ true → OutOfStep x y
   -- the due dates differ, and the item was neither recalled nor returned
   due_apart : is_among (states.Recall ∷ states.Returned ∷ []) x.state ≡ false → (x.due ≡ due_of y → ⊥) →
       OutOfStep x y

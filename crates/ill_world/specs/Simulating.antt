@@ -5,8 +5,8 @@ use Rattle.std.specs.Io.KnownBytes.{Consumes, Appends, IsAtEnd, prepend_known}
 use Rattle.std.specs.declared.alloc.AllocError.{AllocError}
 use Rattle.ill_world.specs.declared.script.ScriptLine.{ScriptLine}
 use Rattle.ill_world.specs.declared.script.ScriptLine.TheVariants as lines
-use Rattle.ill_world.specs.declared.performer.Told.{Told}
-use Rattle.ill_world.specs.declared.performer.Told.TheVariants as told
+use Rattle.ill_world.specs.declared.performer.LineEffect.{LineEffect}
+use Rattle.ill_world.specs.declared.performer.LineEffect.TheVariants as effects
 use Rattle.ill_world.specs.declared.lines.Found.{Found}
 use Rattle.ill_world.specs.declared.lines.Found.TheVariants as found
 use Rattle.ill_world.specs.declared.fault.SimFault.{SimFault}
@@ -73,18 +73,18 @@ ReadsLine old new bytes (Err other) = ⊥
 
 -- What was told of a line that says this: nothing has happened; or its event has, and its text was added; or
 -- the line is bad.
-abbrev pub PerformsOne : {W E C : Type 0} → Play W E C → ScriptLine E → ℕ → W → List ℕ → Told → W → List ℕ → Type 0
-PerformsOne play lines.Skipped number w shown told.Nothing new new_shown = new ≡ w
-PerformsOne play (lines.Event event) number w shown told.Event new new_shown =
+abbrev pub PerformsOne : {W E C : Type 0} → Play W E C → ScriptLine E → ℕ → W → List ℕ → LineEffect → W → List ℕ → Type 0
+PerformsOne play lines.Skipped number w shown effects.Nothing new new_shown = new ≡ w
+PerformsOne play (lines.Event event) number w shown effects.Event new new_shown =
     (new ≡ play.next w event) × (new_shown ≡ shown ++ play.text number w event)
-PerformsOne play lines.Bad number w shown told.BadLine new new_shown = Unit {0}
-PerformsOne play says number w shown told new new_shown = ⊥
+PerformsOne play lines.Bad number w shown effects.BadLine new new_shown = Unit {0}
+PerformsOne play says number w shown effect new new_shown = ⊥
 
 -- a line was told, unless memory ran out
-abbrev pub TellsLine : {W E C M : Type 0} → Play W E C → ScriptLine E × C → ℕ → W → List ℕ → Result Told M → W → C →
+abbrev pub TellsLine : {W E C M : Type 0} → Play W E C → ScriptLine E × C → ℕ → W → List ℕ → Result LineEffect M → W → C →
     List ℕ → Type 0
-TellsLine play says number w shown (Ok told) new carried new_shown =
-    PerformsOne play says.0 number w shown told new new_shown × (carried ≡ says.1)
+TellsLine play says number w shown (Ok effect) new carried new_shown =
+    PerformsOne play says.0 number w shown effect new new_shown × (carried ≡ says.1)
 TellsLine play says number w shown (Err memory) new carried new_shown = Unit {0}
 
 -- A line that says this was performed after so many events, and its text written: whole, a prefix of it where

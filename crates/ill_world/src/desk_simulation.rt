@@ -13,7 +13,7 @@ use crate::desk_script::{DeskLine, read_desk_line};
 use crate::desk_world::DeskWorld;
 use crate::event::Event;
 use crate::fault::SimFault;
-use crate::performer::{Performer, Told};
+use crate::performer::{Performer, LineEffect};
 use crate::script::ScriptLine;
 use crate::simulation::Simulation;
 use ill_values::{OutOfMemory, TxnId};
@@ -60,21 +60,21 @@ impl Performer for DeskWorld {
         line: &[u8],
         number: u32,
         shown: &mut Vec<u8>,
-    ) -> Result<Told, OutOfMemory> {
+    ) -> Result<LineEffect, OutOfMemory> {
         match read_desk_line(alloc, line)? {
             DeskLine::Use(txn) => {
                 *in_use = Some(txn);
-                Ok(Told::Nothing)
+                Ok(LineEffect::Nothing)
             }
-            DeskLine::Plain(ScriptLine::Skipped) => Ok(Told::Nothing),
+            DeskLine::Plain(ScriptLine::Skipped) => Ok(LineEffect::Nothing),
             DeskLine::Plain(ScriptLine::Event(event)) => match in_use {
                 Some(txn) => {
                     self.perform_in(alloc, txn, event, number, shown)?;
-                    Ok(Told::Event)
+                    Ok(LineEffect::Event)
                 }
-                None => Ok(Told::BadLine),
+                None => Ok(LineEffect::BadLine),
             },
-            DeskLine::Plain(ScriptLine::Bad) => Ok(Told::BadLine),
+            DeskLine::Plain(ScriptLine::Bad) => Ok(LineEffect::BadLine),
         }
     }
 }

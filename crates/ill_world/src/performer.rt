@@ -8,7 +8,7 @@ use std::alloc::Global;
 
 /// The effect of a line of a script.
 #[derive(Clone, Copy)]
-pub(crate) enum Told {
+pub(crate) enum LineEffect {
     /// Nothing has happened.
     Nothing,
     /// Its event has happened.
@@ -36,7 +36,7 @@ pub(crate) trait Performer: Drop {
         line: &[u8],
         number: u32,
         shown: &mut Vec<u8>,
-    ) -> Result<Told, OutOfMemory>
+    ) -> Result<LineEffect, OutOfMemory>
         ensures { TellsLine Self.play (Self.play.says carried.old line.now) number self.old shown.old.items
             result self.new carried.new shown.new.items };
 }

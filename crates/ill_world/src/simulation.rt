@@ -14,7 +14,7 @@ use crate::ahead::Ahead;
 use crate::fault::SimFault;
 use crate::laws;
 use crate::lines::{Found, next_line};
-use crate::performer::{Performer, Told};
+use crate::performer::{Performer, LineEffect};
 use crate::script::{ScriptLine, read_line};
 use crate::world::World;
 use ill_der::write_bytes;
@@ -65,15 +65,15 @@ impl Performer for World {
         line: &[u8],
         number: u32,
         shown: &mut Vec<u8>,
-    ) -> Result<Told, OutOfMemory> {
+    ) -> Result<LineEffect, OutOfMemory> {
         match read_line(alloc, line)? {
-            ScriptLine::Skipped => Ok(Told::Nothing),
+            ScriptLine::Skipped => Ok(LineEffect::Nothing),
             ScriptLine::Event(event) => {
                 let outcome = self.step(alloc, &event)?;
                 self.push_line(shown, number, outcome)?;
-                Ok(Told::Event)
+                Ok(LineEffect::Event)
             }
-            ScriptLine::Bad => Ok(Told::BadLine),
+            ScriptLine::Bad => Ok(LineEffect::BadLine),
         }
     }
 }
@@ -192,15 +192,15 @@ impl<T: Performer> Simulation<T> {
             next,
             &mut self.shown,
         )? {
-            Told::Nothing => Ok(()),
-            Told::Event => {
+            LineEffect::Nothing => Ok(()),
+            LineEffect::Event => {
                 self.count = next;
                 match write_bytes(writer, &self.shown) {
                     Ok(()) => Ok(()),
                     Err(_) => Err(SimFault::Write),
                 }
             }
-            Told::BadLine => Err(SimFault::Script(number)),
+            LineEffect::BadLine => Err(SimFault::Script(number)),
         }
     }
 

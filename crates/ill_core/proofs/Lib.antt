@@ -1,13 +1,13 @@
 pub mod IssuedLemmas
 pub mod NumberLemmas
-pub mod LineLemmas
+pub mod TransitionLemmas
 pub mod TableLemmas
 pub mod Rules
 pub mod RequesterKept
 pub mod RequesterAnswers
 pub mod RequesterRows
 pub mod RequesterMoves
-pub mod RequesterLines
+pub mod RequesterTransitions
 pub mod RequesterHearing
 pub mod RequesterReflecting
 pub mod RequesterLaws
@@ -15,7 +15,7 @@ pub mod RequesterTable
 pub mod MessageLemmas
 pub mod GrantLemmas
 pub mod ResponderLists
-pub mod ResponderLines
+pub mod ResponderTransitions
 pub mod ResponderKept
 pub mod ResponderRows
 pub mod ResponderTable

@@ -15,7 +15,7 @@ use Rattle.ill_core.specs.Numbers.{is_at_most, is_below, are_distinct}
 use Rattle.ill_core.specs.Bodies.{declines, accepts}
 use Rattle.ill_core.specs.Issued.{has, accepted_in, last_of, with_next, next_apdu}
 use Rattle.ill_core.specs.Requester.{RequesterRecord, requester_of, accepted_number}
-use Rattle.ill_core.specs.RequesterFacts.{AnswersOnce, replies, replied_number, Holds}
+use Rattle.ill_core.specs.RequesterEvidence.{AnswersOnce, replies, replied_number, Holds}
 use Rattle.ill_core.proofs.NumberLemmas.{all_weaker, below_new, at_most_below, distinct_more}
 use Rattle.ill_core.proofs.IssuedLemmas.{found_none, found_more, last_of_more, has_more}
 

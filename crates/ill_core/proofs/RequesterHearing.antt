@@ -24,11 +24,11 @@ use Rattle.ill_core.proofs.RequesterMoves.{Leads, nowhere, holds_conditions, end
 
 -- ---- a message that comes is heard
 
--- If the record has heard the message after each line that may fit, it has heard it after the answer.
-line : (number : ℕ) (body : Body) (fits : Bool) (here others : Result Taking Refusal × RequesterRecord)
+-- If the record has heard the message after each transition that may fit, it has heard it after the answer.
+transition : (number : ℕ) (body : Body) (fits : Bool) (here others : Result Taking Refusal × RequesterRecord)
     → (fits ≡ true → has_heard here.1 number body ≡ true) → (fits ≡ false → has_heard others.1 number body ≡ true)
     → has_heard (if fits then here else others).1 number body ≡ true
-line number body fits here others = cond_both fits here others (λ r. has_heard r.1 number body ≡ true)
+transition number body fits here others = cond_both fits here others (λ r. has_heard r.1 number body ≡ true)
 
 -- After a responder's message that is not refused, the record has heard it.
 message_heard : (x : RequesterRecord) (a : Apdu) (body : Body) → is_requesters body ≡ false
@@ -42,9 +42,9 @@ message_heard x a (types.CancelReply cancel is_yes) theirs = search rules
 message_heard x a (types.Shipped due) theirs = search rules
 message_heard x a (types.Overdue due) theirs = search rules
 message_heard x a (types.RenewAnswer renew (Some due)) theirs =
-    line a.number (types.RenewAnswer renew (Some due)) (awaits x renew) _ _ (λ waits.
-    line a.number (types.RenewAnswer renew (Some due)) (is_after_due due x.due) _ _ (λ _. refl) (λ later_not. search rules)) (λ waits_not.
-    line a.number (types.RenewAnswer renew (Some due)) (was is_renew x.issued renew) _ _ (λ _. ap (λ waits. not (waits && is_after_due due x.due)) waits_not) (λ _. ap (λ waits. not (waits && is_after_due due x.due)) waits_not))
+    transition a.number (types.RenewAnswer renew (Some due)) (awaits x renew) _ _ (λ waits.
+    transition a.number (types.RenewAnswer renew (Some due)) (is_after_due due x.due) _ _ (λ _. refl) (λ later_not. search rules)) (λ waits_not.
+    transition a.number (types.RenewAnswer renew (Some due)) (was is_renew x.issued renew) _ _ (λ _. ap (λ waits. not (waits && is_after_due due x.due)) waits_not) (λ _. ap (λ waits. not (waits && is_after_due due x.due)) waits_not))
 message_heard x a (types.RenewAnswer renew None) theirs = search rules
 message_heard x a types.Recall theirs = search rules
 message_heard x a types.CheckedIn theirs = search rules
@@ -83,7 +83,7 @@ record Hears (x : RequesterRecord) (body : Body) (new : RequesterRecord) : Type 
 hears : (x : RequesterRecord) (number : ℕ) (body : Body) (new : RequesterRecord) → Leads x number body new → Hears x body new
 hears x number _ _ (nowhere body) = search rules
 hears x number _ _ (holds_conditions is) = search rules
-hears x number _ _ (ends body told is) = search rules
+hears x number _ _ (ends body is_end is) = search rules
 hears x number _ _ (cancels cancel is) = search rules
 hears x number _ _ (keeps_request cancel is) = search rules
 hears x number _ _ (ships due is) = search rules

@@ -15,8 +15,8 @@ use Rattle.ill_core.specs.Bodies.{declines, is_requesters, is_ill_request, is_ca
 use Rattle.ill_core.specs.Issued.{has, is_none, with_next, next_apdu}
 use Rattle.ill_core.specs.Requester.{RequesterRecord, requester_of}
 use Rattle.ill_core.specs.RequesterRules.{RequesterRules, PartsFit, IssuedFit}
-use Rattle.ill_core.specs.RequesterActions.{Line, answer_held, line_of}
-use Rattle.ill_core.proofs.LineLemmas.{at_line, is_this, no_more}
+use Rattle.ill_core.specs.RequesterActions.{Transition, answer_held, transition_of}
+use Rattle.ill_core.proofs.TransitionLemmas.{at_transition, is_this, no_more}
 use Rattle.ill_core.proofs.IssuedLemmas.{numbered_next, not_true, same_txn, has_more, all_more, none_more, begins_more}
 
 -- The state and the conditions held fit the record x after it issues one more APDU of this body.
@@ -68,31 +68,31 @@ return_fits : (txn : Qualifiers) (held : Option ℕ) (checked_in : Bool) (due : 
     → FitsWith Returned held (requester_of txn Recall held checked_in due issued) types.Returned
 return_fits txn held checked_in due issued h received = search rules
 
--- The state to which the line of a wish leads fits.
-pub fits : (txn : Qualifiers) (state : State) (held : Option ℕ) (checked_in : Bool) (due : Option Date) (issued : List Apdu) (wish : Wish) (row : Line)
+-- The state to which the transition of a wish leads fits.
+pub fits : (txn : Qualifiers) (state : State) (held : Option ℕ) (checked_in : Bool) (due : Option Date) (issued : List Apdu) (wish : Wish) (row : Transition)
     → RequesterRules (requester_of txn state held checked_in due issued)
-    → line_of (requester_of txn state held checked_in due issued) wish ≡ Ok row
+    → transition_of (requester_of txn state held checked_in due issued) wish ≡ Ok row
     → FitsWith row.next row.held (requester_of txn state held checked_in due issued) row.body
 fits txn Idle held checked_in due issued (wishes.Request expiry item) row h leads = search rules
 fits txn Conditional held checked_in due issued (wishes.Reply is_yes) row h leads =
     let x : RequesterRecord = requester_of txn Conditional held checked_in due issued in
-    at_line (λ r. FitsWith r.next r.held x r.body) (not (has declines issued)) _ _ row
+    at_transition (λ r. FitsWith r.next r.held x r.body) (not (has declines issued)) _ _ row
     (λ undeclined. is_this (λ r. FitsWith r.next r.held x r.body) _ row (reply_fits txn held checked_in due issued is_yes h (not_true _ undeclined)))
     (no_more (λ r. FitsWith r.next r.held x r.body) _ row) leads
 fits txn Recall held checked_in due issued wishes.Receive row h leads =
     let x : RequesterRecord = requester_of txn Recall held checked_in due issued in
-    at_line (λ r. FitsWith r.next r.held x r.body) (not (has is_received issued)) _ _ row
+    at_transition (λ r. FitsWith r.next r.held x r.body) (not (has is_received issued)) _ _ row
     (λ is. is_this (λ r. FitsWith r.next r.held x r.body) _ row (receive_fits txn held checked_in due issued h (not_true _ is)))
     (no_more (λ r. FitsWith r.next r.held x r.body) _ row) leads
 fits txn Recall held checked_in due issued wishes.Return row h leads =
     let x : RequesterRecord = requester_of txn Recall held checked_in due issued in
-    at_line (λ r. FitsWith r.next r.held x r.body) (has is_received issued) _ _ row
+    at_transition (λ r. FitsWith r.next r.held x r.body) (has is_received issued) _ _ row
     (λ is. is_this (λ r. FitsWith r.next r.held x r.body) _ row (return_fits txn held checked_in due issued h is))
     (no_more (λ r. FitsWith r.next r.held x r.body) _ row) leads
 fits txn state held checked_in due issued wish row h leads = search rules
 
--- If the state after a line fits, the record after it keeps the rules of a requester.
-pub row_kept : (x : RequesterRecord) (row : Line) (txn : Qualifiers) (issued : List Apdu) → RequesterRules x
+-- If the state after a transition fits, the record after it keeps the rules of a requester.
+pub row_kept : (x : RequesterRecord) (row : Transition) (txn : Qualifiers) (issued : List Apdu) → RequesterRules x
     → FitsWith row.next row.held x row.body
     → txn ≡ x.txn → issued ≡ with_next x.txn x.issued row.body
     → RequesterRules (requester_of txn row.next row.held x.checked_in x.due issued)

@@ -9,8 +9,8 @@ use Rattle.ill_core.specs.Issued.{IssuesNext, with_next}
 use Rattle.ill_core.specs.Requester.{RequesterRecord, IsRequester, later}
 use Rattle.ill_core.specs.RequesterActions.{acts}
 use Rattle.ill_core.specs.RequesterDeliveries.{takes}
-use Rattle.ill_core.specs.RequesterFacts.{Fact, Claims, IsEvidence, KeepsDue, Holds, Replies, AnswersOnce}
-use Rattle.ill_core.specs.RequesterFacts as facts
+use Rattle.ill_core.specs.RequesterEvidence.{Fact, Claims, IsEvidence, KeepsDue, Holds, Replies, AnswersOnce}
+use Rattle.ill_core.specs.RequesterEvidence as evidence
 use Rattle.ill_core.proofs.IssuedLemmas.{issued_body}
 use Rattle.ill_core.proofs.Rules.{requester_rules, is_requester}
 use Rattle.ill_core.proofs.RequesterKept.{row_kept, fits}
@@ -107,11 +107,11 @@ takes_holds x a = (delivery_row x a).holds
 
 -- Each fact that a record shows after a message was shown before, or the message tells it.
 pub takes_shows : (x : RequesterRecord) (a : Apdu) (fact : Fact) → Claims (takes x a).1 fact → Claims x fact ⊎ IsEvidence a.body fact
-takes_shows x a facts.Cancelled = (delivery_row x a).cancelled
-takes_shows x a facts.Ended = (delivery_row x a).ended
-takes_shows x a (facts.Granted due) = (delivery_row x a).granted due
-takes_shows x a (facts.Refused cancel) = (delivery_row x a).refused cancel
-takes_shows x a facts.GivenBack = (delivery_row x a).given_back
+takes_shows x a evidence.Cancelled = (delivery_row x a).cancelled
+takes_shows x a evidence.Ended = (delivery_row x a).ended
+takes_shows x a (evidence.Granted due) = (delivery_row x a).granted due
+takes_shows x a (evidence.Refused cancel) = (delivery_row x a).refused cancel
+takes_shows x a evidence.GivenBack = (delivery_row x a).given_back
 
 -- A message keeps conditions answered once.
 pub takes_once : (x : RequesterRecord) (a : Apdu) → AnswersOnce x → AnswersOnce (takes x a).1

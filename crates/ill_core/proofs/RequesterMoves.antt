@@ -36,26 +36,26 @@ pub data Leads (x : RequesterRecord) (number : ℕ) : Body → RequesterRecord �
   recalls : is_among lent x.state ≡ true → Leads x number types.Recall (record x { state = Recall })
   checks_in : is_among (Returned ∷ []) x.state ≡ true → Leads x number types.CheckedIn (record x { checked_in = true })
 
--- If each line that may be the first to fit leads so, the answer does.
-line : (x : RequesterRecord) (number : ℕ) (body : Body) (fits : Bool) (here others : Result Taking Refusal × RequesterRecord)
+-- If each transition that may be the first to fit leads so, the answer does.
+transition : (x : RequesterRecord) (number : ℕ) (body : Body) (fits : Bool) (here others : Result Taking Refusal × RequesterRecord)
     → (fits ≡ true → Leads x number body here.1) → (fits ≡ false → Leads x number body others.1)
     → Leads x number body (if fits then here else others).1
-line x number body fits here others = cond_both fits here others (λ r. Leads x number body r.1)
+transition x number body fits here others = cond_both fits here others (λ r. Leads x number body r.1)
 
 -- An end of the request leads to NOT-SUPPLIED, or nowhere.
 end_leads : (x : RequesterRecord) (number : ℕ) (body : Body) → is_unsupplied body ≡ true → Leads x number body (take_end x).1
 end_leads x number body is =
-    line x number _ (is_among (NotSupplied ∷ []) x.state) _ _ (λ _. nowhere body) (λ _.
-    line x number _ (is_among undecided x.state) _ _ (ends body is) (λ _. nowhere body))
+    transition x number _ (is_among (NotSupplied ∷ []) x.state) _ _ (λ _. nowhere body) (λ _.
+    transition x number _ (is_among undecided x.state) _ _ (ends body is) (λ _. nowhere body))
 
 -- A Cancel-Reply leads to its decision if a Cancel waits, or nowhere.
 cancel_reply_leads : (x : RequesterRecord) (number cancel : ℕ) (is_yes : Bool)
     → (is_among (CancelPending ∷ []) x.state ≡ true → Leads x number (types.CancelReply cancel is_yes) (record x { state = (if is_yes then Cancelled else Pending) }))
     → Leads x number (types.CancelReply cancel is_yes) (take_cancel_reply x cancel is_yes).1
 cancel_reply_leads x number cancel is_yes decided =
-    line x number _ (is_among (CancelPending ∷ []) x.state && is_the cancel (last_cancel x)) _ _ (λ is. decided (and_parts _ _ is).0) (λ _.
-    line x number _ (is_among (Cancelled ∷ []) x.state && (is_yes && is_the cancel (last_cancel x))) _ _ (λ _. nowhere _) (λ _.
-    line x number _ (was is_cancel x.issued cancel) _ _ (λ _. nowhere _) (λ _. nowhere _)))
+    transition x number _ (is_among (CancelPending ∷ []) x.state && is_the cancel (last_cancel x)) _ _ (λ is. decided (and_parts _ _ is).0) (λ _.
+    transition x number _ (is_among (Cancelled ∷ []) x.state && (is_yes && is_the cancel (last_cancel x))) _ _ (λ _. nowhere _) (λ _.
+    transition x number _ (was is_cancel x.issued cancel) _ _ (λ _. nowhere _) (λ _. nowhere _)))
 
 -- In SHIPPED or later, an Overdue that is not stale is for the due date.
 due_now : (x : RequesterRecord) (due : Date) → is_among later x.state ≡ true
@@ -65,37 +65,37 @@ due_now x due is_later stale_not = search rules
 -- An APDU that is not refused leads as its row says, or nowhere.
 message_leads : (x : RequesterRecord) (a : Apdu) (body : Body) → Leads x a.number body (take_message x a body).1
 message_leads x a (types.IllAnswer results.Conditional) =
-    line x a.number _ (is_at_most a.number (accepted_number x)) _ _ (λ _. nowhere _) (λ _.
-    line x a.number _ (is_among (Conditional ∷ []) x.state && is_the a.number x.held) _ _ (λ _. nowhere _) (λ _.
-    line x a.number _ (is_among (Pending ∷ []) x.state) _ _ holds_conditions (λ _. nowhere _)))
-message_leads x a (types.IllAnswer results.WillSupply) = line x a.number _ (is_among (Pending ∷ []) x.state) _ _ (λ _. nowhere _) (λ _. nowhere _)
-message_leads x a (types.IllAnswer results.HoldPlaced) = line x a.number _ (is_among (Pending ∷ []) x.state) _ _ (λ _. nowhere _) (λ _. nowhere _)
+    transition x a.number _ (is_at_most a.number (accepted_number x)) _ _ (λ _. nowhere _) (λ _.
+    transition x a.number _ (is_among (Conditional ∷ []) x.state && is_the a.number x.held) _ _ (λ _. nowhere _) (λ _.
+    transition x a.number _ (is_among (Pending ∷ []) x.state) _ _ holds_conditions (λ _. nowhere _)))
+message_leads x a (types.IllAnswer results.WillSupply) = transition x a.number _ (is_among (Pending ∷ []) x.state) _ _ (λ _. nowhere _) (λ _. nowhere _)
+message_leads x a (types.IllAnswer results.HoldPlaced) = transition x a.number _ (is_among (Pending ∷ []) x.state) _ _ (λ _. nowhere _) (λ _. nowhere _)
 message_leads x a (types.IllAnswer other) = end_leads x a.number _ refl
 message_leads x a types.Expired = end_leads x a.number _ refl
 message_leads x a (types.CancelReply cancel true) = cancel_reply_leads x a.number cancel true (cancels cancel)
 message_leads x a (types.CancelReply cancel false) = cancel_reply_leads x a.number cancel false (keeps_request cancel)
 message_leads x a (types.Shipped due) =
-    line x a.number _ (is_among undecided x.state) _ _ (ships due) (λ _.
-    line x a.number _ (is_among later x.state) _ _ (λ _. nowhere _) (λ _. nowhere _))
+    transition x a.number _ (is_among undecided x.state) _ _ (ships due) (λ _.
+    transition x a.number _ (is_among later x.state) _ _ (λ _. nowhere _) (λ _. nowhere _))
 message_leads x a (types.Overdue due) =
-    line x a.number _ (is_among later x.state && not (is_due_on due x.due)) _ _ (λ _. nowhere _) (λ stale_not.
-    line x a.number _ (is_among (Shipped ∷ []) x.state) _ _ (λ is. misses due is (due_now x due (search rules) stale_not)) (λ _.
-    line x a.number _ (is_among (Received ∷ []) x.state) _ _ (λ is. reminds due is (due_now x due (search rules) stale_not)) (λ _.
-    line x a.number _ (is_among (RenewPending ∷ []) x.state) _ _ (λ is. reminds_renewing due is (due_now x due (search rules) stale_not)) (λ _.
-    line x a.number _ (is_among (NotReceivedOverdue ∷ Overdue ∷ RenewOverdue ∷ []) x.state) _ _ (λ _. nowhere _) (λ _. nowhere _)))))
+    transition x a.number _ (is_among later x.state && not (is_due_on due x.due)) _ _ (λ _. nowhere _) (λ stale_not.
+    transition x a.number _ (is_among (Shipped ∷ []) x.state) _ _ (λ is. misses due is (due_now x due (search rules) stale_not)) (λ _.
+    transition x a.number _ (is_among (Received ∷ []) x.state) _ _ (λ is. reminds due is (due_now x due (search rules) stale_not)) (λ _.
+    transition x a.number _ (is_among (RenewPending ∷ []) x.state) _ _ (λ is. reminds_renewing due is (due_now x due (search rules) stale_not)) (λ _.
+    transition x a.number _ (is_among (NotReceivedOverdue ∷ Overdue ∷ RenewOverdue ∷ []) x.state) _ _ (λ _. nowhere _) (λ _. nowhere _)))))
 message_leads x a (types.RenewAnswer renew (Some due)) =
-    line x a.number _ (awaits x renew) _ _ (λ waits.
-    line x a.number _ (is_after_due due x.due) _ _ (renews renew due waits) (λ _. nowhere _)) (λ _.
-    line x a.number _ (was is_renew x.issued renew) _ _ (λ _. nowhere _) (λ _. nowhere _))
+    transition x a.number _ (awaits x renew) _ _ (λ waits.
+    transition x a.number _ (is_after_due due x.due) _ _ (renews renew due waits) (λ _. nowhere _)) (λ _.
+    transition x a.number _ (was is_renew x.issued renew) _ _ (λ _. nowhere _) (λ _. nowhere _))
 message_leads x a (types.RenewAnswer renew None) =
-    line x a.number _ (awaits x renew) _ _ (refuses_renewal renew) (λ _.
-    line x a.number _ (was is_renew x.issued renew) _ _ (λ _. nowhere _) (λ _. nowhere _))
+    transition x a.number _ (awaits x renew) _ _ (refuses_renewal renew) (λ _.
+    transition x a.number _ (was is_renew x.issued renew) _ _ (λ _. nowhere _) (λ _. nowhere _))
 message_leads x a types.Recall =
-    line x a.number _ (is_among lent x.state) _ _ recalls (λ _.
-    line x a.number _ (is_among (Recall ∷ []) x.state) _ _ (λ _. nowhere _) (λ _. nowhere _))
+    transition x a.number _ (is_among lent x.state) _ _ recalls (λ _.
+    transition x a.number _ (is_among (Recall ∷ []) x.state) _ _ (λ _. nowhere _) (λ _. nowhere _))
 message_leads x a types.CheckedIn =
-    line x a.number _ (is_among (Returned ∷ []) x.state && not x.checked_in) _ _ (λ is. checks_in (and_parts _ _ is).0) (λ _.
-    line x a.number _ (is_among (Returned ∷ []) x.state) _ _ (λ _. nowhere _) (λ _. nowhere _))
+    transition x a.number _ (is_among (Returned ∷ []) x.state && not x.checked_in) _ _ (λ is. checks_in (and_parts _ _ is).0) (λ _.
+    transition x a.number _ (is_among (Returned ∷ []) x.state) _ _ (λ _. nowhere _) (λ _. nowhere _))
 message_leads x a other = nowhere _
 
 -- A refused APDU leads nowhere, and an admitted one as before.

@@ -14,13 +14,13 @@ use Rattle.ill_core.specs.Numbers.{is_the}
 use Rattle.ill_core.specs.Bodies.{is_renew, accepts}
 use Rattle.ill_core.specs.Issued.{was, next_apdu, accepted_in, number_of_renew}
 use Rattle.ill_core.specs.Requester.{RequesterRecord, IsRequester, later, accepted_number, last_renew}
-use Rattle.ill_core.specs.RequesterActions.{Line, acts, record_after}
+use Rattle.ill_core.specs.RequesterActions.{Transition, acts, record_after}
 use Rattle.ill_core.specs.RequesterDeliveries.{takes}
 use Rattle.ill_core.specs.RequesterNotices.{Notice, Recalled, Named, Answered, GrantedBefore, PastDue, awaits, Reflects, Attests}
 use Rattle.ill_core.proofs.IssuedLemmas.{was_more, last_of_more, last_of_next, last_renew_within}
 use Rattle.ill_core.proofs.Rules.{requester_rules}
-use Rattle.ill_core.proofs.RequesterLines as lines
-use Rattle.ill_core.proofs.RequesterLines.{IsLine, is_line}
+use Rattle.ill_core.proofs.RequesterTransitions as transitions
+use Rattle.ill_core.proofs.RequesterTransitions.{IsTransition, is_transition}
 use Rattle.ill_core.proofs.RequesterMoves.{Leads, nowhere, holds_conditions, ends, cancels, keeps_request, ships, misses, reminds, reminds_renewing, renews, refuses_renewal, recalls, checks_in, delivery_leads}
 use Rattle.ill_core.proofs.RequesterRows.{of_acts}
 
@@ -58,7 +58,7 @@ keeps : (x : RequesterRecord) (number : ℕ) (body : Body) (new : RequesterRecor
     → ((n : ℕ) → last_renew x ≡ Some n → n ≤ length x.issued) → Keeps x number body new
 keeps x number _ _ (nowhere body) fits within = record { recalled = λ h. inl h; named = λ c h. inl h; answered = λ n d h. inl h; granted_before = λ n d h. inl h; past_due = λ d h. inl h }
 keeps x number _ _ (holds_conditions is) fits within = search rules
-keeps x number _ _ (ends body told is) fits within = search rules
+keeps x number _ _ (ends body is_end is) fits within = search rules
 keeps x number _ _ (cancels cancel is) fits within = search rules
 keeps x number _ _ (keeps_request cancel is) fits within = search rules
 keeps x number _ _ (ships due is) fits within = search rules
@@ -89,83 +89,83 @@ takes_reflects x a notice h =
 
 -- ---- actions
 
--- The line of a wish leaves nothing new to reflect.
-record Leaves (x : RequesterRecord) (line : Line) : Type 0 where
-  recalled : line.next ≡ Recall → x.state ≡ Recall
-  held : (c : ℕ) → line.held ≡ Some c → x.held ≡ Some c
-  accepted : (c : ℕ) → accepts line.body ≡ Some c → x.held ≡ Some c
-  open_still : is_among (Recall ∷ Returned ∷ []) line.next ≡ false → is_among (Recall ∷ Returned ∷ []) x.state ≡ false
-  answered : is_among (Recall ∷ Returned ∷ []) line.next ≡ false → is_among (RenewPending ∷ RenewOverdue ∷ []) x.state ≡ false
-  renew : is_renew line.body ≡ true → is_among (RenewPending ∷ RenewOverdue ∷ []) line.next ≡ true
-  waits : is_among (RenewPending ∷ RenewOverdue ∷ []) line.next ≡ true → is_renew line.body ≡ true
-  past_due : is_among (NotReceivedOverdue ∷ Overdue ∷ RenewOverdue ∷ []) line.next ≡ true → is_among (NotReceivedOverdue ∷ Overdue ∷ RenewOverdue ∷ []) x.state ≡ true
+-- The transition of a wish leaves nothing new to reflect.
+record Leaves (x : RequesterRecord) (transition : Transition) : Type 0 where
+  recalled : transition.next ≡ Recall → x.state ≡ Recall
+  held : (c : ℕ) → transition.held ≡ Some c → x.held ≡ Some c
+  accepted : (c : ℕ) → accepts transition.body ≡ Some c → x.held ≡ Some c
+  open_still : is_among (Recall ∷ Returned ∷ []) transition.next ≡ false → is_among (Recall ∷ Returned ∷ []) x.state ≡ false
+  answered : is_among (Recall ∷ Returned ∷ []) transition.next ≡ false → is_among (RenewPending ∷ RenewOverdue ∷ []) x.state ≡ false
+  renew : is_renew transition.body ≡ true → is_among (RenewPending ∷ RenewOverdue ∷ []) transition.next ≡ true
+  waits : is_among (RenewPending ∷ RenewOverdue ∷ []) transition.next ≡ true → is_renew transition.body ≡ true
+  past_due : is_among (NotReceivedOverdue ∷ Overdue ∷ RenewOverdue ∷ []) transition.next ≡ true → is_among (NotReceivedOverdue ∷ Overdue ∷ RenewOverdue ∷ []) x.state ≡ true
 
--- Each line of a wish leaves nothing new to reflect.
-leaves : (x : RequesterRecord) (line : Line) → IsLine x line → is_some x.held ≡ is_among (Conditional ∷ []) x.state
-    → Leaves x line
-leaves x _ (lines.requests expiry item is) fits = search rules
-leaves x _ (lines.cancels is) fits = search rules
-leaves x _ (lines.accepts is) fits = search rules
-leaves x _ (lines.declines is) fits = search rules
-leaves x _ (lines.receives is) fits = search rules
-leaves x _ (lines.receives_late is) fits = search rules
-leaves x _ (lines.receives_recalled is) fits = search rules
-leaves x _ (lines.renews wished is) fits = search rules
-leaves x _ (lines.renews_late wished is) fits = search rules
-leaves x _ (lines.returns is) fits = search rules
-leaves x _ (lines.returns_recalled is) fits = search rules
+-- Each transition of a wish leaves nothing new to reflect.
+leaves : (x : RequesterRecord) (transition : Transition) → IsTransition x transition → is_some x.held ≡ is_among (Conditional ∷ []) x.state
+    → Leaves x transition
+leaves x _ (transitions.requests expiry item is) fits = search rules
+leaves x _ (transitions.cancels is) fits = search rules
+leaves x _ (transitions.accepts is) fits = search rules
+leaves x _ (transitions.declines is) fits = search rules
+leaves x _ (transitions.receives is) fits = search rules
+leaves x _ (transitions.receives_late is) fits = search rules
+leaves x _ (transitions.receives_recalled is) fits = search rules
+leaves x _ (transitions.renews wished is) fits = search rules
+leaves x _ (transitions.renews_late wished is) fits = search rules
+leaves x _ (transitions.returns is) fits = search rules
+leaves x _ (transitions.returns_recalled is) fits = search rules
 
--- Conditions that are accepted last after a line were held or accepted before it.
-accepts_named : (x : RequesterRecord) (line : Line) (c : ℕ) (accepted : Option ℕ) → Leaves x line
-    → accepts line.body ≡ accepted → option_or accepted (accepted_number x) ≡ Some c
+-- Conditions that are accepted last after a transition were held or accepted before it.
+accepts_named : (x : RequesterRecord) (transition : Transition) (c : ℕ) (accepted : Option ℕ) → Leaves x transition
+    → accepts transition.body ≡ accepted → option_or accepted (accepted_number x) ≡ Some c
     → Reflects x (Named c)
-accepts_named x line c None how is found = inr found
-accepts_named x line c (Some n) how is found = inl (how.accepted c (is ∙ found))
+accepts_named x transition c None how is found = inr found
+accepts_named x transition c (Some n) how is found = inl (how.accepted c (is ∙ found))
 
--- If a line issues a Renew, that is the last Renew of the record after it.
-renew_next : (x : RequesterRecord) (line : Line) → is_renew line.body ≡ true
-    → last_renew (record_after x line) ≡ Some (length x.issued + 1)
-renew_next x line is =
-    last_of_more number_of_renew x.issued (next_apdu x.txn x.issued line.body) (length x.issued + 1) (ap (λ b. if b then Some (length x.issued + 1) else None) is)
+-- If a transition issues a Renew, that is the last Renew of the record after it.
+renew_next : (x : RequesterRecord) (transition : Transition) → is_renew transition.body ≡ true
+    → last_renew (record_after x transition) ≡ Some (length x.issued + 1)
+renew_next x transition is =
+    last_of_more number_of_renew x.issued (next_apdu x.txn x.issued transition.body) (length x.issued + 1) (ap (λ b. if b then Some (length x.issued + 1) else None) is)
 
--- A Renew that does not wait after a line, and was issued by then, was issued before the line.
-was_before : (x : RequesterRecord) (line : Line) (renew : ℕ) → Leaves x line → awaits (record_after x line) renew ≡ false
-    → (was is_renew x.issued renew ≡ true) ⊎ ((renew ≡ length x.issued + 1) × (is_renew line.body ≡ true))
+-- A Renew that does not wait after a transition, and was issued by then, was issued before the transition.
+was_before : (x : RequesterRecord) (transition : Transition) (renew : ℕ) → Leaves x transition → awaits (record_after x transition) renew ≡ false
+    → (was is_renew x.issued renew ≡ true) ⊎ ((renew ≡ length x.issued + 1) × (is_renew transition.body ≡ true))
     → was is_renew x.issued renew ≡ true
-was_before x line renew how waits_not (inl was_one) = was_one
-was_before x line renew how waits_not (inr (at, is)) =
-    let waits : awaits (record_after x line) renew ≡ true =
-    and_from _ _ (how.renew is) (subst (λ o. is_the renew o ≡ true) (sym (renew_next x line is)) (eq-eqb renew (length x.issued + 1) at)) in
+was_before x transition renew how waits_not (inl was_one) = was_one
+was_before x transition renew how waits_not (inr (at, is)) =
+    let waits : awaits (record_after x transition) renew ≡ true =
+    and_from _ _ (how.renew is) (subst (λ o. is_the renew o ≡ true) (sym (renew_next x transition is)) (eq-eqb renew (length x.issued + 1) at)) in
     search rules
 
--- A Renew that waits after a line has a number above those issued before it.
-waits_last : (x : RequesterRecord) (line : Line) (renew : ℕ) → Leaves x line
-    → awaits (record_after x line) renew ≡ true → length x.issued < renew
-waits_last x line renew how waits =
-    let parts = and_parts (is_among (RenewPending ∷ RenewOverdue ∷ []) line.next) (is_the renew (last_renew (record_after x line))) waits in
+-- A Renew that waits after a transition has a number above those issued before it.
+waits_last : (x : RequesterRecord) (transition : Transition) (renew : ℕ) → Leaves x transition
+    → awaits (record_after x transition) renew ≡ true → length x.issued < renew
+waits_last x transition renew how waits =
+    let parts = and_parts (is_among (RenewPending ∷ RenewOverdue ∷ []) transition.next) (is_the renew (last_renew (record_after x transition))) waits in
     let same : renew ≡ length x.issued + 1 =
-    eqb-true renew (length x.issued + 1) (subst (λ o. is_the renew o ≡ true) (renew_next x line (how.waits parts.0)) parts.1) in
+    eqb-true renew (length x.issued + 1) (subst (λ o. is_the renew o ≡ true) (renew_next x transition (how.waits parts.0)) parts.1) in
     omega (arith, same)
 
--- A notice that is reflected after a line was reflected before it.
-left : (x : RequesterRecord) (line : Line) (notice : Notice) → Leaves x line → Reflects (record_after x line) notice
+-- A notice that is reflected after a transition was reflected before it.
+left : (x : RequesterRecord) (transition : Transition) (notice : Notice) → Leaves x transition → Reflects (record_after x transition) notice
     → Reflects x notice
-left x line Recalled how h = how.recalled h
-left x line (Named c) how (inl held) = inl (how.held c held)
-left x line (Named c) how (inr accepted) =
-    accepts_named x line c (accepts line.body) how refl (sym (last_of_next accepted_in x.issued (next_apdu x.txn x.issued line.body)) ∙ accepted)
-left x line (Answered renew day) how h = (
-  was_before x line renew how h.2 (was_more is_renew x.issued (next_apdu x.txn x.issued line.body) renew h.0),
+left x transition Recalled how h = how.recalled h
+left x transition (Named c) how (inl held) = inl (how.held c held)
+left x transition (Named c) how (inr accepted) =
+    accepts_named x transition c (accepts transition.body) how refl (sym (last_of_next accepted_in x.issued (next_apdu x.txn x.issued transition.body)) ∙ accepted)
+left x transition (Answered renew day) how h = (
+  was_before x transition renew how h.2 (was_more is_renew x.issued (next_apdu x.txn x.issued transition.body) renew h.0),
   how.open_still h.1,
   ap (λ here. here && is_the renew (last_renew x)) (how.answered h.1),
   h.3,
 )
-left x line (GrantedBefore renew due) how (same, inl waits) = (same, inr (waits_last x line renew how waits))
-left x line (GrantedBefore renew due) how (same, inr above) = (same, inr (omega (arith, above, length-append x.issued (next_apdu x.txn x.issued line.body ∷ []))))
-left x line (PastDue due) how (same, past) = (same, how.past_due past)
+left x transition (GrantedBefore renew due) how (same, inl waits) = (same, inr (waits_last x transition renew how waits))
+left x transition (GrantedBefore renew due) how (same, inr above) = (same, inr (omega (arith, above, length-append x.issued (next_apdu x.txn x.issued transition.body ∷ []))))
+left x transition (PastDue due) how (same, past) = (same, how.past_due past)
 
 -- A notice that a record reflects after a wish was reflected before it.
 pub acts_reflects : (x new : RequesterRecord) (wish : Wish) (notice : Notice) → acts x wish ≡ Ok new → IsRequester x
     → Reflects new notice → Reflects x notice
-acts_reflects x new wish notice = of_acts (λ r. IsRequester x → Reflects r notice → Reflects x notice) x new wish (λ line there how h.
-    left x line notice (leaves x line (is_line x wish line there) (requester_rules x h).parts.held))
+acts_reflects x new wish notice = of_acts (λ r. IsRequester x → Reflects r notice → Reflects x notice) x new wish (λ transition there how h.
+    left x transition notice (leaves x transition (is_transition x wish transition there) (requester_rules x h).parts.held))

@@ -19,15 +19,15 @@ use Rattle.ill_core.specs.Bodies.{is_requesters, is_cancel, is_renew, declines, 
 use Rattle.ill_core.specs.Issued.{first_refusal, was, has, next_number, next_apdu, number_of_cancel, last_of}
 use Rattle.ill_core.specs.RequesterRules.{RequesterRules}
 use Rattle.ill_core.specs.Requester.{RequesterRecord, later, accepted_number, is_declined, is_received_by, last_cancel, last_renew}
-use Rattle.ill_core.specs.RequesterActions.{Line, acts, acts_by, line_of, record_after, answer_held}
+use Rattle.ill_core.specs.RequesterActions.{Transition, acts, acts_by, transition_of, record_after, answer_held}
 use Rattle.ill_core.specs.Answers.{taken, unless_refused}
 use Rattle.ill_core.specs.RequesterDeliveries.{take_message, takes, take_end, take_cancel_reply, take_renew_answer, take_renewal}
 use Rattle.ill_core.specs.Dates.{is_after_due, is_due_on}
 use Rattle.ill_core.specs.declared.refusal.Refusal.{Refusal}
-use Rattle.ill_core.specs.RequesterFacts.{Fact, Claims, IsEvidence, KeepsDue, Holds, ClaimsRefusal, AnswersOnce, replied_number}
-use Rattle.ill_core.specs.RequesterFacts as facts
+use Rattle.ill_core.specs.RequesterEvidence.{Fact, Claims, IsEvidence, KeepsDue, Holds, ClaimsRefusal, AnswersOnce, replied_number}
+use Rattle.ill_core.specs.RequesterEvidence as evidence
 use Rattle.ill_core.proofs.IssuedLemmas.{was_more, still_cancel, last_cancel_more, older_cancel}
-use Rattle.ill_core.proofs.LineLemmas.{at_line, few_with_next, is_this, no_more}
+use Rattle.ill_core.proofs.TransitionLemmas.{at_transition, few_with_next, is_this, no_more}
 use Rattle.ill_core.proofs.RequesterAnswers.{silent_once, reply_once, held_number}
 
 -- No test is both false and true.
@@ -48,11 +48,11 @@ pub record Moves (x : RequesterRecord) (k : ℕ) (body : Body) (answer : Result 
   pub stays : is_among later x.state ≡ true → is_among later answer.1.state ≡ true
   pub due : is_some x.due ≡ is_among later x.state → KeepsDue x.due answer.1.due
   pub holds : Holds x k answer.1
-  pub cancelled : answer.1.state ≡ Cancelled → (x.state ≡ Cancelled) ⊎ IsEvidence body facts.Cancelled
-  pub ended : answer.1.state ≡ NotSupplied → (x.state ≡ NotSupplied) ⊎ IsEvidence body facts.Ended
-  pub granted : (d : Date) → answer.1.due ≡ Some d → (x.due ≡ Some d) ⊎ IsEvidence body (facts.Granted d)
-  pub refused : (c : ℕ) → ClaimsRefusal answer.1 c → ClaimsRefusal x c ⊎ IsEvidence body (facts.Refused c)
-  pub given_back : answer.1.checked_in ≡ true → (x.checked_in ≡ true) ⊎ IsEvidence body facts.GivenBack
+  pub cancelled : answer.1.state ≡ Cancelled → (x.state ≡ Cancelled) ⊎ IsEvidence body evidence.Cancelled
+  pub ended : answer.1.state ≡ NotSupplied → (x.state ≡ NotSupplied) ⊎ IsEvidence body evidence.Ended
+  pub granted : (d : Date) → answer.1.due ≡ Some d → (x.due ≡ Some d) ⊎ IsEvidence body (evidence.Granted d)
+  pub refused : (c : ℕ) → ClaimsRefusal answer.1 c → ClaimsRefusal x c ⊎ IsEvidence body (evidence.Refused c)
+  pub given_back : answer.1.checked_in ≡ true → (x.checked_in ≡ true) ⊎ IsEvidence body evidence.GivenBack
 
 -- An answer that leaves the record is a move.
 left : (x : RequesterRecord) (k : ℕ) (body : Body) (answer : Result Taking Refusal) → Moves x k body (answer, x)
@@ -65,10 +65,10 @@ conditions_held : (x : RequesterRecord) (k : ℕ) (body : Body) → is_among (Pe
 conditions_held x k body is above = search rules
 
 -- To go from PENDING, CONDITIONAL or CANCEL-PENDING to NOT-SUPPLIED by an end is a move.
-ended : (x : RequesterRecord) (k : ℕ) (body : Body) → IsEvidence body facts.Ended
+ended : (x : RequesterRecord) (k : ℕ) (body : Body) → IsEvidence body evidence.Ended
     → is_among (Pending ∷ Conditional ∷ CancelPending ∷ []) x.state ≡ true
     → Moves x k body (taken (record x { state = NotSupplied; held = None }))
-ended x k body told is = search rules
+ended x k body is_end is = search rules
 
 -- To go from CANCEL-PENDING to CANCELLED by a yes to the last Cancel is a move.
 cancelled : (x : RequesterRecord) (k : ℕ) (c : ℕ)
@@ -125,65 +125,65 @@ cancel_refused : (x : RequesterRecord) (k c : ℕ)
     → Moves x k (types.CancelReply c false) (taken (record x { state = Pending }))
 cancel_refused x k c is = search rules
 
--- If each line that may be the first to fit is a move, the answer is one.
-line : (x : RequesterRecord) (k : ℕ) (body : Body) (fits : Bool) (here others : Result Taking Refusal × RequesterRecord)
+-- If each transition that may be the first to fit is a move, the answer is one.
+transition : (x : RequesterRecord) (k : ℕ) (body : Body) (fits : Bool) (here others : Result Taking Refusal × RequesterRecord)
     → (fits ≡ true → Moves x k body here) → (fits ≡ false → Moves x k body others)
     → Moves x k body (if fits then here else others)
-line x k body fits here others = cond_both fits here others (Moves x k body)
+transition x k body fits here others = cond_both fits here others (Moves x k body)
 
 -- The answer to an end without the item is a move.
-end_row : (x : RequesterRecord) (k : ℕ) (body : Body) → IsEvidence body facts.Ended → Moves x k body (take_end x)
-end_row x k body told =
-    line x k _ (is_among (NotSupplied ∷ []) x.state) _ _ (λ _. left x k _ _) (λ _.
-    line x k _ (is_among (Pending ∷ Conditional ∷ CancelPending ∷ []) x.state) _ _ (ended x k body told) (λ _. left x k _ _))
+end_row : (x : RequesterRecord) (k : ℕ) (body : Body) → IsEvidence body evidence.Ended → Moves x k body (take_end x)
+end_row x k body is_end =
+    transition x k _ (is_among (NotSupplied ∷ []) x.state) _ _ (λ _. left x k _ _) (λ _.
+    transition x k _ (is_among (Pending ∷ Conditional ∷ CancelPending ∷ []) x.state) _ _ (ended x k body is_end) (λ _. left x k _ _))
 
 -- The answer to a Cancel-Reply is a move, if it is one when the last Cancel waits.
 cancel_reply_row : (x : RequesterRecord) (k c : ℕ) (is_yes : Bool)
     → (is_among (CancelPending ∷ []) x.state && is_the c (last_cancel x) ≡ true → Moves x k (types.CancelReply c is_yes) (taken (record x { state = (if is_yes then Cancelled else Pending) })))
     → Moves x k (types.CancelReply c is_yes) (take_cancel_reply x c is_yes)
 cancel_reply_row x k c is_yes decided =
-    line x k _ (is_among (CancelPending ∷ []) x.state && is_the c (last_cancel x)) _ _ decided (λ _.
-    line x k _ (is_among (Cancelled ∷ []) x.state && (is_yes && is_the c (last_cancel x))) _ _ (λ _. left x k _ _) (λ _.
-    line x k _ (was is_cancel x.issued c) _ _ (λ _. left x k _ _) (λ _. left x k _ _)))
+    transition x k _ (is_among (CancelPending ∷ []) x.state && is_the c (last_cancel x)) _ _ decided (λ _.
+    transition x k _ (is_among (Cancelled ∷ []) x.state && (is_yes && is_the c (last_cancel x))) _ _ (λ _. left x k _ _) (λ _.
+    transition x k _ (was is_cancel x.issued c) _ _ (λ _. left x k _ _) (λ _. left x k _ _)))
 
 -- The answer to a Renew-Answer is a move, if it is one when a Renew waits.
 renew_answer_row : (x : RequesterRecord) (k c : ℕ) (granted : Option Date)
     → (is_among (RenewPending ∷ RenewOverdue ∷ []) x.state ≡ true → Moves x k (types.RenewAnswer c granted) (take_renewal x granted))
     → Moves x k (types.RenewAnswer c granted) (take_renew_answer x c granted)
 renew_answer_row x k c granted decided =
-    line x k _ (is_among (RenewPending ∷ RenewOverdue ∷ []) x.state && is_the c (last_renew x)) _ _ (λ is. decided (and_parts _ _ is).0) (λ _.
-    line x k _ (was is_renew x.issued c) _ _ (λ _. left x k _ _) (λ _. left x k _ _))
+    transition x k _ (is_among (RenewPending ∷ RenewOverdue ∷ []) x.state && is_the c (last_renew x)) _ _ (λ is. decided (and_parts _ _ is).0) (λ _.
+    transition x k _ (was is_renew x.issued c) _ _ (λ _. left x k _ _) (λ _. left x k _ _))
 
 -- The answer to an APDU that is not refused is a move.
 pub message_row : (x : RequesterRecord) (a : Apdu) (body : Body) → Moves x a.number body (take_message x a body)
 message_row x a (types.IllAnswer results.Conditional) =
-    line x a.number _ (is_at_most a.number (accepted_number x)) _ _ (λ _. left x a.number _ _) (λ above.
-    line x a.number _ (is_among (Conditional ∷ []) x.state && is_the a.number x.held) _ _ (λ _. left x a.number _ _) (λ _.
-    line x a.number _ (is_among (Pending ∷ []) x.state) _ _ (λ is. conditions_held x a.number _ is above) (λ _. left x a.number _ _)))
-message_row x a (types.IllAnswer results.WillSupply) = line x a.number _ (is_among (Pending ∷ []) x.state) _ _ (λ _. left x a.number _ _) (λ _. left x a.number _ _)
-message_row x a (types.IllAnswer results.HoldPlaced) = line x a.number _ (is_among (Pending ∷ []) x.state) _ _ (λ _. left x a.number _ _) (λ _. left x a.number _ _)
+    transition x a.number _ (is_at_most a.number (accepted_number x)) _ _ (λ _. left x a.number _ _) (λ above.
+    transition x a.number _ (is_among (Conditional ∷ []) x.state && is_the a.number x.held) _ _ (λ _. left x a.number _ _) (λ _.
+    transition x a.number _ (is_among (Pending ∷ []) x.state) _ _ (λ is. conditions_held x a.number _ is above) (λ _. left x a.number _ _)))
+message_row x a (types.IllAnswer results.WillSupply) = transition x a.number _ (is_among (Pending ∷ []) x.state) _ _ (λ _. left x a.number _ _) (λ _. left x a.number _ _)
+message_row x a (types.IllAnswer results.HoldPlaced) = transition x a.number _ (is_among (Pending ∷ []) x.state) _ _ (λ _. left x a.number _ _) (λ _. left x a.number _ _)
 message_row x a (types.IllAnswer other) = end_row x a.number _ refl
 message_row x a types.Expired = end_row x a.number _ tt
 message_row x a (types.CancelReply c true) = cancel_reply_row x a.number c true (cancelled x a.number c)
 message_row x a (types.CancelReply c false) = cancel_reply_row x a.number c false (cancel_refused x a.number c)
 message_row x a (types.Shipped d) =
-    line x a.number _ (is_among (Pending ∷ Conditional ∷ CancelPending ∷ []) x.state) _ _ (shipped x a.number d) (λ _.
-    line x a.number _ (is_among later x.state) _ _ (λ _. left x a.number _ _) (λ _. left x a.number _ _))
+    transition x a.number _ (is_among (Pending ∷ Conditional ∷ CancelPending ∷ []) x.state) _ _ (shipped x a.number d) (λ _.
+    transition x a.number _ (is_among later x.state) _ _ (λ _. left x a.number _ _) (λ _. left x a.number _ _))
 message_row x a (types.Overdue d) =
-    line x a.number _ (is_among later x.state && not (is_due_on d x.due)) _ _ (λ _. left x a.number _ _) (λ _.
-    line x a.number _ (is_among (Shipped ∷ []) x.state) _ _ (not_received x a.number _) (λ _.
-    line x a.number _ (is_among (Received ∷ []) x.state) _ _ (overdue x a.number _) (λ _.
-    line x a.number _ (is_among (RenewPending ∷ []) x.state) _ _ (renewal_overdue x a.number _) (λ _.
-    line x a.number _ (is_among (NotReceivedOverdue ∷ Overdue ∷ RenewOverdue ∷ []) x.state) _ _ (λ _. left x a.number _ _) (λ _. left x a.number _ _)))))
+    transition x a.number _ (is_among later x.state && not (is_due_on d x.due)) _ _ (λ _. left x a.number _ _) (λ _.
+    transition x a.number _ (is_among (Shipped ∷ []) x.state) _ _ (not_received x a.number _) (λ _.
+    transition x a.number _ (is_among (Received ∷ []) x.state) _ _ (overdue x a.number _) (λ _.
+    transition x a.number _ (is_among (RenewPending ∷ []) x.state) _ _ (renewal_overdue x a.number _) (λ _.
+    transition x a.number _ (is_among (NotReceivedOverdue ∷ Overdue ∷ RenewOverdue ∷ []) x.state) _ _ (λ _. left x a.number _ _) (λ _. left x a.number _ _)))))
 message_row x a (types.RenewAnswer c (Some d)) =
-    renew_answer_row x a.number c (Some d) (λ is. line x a.number _ (is_after_due d x.due) _ _ (renewed x a.number c d is) (λ _. left x a.number _ _))
+    renew_answer_row x a.number c (Some d) (λ is. transition x a.number _ (is_after_due d x.due) _ _ (renewed x a.number c d is) (λ _. left x a.number _ _))
 message_row x a (types.RenewAnswer c None) = renew_answer_row x a.number c None (not_renewed x a.number _)
 message_row x a types.Recall =
-    line x a.number _ (is_among (Shipped ∷ NotReceivedOverdue ∷ Received ∷ Overdue ∷ RenewPending ∷ RenewOverdue ∷ []) x.state) _ _ (recalled x a.number _) (λ _.
-    line x a.number _ (is_among (Recall ∷ []) x.state) _ _ (λ _. left x a.number _ _) (λ _. left x a.number _ _))
+    transition x a.number _ (is_among (Shipped ∷ NotReceivedOverdue ∷ Received ∷ Overdue ∷ RenewPending ∷ RenewOverdue ∷ []) x.state) _ _ (recalled x a.number _) (λ _.
+    transition x a.number _ (is_among (Recall ∷ []) x.state) _ _ (λ _. left x a.number _ _) (λ _. left x a.number _ _))
 message_row x a types.CheckedIn =
-    line x a.number _ (is_among (Returned ∷ []) x.state && not x.checked_in) _ _ (λ is. given_back x a.number (and_parts _ _ is).0) (λ _.
-    line x a.number _ (is_among (Returned ∷ []) x.state) _ _ (λ _. left x a.number _ _) (λ _. left x a.number _ _))
+    transition x a.number _ (is_among (Returned ∷ []) x.state && not x.checked_in) _ _ (λ is. given_back x a.number (and_parts _ _ is).0) (λ _.
+    transition x a.number _ (is_among (Returned ∷ []) x.state) _ _ (λ _. left x a.number _ _) (λ _. left x a.number _ _))
 message_row x a other = left x a.number _ _
 
 -- If the answer to an admitted APDU is a move, so is a refusal before it, which leaves the record.
@@ -200,7 +200,7 @@ delivery_row x a = admitted x a.number a.body (first_refusal x.txn (is_requester
 
 -- A row of wishes leads outside IDLE, and leaves no final state and no loan. It shows no new fact, and answers only
 -- held conditions, once.
-pub record Issues (x : RequesterRecord) (row : Line) : Type 0 where
+pub record Issues (x : RequesterRecord) (row : Transition) : Type 0 where
   pub begun : is_among (Idle ∷ []) row.next ≡ false
   pub final : is_among (Cancelled ∷ NotSupplied ∷ Returned ∷ []) x.state ≡ true → row.next ≡ x.state
   pub stays : is_among later x.state ≡ true → is_among later row.next ≡ true
@@ -215,14 +215,14 @@ no_more_idle Idle on = search rules
 no_more_idle next on = refl
 
 -- A row to no IDLE, CANCELLED or NOT-SUPPLIED shows no new fact, unless it shows a new refusal.
-goes_on : (x : RequesterRecord) (row : Line) → is_among (Idle ∷ Cancelled ∷ NotSupplied ∷ []) row.next ≡ false
+goes_on : (x : RequesterRecord) (row : Transition) → is_among (Idle ∷ Cancelled ∷ NotSupplied ∷ []) row.next ≡ false
     → ((c : ℕ) → ClaimsRefusal (record_after x row) c → ClaimsRefusal x c) → (fact : Fact)
     → Claims (record_after x row) fact → Claims x fact
-goes_on x row away refused facts.Cancelled shown = search rules
-goes_on x row away refused facts.Ended shown = search rules
-goes_on x row away refused (facts.Granted due) shown = shown
-goes_on x row away refused (facts.Refused cancel) shown = refused cancel shown
-goes_on x row away refused facts.GivenBack shown = shown
+goes_on x row away refused evidence.Cancelled shown = search rules
+goes_on x row away refused evidence.Ended shown = search rules
+goes_on x row away refused (evidence.Granted due) shown = shown
+goes_on x row away refused (evidence.Refused cancel) shown = refused cancel shown
+goes_on x row away refused evidence.GivenBack shown = shown
 
 -- An APDU that answers no conditions is no Conditional-Reply.
 no_reply : {P : Type 0} (body : Body) (n : ℕ) (is_yes : Bool) → replied_number body ≡ None
@@ -292,52 +292,52 @@ undeclined_there : (conditional declined : Bool) → conditional && not (conditi
 undeclined_there true false h = (refl, refl)
 undeclined_there conditional declined h = search rules
 
--- The line of each wish keeps to `Issues`.
-wish_row : (x : RequesterRecord) (wish : Wish) (row : Line) → line_of x wish ≡ Ok row → Issues x row
+-- The transition of each wish keeps to `Issues`.
+wish_row : (x : RequesterRecord) (wish : Wish) (row : Transition) → transition_of x wish ≡ Ok row → Issues x row
 wish_row x (wishes.Request expiry item) row =
-    at_line (Issues x) (is_among (Idle ∷ []) x.state) _ _ row (λ is. is_this (Issues x) _ row
+    at_transition (Issues x) (is_among (Idle ∷ []) x.state) _ _ row (λ is. is_this (Issues x) _ row
     (silent_row x Pending (types.IllRequest expiry item) refl refl refl refl refl (search (rules, is)) (search (rules, is))
     (λ c shown. (still_cancel x.issued _ c refl shown.0, search (rules, is), search (rules, is))))) (no_more (Issues x) _ row)
 wish_row x wishes.Cancel row =
-    at_line (Issues x) (is_among (Pending ∷ []) x.state) _ _ row (λ is. is_this (Issues x) _ row
+    at_transition (Issues x) (is_among (Pending ∷ []) x.state) _ _ row (λ is. is_this (Issues x) _ row
     (silent_row x CancelPending types.Cancel refl refl refl refl refl (search (rules, is)) (search (rules, is)) (λ c. cancel_refused_before x c is))) (no_more (Issues x) _ row)
 wish_row x (wishes.Reply is_yes) row =
-    at_line (Issues x) (is_among (Conditional ∷ []) x.state && not (is_declined x)) _ _ row (λ is.
+    at_transition (Issues x) (is_among (Conditional ∷ []) x.state && not (is_declined x)) _ _ row (λ is.
     let there = undeclined_there (is_among (Conditional ∷ []) x.state) (has declines x.issued) is in
     is_this (Issues x) _ row (answers_held x is_yes there.0 there.1)) (no_more (Issues x) _ row)
 wish_row x wishes.Receive row =
-    at_line (Issues x) (is_among (Shipped ∷ []) x.state) _ _ row (λ is. is_this (Issues x) _ row (loan_row x Received types.Received refl refl refl (search (rules, is)) refl)) (
-    at_line (Issues x) (is_among (NotReceivedOverdue ∷ []) x.state) _ _ row (λ is. is_this (Issues x) _ row (loan_row x Overdue types.Received refl refl refl (search (rules, is)) refl)) (
-    at_line (Issues x) (is_among (Recall ∷ []) x.state && not (is_received_by x)) _ _ row (λ is. is_this (Issues x) _ row
+    at_transition (Issues x) (is_among (Shipped ∷ []) x.state) _ _ row (λ is. is_this (Issues x) _ row (loan_row x Received types.Received refl refl refl (search (rules, is)) refl)) (
+    at_transition (Issues x) (is_among (NotReceivedOverdue ∷ []) x.state) _ _ row (λ is. is_this (Issues x) _ row (loan_row x Overdue types.Received refl refl refl (search (rules, is)) refl)) (
+    at_transition (Issues x) (is_among (Recall ∷ []) x.state && not (is_received_by x)) _ _ row (λ is. is_this (Issues x) _ row
     (loan_row x Recall types.Received refl refl refl (search (rules, (and_parts (is_among (Recall ∷ []) x.state) (not (is_received_by x)) is).0)) refl)) (no_more (Issues x) _ row)))
 wish_row x (wishes.Renew wished) row =
-    at_line (Issues x) (is_among (Received ∷ []) x.state) _ _ row (λ is. is_this (Issues x) _ row (loan_row x RenewPending (types.Renew wished) refl refl refl (search (rules, is)) refl)) (
-    at_line (Issues x) (is_among (Overdue ∷ []) x.state) _ _ row (λ is. is_this (Issues x) _ row (loan_row x RenewOverdue (types.Renew wished) refl refl refl (search (rules, is)) refl))
+    at_transition (Issues x) (is_among (Received ∷ []) x.state) _ _ row (λ is. is_this (Issues x) _ row (loan_row x RenewPending (types.Renew wished) refl refl refl (search (rules, is)) refl)) (
+    at_transition (Issues x) (is_among (Overdue ∷ []) x.state) _ _ row (λ is. is_this (Issues x) _ row (loan_row x RenewOverdue (types.Renew wished) refl refl refl (search (rules, is)) refl))
     (no_more (Issues x) _ row))
 wish_row x wishes.Return row =
-    at_line (Issues x) (is_among (Received ∷ RenewPending ∷ Overdue ∷ RenewOverdue ∷ []) x.state) _ _ row (λ is. is_this (Issues x) _ row
+    at_transition (Issues x) (is_among (Received ∷ RenewPending ∷ Overdue ∷ RenewOverdue ∷ []) x.state) _ _ row (λ is. is_this (Issues x) _ row
     (loan_row x Returned types.Returned refl refl refl (search (rules, is)) refl)) (
-    at_line (Issues x) (is_among (Recall ∷ []) x.state && is_received_by x) _ _ row (λ is. is_this (Issues x) _ row
+    at_transition (Issues x) (is_among (Recall ∷ []) x.state && is_received_by x) _ _ row (λ is. is_this (Issues x) _ row
     (loan_row x Returned types.Returned refl refl refl (search (rules, (and_parts (is_among (Recall ∷ []) x.state) (is_received_by x) is).0)) refl)) (no_more (Issues x) _ row))
 
 -- If two records are equal as results, they are equal.
 ok_is : (x y : RequesterRecord) → ◌≡◌ {A = Result RequesterRecord Refusal} (Ok x) (Ok y) → x ≡ y
 ok_is x y h = search rules
 
--- If P holds after each line that is found, it holds of the record after a wish.
-by_row : (P : RequesterRecord → Type 0) (x new : RequesterRecord) (found : Result Line Refusal) (number : Result ℕ Refusal)
-    → ((row : Line) → found ≡ Ok row → P (record_after x row)) → acts_by x found number ≡ Ok new → P new
+-- If P holds after each transition that is found, it holds of the record after a wish.
+by_row : (P : RequesterRecord → Type 0) (x new : RequesterRecord) (found : Result Transition Refusal) (number : Result ℕ Refusal)
+    → ((row : Transition) → found ≡ Ok row → P (record_after x row)) → acts_by x found number ≡ Ok new → P new
 by_row P x new (Err refusal) number leads acted = search rules
 by_row P x new (Ok row) (Err refusal) leads acted = search rules
 by_row P x new (Ok row) (Ok n) leads acted = subst P (ok_is (record_after x row) new acted) (leads row refl)
 
--- If P holds after each line that keeps to `Issues`, it holds after a wish.
+-- If P holds after each transition that keeps to `Issues`, it holds after a wish.
 pub of_acts : (P : RequesterRecord → Type 0) (x new : RequesterRecord) (wish : Wish)
-    → ((row : Line) → line_of x wish ≡ Ok row → Issues x row → P (record_after x row)) → acts x wish ≡ Ok new → P new
-of_acts P x new wish leads acted = by_row P x new (line_of x wish) (next_number x.issued) (λ row there. leads row there (wish_row x wish row there)) acted
+    → ((row : Transition) → transition_of x wish ≡ Ok row → Issues x row → P (record_after x row)) → acts x wish ≡ Ok new → P new
+of_acts P x new wish leads acted = by_row P x new (transition_of x wish) (next_number x.issued) (λ row there. leads row there (wish_row x wish row there)) acted
 
 -- After a wish a record has at most 255 messages, since a number was left.
-by_few : (x new : RequesterRecord) (found : Result Line Refusal) (number : Result ℕ Refusal)
+by_few : (x new : RequesterRecord) (found : Result Transition Refusal) (number : Result ℕ Refusal)
     → next_number x.issued ≡ number → acts_by x found number ≡ Ok new → length new.issued ≤ 255
 by_few x new (Err refusal) number next acted = search rules
 by_few x new (Ok row) (Err refusal) next acted = search rules
@@ -345,4 +345,4 @@ by_few x new (Ok row) (Ok n) next acted = subst (λ (r : RequesterRecord). lengt
 
 -- A wish leaves at most 255 messages.
 pub acts_few : (x new : RequesterRecord) (wish : Wish) → acts x wish ≡ Ok new → length new.issued ≤ 255
-acts_few x new wish = by_few x new (line_of x wish) (next_number x.issued) refl
+acts_few x new wish = by_few x new (transition_of x wish) (next_number x.issued) refl

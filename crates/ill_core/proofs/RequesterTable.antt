@@ -26,10 +26,10 @@ use Rattle.ill_core.specs.Kinds.{wish_kind, responder_kind, number_in, date_in}
 use Rattle.ill_core.specs.Tables as tables
 use Rattle.ill_core.specs.Tables.{taking_of, next_state, fits}
 use Rattle.ill_core.specs.Requester.{RequesterRecord, requester_of, IsRequester, last_renew}
-use Rattle.ill_core.specs.RequesterTables.{held_after, due_after, after, delivery_facts, delivery_rows, delivery_row, delivery_row_of, wish_facts, wish_rows, wish_row, wish_body}
+use Rattle.ill_core.specs.RequesterTables.{held_after, due_after, after, delivery_guards, delivery_rows, delivery_row, delivery_row_of, wish_guards, wish_rows, wish_row, wish_body}
 use Rattle.ill_core.specs.RequesterDeliveries.{take_message}
-use Rattle.ill_core.specs.RequesterActions.{Line, line_of, record_after, acts_by, acts, Acts}
-use Rattle.ill_core.proofs.TableLemmas.{answer_of, lines, found_lines}
+use Rattle.ill_core.specs.RequesterActions.{Transition, transition_of, record_after, acts_by, acts, Acts}
+use Rattle.ill_core.proofs.TableLemmas.{answer_of, by_tests, found_by_tests}
 use Rattle.ill_core.proofs.RequesterRows.{message_row}
 use Rattle.ill_core.proofs.Rules.{requester_rules, is_requester}
 use Rattle.ill_core.proofs.RequesterLaws.{acts_kept}
@@ -39,12 +39,12 @@ abbrev pub hit : RequesterRecord → Apdu → Body → Row ResponderKind → Res
 hit x a body row = (Ok (taking_of row.3 x.state), after x row (number_in a body) (date_in body))
 
 -- Returns the answer of the rows of a kind, as tests one after another.
-abbrev pub lines_of : RequesterRecord → Apdu → Body → Option ResponderKind → Result Taking Refusal × RequesterRecord
-lines_of x a body None = conflict x.state x
-lines_of x a body (Some kind) =
-    lines x.state (delivery_facts x (number_in a body) (date_in body)) (hit x a body) (conflict x.state x) (delivery_rows kind)
+abbrev pub tests_of : RequesterRecord → Apdu → Body → Option ResponderKind → Result Taking Refusal × RequesterRecord
+tests_of x a body None = conflict x.state x
+tests_of x a body (Some kind) =
+    by_tests x.state (delivery_guards x (number_in a body) (date_in body)) (hit x a body) (conflict x.state x) (delivery_rows kind)
 
--- A fact that a definition tests once, and two rows ask for, gives one answer both ways.
+-- A guard that a definition tests once, and two rows ask for, gives one answer both ways.
 asked_twice : {A : Type 0} (last later : Bool) (taken none others : A)
     → (if last then (if later then taken else (if last then none else others)) else (if last then none else others))
     ≡ (if last then (if later then taken else none) else others)
@@ -53,7 +53,7 @@ asked_twice false later taken none others = refl
 
 -- The rows of deliveries give what `take_message` gives, for each APDU and each state.
 pub tabled : (body : Body) (state : State) (txn : Qualifiers) (held : Option ℕ) (checked_in : Bool) (due : Option Date) (issued : List Apdu) (a : Apdu)
-    → lines_of (requester_of txn state held checked_in due issued) a body (responder_kind body) ≡ take_message (requester_of txn state held checked_in due issued) a body
+    → tests_of (requester_of txn state held checked_in due issued) a body (responder_kind body) ≡ take_message (requester_of txn state held checked_in due issued) a body
 tabled (types.IllAnswer results.Conditional) Idle txn held checked_in due issued a = refl
 tabled (types.IllAnswer results.Conditional) state txn held checked_in due issued a = refl
 tabled (types.IllAnswer answer) Idle txn held checked_in due issued a = refl
@@ -80,9 +80,9 @@ tabled body state txn held checked_in due issued a = refl
 
 -- The answer of the first row that fits is what the tests of the rows of its kind give.
 found : (x : RequesterRecord) (a : Apdu) (body : Body) (kind : Option ResponderKind)
-    → answer_of (hit x a body) (conflict x.state x) (delivery_row_of x a body kind) ≡ lines_of x a body kind
+    → answer_of (hit x a body) (conflict x.state x) (delivery_row_of x a body kind) ≡ tests_of x a body kind
 found x a body None = refl
-found x a body (Some kind) = found_lines x.state (delivery_facts x (number_in a body) (date_in body)) (hit x a body) (conflict x.state x) (delivery_rows kind)
+found x a body (Some kind) = found_by_tests x.state (delivery_guards x (number_in a body) (date_in body)) (hit x a body) (conflict x.state x) (delivery_rows kind)
 
 -- The first row that fits an APDU gives its answer. If none fits, it is a conflict.
 pub takes_row : (x : RequesterRecord) (a : Apdu)
@@ -118,92 +118,92 @@ wished x wish k row =
     requester_of x.txn (next_state row.3 x.state) (held_after row.4 x.held k) (tables.has row.4 MARK || x.checked_in) (due_after row.4 x.due None)
     (with_next x.txn x.issued (wish_body x wish))
 
--- Returns the record after a line, or the refusal if there is none.
-abbrev pub by_line : RequesterRecord → Result Line Refusal → Result RequesterRecord Refusal
-by_line x (Err refusal) = Err refusal
-by_line x (Ok line) = Ok (record_after x line)
+-- Returns the record after a transition, or the refusal if there is none.
+abbrev pub by_transition : RequesterRecord → Result Transition Refusal → Result RequesterRecord Refusal
+by_transition x (Err refusal) = Err refusal
+by_transition x (Ok transition) = Ok (record_after x transition)
 
--- A choice of two lines leads to the choice of their two records.
-by_test : (x : RequesterRecord) (test : Bool) (here others : Result Line Refusal)
-    → (if test then by_line x here else by_line x others) ≡ by_line x (if test then here else others)
+-- A choice of two transitions leads to the choice of their two records.
+by_test : (x : RequesterRecord) (test : Bool) (here others : Result Transition Refusal)
+    → (if test then by_transition x here else by_transition x others) ≡ by_transition x (if test then here else others)
 by_test x true here others = refl
 by_test x false here others = refl
 
--- The rows of a wish give what its line gives, in each state.
-wish_lines : (wish : Wish) (state : State) (txn : Qualifiers) (held : Option ℕ) (checked_in : Bool) (due : Option Date) (issued : List Apdu) (k : ℕ)
+-- The rows of a wish give what its transition gives, in each state.
+wish_tests : (wish : Wish) (state : State) (txn : Qualifiers) (held : Option ℕ) (checked_in : Bool) (due : Option Date) (issued : List Apdu) (k : ℕ)
     → (let x : RequesterRecord = requester_of txn state held checked_in due issued in
-    lines state (wish_facts x) (λ row. Ok (wished x wish k row)) (Err (refusals.NotNow state)) (wish_rows (wish_kind wish)) ≡ by_line x (line_of x wish))
-wish_lines (wishes.Reply true) Conditional txn held checked_in due issued k = by_test (requester_of txn Conditional held checked_in due issued) (not (has declines issued)) _ _
-wish_lines (wishes.Reply true) state txn held checked_in due issued k = refl
-wish_lines (wishes.Reply false) Conditional txn held checked_in due issued k = by_test (requester_of txn Conditional held checked_in due issued) (not (has declines issued)) _ _
-wish_lines (wishes.Reply false) state txn held checked_in due issued k = refl
-wish_lines wishes.Receive Recall txn held checked_in due issued k = by_test (requester_of txn Recall held checked_in due issued) (not (has is_received issued)) _ _
-wish_lines wishes.Receive state txn held checked_in due issued k = refl
-wish_lines wishes.Return Recall txn held checked_in due issued k = by_test (requester_of txn Recall held checked_in due issued) (has is_received issued) _ _
-wish_lines wishes.Return state txn held checked_in due issued k = refl
-wish_lines wish Idle txn held checked_in due issued k = refl
-wish_lines wish state txn held checked_in due issued k = refl
+    by_tests state (wish_guards x) (λ row. Ok (wished x wish k row)) (Err (refusals.NotNow state)) (wish_rows (wish_kind wish)) ≡ by_transition x (transition_of x wish))
+wish_tests (wishes.Reply true) Conditional txn held checked_in due issued k = by_test (requester_of txn Conditional held checked_in due issued) (not (has declines issued)) _ _
+wish_tests (wishes.Reply true) state txn held checked_in due issued k = refl
+wish_tests (wishes.Reply false) Conditional txn held checked_in due issued k = by_test (requester_of txn Conditional held checked_in due issued) (not (has declines issued)) _ _
+wish_tests (wishes.Reply false) state txn held checked_in due issued k = refl
+wish_tests wishes.Receive Recall txn held checked_in due issued k = by_test (requester_of txn Recall held checked_in due issued) (not (has is_received issued)) _ _
+wish_tests wishes.Receive state txn held checked_in due issued k = refl
+wish_tests wishes.Return Recall txn held checked_in due issued k = by_test (requester_of txn Recall held checked_in due issued) (has is_received issued) _ _
+wish_tests wishes.Return state txn held checked_in due issued k = refl
+wish_tests wish Idle txn held checked_in due issued k = refl
+wish_tests wish state txn held checked_in due issued k = refl
 
--- The first row that fits a wish gives the record after its line, or `NotNow` if none fits.
+-- The first row that fits a wish gives the record after its transition, or `NotNow` if none fits.
 wish_rows_say : (x : RequesterRecord) (wish : Wish) (k : ℕ)
-    → answer_of (λ row. Ok (wished x wish k row)) (Err (refusals.NotNow x.state)) (wish_row x wish) ≡ by_line x (line_of x wish)
+    → answer_of (λ row. Ok (wished x wish k row)) (Err (refusals.NotNow x.state)) (wish_row x wish) ≡ by_transition x (transition_of x wish)
 wish_rows_say x wish k =
-    found_lines x.state (wish_facts x) (λ row. Ok (wished x wish k row)) (Err (refusals.NotNow x.state)) (wish_rows (wish_kind wish))
-    ∙ wish_lines wish x.state x.txn x.held x.checked_in x.due x.issued k
+    found_by_tests x.state (wish_guards x) (λ row. Ok (wished x wish k row)) (Err (refusals.NotNow x.state)) (wish_rows (wish_kind wish))
+    ∙ wish_tests wish x.state x.txn x.held x.checked_in x.due x.issued k
 
--- A row that is the first to fit a wish gives the record after its line.
+-- A row that is the first to fit a wish gives the record after its transition.
 by_this : (x : RequesterRecord) (wish : Wish) (k : ℕ) (row : Row RequesterKind) → wish_row x wish ≡ Some row
-    → Ok (wished x wish k row) ≡ by_line x (line_of x wish)
+    → Ok (wished x wish k row) ≡ by_transition x (transition_of x wish)
 by_this x wish k row is = ap (answer_of (λ r. Ok (wished x wish k r)) (Err (refusals.NotNow x.state))) (sym is) ∙ wish_rows_say x wish k
 
--- If no row fits a wish, it has no line now.
+-- If no row fits a wish, it has no transition now.
 by_none : (x : RequesterRecord) (wish : Wish) → wish_row x wish ≡ None
-    → Err (refusals.NotNow x.state) ≡ by_line x (line_of x wish)
+    → Err (refusals.NotNow x.state) ≡ by_transition x (transition_of x wish)
 by_none x wish is = ap (answer_of (λ r. Ok (wished x wish 0 r)) (Err (refusals.NotNow x.state))) (sym is) ∙ wish_rows_say x wish 0
 
--- If a number is left, the line that leads to `new` is done, and gives `new`.
-numbered : (x new : RequesterRecord) (found : Result Line Refusal) (n : ℕ) → Ok new ≡ by_line x found
+-- If a number is left, the transition that leads to `new` is done, and gives `new`.
+numbered : (x new : RequesterRecord) (found : Result Transition Refusal) (n : ℕ) → Ok new ≡ by_transition x found
     → acts_by x found (Ok n) ≡ Ok new
-numbered x new (Ok line) n is = sym is
+numbered x new (Ok transition) n is = sym is
 numbered x new (Err refusal) n is = search rules
 
--- If no number is left, a wish that has a line is refused with the refusal of the number.
-used : (x new : RequesterRecord) (found : Result Line Refusal) (refusal : Refusal) → Ok new ≡ by_line x found
+-- If no number is left, a wish that has a transition is refused with the refusal of the number.
+used : (x new : RequesterRecord) (found : Result Transition Refusal) (refusal : Refusal) → Ok new ≡ by_transition x found
     → acts_by x found (Err refusal) ≡ Err refusal
-used x new (Ok line) refusal is = refl
+used x new (Ok transition) refusal is = refl
 used x new (Err other) refusal is = search rules
 
--- A wish that has no line is refused with `NotNow`, whatever the number is.
-not_now : (x : RequesterRecord) (found : Result Line Refusal) (refusal : Refusal) (number : Result ℕ Refusal)
-    → Err refusal ≡ by_line x found → acts_by x found number ≡ Err refusal
+-- A wish that has no transition is refused with `NotNow`, whatever the number is.
+not_now : (x : RequesterRecord) (found : Result Transition Refusal) (refusal : Refusal) (number : Result ℕ Refusal)
+    → Err refusal ≡ by_transition x found → acts_by x found number ≡ Err refusal
 not_now x (Err other) refusal number is = sym is
-not_now x (Ok line) refusal number is = search rules
+not_now x (Ok transition) refusal number is = search rules
 
 -- If a row fits a wish and a number is left, the wish leads to the record after the row.
 pub acts_this : (x : RequesterRecord) (wish : Wish) (row : Row RequesterKind) (k n : ℕ) → wish_row x wish ≡ Some row
     → next_number x.issued ≡ Ok n
     → acts x wish ≡ Ok (wished x wish k row)
-acts_this x wish row k n is next = ap (acts_by x (line_of x wish)) next ∙ numbered x (wished x wish k row) (line_of x wish) n (by_this x wish k row is)
+acts_this x wish row k n is next = ap (acts_by x (transition_of x wish)) next ∙ numbered x (wished x wish k row) (transition_of x wish) n (by_this x wish k row is)
 
 -- If a row fits a wish and no number is left, the wish is refused with that refusal.
 pub acts_used : (x : RequesterRecord) (wish : Wish) (row : Row RequesterKind) (refusal : Refusal)
     → wish_row x wish ≡ Some row → next_number x.issued ≡ Err refusal
     → acts x wish ≡ Err refusal
-acts_used x wish row refusal is next = ap (acts_by x (line_of x wish)) next ∙ used x (wished x wish 0 row) (line_of x wish) refusal (by_this x wish 0 row is)
+acts_used x wish row refusal is next = ap (acts_by x (transition_of x wish)) next ∙ used x (wished x wish 0 row) (transition_of x wish) refusal (by_this x wish 0 row is)
 
 -- If no row fits a wish, it is refused with `NotNow`.
 pub acts_none : (x : RequesterRecord) (wish : Wish) → wish_row x wish ≡ None → acts x wish ≡ Err (refusals.NotNow x.state)
-acts_none x wish is = not_now x (line_of x wish) (refusals.NotNow x.state) (next_number x.issued) (by_none x wish is)
+acts_none x wish is = not_now x (transition_of x wish) (refusals.NotNow x.state) (next_number x.issued) (by_none x wish is)
 
--- If a record is the one after a line, there is a line.
-there : (x new : RequesterRecord) (found : Result Line Refusal) → Ok new ≡ by_line x found → IsOk found
-there x new (Ok line) is = search rules
+-- If a record is the one after a transition, there is a transition.
+there : (x new : RequesterRecord) (found : Result Transition Refusal) → Ok new ≡ by_transition x found → IsOk found
+there x new (Ok transition) is = search rules
 there x new (Err refusal) is = search rules
 
--- If a row fits a wish, the wish has a line.
-pub line_there : (x : RequesterRecord) (wish : Wish) (row : Row RequesterKind) → wish_row x wish ≡ Some row
-    → IsOk (line_of x wish)
-line_there x wish row is = there x (wished x wish 0 row) (line_of x wish) (by_this x wish 0 row is)
+-- If a row fits a wish, the wish has a transition.
+pub transition_there : (x : RequesterRecord) (wish : Wish) (row : Row RequesterKind) → wish_row x wish ≡ Some row
+    → IsOk (transition_of x wish)
+transition_there x wish row is = there x (wished x wish 0 row) (transition_of x wish) (by_this x wish 0 row is)
 
 -- The first row that fits a wish leads to a requester's record, if a number is left.
 pub wished_kept : (x : RequesterRecord) (wish : Wish) (row : Row RequesterKind) (k n : ℕ) → IsRequester x

@@ -19,15 +19,15 @@ use Rattle.ill_core.specs.Bodies.{grant_in}
 use Rattle.ill_core.specs.Issued.{message, granted_day, last_of, next_apdu}
 use Rattle.ill_core.specs.Responder.{ResponderRecord, IsResponder, later, due_of, are_rising}
 use Rattle.ill_core.specs.ResponderRules.{ResponderRules}
-use Rattle.ill_core.specs.ResponderActions.{Line, no_date, acts}
+use Rattle.ill_core.specs.ResponderActions.{Transition, no_date, acts}
 use Rattle.ill_core.specs.ResponderDeliveries.{takes}
-use Rattle.ill_core.specs.ResponderFacts.{IssuesUnfilled, MayRenew, answered_number, answers_to, AnswersOnce}
+use Rattle.ill_core.specs.ResponderEvidence.{IssuesUnfilled, MayRenew, answered_number, answers_to, AnswersOnce}
 use Rattle.ill_core.specs.ResponderNotices.{grant, grant_of, GrantsRise}
 use Rattle.ill_core.proofs.MessageLemmas.{message_more}
 use Rattle.ill_core.proofs.GrantLemmas.{before_later, granted_not_later}
 use Rattle.ill_core.proofs.Rules.{responder_rules}
 use Rattle.ill_core.proofs.ResponderLists.{no_grants}
-use Rattle.ill_core.proofs.ResponderLines.{IsLine, answers, allows_cancel, refuses_cancel, ships, renews, refuses_renewal, refuses_late, reminds, reminds_renewing, recalls, checks_in, expires}
+use Rattle.ill_core.proofs.ResponderTransitions.{IsTransition, answers, allows_cancel, refuses_cancel, ships, renews, refuses_renewal, refuses_late, reminds, reminds_renewing, recalls, checks_in, expires}
 use Rattle.ill_core.proofs.ResponderRows.{of_acts}
 use Rattle.ill_core.proofs.ResponderLaws.{takes_issue}
 
@@ -154,29 +154,29 @@ renewal_later y due h once after i m n b d e at old new =
 
 -- ---- deeds and messages
 
--- A line grants no date, or one that is later than each older grant.
-line_later : (y : ResponderRecord) (line : Line) → IsLine y line → ResponderRules y → AnswersOnce MayRenew y
-    → GrantsLater y.issued line.body
-line_later y _ (answers answer is) h once = none_later y.issued (types.IllAnswer answer) refl
-line_later y _ (allows_cancel is) h once = none_later y.issued (types.CancelReply (unwrap_or y.last_cancel 0) true) refl
-line_later y _ (refuses_cancel is) h once = none_later y.issued (types.CancelReply (unwrap_or y.last_cancel 0) false) refl
-line_later y _ (ships due is) h once =
+-- A transition grants no date, or one that is later than each older grant.
+transition_later : (y : ResponderRecord) (transition : Transition) → IsTransition y transition → ResponderRules y → AnswersOnce MayRenew y
+    → GrantsLater y.issued transition.body
+transition_later y _ (answers answer is) h once = none_later y.issued (types.IllAnswer answer) refl
+transition_later y _ (allows_cancel is) h once = none_later y.issued (types.CancelReply (unwrap_or y.last_cancel 0) true) refl
+transition_later y _ (refuses_cancel is) h once = none_later y.issued (types.CancelReply (unwrap_or y.last_cancel 0) false) refl
+transition_later y _ (ships due is) h once =
     first_later y.issued (types.Shipped due) h.rising (no_grants y.issued h.ships_first (not_shipped y.state _ is h.issued.shipped))
-line_later y _ (renews due is after) h once = renewal_later y due h once after
-line_later y _ (refuses_renewal is) h once = none_later y.issued (types.RenewAnswer (unwrap_or y.last_renew 0) None) refl
-line_later y _ (refuses_late is) h once = none_later y.issued (types.RenewAnswer (unwrap_or y.last_renew 0) None) refl
-line_later y _ (reminds is) h once = none_later y.issued (types.Overdue (unwrap_or (due_of y) no_date)) refl
-line_later y _ (reminds_renewing is) h once = none_later y.issued (types.Overdue (unwrap_or (due_of y) no_date)) refl
-line_later y _ (recalls is) h once = none_later y.issued types.Recall refl
-line_later y _ (checks_in is) h once = none_later y.issued types.CheckedIn refl
-line_later y _ (expires is) h once = none_later y.issued types.Expired refl
+transition_later y _ (renews due is after) h once = renewal_later y due h once after
+transition_later y _ (refuses_renewal is) h once = none_later y.issued (types.RenewAnswer (unwrap_or y.last_renew 0) None) refl
+transition_later y _ (refuses_late is) h once = none_later y.issued (types.RenewAnswer (unwrap_or y.last_renew 0) None) refl
+transition_later y _ (reminds is) h once = none_later y.issued (types.Overdue (unwrap_or (due_of y) no_date)) refl
+transition_later y _ (reminds_renewing is) h once = none_later y.issued (types.Overdue (unwrap_or (due_of y) no_date)) refl
+transition_later y _ (recalls is) h once = none_later y.issued types.Recall refl
+transition_later y _ (checks_in is) h once = none_later y.issued types.CheckedIn refl
+transition_later y _ (expires is) h once = none_later y.issued types.Expired refl
 
 -- A deed keeps the order of the grants.
 pub acts_rise : (y new : ResponderRecord) (deed : Deed) (today : Date) → acts y deed today ≡ Ok new → IsResponder y
     → AnswersOnce MayRenew y → GrantsRise y.issued → GrantsRise new.issued
 acts_rise y new deed today done h once rise =
     of_acts (λ r. GrantsRise r.issued) y new deed today
-    (λ line is how. grants_more y.issued (next_apdu y.txn y.issued line.body) rise (line_later y line is (responder_rules y h) once)) done
+    (λ transition is how. grants_more y.issued (next_apdu y.txn y.issued transition.body) rise (transition_later y transition is (responder_rules y h) once)) done
 
 -- A message that issues an ILL-Answer or nothing keeps the order of the grants.
 issued_rise : (y new : ResponderRecord) (body : Body) → IssuesUnfilled y body new → GrantsRise y.issued → GrantsRise new.issued

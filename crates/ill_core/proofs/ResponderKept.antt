@@ -19,14 +19,14 @@ use Rattle.ill_core.specs.Issued.{next_number, was, is_same_txn, next_apdu, gran
 use Rattle.ill_core.specs.ResponderRules.{ResponderRules, IssuedFits, PartsFit}
 use Rattle.ill_core.proofs.Rules.{responder_rules, is_responder}
 use Rattle.ill_core.specs.Responder.{ResponderRecord, IsResponder, responder_of, outstanding_number, is_named, later, are_rising, ships_first, due_of}
-use Rattle.ill_core.specs.ResponderActions.{Line, issues_to, record_after}
+use Rattle.ill_core.specs.ResponderActions.{Transition, issues_to, record_after}
 use Rattle.ill_core.specs.declared.refusal.Refusal.{Refusal}
 use Rattle.ill_core.specs.declared.refusal.Refusal.TheVariants.{OtherTransaction, WrongRole}
 use Rattle.ill_core.specs.declared.taking.Taking.{Taking}
 use Rattle.ill_core.specs.Issued.{Admits, first_refusal}
 use Rattle.ill_core.specs.ResponderDeliveries.{MayWantMemory, answers_no, Takes, take_message, takes_memory, takes}
 use Rattle.ill_core.specs.Answers.{unless_refused}
-use Rattle.ill_core.proofs.ResponderLines.{IsLine, answers, allows_cancel, refuses_cancel, ships, renews, refuses_renewal, refuses_late, reminds, reminds_renewing, recalls, checks_in, expires}
+use Rattle.ill_core.proofs.ResponderTransitions.{IsTransition, answers, allows_cancel, refuses_cancel, ships, renews, refuses_renewal, refuses_late, reminds, reminds_renewing, recalls, checks_in, expires}
 use Rattle.ill_core.proofs.IssuedLemmas.{numbered_next, same_txn, has_more, all_more, none_more, found_none, found_more}
 use Rattle.ill_core.proofs.ResponderLists.{count_more, ends_more, named_more, rise_more, ships_more, ships_renewed, no_grants}
 
@@ -91,59 +91,59 @@ next_kept y body state h fits grants =
       ships_first = ships_next y a h grants;
     }
 
--- The state and the APDU of each line fit.
-line_fits : (txn : Qualifiers) (state : State) (accepted last_cancel last_renew : Option ℕ) (received : Bool) (request : Option Apdu) (issued : List Apdu) (line : Line)
+-- The state and the APDU of each transition fit.
+transition_fits : (txn : Qualifiers) (state : State) (accepted last_cancel last_renew : Option ℕ) (received : Bool) (request : Option Apdu) (issued : List Apdu) (transition : Transition)
     → ResponderRules (responder_of txn state accepted last_cancel last_renew received request issued)
-    → IsLine (responder_of txn state accepted last_cancel last_renew received request issued) line
-    → FitsNext (responder_of txn state accepted last_cancel last_renew received request issued) line.body line.next
-line_fits txn InProcess accepted last_cancel last_renew received request issued _ h (answers results.Conditional is) = search rules
-line_fits txn InProcess accepted last_cancel last_renew received request issued _ h (answers answer is) = search rules
-line_fits txn state accepted last_cancel last_renew received request issued _ h (answers answer is) = search rules
-line_fits txn CancelPending accepted last_cancel last_renew received request issued _ h (allows_cancel is) = search rules
-line_fits txn state accepted last_cancel last_renew received request issued _ h (allows_cancel is) = search rules
-line_fits txn CancelPending accepted last_cancel last_renew received request issued _ h (refuses_cancel is) = search rules
-line_fits txn state accepted last_cancel last_renew received request issued _ h (refuses_cancel is) = search rules
-line_fits txn InProcess accepted last_cancel last_renew received request issued _ h (ships due is) = search rules
-line_fits txn state accepted last_cancel last_renew received request issued _ h (ships due is) = search rules
-line_fits txn RenewPending accepted last_cancel last_renew received request issued _ h (renews due is after) = search rules
-line_fits txn RenewOverdue accepted last_cancel last_renew received request issued _ h (renews due is after) = search rules
-line_fits txn state accepted last_cancel last_renew received request issued _ h (renews due is after) = search rules
-line_fits txn RenewPending accepted last_cancel last_renew received request issued _ h (refuses_renewal is) = search rules
-line_fits txn state accepted last_cancel last_renew received request issued _ h (refuses_renewal is) = search rules
-line_fits txn RenewOverdue accepted last_cancel last_renew received request issued _ h (refuses_late is) = search rules
-line_fits txn state accepted last_cancel last_renew received request issued _ h (refuses_late is) = search rules
-line_fits txn Shipped accepted last_cancel last_renew received request issued _ h (reminds is) = search rules
-line_fits txn state accepted last_cancel last_renew received request issued _ h (reminds is) = search rules
-line_fits txn RenewPending accepted last_cancel last_renew received request issued _ h (reminds_renewing is) = search rules
-line_fits txn state accepted last_cancel last_renew received request issued _ h (reminds_renewing is) = search rules
-line_fits txn Shipped accepted last_cancel last_renew received request issued _ h (recalls is) = search rules
-line_fits txn Overdue accepted last_cancel last_renew received request issued _ h (recalls is) = search rules
-line_fits txn state accepted last_cancel last_renew received request issued _ h (recalls is) = search rules
-line_fits txn Returned accepted last_cancel last_renew received request issued _ h (checks_in is) = search rules
-line_fits txn state accepted last_cancel last_renew received request issued _ h (checks_in is) = search rules
-line_fits txn InProcess accepted last_cancel last_renew received request issued _ h (expires is) = search rules
-line_fits txn Conditional accepted last_cancel last_renew received request issued _ h (expires is) = search rules
-line_fits txn state accepted last_cancel last_renew received request issued _ h (expires is) = search rules
+    → IsTransition (responder_of txn state accepted last_cancel last_renew received request issued) transition
+    → FitsNext (responder_of txn state accepted last_cancel last_renew received request issued) transition.body transition.next
+transition_fits txn InProcess accepted last_cancel last_renew received request issued _ h (answers results.Conditional is) = search rules
+transition_fits txn InProcess accepted last_cancel last_renew received request issued _ h (answers answer is) = search rules
+transition_fits txn state accepted last_cancel last_renew received request issued _ h (answers answer is) = search rules
+transition_fits txn CancelPending accepted last_cancel last_renew received request issued _ h (allows_cancel is) = search rules
+transition_fits txn state accepted last_cancel last_renew received request issued _ h (allows_cancel is) = search rules
+transition_fits txn CancelPending accepted last_cancel last_renew received request issued _ h (refuses_cancel is) = search rules
+transition_fits txn state accepted last_cancel last_renew received request issued _ h (refuses_cancel is) = search rules
+transition_fits txn InProcess accepted last_cancel last_renew received request issued _ h (ships due is) = search rules
+transition_fits txn state accepted last_cancel last_renew received request issued _ h (ships due is) = search rules
+transition_fits txn RenewPending accepted last_cancel last_renew received request issued _ h (renews due is after) = search rules
+transition_fits txn RenewOverdue accepted last_cancel last_renew received request issued _ h (renews due is after) = search rules
+transition_fits txn state accepted last_cancel last_renew received request issued _ h (renews due is after) = search rules
+transition_fits txn RenewPending accepted last_cancel last_renew received request issued _ h (refuses_renewal is) = search rules
+transition_fits txn state accepted last_cancel last_renew received request issued _ h (refuses_renewal is) = search rules
+transition_fits txn RenewOverdue accepted last_cancel last_renew received request issued _ h (refuses_late is) = search rules
+transition_fits txn state accepted last_cancel last_renew received request issued _ h (refuses_late is) = search rules
+transition_fits txn Shipped accepted last_cancel last_renew received request issued _ h (reminds is) = search rules
+transition_fits txn state accepted last_cancel last_renew received request issued _ h (reminds is) = search rules
+transition_fits txn RenewPending accepted last_cancel last_renew received request issued _ h (reminds_renewing is) = search rules
+transition_fits txn state accepted last_cancel last_renew received request issued _ h (reminds_renewing is) = search rules
+transition_fits txn Shipped accepted last_cancel last_renew received request issued _ h (recalls is) = search rules
+transition_fits txn Overdue accepted last_cancel last_renew received request issued _ h (recalls is) = search rules
+transition_fits txn state accepted last_cancel last_renew received request issued _ h (recalls is) = search rules
+transition_fits txn Returned accepted last_cancel last_renew received request issued _ h (checks_in is) = search rules
+transition_fits txn state accepted last_cancel last_renew received request issued _ h (checks_in is) = search rules
+transition_fits txn InProcess accepted last_cancel last_renew received request issued _ h (expires is) = search rules
+transition_fits txn Conditional accepted last_cancel last_renew received request issued _ h (expires is) = search rules
+transition_fits txn state accepted last_cancel last_renew received request issued _ h (expires is) = search rules
 
--- Each line grants no date, or a first one, or one after the due date.
-line_grants : (y : ResponderRecord) (line : Line) → IsLine y line → Grants y line.body
-line_grants y _ (answers answer is) = no_grant refl refl
-line_grants y _ (allows_cancel is) = no_grant refl refl
-line_grants y _ (refuses_cancel is) = no_grant refl refl
-line_grants y _ (ships due is) = first_grant due refl (search rules)
-line_grants y _ (renews due is after) = later_grant due refl (search rules) after
-line_grants y _ (refuses_renewal is) = no_grant refl refl
-line_grants y _ (refuses_late is) = no_grant refl refl
-line_grants y _ (reminds is) = no_grant refl refl
-line_grants y _ (reminds_renewing is) = no_grant refl refl
-line_grants y _ (recalls is) = no_grant refl refl
-line_grants y _ (checks_in is) = no_grant refl refl
-line_grants y _ (expires is) = no_grant refl refl
+-- Each transition grants no date, or a first one, or one after the due date.
+transition_grants : (y : ResponderRecord) (transition : Transition) → IsTransition y transition → Grants y transition.body
+transition_grants y _ (answers answer is) = no_grant refl refl
+transition_grants y _ (allows_cancel is) = no_grant refl refl
+transition_grants y _ (refuses_cancel is) = no_grant refl refl
+transition_grants y _ (ships due is) = first_grant due refl (search rules)
+transition_grants y _ (renews due is after) = later_grant due refl (search rules) after
+transition_grants y _ (refuses_renewal is) = no_grant refl refl
+transition_grants y _ (refuses_late is) = no_grant refl refl
+transition_grants y _ (reminds is) = no_grant refl refl
+transition_grants y _ (reminds_renewing is) = no_grant refl refl
+transition_grants y _ (recalls is) = no_grant refl refl
+transition_grants y _ (checks_in is) = no_grant refl refl
+transition_grants y _ (expires is) = no_grant refl refl
 
--- A line leads from a record that keeps the rules to one that keeps them.
-pub line_kept : (y : ResponderRecord) (line : Line) → ResponderRules y → IsLine y line → ResponderRules (record_after y line)
-line_kept y line h is =
-    next_kept y line.body line.next h (line_fits y.txn y.state y.accepted y.last_cancel y.last_renew y.received y.request y.issued line h is) (line_grants y line is)
+-- A transition leads from a record that keeps the rules to one that keeps them.
+pub transition_kept : (y : ResponderRecord) (transition : Transition) → ResponderRules y → IsTransition y transition → ResponderRules (record_after y transition)
+transition_kept y transition h is =
+    next_kept y transition.body transition.next h (transition_fits y.txn y.state y.accepted y.last_cancel y.last_renew y.received y.request y.issued transition h is) (transition_grants y transition is)
 
 -- In IN-PROCESS and CONDITIONAL, an ILL-Answer unfilled with NOT-SUPPLIED fits.
 no_fits : (txn : Qualifiers) (state : State) (accepted last_cancel last_renew : Option ℕ) (received : Bool) (request : Option Apdu) (issued : List Apdu)
@@ -234,7 +234,7 @@ pub admits_none : (o : Option Refusal) → Admits o (Ok tt) → o ≡ None
 admits_none None h = refl
 admits_none (Some refusal) h = search rules
 
--- An APDU that is not refused first is answered as its line says.
+-- An APDU that is not refused first is answered as its transition says.
 pub takes_admitted : (y new : ResponderRecord) (a : Apdu) (answer : Result Taking Refusal)
     → first_refusal y.txn (not (is_requesters a.body)) a ≡ None
     → MayWantMemory (take_message y a a.body) (takes_memory y a.body) y answer new → Takes y a answer new
@@ -274,11 +274,11 @@ sent_back_kept : (txn : Qualifiers) (state : State) (accepted last_cancel last_r
 sent_back_kept txn Shipped accepted last_cancel last_renew received request issued h is = search rules
 sent_back_kept txn state accepted last_cancel last_renew received request issued h is = search rules
 
--- If each line that may be the first to fit keeps the rules, the answer does.
-line : (fits : Bool) (here others : Result Taking Refusal × ResponderRecord) → (fits ≡ true → ResponderRules here.1)
+-- If each transition that may be the first to fit keeps the rules, the answer does.
+transition : (fits : Bool) (here others : Result Taking Refusal × ResponderRecord) → (fits ≡ true → ResponderRules here.1)
     → (fits ≡ false → ResponderRules others.1)
     → ResponderRules (if fits then here else others).1
-line fits here others = cond_both fits here others (λ r. ResponderRules r.1)
+transition fits here others = cond_both fits here others (λ r. ResponderRules r.1)
 
 -- To answer a no, or to refuse it for want of a number, keeps the rules.
 answer_kept : (y : ResponderRecord) (next : Result ℕ Refusal) → ResponderRules y
@@ -290,32 +290,32 @@ answer_kept y (Err refusal) h waits = h
 pub message_kept : (y : ResponderRecord) (a : Apdu) (body : Body) → ResponderRules y → is_same_txn a.txn y.txn ≡ true
     → is_ill_request a.body ≡ is_ill_request body → ResponderRules (take_message y a body).1
 message_kept y a (types.IllRequest expiry item) h same is =
-    line (is_among (Idle ∷ []) y.state) _ _ (λ idle. request_kept y a h idle same is) (λ _. h)
+    transition (is_among (Idle ∷ []) y.state) _ _ (λ idle. request_kept y a h idle same is) (λ _. h)
 message_kept y a (types.ConditionalReply c true) h same is =
-    line (is_the c (outstanding_number y)) _ _ (λ there. yes_kept y c h there) (λ _.
-    line (is_the c y.accepted) _ _ (λ _. h) (λ _.
-    line (was names_conditions y.issued c) _ _ (λ _. h) (λ _. h)))
+    transition (is_the c (outstanding_number y)) _ _ (λ there. yes_kept y c h there) (λ _.
+    transition (is_the c y.accepted) _ _ (λ _. h) (λ _.
+    transition (was names_conditions y.issued c) _ _ (λ _. h) (λ _. h)))
 message_kept y a (types.ConditionalReply c false) h same is =
-    line (is_among (InProcess ∷ Conditional ∷ []) y.state) _ _ (answer_kept y (next_number y.issued) h) (λ _.
-    line (is_among (NotSupplied ∷ []) y.state) _ _ (λ _. h) (λ _. h))
+    transition (is_among (InProcess ∷ Conditional ∷ []) y.state) _ _ (answer_kept y (next_number y.issued) h) (λ _.
+    transition (is_among (NotSupplied ∷ []) y.state) _ _ (λ _. h) (λ _. h))
 message_kept y a types.Cancel h same is =
-    line (is_at_most a.number y.last_cancel) _ _ (λ _. h) (λ _.
-    line (is_among (InProcess ∷ Conditional ∷ []) y.state) _ _
+    transition (is_at_most a.number y.last_cancel) _ _ (λ _. h) (λ _.
+    transition (is_among (InProcess ∷ Conditional ∷ []) y.state) _ _
     (cancel_asked_kept y.txn y.state y.accepted y.last_cancel y.last_renew y.received y.request y.issued a.number h) (λ _. h))
 message_kept y a types.Received h same is =
-    line (is_among later y.state && not y.received) _ _ (arrived_kept y h) (λ _.
-    line (is_among later y.state) _ _ (λ _. h) (λ _. h))
+    transition (is_among later y.state && not y.received) _ _ (arrived_kept y h) (λ _.
+    transition (is_among later y.state) _ _ (λ _. h) (λ _. h))
 message_kept y a (types.Renew wished) h same is =
     let asked = renew_asked_kept y.txn y.state in
-    line (is_at_most a.number y.last_renew) _ _ (λ _. h) (λ _.
-    line (is_among (Shipped ∷ []) y.state) _ _
+    transition (is_at_most a.number y.last_renew) _ _ (λ _. h) (λ _.
+    transition (is_among (Shipped ∷ []) y.state) _ _
     (λ here. asked RenewPending y.accepted y.last_cancel y.last_renew y.received y.request y.issued a.number h (search (rules, here)) refl) (λ _.
-    line (is_among (Overdue ∷ []) y.state) _ _
+    transition (is_among (Overdue ∷ []) y.state) _ _
     (λ here. asked RenewOverdue y.accepted y.last_cancel y.last_renew y.received y.request y.issued a.number h (search (rules, here)) refl) (λ _. h)))
 message_kept y a types.Returned h same is =
-    line (is_among (Shipped ∷ RenewPending ∷ Overdue ∷ RenewOverdue ∷ Recall ∷ []) y.state) _ _
+    transition (is_among (Shipped ∷ RenewPending ∷ Overdue ∷ RenewOverdue ∷ Recall ∷ []) y.state) _ _
     (sent_back_kept y.txn y.state y.accepted y.last_cancel y.last_renew y.received y.request y.issued h) (λ _.
-    line (is_among (Returned ∷ CheckedIn ∷ []) y.state) _ _ (λ _. h) (λ _. h))
+    transition (is_among (Returned ∷ CheckedIn ∷ []) y.state) _ _ (λ _. h) (λ _. h))
 message_kept y a other h same is = h
 
 -- An APDU that is admitted is of the transaction.

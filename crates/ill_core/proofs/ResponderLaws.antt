@@ -24,18 +24,18 @@ use Rattle.ill_core.specs.Answers.{taken, repeat, unless_refused}
 use Rattle.ill_core.specs.declared.refusal.Refusal.{Refusal}
 use Rattle.ill_core.specs.declared.taking.Taking.{Taking}
 use Rattle.ill_core.specs.declared.taking.Taking.TheVariants.{Taken}
-use Rattle.ill_core.specs.ResponderFacts.{Fact, Claims, IsEvidence, Requested, Accepted, CancelAsked, Arrived, SentBack, cancels, KeepsRequest, IssuesUnfilled, StaysLater, Ends, EntersByEnd, EndsOnce, is_unsupplied, is_cancelled, is_end, ended, ends_in, Question, MayCancel, MayRenew, answered_number, last_asked, waits, answers_to, AnswersLast, KeepsLast, TakesNew, AnsweredOnce, AnswersOnce}
+use Rattle.ill_core.specs.ResponderEvidence.{Fact, Claims, IsEvidence, Requested, Accepted, CancelAsked, Arrived, SentBack, cancels, KeepsRequest, IssuesUnfilled, StaysLater, Ends, EntersByEnd, EndsOnce, is_unsupplied, is_cancelled, is_end, ended, ends_in, Question, MayCancel, MayRenew, answered_number, last_asked, waits, answers_to, AnswersLast, KeepsLast, TakesNew, AnsweredOnce, AnswersOnce}
 use Rattle.ill_core.proofs.IssuedLemmas.{issued_body, not_longer, has_more, found_none, found_more}
 use Rattle.ill_core.proofs.ResponderLists.{count_more}
 use Rattle.ill_core.proofs.Rules.{responder_rules, is_responder}
-use Rattle.ill_core.proofs.ResponderKept.{line_kept}
+use Rattle.ill_core.proofs.ResponderKept.{transition_kept}
 use Rattle.ill_core.proofs.ResponderRows.{Issues, Moves, of_takes, of_acts}
 use Rattle.ill_core.proofs.NumberLemmas.{all_weaker, below_new, at_most_below, distinct_more}
 
 -- A deed that is done issues one APDU, with the next number.
 pub acts_issue : (y new : ResponderRecord) (deed : Deed) (today : Date) → acts y deed today ≡ Ok new
     → IssuesNext y.txn y.issued new.issued
-acts_issue y new deed today = of_acts (λ r. IssuesNext y.txn y.issued r.issued) y new deed today (λ line there how. (line.body, refl))
+acts_issue y new deed today = of_acts (λ r. IssuesNext y.txn y.issued r.issued) y new deed today (λ transition there how. (transition.body, refl))
 
 -- A message issues nothing, or, if it is a Conditional-Reply no, one ILL-Answer unfilled.
 pub takes_issue : (y : ResponderRecord) (a : Apdu) → IssuesUnfilled y a.body (takes y a).1
@@ -43,7 +43,7 @@ takes_issue y a = of_takes (IssuesUnfilled y a.body) y a (λ how. inl how.issued
 
 -- A deed keeps the transaction.
 pub acts_txn : (y new : ResponderRecord) (deed : Deed) (today : Date) → acts y deed today ≡ Ok new → new.txn ≡ y.txn
-acts_txn y new deed today = of_acts (λ r. r.txn ≡ y.txn) y new deed today (λ line there how. refl)
+acts_txn y new deed today = of_acts (λ r. r.txn ≡ y.txn) y new deed today (λ transition there how. refl)
 
 -- A message keeps the transaction.
 pub takes_txn : (y : ResponderRecord) (a : Apdu) → (takes y a).1.txn ≡ y.txn
@@ -52,7 +52,7 @@ takes_txn y a = of_takes (λ r. r.txn ≡ y.txn) y a (λ how. how.txn) (λ said 
 -- After a deed a responder is not in IDLE.
 pub acts_begun : (y new : ResponderRecord) (deed : Deed) (today : Date) → acts y deed today ≡ Ok new
     → is_among (Idle ∷ []) new.state ≡ false
-acts_begun y new deed today = of_acts (λ r. is_among (Idle ∷ []) r.state ≡ false) y new deed today (λ line there how. how.on)
+acts_begun y new deed today = of_acts (λ r. is_among (Idle ∷ []) r.state ≡ false) y new deed today (λ transition there how. how.on)
 
 -- An ILL-Request that is taken leads outside IDLE.
 asked_begins : (y : ResponderRecord) (a : Apdu) (here : Bool)
@@ -82,7 +82,7 @@ request_begins y a asks is =
 
 -- Past IDLE a deed keeps the request.
 pub acts_request : (y new : ResponderRecord) (deed : Deed) (today : Date) → acts y deed today ≡ Ok new → KeepsRequest y new
-acts_request y new deed today = of_acts (KeepsRequest y) y new deed today (λ line there how begun. (how.on, refl))
+acts_request y new deed today = of_acts (KeepsRequest y) y new deed today (λ transition there how begun. (how.on, refl))
 
 -- Past IDLE a message keeps the request.
 pub takes_request : (y : ResponderRecord) (a : Apdu) → KeepsRequest y (takes y a).1
@@ -91,7 +91,7 @@ takes_request y a = of_takes (KeepsRequest y) y a (λ how. how.request) (λ said
 -- A deed leads from a responder's record to a responder's record.
 pub acts_kept : (y new : ResponderRecord) (deed : Deed) (today : Date) → acts y deed today ≡ Ok new → IsResponder y
     → IsResponder new
-acts_kept y new deed today = of_acts (λ r. IsResponder y → IsResponder r) y new deed today (λ line is how h. is_responder _ (line_kept y line (responder_rules y h) is))
+acts_kept y new deed today = of_acts (λ r. IsResponder y → IsResponder r) y new deed today (λ transition is how h. is_responder _ (transition_kept y transition (responder_rules y h) is))
 
 -- No test is both false and true.
 pub not_both : {P : Type 0} (b : Bool) → b ≡ false → b ≡ true → P
@@ -104,7 +104,7 @@ final = NotSupplied ∷ Cancelled ∷ CheckedIn ∷ []
 -- A deed in a final state keeps the state.
 pub acts_final : (y new : ResponderRecord) (deed : Deed) (today : Date) → acts y deed today ≡ Ok new
     → is_among final y.state ≡ true → new.state ≡ y.state
-acts_final y new deed today = of_acts (λ r. is_among final y.state ≡ true → r.state ≡ y.state) y new deed today (λ line there how. not_both _ how.final)
+acts_final y new deed today = of_acts (λ r. is_among final y.state ≡ true → r.state ≡ y.state) y new deed today (λ transition there how. not_both _ how.final)
 
 -- A message in a final state keeps the state.
 pub takes_final : (y : ResponderRecord) (a : Apdu) → is_among final y.state ≡ true → (takes y a).1.state ≡ y.state
@@ -114,7 +114,7 @@ takes_final y a = of_takes (λ r. is_among final y.state ≡ true → r.state �
 returned_or_later : (state : State) → is_among (Returned ∷ []) state ≡ true → is_among (Returned ∷ CheckedIn ∷ []) state ≡ true
 returned_or_later state is = search rules
 
--- After a line of a deed, SHIPPED or later stays so, and RETURNED leads to CHECKED-IN at most.
+-- After a transition of a deed, SHIPPED or later stays so, and RETURNED leads to CHECKED-IN at most.
 issues_stays : (y : ResponderRecord) (body : Body) (next : State) → Issues y body next → StaysLater y (issues_to y body next)
 issues_stays y body next how = (
   λ is. sym how.shipped ∙ ap (λ b. b || is_shipped body) is,
@@ -123,7 +123,7 @@ issues_stays y body next how = (
 
 -- After a deed, SHIPPED or later stays so, and RETURNED leads to CHECKED-IN at most.
 pub acts_later : (y new : ResponderRecord) (deed : Deed) (today : Date) → acts y deed today ≡ Ok new → StaysLater y new
-acts_later y new deed today = of_acts (StaysLater y) y new deed today (λ line there. issues_stays y line.body line.next)
+acts_later y new deed today = of_acts (StaysLater y) y new deed today (λ transition there. issues_stays y transition.body transition.next)
 
 -- After a message, SHIPPED or later stays so, and RETURNED leads to CHECKED-IN at most.
 pub takes_later : (y : ResponderRecord) (a : Apdu) → StaysLater y (takes y a).1
@@ -132,7 +132,7 @@ takes_later y a =
     (λ how. (λ is. sym how.shipped ∙ is, λ is. returned_or_later _ (ap (is_among (Returned ∷ [])) (how.returned is) ∙ is)))
     (λ said how. issues_stays y _ _ how)
 
--- A line issues an end only while the request is open, and leads to the state of that end.
+-- A transition issues an end only while the request is open, and leads to the state of that end.
 issues_ends : (y : ResponderRecord) (body : Body) (next : State) → Issues y body next → Ends y (issues_to y body next)
 issues_ends y body next how a same is =
     let said = issued_body y.txn y.issued body a same in
@@ -140,7 +140,7 @@ issues_ends y body next how a same is =
 
 -- A deed issues an end only while the request is open, and leads to the state of that end.
 pub acts_end : (y new : ResponderRecord) (deed : Deed) (today : Date) → acts y deed today ≡ Ok new → Ends y new
-acts_end y new deed today = of_acts (Ends y) y new deed today (λ line there. issues_ends y line.body line.next)
+acts_end y new deed today = of_acts (Ends y) y new deed today (λ transition there. issues_ends y transition.body transition.next)
 
 -- A message issues an end only while the request is open, and leads to the state of that end.
 pub takes_end : (y : ResponderRecord) (a : Apdu) → Ends y (takes y a).1
@@ -153,19 +153,19 @@ by_end : (y new : ResponderRecord) (a : Apdu) → new.issued ≡ y.issued ++ a �
 by_end y new a same (inl old) = inl old
 by_end y new a same (inr is) = inr (a, same, is)
 
--- A line enters the state of an end only by issuing that end.
+-- A transition enters the state of an end only by issuing that end.
 issues_enters : (y : ResponderRecord) (body : Body) (next : State) → Issues y body next → EntersByEnd y (issues_to y body next)
 issues_enters y body next how is = by_end y (issues_to y body next) (next_apdu y.txn y.issued body) refl (how.enters is)
 
 -- A deed enters the state of an end only by issuing that end.
 pub acts_enter : (y new : ResponderRecord) (deed : Deed) (today : Date) → acts y deed today ≡ Ok new → EntersByEnd y new
-acts_enter y new deed today = of_acts (EntersByEnd y) y new deed today (λ line there. issues_enters y line.body line.next)
+acts_enter y new deed today = of_acts (EntersByEnd y) y new deed today (λ transition there. issues_enters y transition.body transition.next)
 
 -- A message enters the state of an end only by issuing that end.
 pub takes_enter : (y : ResponderRecord) (a : Apdu) → EntersByEnd y (takes y a).1
 takes_enter y a = of_takes (EntersByEnd y) y a (λ how is. inl (how.ended ∙ is)) (λ said how. issues_enters y _ _ how)
 
--- A line keeps the request ended once.
+-- A transition keeps the request ended once.
 issues_once : (y : ResponderRecord) (body : Body) (next : State) → Issues y body next → EndsOnce y
     → EndsOnce (issues_to y body next)
 issues_once y body next how h =
@@ -190,13 +190,13 @@ moves_once y new number body how h =
 -- A deed keeps the request ended once.
 pub acts_end_once : (y new : ResponderRecord) (deed : Deed) (today : Date) → acts y deed today ≡ Ok new → EndsOnce y
     → EndsOnce new
-acts_end_once y new deed today = of_acts (λ r. EndsOnce y → EndsOnce r) y new deed today (λ line there. issues_once y line.body line.next)
+acts_end_once y new deed today = of_acts (λ r. EndsOnce y → EndsOnce r) y new deed today (λ transition there. issues_once y transition.body transition.next)
 
 -- A message keeps the request ended once.
 pub takes_end_once : (y : ResponderRecord) (a : Apdu) → EndsOnce y → EndsOnce (takes y a).1
 takes_end_once y a = of_takes (λ r. EndsOnce y → EndsOnce r) y a (moves_once y (takes y a).1 a.number a.body) (λ said how. issues_once y _ _ how)
 
--- A line answers a question only while it waits, and answers the last one taken.
+-- A transition answers a question only while it waits, and answers the last one taken.
 issues_answer : (question : Question) (y : ResponderRecord) (body : Body) (next : State) → Issues y body next
     → AnswersLast question y (issues_to y body next)
 issues_answer question y body next how a n same is =
@@ -205,20 +205,20 @@ issues_answer question y body next how a n same is =
 -- A deed answers a question only while it waits, and answers the last one taken.
 pub acts_answer_last : (question : Question) (y new : ResponderRecord) (deed : Deed) (today : Date)
     → acts y deed today ≡ Ok new → AnswersLast question y new
-acts_answer_last question y new deed today = of_acts (AnswersLast question y) y new deed today (λ line there. issues_answer question y line.body line.next)
+acts_answer_last question y new deed today = of_acts (AnswersLast question y) y new deed today (λ transition there. issues_answer question y transition.body transition.next)
 
 -- A message issues an answer to a question only while it waits, and that names the last one taken.
 pub takes_answer_last : (question : Question) (y : ResponderRecord) (a : Apdu) → AnswersLast question y (takes y a).1
 takes_answer_last question y a =
     of_takes (AnswersLast question y) y a (λ how b n same is. not_longer y.issued _ b how.issued same) (λ said how. issues_answer question y _ _ how)
 
--- A line keeps the last question.
+-- A transition keeps the last question.
 pub last_same : (question : Question) (y : ResponderRecord) (body : Body) (next : State)
     → last_asked question (issues_to y body next) ≡ last_asked question y
 last_same MayCancel y body next = refl
 last_same MayRenew y body next = refl
 
--- A line keeps the last question, and lets none wait that did not wait before.
+-- A transition keeps the last question, and lets none wait that did not wait before.
 issues_keeps : (question : Question) (y : ResponderRecord) (body : Body) (next : State) → Issues y body next
     → KeepsLast question y (issues_to y body next)
 issues_keeps question y body next how = (last_same question y body next, how.asked question)
@@ -226,7 +226,7 @@ issues_keeps question y body next how = (last_same question y body next, how.ask
 -- A deed keeps the last question, and lets none wait that did not wait before.
 pub acts_keep_last : (question : Question) (y new : ResponderRecord) (deed : Deed) (today : Date)
     → acts y deed today ≡ Ok new → KeepsLast question y new
-acts_keep_last question y new deed today = of_acts (KeepsLast question y) y new deed today (λ line there. issues_keeps question y line.body line.next)
+acts_keep_last question y new deed today = of_acts (KeepsLast question y) y new deed today (λ transition there. issues_keeps question y transition.body transition.next)
 
 -- A message keeps the last question, or asks a new one with a higher number.
 pub takes_keep_last : (question : Question) (y : ResponderRecord) (a : Apdu)
@@ -269,7 +269,7 @@ pub known : (o : Option ℕ) (n : ℕ) (waiting : Bool) → implies waiting (is_
     → n ≡ unwrap_or o 0 → o ≡ Some n
 known o n waiting there is same = search rules
 
--- A line that answers a question, or none, keeps all questions answered once.
+-- A transition that answers a question, or none, keeps all questions answered once.
 answer_issued : (question : Question) (y : ResponderRecord) (body : Body) (next : State) (o : Option ℕ)
     → answered_number question body ≡ o → Issues y body next
     → implies (waits question y.state) (is_some (last_asked question y)) ≡ true → AnswersOnce question y
@@ -287,7 +287,7 @@ answer_issued question y body next (Some n) some how there h =
     (subst (λ b. AnsweredOnce (answers_to question y.issued ++ n ∷ []) (Some n) b) (sym row.1) (each_answered _ n before)) in
     subst (λ ns. AnsweredOnce ns (last_asked question y) (waits question next)) (sym (found_more (λ a. answered_number question a.body) y.issued (next_apdu y.txn y.issued body) n some)) after
 
--- A line keeps all questions answered once, if the last one is there while it waits.
+-- A transition keeps all questions answered once, if the last one is there while it waits.
 issues_each : (question : Question) (y : ResponderRecord) (body : Body) (next : State) → Issues y body next
     → implies (waits question y.state) (is_some (last_asked question y)) ≡ true → AnswersOnce question y
     → AnswersOnce question (issues_to y body next)
@@ -300,7 +300,7 @@ pub acts_once : (question : Question) (y new : ResponderRecord) (deed : Deed) (t
     → implies (waits question y.state) (is_some (last_asked question y)) ≡ true → AnswersOnce question y
     → AnswersOnce question new
 acts_once question y new deed today done there =
-    of_acts (λ r. AnswersOnce question y → AnswersOnce question r) y new deed today (λ line leads how. issues_each question y line.body line.next how there) done
+    of_acts (λ r. AnswersOnce question y → AnswersOnce question r) y new deed today (λ transition leads how. issues_each question y transition.body transition.next how there) done
 
 -- A move keeps all questions answered once.
 moves_each : (question : Question) (y new : ResponderRecord) (number : ℕ) (body : Body) → new.issued ≡ y.issued
@@ -352,7 +352,7 @@ yes_shown : (y : ResponderRecord) (body : Body) (c : ℕ) → (cancels c body �
 yes_shown y body c asked (inl older) = inr older
 yes_shown y body c asked (inr is) = inl (asked is)
 
--- A line shows no new fact, if a yes that it issues answers the last Cancel.
+-- A transition shows no new fact, if a yes that it issues answers the last Cancel.
 issues_shows : (y : ResponderRecord) (body : Body) (next : State) (fact : Fact) → Issues y body next
     → ((c : ℕ) → cancels c body ≡ true → y.last_cancel ≡ Some c) → Claims (issues_to y body next) fact → Claims y fact
 issues_shows y body next Requested how asked shown = how.begun
@@ -376,7 +376,7 @@ pub acts_shows : (y new : ResponderRecord) (deed : Deed) (today : Date) (fact : 
     → implies (waits MayCancel y.state) (is_some y.last_cancel) ≡ true → Claims new fact → Claims y fact
 acts_shows y new deed today fact done there =
     of_acts (λ r. Claims r fact → Claims y fact) y new deed today
-    (λ line leads how. issues_shows y line.body line.next fact how (yes_answers_last y line.body line.next how there)) done
+    (λ transition leads how. issues_shows y transition.body transition.next fact how (yes_answers_last y transition.body transition.next how there)) done
 
 -- Each fact that a record shows after a move was shown before, or the message tells it.
 moves_shows : (y new : ResponderRecord) (number : ℕ) (body : Body) (fact : Fact) → Moves y number body new → Claims new fact

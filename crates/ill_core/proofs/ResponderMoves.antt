@@ -40,11 +40,11 @@ pub data Change (y : ResponderRecord) (number : ℕ) : Body → ResponderRecord 
       → Change y number (types.Renew wished) (record y { state = RenewOverdue; last_renew = Some number })
   returns : is_among lent y.state ≡ true → Change y number types.Returned (record y { state = Returned })
 
--- If each line that may be the first to fit changes the record so, the answer does.
-line : (y : ResponderRecord) (number : ℕ) (body : Body) (fits : Bool) (here others : Result Taking Refusal × ResponderRecord)
+-- If each transition that may be the first to fit changes the record so, the answer does.
+transition : (y : ResponderRecord) (number : ℕ) (body : Body) (fits : Bool) (here others : Result Taking Refusal × ResponderRecord)
     → (fits ≡ true → Change y number body here.1) → (fits ≡ false → Change y number body others.1)
     → Change y number body (if fits then here else others).1
-line y number body fits here others = cond_both fits here others (λ r. Change y number body r.1)
+transition y number body fits here others = cond_both fits here others (λ r. Change y number body r.1)
 
 -- Conditions wait for an answer in CONDITIONAL alone.
 waits_conditional : (c : ℕ) (state : State) (size : Option ℕ)
@@ -62,27 +62,27 @@ no_changes y number c false few waiting = leaves _
 -- A message that is not refused changes a record in one of these ways, or leaves it.
 message_changes : (y : ResponderRecord) (a : Apdu) (body : Body) → Change y a.number body (take_message y a body).1
 message_changes y a (types.IllRequest expiry item) =
-    line y _ _ (is_among (Idle ∷ []) y.state) _ _ (requests expiry item a) (λ _. leaves _)
+    transition y _ _ (is_among (Idle ∷ []) y.state) _ _ (requests expiry item a) (λ _. leaves _)
 message_changes y a (types.ConditionalReply c true) =
-    line y _ _ (is_the c (outstanding_number y)) _ _ (λ there. accepts c (waits_conditional c y.state _ there)) (λ _.
-    line y _ _ (is_the c y.accepted) _ _ (λ _. leaves _) (λ _.
-    line y _ _ (was names_conditions y.issued c) _ _ (λ _. leaves _) (λ _. leaves _)))
+    transition y _ _ (is_the c (outstanding_number y)) _ _ (λ there. accepts c (waits_conditional c y.state _ there)) (λ _.
+    transition y _ _ (is_the c y.accepted) _ _ (λ _. leaves _) (λ _.
+    transition y _ _ (was names_conditions y.issued c) _ _ (λ _. leaves _) (λ _. leaves _)))
 message_changes y a (types.ConditionalReply c false) =
-    line y _ _ (is_among undecided y.state) _ _ (no_changes y a.number c (nat_lt (length y.issued) 255) refl) (λ _.
-    line y _ _ (is_among (NotSupplied ∷ []) y.state) _ _ (λ _. leaves _) (λ _. leaves _))
+    transition y _ _ (is_among undecided y.state) _ _ (no_changes y a.number c (nat_lt (length y.issued) 255) refl) (λ _.
+    transition y _ _ (is_among (NotSupplied ∷ []) y.state) _ _ (λ _. leaves _) (λ _. leaves _))
 message_changes y a types.Cancel =
-    line y _ _ (is_at_most a.number y.last_cancel) _ _ (λ _. leaves _) (λ above.
-    line y _ _ (is_among undecided y.state) _ _ (cancels above) (λ _. leaves _))
+    transition y _ _ (is_at_most a.number y.last_cancel) _ _ (λ _. leaves _) (λ above.
+    transition y _ _ (is_among undecided y.state) _ _ (cancels above) (λ _. leaves _))
 message_changes y a types.Received =
-    line y _ _ (is_among later y.state && not y.received) _ _ (λ _. arrives) (λ _.
-    line y _ _ (is_among later y.state) _ _ (λ _. leaves _) (λ _. leaves _))
+    transition y _ _ (is_among later y.state && not y.received) _ _ (λ _. arrives) (λ _.
+    transition y _ _ (is_among later y.state) _ _ (λ _. leaves _) (λ _. leaves _))
 message_changes y a (types.Renew wished) =
-    line y _ _ (is_at_most a.number y.last_renew) _ _ (λ _. leaves _) (λ above.
-    line y _ _ (is_among (Shipped ∷ []) y.state) _ _ (renews wished above) (λ _.
-    line y _ _ (is_among (Overdue ∷ []) y.state) _ _ (renews_late wished above) (λ _. leaves _)))
+    transition y _ _ (is_at_most a.number y.last_renew) _ _ (λ _. leaves _) (λ above.
+    transition y _ _ (is_among (Shipped ∷ []) y.state) _ _ (renews wished above) (λ _.
+    transition y _ _ (is_among (Overdue ∷ []) y.state) _ _ (renews_late wished above) (λ _. leaves _)))
 message_changes y a types.Returned =
-    line y _ _ (is_among lent y.state) _ _ returns (λ _.
-    line y _ _ (is_among (Returned ∷ CheckedIn ∷ []) y.state) _ _ (λ _. leaves _) (λ _. leaves _))
+    transition y _ _ (is_among lent y.state) _ _ returns (λ _.
+    transition y _ _ (is_among (Returned ∷ CheckedIn ∷ []) y.state) _ _ (λ _. leaves _) (λ _. leaves _))
 message_changes y a other = leaves _
 
 -- A message that is refused leaves the record.
@@ -121,11 +121,11 @@ takes_few y a = change_few y (takes y a).1 a.number a.body (takes_changes y a)
 data Heard (number : ℕ) (body : Body) (answer : Result Taking Refusal × ResponderRecord) : Type 0 where
   hears : has_heard answer.1 number body ≡ true → Heard number body answer
 
--- If each line leads to a record that has heard the message, the first that fits does.
-heard_line : (number : ℕ) (body : Body) (fits : Bool) (here others : Result Taking Refusal × ResponderRecord)
+-- If each transition leads to a record that has heard the message, the first that fits does.
+heard_transition : (number : ℕ) (body : Body) (fits : Bool) (here others : Result Taking Refusal × ResponderRecord)
     → (fits ≡ true → Heard number body here) → (fits ≡ false → Heard number body others)
     → Heard number body (if fits then here else others)
-heard_line number body fits here others = cond_both fits here others (Heard number body)
+heard_transition number body fits here others = cond_both fits here others (Heard number body)
 
 -- After a no the record has heard it, with a number left for the answer or without.
 no_heard : (y : ResponderRecord) (number c : ℕ) (left : Bool) → nat_lt (length y.issued) 255 ≡ left
@@ -145,27 +145,27 @@ renew_heard state above one other = search rules
 -- After a message that is not refused, the record has heard it.
 message_heard : (y : ResponderRecord) (a : Apdu) (body : Body) → Heard a.number body (take_message y a body)
 message_heard y a (types.IllRequest expiry item) =
-    heard_line _ _ (is_among (Idle ∷ []) y.state) _ _ (λ _. hears refl) (λ begun. hears (not_from_false _ begun))
+    heard_transition _ _ (is_among (Idle ∷ []) y.state) _ _ (λ _. hears refl) (λ begun. hears (not_from_false _ begun))
 message_heard y a (types.ConditionalReply c true) =
-    heard_line _ _ (is_the c (outstanding_number y)) _ _ (λ _. hears refl) (λ other.
-    heard_line _ _ (is_the c y.accepted) _ _ (λ _. hears (not_from_false _ other)) (λ _.
-    heard_line _ _ (was names_conditions y.issued c) _ _ (λ _. hears (not_from_false _ other)) (λ _. hears (not_from_false _ other))))
+    heard_transition _ _ (is_the c (outstanding_number y)) _ _ (λ _. hears refl) (λ other.
+    heard_transition _ _ (is_the c y.accepted) _ _ (λ _. hears (not_from_false _ other)) (λ _.
+    heard_transition _ _ (was names_conditions y.issued c) _ _ (λ _. hears (not_from_false _ other)) (λ _. hears (not_from_false _ other))))
 message_heard y a (types.ConditionalReply c false) =
-    heard_line _ _ (is_among undecided y.state) _ _ (λ _. hears (no_heard y a.number c _ refl)) (λ decided.
-    heard_line _ _ (is_among (NotSupplied ∷ []) y.state) _ _ (λ _. hears (or_left _ _ (not_from_false _ decided))) (λ _. hears (or_left _ _ (not_from_false _ decided))))
+    heard_transition _ _ (is_among undecided y.state) _ _ (λ _. hears (no_heard y a.number c _ refl)) (λ decided.
+    heard_transition _ _ (is_among (NotSupplied ∷ []) y.state) _ _ (λ _. hears (or_left _ _ (not_from_false _ decided))) (λ _. hears (or_left _ _ (not_from_false _ decided))))
 message_heard y a types.Cancel =
-    heard_line _ _ (is_at_most a.number y.last_cancel) _ _ (λ most. hears (or_right (not (is_among undecided y.state)) _ most)) (λ _.
-    heard_line _ _ (is_among undecided y.state) _ _ (λ _. hears refl) (λ decided. hears (or_left _ _ (not_from_false _ decided))))
+    heard_transition _ _ (is_at_most a.number y.last_cancel) _ _ (λ most. hears (or_right (not (is_among undecided y.state)) _ most)) (λ _.
+    heard_transition _ _ (is_among undecided y.state) _ _ (λ _. hears refl) (λ decided. hears (or_left _ _ (not_from_false _ decided))))
 message_heard y a types.Received =
-    heard_line _ _ (is_among later y.state && not y.received) _ _ (λ _. hears (or_right (not (is_among later y.state)) _ refl)) (λ none.
-    heard_line _ _ (is_among later y.state) _ _ (λ _. hears (received_heard _ _ none)) (λ _. hears (received_heard _ _ none)))
+    heard_transition _ _ (is_among later y.state && not y.received) _ _ (λ _. hears (or_right (not (is_among later y.state)) _ refl)) (λ none.
+    heard_transition _ _ (is_among later y.state) _ _ (λ _. hears (received_heard _ _ none)) (λ _. hears (received_heard _ _ none)))
 message_heard y a (types.Renew wished) =
-    heard_line _ _ (is_at_most a.number y.last_renew) _ _ (λ most. hears (or_right (not (is_among (Shipped ∷ Overdue ∷ []) y.state)) _ most)) (λ _.
-    heard_line _ _ (is_among (Shipped ∷ []) y.state) _ _ (λ _. hears refl) (λ one.
-    heard_line _ _ (is_among (Overdue ∷ []) y.state) _ _ (λ _. hears refl) (λ other. hears (renew_heard y.state _ one other))))
+    heard_transition _ _ (is_at_most a.number y.last_renew) _ _ (λ most. hears (or_right (not (is_among (Shipped ∷ Overdue ∷ []) y.state)) _ most)) (λ _.
+    heard_transition _ _ (is_among (Shipped ∷ []) y.state) _ _ (λ _. hears refl) (λ one.
+    heard_transition _ _ (is_among (Overdue ∷ []) y.state) _ _ (λ _. hears refl) (λ other. hears (renew_heard y.state _ one other))))
 message_heard y a types.Returned =
-    heard_line _ _ (is_among lent y.state) _ _ (λ _. hears refl) (λ home.
-    heard_line _ _ (is_among (Returned ∷ CheckedIn ∷ []) y.state) _ _ (λ _. hears (not_from_false _ home)) (λ _. hears (not_from_false _ home)))
+    heard_transition _ _ (is_among lent y.state) _ _ (λ _. hears refl) (λ home.
+    heard_transition _ _ (is_among (Returned ∷ CheckedIn ∷ []) y.state) _ _ (λ _. hears (not_from_false _ home)) (λ _. hears (not_from_false _ home)))
 message_heard y a other = hears refl
 
 -- The record after such an answer has heard the message.
@@ -173,7 +173,7 @@ is_heard : (number : ℕ) (body : Body) (answer : Result Taking Refusal × Respo
     → has_heard answer.1 number body ≡ true
 is_heard number body answer (hears is) = is
 
--- A message of the transaction that the other side issues is not refused before its line.
+-- A message of the transaction that the other side issues is not refused before its transition.
 not_refused : (same theirs : Bool) (y : ResponderRecord) (answer : Result Taking Refusal × ResponderRecord)
     → same ≡ true → theirs ≡ true
     → unless_refused (if same then (if not theirs then Some WrongRole else None) else Some OtherTransaction) y answer ≡ answer
@@ -185,8 +185,8 @@ not_refused true false y answer here issued = search rules
 pub takes_heard : (y : ResponderRecord) (a : Apdu) → is_same_txn a.txn y.txn ≡ true → is_requesters a.body ≡ true
     → has_heard (takes y a).1 a.number a.body ≡ true
 takes_heard y a same theirs =
-    let line = not_refused (is_same_txn a.txn y.txn) (is_requesters a.body) y (take_message y a a.body) same theirs in
-    is_heard a.number a.body (takes y a) (subst (Heard a.number a.body) (sym line) (message_heard y a a.body))
+    let transition = not_refused (is_same_txn a.txn y.txn) (is_requesters a.body) y (take_message y a a.body) same theirs in
+    is_heard a.number a.body (takes y a) (subst (Heard a.number a.body) (sym transition) (message_heard y a a.body))
 
 -- ---- what was heard stays so
 

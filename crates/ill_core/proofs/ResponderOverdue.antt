@@ -18,7 +18,7 @@ use Rattle.ill_core.specs.Bodies.{grant_in}
 use Rattle.ill_core.specs.Issued.{message, has, last_of, granted_day, next_apdu}
 use Rattle.ill_core.specs.Responder.{ResponderRecord, IsResponder, later, due_of}
 use Rattle.ill_core.specs.ResponderRules.{ResponderRules}
-use Rattle.ill_core.specs.ResponderActions.{Line, no_date, acts, issues_to}
+use Rattle.ill_core.specs.ResponderActions.{Transition, no_date, acts, issues_to}
 use Rattle.ill_core.specs.ResponderDeliveries.{takes}
 use Rattle.ill_core.specs.ResponderNotices.{undecided, grant, grant_of, is_overdue_of, OverdueFits, GrantsBeforeOverdue}
 use Rattle.ill_core.proofs.IssuedLemmas.{found_none, has_more, last_of_more}
@@ -27,7 +27,7 @@ use Rattle.ill_core.proofs.GrantLemmas.{before_on, not_before_itself, not_before
 use Rattle.ill_core.proofs.ResponderGrants.{grant_date, last_none, not_shipped, after_granted}
 use Rattle.ill_core.proofs.Rules.{responder_rules}
 use Rattle.ill_core.proofs.ResponderLists.{no_grants, due_there}
-use Rattle.ill_core.proofs.ResponderLines.{IsLine, answers, allows_cancel, refuses_cancel, ships, renews, refuses_renewal, refuses_late, reminds, reminds_renewing, recalls, checks_in, expires}
+use Rattle.ill_core.proofs.ResponderTransitions.{IsTransition, answers, allows_cancel, refuses_cancel, ships, renews, refuses_renewal, refuses_late, reminds, reminds_renewing, recalls, checks_in, expires}
 use Rattle.ill_core.proofs.ResponderRows.{of_acts}
 use Rattle.ill_core.proofs.ResponderLaws.{not_both}
 use Rattle.ill_core.proofs.ResponderMoves.{Change, takes_changes, leaves, requests, accepts, declines, cancels, arrives, returns}
@@ -54,8 +54,8 @@ abbrev AllOverdues : (Date → Type 0) → List Apdu → Type 0
 AllOverdues P apdus = (n : ℕ) (a : Apdu) (day : Date) → message apdus n ≡ Some a → a.body ≡ types.Overdue day → P day
 
 -- An Overdue has its date and its state, and its place after the grant of its date.
-abbrev HasOverduePlace : ResponderRecord → Type 0
-HasOverduePlace y = OverdueFits y × GrantsBeforeOverdue y.issued
+abbrev OverduesAreInPlace : ResponderRecord → Type 0
+OverduesAreInPlace y = OverdueFits y × GrantsBeforeOverdue y.issued
 
 -- The day is after that of each Overdue.
 abbrev IsAfterOverdues : List Apdu → Date → Type 0
@@ -159,7 +159,7 @@ neither_place : (y : ResponderRecord) (body : Body) (next : State) → grant_in 
     → ((due : Date) → is_overdue_of due body ≡ false)
     → (is_among overdue next ≡ true → is_among overdue y.state ≡ true)
     → (is_among reminded y.state ≡ true → is_among reminded next ≡ true)
-    → OverdueFits y → GrantsBeforeOverdue y.issued → HasOverduePlace (issues_to y body next)
+    → OverdueFits y → GrantsBeforeOverdue y.issued → OverduesAreInPlace (issues_to y body next)
 neither_place y body next none other leads stays h order =
     let a : Apdu = next_apdu y.txn y.issued body in
     let same = due_stays y.issued a none in (
@@ -175,7 +175,7 @@ neither_place y body next none other leads stays h order =
 grants_place : (y : ResponderRecord) (body : Body) (next : State) (due : Date) → grant_in body ≡ Some due
     → ((day : Date) → is_overdue_of day body ≡ false)
     → IsAfterOverdues y.issued due → is_among overdue next ≡ false → OverdueFits y → GrantsBeforeOverdue y.issued
-    → HasOverduePlace (issues_to y body next)
+    → OverduesAreInPlace (issues_to y body next)
 grants_place y body next due granted other later_day leaves_off h order =
     let a : Apdu = next_apdu y.txn y.issued body in
     let new_due = last_of_more granted_day y.issued a due granted in (
@@ -190,7 +190,7 @@ grants_place y body next due granted other later_day leaves_off h order =
 
 -- An Overdue for the due date has its place.
 warns_place : (y : ResponderRecord) (next : State) (due : Date) → due_of y ≡ Some due → is_among reminded next ≡ true
-    → OverdueFits y → GrantsBeforeOverdue y.issued → HasOverduePlace (issues_to y (types.Overdue due) next)
+    → OverdueFits y → GrantsBeforeOverdue y.issued → OverduesAreInPlace (issues_to y (types.Overdue due) next)
 warns_place y next due there leads h order =
     let a : Apdu = next_apdu y.txn y.issued (types.Overdue due) in
     let same = due_stays y.issued a refl in (
@@ -206,7 +206,7 @@ warns_place y next due there leads h order =
 
 -- An APDU of `Notice` keeps the place of an Overdue.
 notice_place : (y : ResponderRecord) (body : Body) (next : State) → Notice y body next → OverdueFits y
-    → GrantsBeforeOverdue y.issued → HasOverduePlace (issues_to y body next)
+    → GrantsBeforeOverdue y.issued → OverduesAreInPlace (issues_to y body next)
 notice_place y _ _ (says_neither body next none other leads stays) = neither_place y body next none other leads stays
 notice_place y _ _ (grants body next due granted other later_day off) = grants_place y body next due granted other later_day off
 notice_place y _ _ (warns next due there leads) = warns_place y next due there leads
@@ -246,29 +246,29 @@ later_shipped state is = search rules
 later_renewing : (state : State) → is_among (RenewPending ∷ []) state ≡ true → is_among later state ≡ true
 later_renewing state is = search rules
 
--- A line issues an APDU of `Notice`, and leads to a state of it.
-line_notice : (y : ResponderRecord) (line : Line) → IsLine y line → ResponderRules y → OverdueFits y
-    → Notice y line.body line.next
-line_notice y _ (answers answer is) h fits = says_neither _ _ refl (λ due. refl) (λ there. search rules) (λ there. search rules)
-line_notice y _ (allows_cancel is) h fits = says_neither _ _ refl (λ due. refl) (λ there. search rules) (λ there. search rules)
-line_notice y _ (refuses_cancel is) h fits = says_neither _ _ refl (λ due. refl) (λ there. search rules) (λ there. search rules)
-line_notice y _ (ships due is) h fits =
+-- A transition issues an APDU of `Notice`, and leads to a state of it.
+transition_notice : (y : ResponderRecord) (transition : Transition) → IsTransition y transition → ResponderRules y → OverdueFits y
+    → Notice y transition.body transition.next
+transition_notice y _ (answers answer is) h fits = says_neither _ _ refl (λ due. refl) (λ there. search rules) (λ there. search rules)
+transition_notice y _ (allows_cancel is) h fits = says_neither _ _ refl (λ due. refl) (λ there. search rules) (λ there. search rules)
+transition_notice y _ (refuses_cancel is) h fits = says_neither _ _ refl (λ due. refl) (λ there. search rules) (λ there. search rules)
+transition_notice y _ (ships due is) h fits =
     grants _ _ due refl (λ day. refl) (first_after y due fits (no_grants y.issued h.ships_first (not_shipped y.state _ is h.issued.shipped))) refl
-line_notice y _ (renews due is after) h fits = grants _ _ due refl (λ day. refl) (renewal_after y due fits after) refl
-line_notice y _ (refuses_renewal is) h fits = says_neither _ _ refl (λ due. refl) (λ there. search rules) (λ there. search rules)
-line_notice y _ (refuses_late is) h fits = says_neither _ _ refl (λ due. refl) (λ there. search rules) (λ there. search rules)
-line_notice y _ (reminds is) h fits = warns _ _ (due_is y h (later_shipped y.state is)) refl
-line_notice y _ (reminds_renewing is) h fits = warns _ _ (due_is y h (later_renewing y.state is)) refl
-line_notice y _ (recalls is) h fits = says_neither _ _ refl (λ due. refl) (λ there. search rules) (λ there. refl)
-line_notice y _ (checks_in is) h fits = says_neither _ _ refl (λ due. refl) (λ there. search rules) (λ there. refl)
-line_notice y _ (expires is) h fits = says_neither _ _ refl (λ due. refl) (λ there. search rules) (λ there. search rules)
+transition_notice y _ (renews due is after) h fits = grants _ _ due refl (λ day. refl) (renewal_after y due fits after) refl
+transition_notice y _ (refuses_renewal is) h fits = says_neither _ _ refl (λ due. refl) (λ there. search rules) (λ there. search rules)
+transition_notice y _ (refuses_late is) h fits = says_neither _ _ refl (λ due. refl) (λ there. search rules) (λ there. search rules)
+transition_notice y _ (reminds is) h fits = warns _ _ (due_is y h (later_shipped y.state is)) refl
+transition_notice y _ (reminds_renewing is) h fits = warns _ _ (due_is y h (later_renewing y.state is)) refl
+transition_notice y _ (recalls is) h fits = says_neither _ _ refl (λ due. refl) (λ there. search rules) (λ there. refl)
+transition_notice y _ (checks_in is) h fits = says_neither _ _ refl (λ due. refl) (λ there. search rules) (λ there. refl)
+transition_notice y _ (expires is) h fits = says_neither _ _ refl (λ due. refl) (λ there. search rules) (λ there. search rules)
 
 -- A deed keeps the place of an Overdue.
 pub acts_overdue : (y new : ResponderRecord) (deed : Deed) (today : Date) → acts y deed today ≡ Ok new → IsResponder y
     → OverdueFits y → GrantsBeforeOverdue y.issued → OverdueFits new × GrantsBeforeOverdue new.issued
 acts_overdue y new deed today done kept h order =
-    of_acts HasOverduePlace y new deed today
-    (λ line is how. notice_place y line.body line.next (line_notice y line is (responder_rules y kept) h) h order) done
+    of_acts OverduesAreInPlace y new deed today
+    (λ transition is how. notice_place y transition.body transition.next (transition_notice y transition is (responder_rules y kept) h) h order) done
 
 -- ---- messages
 
@@ -276,7 +276,7 @@ acts_overdue y new deed today done kept h order =
 moves_overdue : (y new : ResponderRecord) → new.issued ≡ y.issued
     → (is_among overdue new.state ≡ true → is_among overdue y.state ≡ true)
     → (is_among reminded y.state ≡ true → is_among reminded new.state ≡ true) → OverdueFits y
-    → GrantsBeforeOverdue y.issued → HasOverduePlace new
+    → GrantsBeforeOverdue y.issued → OverduesAreInPlace new
 moves_overdue y new same leads stays h order = (
   record {
     dated = subst (λ apdus. AllOverdues (IsDated apdus) apdus) (sym same) h.dated;
@@ -293,7 +293,7 @@ declines_notice y waiting = says_neither _ _ refl (λ due. refl) (λ there. sear
 
 -- A change keeps the place of an Overdue.
 change_overdue : (y new : ResponderRecord) (number : ℕ) (body : Body) → Change y number body new → OverdueFits y
-    → GrantsBeforeOverdue y.issued → HasOverduePlace new
+    → GrantsBeforeOverdue y.issued → OverduesAreInPlace new
 change_overdue y _ number _ (leaves body) = λ h order. (h, order)
 change_overdue y _ number _ (requests expiry item a idle) = moves_overdue y _ refl (λ is. search rules) (λ is. search rules)
 change_overdue y _ number _ (accepts c there) = moves_overdue y _ refl (λ is. search rules) (λ is. search rules)

@@ -18,12 +18,12 @@ use Rattle.ill_core.specs.State.{is_among}
 use Rattle.ill_core.specs.Rules.{implies}
 use Rattle.ill_core.specs.Issued.{next_apdu}
 use Rattle.ill_core.specs.Responder.{ResponderRecord}
-use Rattle.ill_core.specs.ResponderActions.{Line, acts, issues_to, record_after}
+use Rattle.ill_core.specs.ResponderActions.{Transition, acts, issues_to, record_after}
 use Rattle.ill_core.specs.ResponderDeliveries.{takes}
-use Rattle.ill_core.specs.ResponderFacts.{IssuesUnfilled, Question, MayCancel, MayRenew, asks, answered_number, last_asked, waits, answers_to, KeepsLast, TakesNew}
+use Rattle.ill_core.specs.ResponderEvidence.{IssuesUnfilled, Question, MayCancel, MayRenew, asks, answered_number, last_asked, waits, answers_to, KeepsLast, TakesNew}
 use Rattle.ill_core.specs.ResponderNotices.{WasAsked, HasAnsweredLast, has_answered, unanswered}
 use Rattle.ill_core.proofs.IssuedLemmas.{found_none, found_more}
-use Rattle.ill_core.proofs.ResponderLines.{IsLine, answers, allows_cancel, refuses_cancel, ships, renews, refuses_renewal, refuses_late, reminds, reminds_renewing, recalls, checks_in, expires}
+use Rattle.ill_core.proofs.ResponderTransitions.{IsTransition, answers, allows_cancel, refuses_cancel, ships, renews, refuses_renewal, refuses_late, reminds, reminds_renewing, recalls, checks_in, expires}
 use Rattle.ill_core.proofs.ResponderRows.{Issues, of_takes, of_acts}
 use Rattle.ill_core.proofs.ResponderLaws.{known, last_same, no_answer, not_both, takes_issue}
 use Rattle.ill_core.proofs.ResponderMoves.{Change, takes_changes, leaves, requests, accepts, declines, cancels, arrives, returns}
@@ -62,7 +62,7 @@ none_answered : (question : Question) (y : ResponderRecord) (body : Body) (next 
 none_answered question y body next number none =
     ap (is_in number) (found_none (λ a. answered_number question a.body) y.issued (next_apdu y.txn y.issued body) none)
 
--- A question that was answered after a line was asked before it.
+-- A question that was answered after a transition was asked before it.
 answered_asked : (question : Question) (y : ResponderRecord) (body : Body) (next : State) (number : ℕ) (o : Option ℕ)
     → answered_number question body ≡ o → Issues y body next
     → implies (waits question y.state) (is_some (last_asked question y)) ≡ true
@@ -74,7 +74,7 @@ answered_asked question y body next number (Some m) some how there is =
     last_or_before (last_asked question y) m number (has_answered question y number) (known (last_asked question y) m (waits question y.state) there row.0 row.2)
     (in_more (answers_to question y.issued) m number (sym (ap (is_in number) more) ∙ is))
 
--- A question that was asked after a line was asked before it.
+-- A question that was asked after a transition was asked before it.
 issues_asked : (question : Question) (y : ResponderRecord) (body : Body) (next : State) (number : ℕ) → Issues y body next
     → implies (waits question y.state) (is_some (last_asked question y)) ≡ true
     → WasAsked question (issues_to y body next) number → WasAsked question y number
@@ -88,7 +88,7 @@ pub acts_asked : (question : Question) (y new : ResponderRecord) (deed : Deed) (
     → WasAsked question y number
 acts_asked question y new deed today number done there =
     of_acts (λ r. WasAsked question r number → WasAsked question y number) y new deed today
-    (λ line leads how. issues_asked question y line.body line.next number how there) done
+    (λ transition leads how. issues_asked question y transition.body transition.next number how there) done
 
 -- A question was asked, or it is the message that comes.
 abbrev AskedOrComes : Question → ResponderRecord → ℕ → Body → ℕ → Type 0
@@ -137,44 +137,44 @@ answered_now : (question : Question) (apdus : List Apdu) (a : Apdu) (m number : 
 answered_now question apdus a m number names same =
     ap (is_in number) (found_more (λ b. answered_number question b.body) apdus a m names) ∙ in_end (answers_to question apdus) m number same
 
--- After a line the last question may have no answer, or it had one before, or the line answers it.
-line_answers : (question : Question) (y : ResponderRecord) (line : Line) → IsLine y line
-    → (is_among (unanswered question) line.next ≡ true) ⊎ ((is_among (unanswered question) y.state ≡ false) ⊎ (answered_number question line.body ≡ Some (unwrap_or (last_asked question y) 0)))
-line_answers MayCancel y _ (answers answer is) = inr (inl (search rules))
-line_answers MayCancel y _ (allows_cancel is) = inr (inr refl)
-line_answers MayCancel y _ (refuses_cancel is) = inr (inr refl)
-line_answers MayCancel y _ (ships due is) = inr (inl (search rules))
-line_answers MayCancel y _ (renews due is after) = inr (inl (search rules))
-line_answers MayCancel y _ (refuses_renewal is) = inr (inl (search rules))
-line_answers MayCancel y _ (refuses_late is) = inr (inl (search rules))
-line_answers MayCancel y _ (reminds is) = inr (inl (search rules))
-line_answers MayCancel y _ (reminds_renewing is) = inr (inl (search rules))
-line_answers MayCancel y _ (recalls is) = inr (inl (search rules))
-line_answers MayCancel y _ (checks_in is) = inr (inl (search rules))
-line_answers MayCancel y _ (expires is) = inr (inl (search rules))
-line_answers MayRenew y _ (answers answer is) = inr (inl (search rules))
-line_answers MayRenew y _ (allows_cancel is) = inr (inl (search rules))
-line_answers MayRenew y _ (refuses_cancel is) = inr (inl (search rules))
-line_answers MayRenew y _ (ships due is) = inr (inl (search rules))
-line_answers MayRenew y _ (renews due is after) = inr (inr refl)
-line_answers MayRenew y _ (refuses_renewal is) = inr (inr refl)
-line_answers MayRenew y _ (refuses_late is) = inr (inr refl)
-line_answers MayRenew y _ (reminds is) = inr (inl (search rules))
-line_answers MayRenew y _ (reminds_renewing is) = inl refl
-line_answers MayRenew y _ (recalls is) = inr (inl (search rules))
-line_answers MayRenew y _ (checks_in is) = inl refl
-line_answers MayRenew y _ (expires is) = inr (inl (search rules))
+-- After a transition the last question may have no answer, or it had one before, or the transition answers it.
+transition_answers : (question : Question) (y : ResponderRecord) (transition : Transition) → IsTransition y transition
+    → (is_among (unanswered question) transition.next ≡ true) ⊎ ((is_among (unanswered question) y.state ≡ false) ⊎ (answered_number question transition.body ≡ Some (unwrap_or (last_asked question y) 0)))
+transition_answers MayCancel y _ (answers answer is) = inr (inl (search rules))
+transition_answers MayCancel y _ (allows_cancel is) = inr (inr refl)
+transition_answers MayCancel y _ (refuses_cancel is) = inr (inr refl)
+transition_answers MayCancel y _ (ships due is) = inr (inl (search rules))
+transition_answers MayCancel y _ (renews due is after) = inr (inl (search rules))
+transition_answers MayCancel y _ (refuses_renewal is) = inr (inl (search rules))
+transition_answers MayCancel y _ (refuses_late is) = inr (inl (search rules))
+transition_answers MayCancel y _ (reminds is) = inr (inl (search rules))
+transition_answers MayCancel y _ (reminds_renewing is) = inr (inl (search rules))
+transition_answers MayCancel y _ (recalls is) = inr (inl (search rules))
+transition_answers MayCancel y _ (checks_in is) = inr (inl (search rules))
+transition_answers MayCancel y _ (expires is) = inr (inl (search rules))
+transition_answers MayRenew y _ (answers answer is) = inr (inl (search rules))
+transition_answers MayRenew y _ (allows_cancel is) = inr (inl (search rules))
+transition_answers MayRenew y _ (refuses_cancel is) = inr (inl (search rules))
+transition_answers MayRenew y _ (ships due is) = inr (inl (search rules))
+transition_answers MayRenew y _ (renews due is after) = inr (inr refl)
+transition_answers MayRenew y _ (refuses_renewal is) = inr (inr refl)
+transition_answers MayRenew y _ (refuses_late is) = inr (inr refl)
+transition_answers MayRenew y _ (reminds is) = inr (inl (search rules))
+transition_answers MayRenew y _ (reminds_renewing is) = inl refl
+transition_answers MayRenew y _ (recalls is) = inr (inl (search rules))
+transition_answers MayRenew y _ (checks_in is) = inl refl
+transition_answers MayRenew y _ (expires is) = inr (inl (search rules))
 
--- If the last question was answered before such a line, it was after it.
-line_has_answered : (question : Question) (y : ResponderRecord) (line : Line)
-    → (is_among (unanswered question) line.next ≡ true) ⊎ ((is_among (unanswered question) y.state ≡ false) ⊎ (answered_number question line.body ≡ Some (unwrap_or (last_asked question y) 0)))
-    → HasAnsweredLast question y → HasAnsweredLast question (record_after y line)
-line_has_answered question y line (inl may) h number last decided = not_both _ decided may
-line_has_answered question y line (inr (inl before)) h number last decided =
-    answered_more question y.issued (next_apdu y.txn y.issued line.body) number (h number (sym (last_same question y line.body line.next) ∙ last) before)
-line_has_answered question y line (inr (inr now)) h number last decided =
-    let named = ap (λ o. unwrap_or o 0) (sym (last_same question y line.body line.next) ∙ last) in
-    answered_now question y.issued (next_apdu y.txn y.issued line.body) (unwrap_or (last_asked question y) 0) number now named
+-- If the last question was answered before such a transition, it was after it.
+transition_has_answered : (question : Question) (y : ResponderRecord) (transition : Transition)
+    → (is_among (unanswered question) transition.next ≡ true) ⊎ ((is_among (unanswered question) y.state ≡ false) ⊎ (answered_number question transition.body ≡ Some (unwrap_or (last_asked question y) 0)))
+    → HasAnsweredLast question y → HasAnsweredLast question (record_after y transition)
+transition_has_answered question y transition (inl may) h number last decided = not_both _ decided may
+transition_has_answered question y transition (inr (inl before)) h number last decided =
+    answered_more question y.issued (next_apdu y.txn y.issued transition.body) number (h number (sym (last_same question y transition.body transition.next) ∙ last) before)
+transition_has_answered question y transition (inr (inr now)) h number last decided =
+    let named = ap (λ o. unwrap_or o 0) (sym (last_same question y transition.body transition.next) ∙ last) in
+    answered_now question y.issued (next_apdu y.txn y.issued transition.body) (unwrap_or (last_asked question y) 0) number now named
 
 -- A deed leaves the last question answered, unless it waits or the item came back.
 pub acts_has_answered : (question : Question) (y new : ResponderRecord) (deed : Deed) (today : Date) → acts y deed today ≡ Ok new
@@ -182,7 +182,7 @@ pub acts_has_answered : (question : Question) (y new : ResponderRecord) (deed : 
     → HasAnsweredLast question new
 acts_has_answered question y new deed today done there =
     of_acts (λ r. HasAnsweredLast question y → HasAnsweredLast question r) y new deed today
-    (λ line is how. line_has_answered question y line (line_answers question y line is)) done
+    (λ transition is how. transition_has_answered question y transition (transition_answers question y transition is)) done
 
 -- The last question may have no answer now. Or it is the one before, and needs an answer now only if it did then.
 abbrev KeepsAnswer : Question → ResponderRecord → ResponderRecord → Type 0

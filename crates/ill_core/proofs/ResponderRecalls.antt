@@ -13,12 +13,12 @@ use Rattle.ill_core.specs.State.{is_among}
 use Rattle.ill_core.specs.Bodies.{is_shipped}
 use Rattle.ill_core.specs.Issued.{message, has, next_apdu}
 use Rattle.ill_core.specs.Responder.{ResponderRecord}
-use Rattle.ill_core.specs.ResponderActions.{Line, acts, issues_to}
+use Rattle.ill_core.specs.ResponderActions.{Transition, acts, issues_to}
 use Rattle.ill_core.specs.ResponderDeliveries.{takes}
 use Rattle.ill_core.specs.ResponderNotices.{undecided, is_recall, RecallFits, ShipsBeforeRecall}
 use Rattle.ill_core.proofs.IssuedLemmas.{has_more}
 use Rattle.ill_core.proofs.MessageLemmas.{message_more, message_says}
-use Rattle.ill_core.proofs.ResponderLines.{IsLine, answers, allows_cancel, refuses_cancel, ships, renews, refuses_renewal, refuses_late, reminds, reminds_renewing, recalls, checks_in, expires}
+use Rattle.ill_core.proofs.ResponderTransitions.{IsTransition, answers, allows_cancel, refuses_cancel, ships, renews, refuses_renewal, refuses_late, reminds, reminds_renewing, recalls, checks_in, expires}
 use Rattle.ill_core.proofs.ResponderRows.{of_acts}
 use Rattle.ill_core.proofs.ResponderLaws.{not_both}
 use Rattle.ill_core.proofs.ResponderMoves.{Change, takes_changes, leaves, requests, accepts, declines, cancels, arrives, returns}
@@ -53,20 +53,20 @@ record FitsRecall (state : State) (body : Body) (next : State) : Type 0 where
   stays : is_among recalled state ≡ true → is_among recalled next ≡ true
   ships : is_shipped body ≡ true → is_among recalled state ≡ false
 
--- The APDU of each line, and the state to which it leads, fit a Recall.
-line_recall : (y : ResponderRecord) (line : Line) → IsLine y line → FitsRecall y.state line.body line.next
-line_recall y _ (answers answer is) = search rules
-line_recall y _ (allows_cancel is) = search rules
-line_recall y _ (refuses_cancel is) = search rules
-line_recall y _ (ships due is) = search rules
-line_recall y _ (renews due is after) = search rules
-line_recall y _ (refuses_renewal is) = search rules
-line_recall y _ (refuses_late is) = search rules
-line_recall y _ (reminds is) = search rules
-line_recall y _ (reminds_renewing is) = search rules
-line_recall y _ (recalls is) = search rules
-line_recall y _ (checks_in is) = search rules
-line_recall y _ (expires is) = search rules
+-- The APDU of each transition, and the state to which it leads, fit a Recall.
+transition_recall : (y : ResponderRecord) (transition : Transition) → IsTransition y transition → FitsRecall y.state transition.body transition.next
+transition_recall y _ (answers answer is) = search rules
+transition_recall y _ (allows_cancel is) = search rules
+transition_recall y _ (refuses_cancel is) = search rules
+transition_recall y _ (ships due is) = search rules
+transition_recall y _ (renews due is after) = search rules
+transition_recall y _ (refuses_renewal is) = search rules
+transition_recall y _ (refuses_late is) = search rules
+transition_recall y _ (reminds is) = search rules
+transition_recall y _ (reminds_renewing is) = search rules
+transition_recall y _ (recalls is) = search rules
+transition_recall y _ (checks_in is) = search rules
+transition_recall y _ (expires is) = search rules
 
 -- A Recall has its state, and its place after every Shipped.
 abbrev HasRecallPlace : ResponderRecord → Type 0
@@ -94,7 +94,7 @@ pub acts_recall : (y new : ResponderRecord) (deed : Deed) (today : Date) → act
     → RecallFits y → ShipsBeforeRecall y.issued → RecallFits new × ShipsBeforeRecall new.issued
 acts_recall y new deed today done =
     of_acts (λ r. RecallFits y → ShipsBeforeRecall y.issued → HasRecallPlace r) y new deed today
-    (λ line is how. issues_recall y line.body line.next (line_recall y line is)) done
+    (λ transition is how. issues_recall y transition.body transition.next (transition_recall y transition is)) done
 
 -- A change that issues nothing keeps the place of a Recall, if its states fit.
 moves_recall : (y new : ResponderRecord) → new.issued ≡ y.issued

@@ -1,4 +1,4 @@
--- The changes that each line of a responder's two tables makes.
+-- The changes that each transition of a responder's two tables makes.
 use Rattle.std.proofs.Common.{rules, ◌≡◌, ◌⊎◌, inl, inr, ℕ, ◌+◌, ◌≤◌, length, Bool, true, false, not, ◌&&◌, ◌||◌, List, [], ◌∷◌, Option, Some, None, Result, Ok, Err, if◌then◌else◌, refl, ap, sym, subst}
 use Rattle.std.specs.Option.{unwrap_or}
 use Rattle.std.proofs.lemmas.Bool.{cond_both}
@@ -20,13 +20,13 @@ use Rattle.ill_core.specs.Bodies.{is_requesters, names_conditions, declines, is_
 use Rattle.ill_core.specs.Issued.{first_refusal, next_number, was}
 use Rattle.ill_core.specs.Responder.{ResponderRecord, responder_of, later, outstanding_number}
 use Rattle.ill_core.specs.Answers.{unless_refused}
-use Rattle.ill_core.specs.ResponderActions.{Line, line_of, acts, acts_by, issues_to, record_after}
+use Rattle.ill_core.specs.ResponderActions.{Transition, transition_of, acts, acts_by, issues_to, record_after}
 use Rattle.ill_core.specs.ResponderDeliveries.{takes, take_message, answers_no}
-use Rattle.ill_core.specs.ResponderFacts.{IsEvidence, Requested, Accepted, CancelAsked, Arrived, SentBack, Question, KeepsRequest, KeepsLast, TakesNew, answered_number, last_asked, waits, is_unsupplied, is_cancelled, is_end, ended, ends_in}
-use Rattle.ill_core.proofs.LineLemmas.{few_with_next}
-use Rattle.ill_core.proofs.ResponderLines.{IsLine, is_line, answers, allows_cancel, refuses_cancel, ships, renews, refuses_renewal, refuses_late, reminds, reminds_renewing, recalls, checks_in, expires}
+use Rattle.ill_core.specs.ResponderEvidence.{IsEvidence, Requested, Accepted, CancelAsked, Arrived, SentBack, Question, KeepsRequest, KeepsLast, TakesNew, answered_number, last_asked, waits, is_unsupplied, is_cancelled, is_end, ended, ends_in}
+use Rattle.ill_core.proofs.TransitionLemmas.{few_with_next}
+use Rattle.ill_core.proofs.ResponderTransitions.{IsTransition, is_transition, answers, allows_cancel, refuses_cancel, ships, renews, refuses_renewal, refuses_late, reminds, reminds_renewing, recalls, checks_in, expires}
 
--- A line issues `body` and leads to `state`, from neither IDLE nor a final state. It enters the state of an end only
+-- A transition issues `body` and leads to `state`, from neither IDLE nor a final state. It enters the state of an end only
 -- by that end. It answers only the last question, while that waits.
 pub record Issues (y : ResponderRecord) (body : Body) (state : State) : Type 0 where
   pub begun : is_among (Idle ∷ []) y.state ≡ false
@@ -43,7 +43,7 @@ pub record Issues (y : ResponderRecord) (body : Body) (state : State) : Type 0 w
   pub replies : (question : Question) (n : ℕ) → answered_number question body ≡ Some n
       → (waits question y.state ≡ true) × (waits question state ≡ false) × (n ≡ unwrap_or (last_asked question y) 0)
 
--- A line issues nothing, and leads to `new` for message `number` with `body`. It neither enters nor leaves an end,
+-- A transition issues nothing, and leads to `new` for message `number` with `body`. It neither enters nor leaves an end,
 -- and keeps a request. It shows only facts that were shown before or that the message tells.
 pub record Moves (y : ResponderRecord) (number : ℕ) (body : Body) (new : ResponderRecord) : Type 0 where
   pub txn : new.txn ≡ y.txn
@@ -62,10 +62,10 @@ pub record Moves (y : ResponderRecord) (number : ℕ) (body : Body) (new : Respo
   pub arrived : new.received ≡ true → (y.received ≡ true) ⊎ IsEvidence number body Arrived
   pub sent_back : is_among (Returned ∷ CheckedIn ∷ []) new.state ≡ true → (is_among (Returned ∷ CheckedIn ∷ []) y.state ≡ true) ⊎ IsEvidence number body SentBack
 
--- Each line of a deed keeps to `Issues`.
-issues : (txn : Qualifiers) (state : State) (accepted last_cancel last_renew : Option ℕ) (received : Bool) (request : Option Apdu) (issued : List Apdu) (line : Line)
-    → IsLine (responder_of txn state accepted last_cancel last_renew received request issued) line
-    → Issues (responder_of txn state accepted last_cancel last_renew received request issued) line.body line.next
+-- Each transition of a deed keeps to `Issues`.
+issues : (txn : Qualifiers) (state : State) (accepted last_cancel last_renew : Option ℕ) (received : Bool) (request : Option Apdu) (issued : List Apdu) (transition : Transition)
+    → IsTransition (responder_of txn state accepted last_cancel last_renew received request issued) transition
+    → Issues (responder_of txn state accepted last_cancel last_renew received request issued) transition.body transition.next
 issues txn InProcess accepted last_cancel last_renew received request issued _ (answers results.Conditional is) = search rules
 issues txn InProcess accepted last_cancel last_renew received request issued _ (answers answer is) = search rules
 issues txn state accepted last_cancel last_renew received request issued _ (answers answer is) = search rules
@@ -157,11 +157,11 @@ left_row : (y : ResponderRecord) (number : ℕ) (body : Body) (answer : Result T
     → DeliveryRow y number body (answer, y)
 left_row y number body answer = moves (inr refl) (left y number body)
 
--- If each line that may be the first to fit is a row of deliveries, the answer is one.
-line : (y : ResponderRecord) (number : ℕ) (body : Body) (fits : Bool) (here others : Result Taking Refusal × ResponderRecord)
+-- If each transition that may be the first to fit is a row of deliveries, the answer is one.
+transition : (y : ResponderRecord) (number : ℕ) (body : Body) (fits : Bool) (here others : Result Taking Refusal × ResponderRecord)
     → (fits ≡ true → DeliveryRow y number body here) → (fits ≡ false → DeliveryRow y number body others)
     → DeliveryRow y number body (if fits then here else others)
-line y number body fits here others = cond_both fits here others (DeliveryRow y number body)
+transition y number body fits here others = cond_both fits here others (DeliveryRow y number body)
 
 -- In IN-PROCESS and CONDITIONAL, the answer to a no is a row of deliveries.
 answers_row : (y : ResponderRecord) (number c : ℕ) (next : Result ℕ Refusal)
@@ -174,30 +174,30 @@ answers_row y number c (Err refusal) waiting = left_row y number _ _
 -- The answer to an APDU that is not refused is a row of deliveries.
 message_row : (y : ResponderRecord) (a : Apdu) (body : Body) → DeliveryRow y a.number body (take_message y a body)
 message_row y a (types.IllRequest expiry item) =
-    line y _ _ (is_among (Idle ∷ []) y.state) _ _ (λ idle. moves (inl refl) (requested y.txn y.state y.accepted y.last_cancel y.last_renew y.received y.request (Some a) y.issued a.number expiry item idle)) (λ _.
+    transition y _ _ (is_among (Idle ∷ []) y.state) _ _ (λ idle. moves (inl refl) (requested y.txn y.state y.accepted y.last_cancel y.last_renew y.received y.request (Some a) y.issued a.number expiry item idle)) (λ _.
     left_row y _ _ _)
 message_row y a (types.ConditionalReply c true) =
-    line y _ _ (is_the c (outstanding_number y)) _ _ (λ there. moves (inl refl) (accepts y.txn y.state y.accepted y.last_cancel y.last_renew y.received y.request y.issued a.number c there)) (λ _.
-    line y _ _ (is_the c y.accepted) _ _ (λ _. left_row y _ _ _) (λ _.
-    line y _ _ (was names_conditions y.issued c) _ _ (λ _. left_row y _ _ _) (λ _. left_row y _ _ _)))
+    transition y _ _ (is_the c (outstanding_number y)) _ _ (λ there. moves (inl refl) (accepts y.txn y.state y.accepted y.last_cancel y.last_renew y.received y.request y.issued a.number c there)) (λ _.
+    transition y _ _ (is_the c y.accepted) _ _ (λ _. left_row y _ _ _) (λ _.
+    transition y _ _ (was names_conditions y.issued c) _ _ (λ _. left_row y _ _ _) (λ _. left_row y _ _ _)))
 message_row y a (types.ConditionalReply c false) =
-    line y _ _ (is_among (InProcess ∷ Conditional ∷ []) y.state) _ _ (answers_row y a.number c (next_number y.issued)) (λ _.
-    line y _ _ (is_among (NotSupplied ∷ []) y.state) _ _ (λ _. left_row y _ _ _) (λ _. left_row y _ _ _))
+    transition y _ _ (is_among (InProcess ∷ Conditional ∷ []) y.state) _ _ (answers_row y a.number c (next_number y.issued)) (λ _.
+    transition y _ _ (is_among (NotSupplied ∷ []) y.state) _ _ (λ _. left_row y _ _ _) (λ _. left_row y _ _ _))
 message_row y a types.Cancel =
-    line y _ _ (is_at_most a.number y.last_cancel) _ _ (λ _. left_row y _ _ _) (λ above.
-    line y _ _ (is_among (InProcess ∷ Conditional ∷ []) y.state) _ _ (λ waiting. moves (inl refl) (cancel_asked y.txn y.state y.accepted y.last_cancel y.last_renew y.received y.request y.issued a.number above waiting)) (λ _.
+    transition y _ _ (is_at_most a.number y.last_cancel) _ _ (λ _. left_row y _ _ _) (λ above.
+    transition y _ _ (is_among (InProcess ∷ Conditional ∷ []) y.state) _ _ (λ waiting. moves (inl refl) (cancel_asked y.txn y.state y.accepted y.last_cancel y.last_renew y.received y.request y.issued a.number above waiting)) (λ _.
     left_row y _ _ _))
 message_row y a types.Received =
-    line y _ _ (is_among later y.state && not y.received) _ _ (λ _. moves (inl refl) (arrived y a.number)) (λ _.
-    line y _ _ (is_among later y.state) _ _ (λ _. left_row y _ _ _) (λ _. left_row y _ _ _))
+    transition y _ _ (is_among later y.state && not y.received) _ _ (λ _. moves (inl refl) (arrived y a.number)) (λ _.
+    transition y _ _ (is_among later y.state) _ _ (λ _. left_row y _ _ _) (λ _. left_row y _ _ _))
 message_row y a (types.Renew wished) =
-    line y _ _ (is_at_most a.number y.last_renew) _ _ (λ _. left_row y _ _ _) (λ above.
-    line y _ _ (is_among (Shipped ∷ []) y.state) _ _ (λ here. moves (inl refl) (renew_asked y.txn y.state RenewPending y.accepted y.last_cancel y.last_renew y.received y.request y.issued a.number wished above (search (rules, here)) refl)) (λ _.
-    line y _ _ (is_among (Overdue ∷ []) y.state) _ _ (λ here. moves (inl refl) (renew_asked y.txn y.state RenewOverdue y.accepted y.last_cancel y.last_renew y.received y.request y.issued a.number wished above (search (rules, here)) refl)) (λ _.
+    transition y _ _ (is_at_most a.number y.last_renew) _ _ (λ _. left_row y _ _ _) (λ above.
+    transition y _ _ (is_among (Shipped ∷ []) y.state) _ _ (λ here. moves (inl refl) (renew_asked y.txn y.state RenewPending y.accepted y.last_cancel y.last_renew y.received y.request y.issued a.number wished above (search (rules, here)) refl)) (λ _.
+    transition y _ _ (is_among (Overdue ∷ []) y.state) _ _ (λ here. moves (inl refl) (renew_asked y.txn y.state RenewOverdue y.accepted y.last_cancel y.last_renew y.received y.request y.issued a.number wished above (search (rules, here)) refl)) (λ _.
     left_row y _ _ _)))
 message_row y a types.Returned =
-    line y _ _ (is_among (Shipped ∷ RenewPending ∷ Overdue ∷ RenewOverdue ∷ Recall ∷ []) y.state) _ _ (λ out. moves (inl refl) (sent_back y.txn y.state y.accepted y.last_cancel y.last_renew y.received y.request y.issued a.number out)) (λ _.
-    line y _ _ (is_among (Returned ∷ CheckedIn ∷ []) y.state) _ _ (λ _. left_row y _ _ _) (λ _. left_row y _ _ _))
+    transition y _ _ (is_among (Shipped ∷ RenewPending ∷ Overdue ∷ RenewOverdue ∷ Recall ∷ []) y.state) _ _ (λ out. moves (inl refl) (sent_back y.txn y.state y.accepted y.last_cancel y.last_renew y.received y.request y.issued a.number out)) (λ _.
+    transition y _ _ (is_among (Returned ∷ CheckedIn ∷ []) y.state) _ _ (λ _. left_row y _ _ _) (λ _. left_row y _ _ _))
 message_row y a other = left_row y a.number _ _
 
 -- A refusal is a row of deliveries, and the answer to an admitted APDU stays one.
@@ -240,29 +240,29 @@ takes_quiet y a = row_quiet y a.number a.body (takes y a) (delivery_row y a)
 ok_is : (x y : ResponderRecord) → ◌≡◌ {A = Result ResponderRecord Refusal} (Ok x) (Ok y) → x ≡ y
 ok_is x y h = search rules
 
--- If P holds after each line that is found, it holds of the record after a deed.
-by_line : (P : ResponderRecord → Type 0) (y new : ResponderRecord) (found : Result Line Refusal) (number : Result ℕ Refusal)
-    → ((line : Line) → found ≡ Ok line → P (record_after y line)) → acts_by y found number ≡ Ok new → P new
-by_line P y new (Err refusal) number leads done = search rules
-by_line P y new (Ok line) (Err refusal) leads done = search rules
-by_line P y new (Ok line) (Ok n) leads done = subst P (ok_is (record_after y line) new done) (leads line refl)
+-- If P holds after each transition that is found, it holds of the record after a deed.
+by_transition : (P : ResponderRecord → Type 0) (y new : ResponderRecord) (found : Result Transition Refusal) (number : Result ℕ Refusal)
+    → ((transition : Transition) → found ≡ Ok transition → P (record_after y transition)) → acts_by y found number ≡ Ok new → P new
+by_transition P y new (Err refusal) number leads done = search rules
+by_transition P y new (Ok transition) (Err refusal) leads done = search rules
+by_transition P y new (Ok transition) (Ok n) leads done = subst P (ok_is (record_after y transition) new done) (leads transition refl)
 
--- If P holds after each line that keeps to `Issues`, it holds after a deed.
+-- If P holds after each transition that keeps to `Issues`, it holds after a deed.
 pub of_acts : (P : ResponderRecord → Type 0) (y new : ResponderRecord) (deed : Deed) (today : Date)
-    → ((line : Line) → IsLine y line → Issues y line.body line.next → P (record_after y line))
+    → ((transition : Transition) → IsTransition y transition → Issues y transition.body transition.next → P (record_after y transition))
     → acts y deed today ≡ Ok new → P new
 of_acts P y new deed today leads done =
-    by_line P y new (line_of y deed today) (next_number y.issued) (λ line there.
-    let is = is_line y deed today line there in
-    leads line is (issues y.txn y.state y.accepted y.last_cancel y.last_renew y.received y.request y.issued line is)) done
+    by_transition P y new (transition_of y deed today) (next_number y.issued) (λ transition there.
+    let is = is_transition y deed today transition there in
+    leads transition is (issues y.txn y.state y.accepted y.last_cancel y.last_renew y.received y.request y.issued transition is)) done
 
 -- After a deed a record has at most 255 messages, since a number was left.
-by_few : (y new : ResponderRecord) (found : Result Line Refusal) (number : Result ℕ Refusal)
+by_few : (y new : ResponderRecord) (found : Result Transition Refusal) (number : Result ℕ Refusal)
     → next_number y.issued ≡ number → acts_by y found number ≡ Ok new → length new.issued ≤ 255
 by_few y new (Err refusal) number next done = search rules
-by_few y new (Ok line) (Err refusal) next done = search rules
-by_few y new (Ok line) (Ok n) next done = subst (λ (r : ResponderRecord). length r.issued ≤ 255) (ok_is (record_after y line) new done) (few_with_next y.txn y.issued line.body n next)
+by_few y new (Ok transition) (Err refusal) next done = search rules
+by_few y new (Ok transition) (Ok n) next done = subst (λ (r : ResponderRecord). length r.issued ≤ 255) (ok_is (record_after y transition) new done) (few_with_next y.txn y.issued transition.body n next)
 
 -- A deed leaves at most 255 messages.
 pub acts_few : (y new : ResponderRecord) (deed : Deed) (today : Date) → acts y deed today ≡ Ok new → length new.issued ≤ 255
-acts_few y new deed today = by_few y new (line_of y deed today) (next_number y.issued) refl
+acts_few y new deed today = by_few y new (transition_of y deed today) (next_number y.issued) refl

@@ -32,27 +32,27 @@ use Rattle.ill_core.specs.Kinds.{requester_kind, number_in}
 use Rattle.ill_core.specs.Tables.{has, has_state, taking_of, next_state}
 use Rattle.ill_core.specs.Responder.{ResponderRecord, responder_of, IsResponder, due_of}
 use Rattle.ill_core.specs.Dates.{is_before, is_after_due}
-use Rattle.ill_core.specs.ResponderTables.{deed_row, check, check_date, deed_body, after_deed, number_after, request_after, issued_after, after_delivery, grows, IsRefused, number_refusal, refusal_of, delivery_facts, delivery_rows, delivery_row, delivery_row_of}
+use Rattle.ill_core.specs.ResponderTables.{deed_row, check, check_date, deed_body, after_deed, number_after, request_after, issued_after, after_delivery, grows, IsRefused, number_refusal, refusal_of, delivery_guards, delivery_rows, delivery_row, delivery_row_of}
 use Rattle.ill_core.specs.ResponderDeliveries.{MayWantMemory, answers_no, take_message, takes_memory}
-use Rattle.ill_core.specs.ResponderActions.{Line, leads_to, issues_to, if_allowed, no_date, expiry_of, line_of, acts, acts_by, Acts}
+use Rattle.ill_core.specs.ResponderActions.{Transition, leads_to, issues_to, if_allowed, no_date, expiry_of, transition_of, acts, acts_by, Acts}
 use Rattle.ill_core.proofs.Rules.{responder_rules, is_responder}
-use Rattle.ill_core.proofs.ResponderKept.{message_kept, line_kept}
+use Rattle.ill_core.proofs.ResponderKept.{message_kept, transition_kept}
 use Rattle.ill_core.proofs.ResponderRows.{of_acts}
-use Rattle.ill_core.proofs.TableLemmas.{answer_of, lines, found_lines, lines_true}
+use Rattle.ill_core.proofs.TableLemmas.{answer_of, by_tests, found_by_tests, tests_true}
 
 -- Returns the answer of a row to an APDU, and the record after it.
 abbrev pub hit : ResponderRecord → Apdu → Body → Row RequesterKind → Result Taking Refusal × ResponderRecord
 hit y a body row = unless_refused (number_refusal row.4 y.issued) y (Ok (taking_of row.3 y.state), after_delivery y a row (number_in a body))
 
 -- Returns the answer of the rows of a kind, as tests one after another.
-abbrev pub lines_of : ResponderRecord → Apdu → Body → Option RequesterKind → Result Taking Refusal × ResponderRecord
-lines_of y a body None = conflict y.state y
-lines_of y a body (Some kind) = lines y.state (delivery_facts y (number_in a body)) (hit y a body) (conflict y.state y) (delivery_rows kind)
+abbrev pub tests_of : ResponderRecord → Apdu → Body → Option RequesterKind → Result Taking Refusal × ResponderRecord
+tests_of y a body None = conflict y.state y
+tests_of y a body (Some kind) = by_tests y.state (delivery_guards y (number_in a body)) (hit y a body) (conflict y.state y) (delivery_rows kind)
 
 -- The rows of deliveries give what `take_message` gives, for this APDU and this record.
-abbrev pub LinesAre : Body → State → Qualifiers → Option ℕ → Option ℕ → Option ℕ → Bool → Option Apdu → List Apdu → Apdu → Type 0
-LinesAre body state txn accepted last_cancel last_renew received request issued a =
-    lines_of (responder_of txn state accepted last_cancel last_renew received request issued) a body (requester_kind body)
+abbrev pub TestsAre : Body → State → Qualifiers → Option ℕ → Option ℕ → Option ℕ → Bool → Option Apdu → List Apdu → Apdu → Type 0
+TestsAre body state txn accepted last_cancel last_renew received request issued a =
+    tests_of (responder_of txn state accepted last_cancel last_renew received request issued) a body (requester_kind body)
     ≡ take_message (responder_of txn state accepted last_cancel last_renew received request issued) a body
 
 -- A no takes the last number that is left, or is refused.
@@ -63,7 +63,7 @@ answered y (Err refusal) = refl
 
 -- The rows of deliveries give what `take_message` gives, for each APDU and each state.
 pub tabled : (body : Body) (state : State) (txn : Qualifiers) (accepted last_cancel last_renew : Option ℕ) (received : Bool) (request : Option Apdu) (issued : List Apdu) (a : Apdu)
-    → LinesAre body state txn accepted last_cancel last_renew received request issued a
+    → TestsAre body state txn accepted last_cancel last_renew received request issued a
 tabled (types.ConditionalReply c true) Idle txn accepted last_cancel last_renew received request issued a = refl
 tabled (types.ConditionalReply c true) state txn accepted last_cancel last_renew received request issued a = refl
 tabled (types.ConditionalReply c false) InProcess txn accepted last_cancel last_renew received request issued a =
@@ -80,9 +80,9 @@ tabled body state txn accepted last_cancel last_renew received request issued a 
 
 -- The answer of the first row that fits is what the tests of the rows of its kind give.
 found : (y : ResponderRecord) (a : Apdu) (body : Body) (kind : Option RequesterKind)
-    → answer_of (hit y a body) (conflict y.state y) (delivery_row_of y a body kind) ≡ lines_of y a body kind
+    → answer_of (hit y a body) (conflict y.state y) (delivery_row_of y a body kind) ≡ tests_of y a body kind
 found y a body None = refl
-found y a body (Some kind) = found_lines y.state (delivery_facts y (number_in a body)) (hit y a body) (conflict y.state y) (delivery_rows kind)
+found y a body (Some kind) = found_by_tests y.state (delivery_guards y (number_in a body)) (hit y a body) (conflict y.state y) (delivery_rows kind)
 
 -- The first row that fits an APDU gives its answer. If none fits, it is a conflict.
 pub takes_row : (y : ResponderRecord) (a : Apdu)
@@ -158,8 +158,8 @@ found_grown : (y : ResponderRecord) (a : Apdu) (body : Body) (kind : Option Requ
     → answer_of (grows_new y body) true (delivery_row_of y a body kind) ≡ true
 found_grown y a body None h = refl
 found_grown y a body (Some kind) h =
-    let facts = delivery_facts y (number_in a body) in
-    found_lines y.state facts (grows_new y body) true (delivery_rows kind) ∙ lines_true y.state facts (grows_new y body) (delivery_rows kind) h
+    let guards = delivery_guards y (number_in a body) in
+    found_by_tests y.state guards (grows_new y body) true (delivery_rows kind) ∙ tests_true y.state guards (grows_new y body) (delivery_rows kind) h
 
 -- A row that is the first to fit an APDU takes memory only for news that takes it.
 row_grown : (y : ResponderRecord) (a : Apdu) (row : Row RequesterKind) → delivery_row y a ≡ Some row
@@ -185,22 +185,22 @@ takes_refused y a row refusal is refused =
 
 -- ---- deeds
 
--- Returns the line of a row, the refusal of the date, or `NotNow` if there is no row.
-abbrev pub line_by : State → Option (Row ResponderKind) → Result Unit Refusal → Body → Result Line Refusal
-line_by state None allowed body = Err (refusals.NotNow state)
-line_by state (Some row) (Err refusal) body = Err refusal
-line_by state (Some row) (Ok done) body = leads_to (next_state row.3 state) body
+-- Returns the transition of a row, the refusal of the date, or `NotNow` if there is no row.
+abbrev pub transition_by : State → Option (Row ResponderKind) → Result Unit Refusal → Body → Result Transition Refusal
+transition_by state None allowed body = Err (refusals.NotNow state)
+transition_by state (Some row) (Err refusal) body = Err refusal
+transition_by state (Some row) (Ok done) body = leads_to (next_state row.3 state) body
 
--- If the row gives `line` with its date allowed, and the refusal without, it gives `if_allowed` of both.
-dated : (state : State) (found : Option (Row ResponderKind)) (is_allowed : Bool) (forbids : Refusal) (line : Result Line Refusal) (body : Body)
-    → line_by state found (Ok tt) body ≡ line → line_by state found (Err forbids) body ≡ Err forbids
-    → line_by state found (check is_allowed forbids) body ≡ if_allowed is_allowed forbids line
-dated state found true forbids line body here forbidden = here
-dated state found false forbids line body here forbidden = forbidden
+-- If the row gives `transition` with its date allowed, and the refusal without, it gives `if_allowed` of both.
+dated : (state : State) (found : Option (Row ResponderKind)) (is_allowed : Bool) (forbids : Refusal) (transition : Result Transition Refusal) (body : Body)
+    → transition_by state found (Ok tt) body ≡ transition → transition_by state found (Err forbids) body ≡ Err forbids
+    → transition_by state found (check is_allowed forbids) body ≡ if_allowed is_allowed forbids transition
+dated state found true forbids transition body here forbidden = here
+dated state found false forbids transition body here forbidden = forbidden
 
--- The row of a deed and its date give its line, in each state.
+-- The row of a deed and its date give its transition, in each state.
 deeded : (deed : Deed) (state : State) (y : ResponderRecord) (today : Date)
-    → line_by state (deed_row state deed) (check_date y deed today) (deed_body y deed) ≡ line_of (record y { state = state }) deed today
+    → transition_by state (deed_row state deed) (check_date y deed today) (deed_body y deed) ≡ transition_of (record y { state = state }) deed today
 deeded (deeds.Answer results.Conditional) Idle y today = refl
 deeded (deeds.Answer results.Conditional) state y today = refl
 deeded (deeds.Answer answer) Idle y today = refl
@@ -257,24 +257,24 @@ state_alone deed state y number body = refl
 acts_none : (y : ResponderRecord) (deed : Deed) (today : Date) → deed_row y.state deed ≡ None
     → acts y deed today ≡ Err (refusals.NotNow y.state)
 acts_none y deed today is =
-    ap (λ line. acts_by y line (next_number y.issued))
-    (sym (deeded deed y.state y today) ∙ ap (λ found. line_by y.state found (check_date y deed today) (deed_body y deed)) is)
+    ap (λ transition. acts_by y transition (next_number y.issued))
+    (sym (deeded deed y.state y today) ∙ ap (λ found. transition_by y.state found (check_date y deed today) (deed_body y deed)) is)
 
--- If a row has the state, the line of the deed is that of the row and the date.
-row_line : (y : ResponderRecord) (deed : Deed) (today : Date) (row : Row ResponderKind) (allowed : Result Unit Refusal)
+-- If a row has the state, the transition of the deed is that of the row and the date.
+row_transition : (y : ResponderRecord) (deed : Deed) (today : Date) (row : Row ResponderKind) (allowed : Result Unit Refusal)
     → deed_row y.state deed ≡ Some row → check_date y deed today ≡ allowed
-    → line_of y deed today ≡ line_by y.state (Some row) allowed (deed_body y deed)
-row_line y deed today row allowed is date =
-    sym (deeded deed y.state y today) ∙ (ap (λ found. line_by y.state found (check_date y deed today) (deed_body y deed)) is
-    ∙ ap (λ found. line_by y.state (Some row) found (deed_body y deed)) date)
+    → transition_of y deed today ≡ transition_by y.state (Some row) allowed (deed_body y deed)
+row_transition y deed today row allowed is date =
+    sym (deeded deed y.state y today) ∙ (ap (λ found. transition_by y.state found (check_date y deed today) (deed_body y deed)) is
+    ∙ ap (λ found. transition_by y.state (Some row) found (deed_body y deed)) date)
 
 -- If a row has the state, the deed goes by the row, the date and the number.
 acts_by_row : (y : ResponderRecord) (deed : Deed) (today : Date) (row : Row ResponderKind) (allowed : Result Unit Refusal) (number : Result ℕ Refusal)
     → deed_row y.state deed ≡ Some row → check_date y deed today ≡ allowed → next_number y.issued ≡ number
-    → acts y deed today ≡ acts_by y (line_by y.state (Some row) allowed (deed_body y deed)) number
+    → acts y deed today ≡ acts_by y (transition_by y.state (Some row) allowed (deed_body y deed)) number
 acts_by_row y deed today row allowed number is date next =
-    ap (λ line. acts_by y line (next_number y.issued)) (row_line y deed today row allowed is date)
-    ∙ ap (acts_by y (line_by y.state (Some row) allowed (deed_body y deed))) next
+    ap (λ transition. acts_by y transition (next_number y.issued)) (row_transition y deed today row allowed is date)
+    ∙ ap (acts_by y (transition_by y.state (Some row) allowed (deed_body y deed))) next
 
 -- If a row, the date and a number allow a deed, it leads to the record after the row.
 pub acts_this : (y : ResponderRecord) (deed : Deed) (today : Date) (row : Row ResponderKind) (number : ℕ)
@@ -338,7 +338,7 @@ acts_wanting y deed today row number is date next = (subst IsOk (sym (acts_this 
 -- A deed leads from a responder's record to a responder's record.
 pub deed_kept : (y new : ResponderRecord) (deed : Deed) (today : Date) → IsResponder y → acts y deed today ≡ Ok new
     → IsResponder new
-deed_kept y new deed today h done = of_acts IsResponder y new deed today (λ line is how. is_responder _ (line_kept y line (responder_rules y h) is)) done
+deed_kept y new deed today h done = of_acts IsResponder y new deed today (λ transition is how. is_responder _ (transition_kept y transition (responder_rules y h) is)) done
 
 -- Parts that are those after a row make the record after the deed.
 pub deed_is : (y : ResponderRecord) (row : Row ResponderKind) (k : ℕ) (body : Body) (txn : Qualifiers) (state : State) (accepted last_cancel last_renew : Option ℕ) (received : Bool) (issued : List Apdu)

@@ -1,4 +1,4 @@
--- The first row that fits, as a list of tests. Each row that has the state is a test, and within it each fact that it
+-- The first row that fits, as a list of tests. Each row that has the state is a test, and within it each guard that it
 -- asks for is one.
 use Rattle.std.proofs.Common.{◌≡◌, ℕ, Bool, true, false, ◌&&◌, ◌||◌, ◌==◌, bit_and, List, [], ◌∷◌, ◌++◌, Option, Some, None, if◌then◌else◌, refl, ap, sym, ◌∙◌}
 use Rattle.std.specs.List.{find, list_all}
@@ -14,37 +14,37 @@ abbrev pub answer_of : {K A : Type 0} → (Row K → A) → A → Option (Row K)
 answer_of hit miss None = miss
 answer_of hit miss (Some row) = hit row
 
--- Returns `hit` if each fact holds that `asked` has a bit of, and else `miss`. Each fact is a test of its own.
+-- Returns `hit` if each guard holds that `asked` has a bit of, and else `miss`. Each guard is a test of its own.
 abbrev pub where_asked : {A : Type 0} → ℕ → List Guard → A → A → A
 where_asked asked [] hit miss = hit
-where_asked asked (f ∷ facts) hit miss =
-    if bit_and asked f.bit == 0 then where_asked asked facts hit miss
-    else (if f.holds then where_asked asked facts hit miss else miss)
+where_asked asked (f ∷ guards) hit miss =
+    if bit_and asked f.bit == 0 then where_asked asked guards hit miss
+    else (if f.holds then where_asked asked guards hit miss else miss)
 
--- Returns `hit` of the first row that has `state` and whose facts hold, or `miss`, test by test.
-abbrev pub lines : {K A : Type 0} → State → List Guard → (Row K → A) → A → List (Row K) → A
-lines state facts hit miss [] = miss
-lines state facts hit miss (row ∷ rows) =
-    if has_state row.1 state then where_asked row.2 facts (hit row) (lines state facts hit miss rows)
-    else lines state facts hit miss rows
+-- Returns `hit` of the first row that has `state` and whose guards hold, or `miss`, test by test.
+abbrev pub by_tests : {K A : Type 0} → State → List Guard → (Row K → A) → A → List (Row K) → A
+by_tests state guards hit miss [] = miss
+by_tests state guards hit miss (row ∷ rows) =
+    if has_state row.1 state then where_asked row.2 guards (hit row) (by_tests state guards hit miss rows)
+    else by_tests state guards hit miss rows
 
--- To test a fact and the others at once gives what testing one after the other gives.
-fact_met : {A : Type 0} (is_unasked holds others : Bool) (hit miss : A)
+-- To test a guard and the others at once gives what testing one after the other gives.
+guard_met : {A : Type 0} (is_unasked holds others : Bool) (hit miss : A)
     → (if (is_unasked || holds) && others then hit else miss)
     ≡ (if is_unasked then (if others then hit else miss) else (if holds then (if others then hit else miss) else miss))
-fact_met true holds others hit miss = refl
-fact_met false true others hit miss = refl
-fact_met false false others hit miss = refl
+guard_met true holds others hit miss = refl
+guard_met false true others hit miss = refl
+guard_met false false others hit miss = refl
 
--- The test of all facts at once gives what the tests of each fact give.
-met_asked : {A : Type 0} (asked : ℕ) (facts : List Guard) (hit miss : A)
-    → (if are_met asked facts then hit else miss) ≡ where_asked asked facts hit miss
+-- The test of all guards at once gives what the tests of each guard give.
+met_asked : {A : Type 0} (asked : ℕ) (guards : List Guard) (hit miss : A)
+    → (if are_met asked guards then hit else miss) ≡ where_asked asked guards hit miss
 met_asked asked [] hit miss = refl
-met_asked asked (f ∷ facts) hit miss =
-    fact_met (bit_and asked f.bit == 0) f.holds (are_met asked facts) hit miss
-    ∙ ap (λ others. if bit_and asked f.bit == 0 then others else (if f.holds then others else miss)) (met_asked asked facts hit miss)
+met_asked asked (f ∷ guards) hit miss =
+    guard_met (bit_and asked f.bit == 0) f.holds (are_met asked guards) hit miss
+    ∙ ap (λ others. if bit_and asked f.bit == 0 then others else (if f.holds then others else miss)) (met_asked asked guards hit miss)
 
--- The test of a row gives what a test of its state gives, and within it one of its facts.
+-- The test of a row gives what a test of its state gives, and within it one of its guards.
 row_fits : {K A : Type 0} (is_in is_met : Bool) (hit : Row K → A) (miss : A) (row : Row K) (others : Option (Row K))
     → answer_of hit miss (if is_in && is_met then Some row else others) ≡ (if is_in then (if is_met then hit row else answer_of hit miss others) else answer_of hit miss others)
 row_fits true true hit miss row others = refl
@@ -52,49 +52,49 @@ row_fits true false hit miss row others = refl
 row_fits false is_met hit miss row others = refl
 
 -- The answer of the first row that fits is what the tests of the rows give, one after another.
-pub found_lines : {K A : Type 0} (state : State) (facts : List Guard) (hit : Row K → A) (miss : A) (rows : List (Row K))
-    → answer_of hit miss (find (fits state facts) rows) ≡ lines state facts hit miss rows
-found_lines state facts hit miss [] = refl
-found_lines state facts hit miss (row ∷ rows) =
-    row_fits (has_state row.1 state) (are_met row.2 facts) hit miss row (find (fits state facts) rows)
-    ∙ (ap (λ others. if has_state row.1 state then others else answer_of hit miss (find (fits state facts) rows))
-    (met_asked row.2 facts (hit row) (answer_of hit miss (find (fits state facts) rows)))
-    ∙ ap (λ others. if has_state row.1 state then where_asked row.2 facts (hit row) others else others) (found_lines state facts hit miss rows))
+pub found_by_tests : {K A : Type 0} (state : State) (guards : List Guard) (hit : Row K → A) (miss : A) (rows : List (Row K))
+    → answer_of hit miss (find (fits state guards) rows) ≡ by_tests state guards hit miss rows
+found_by_tests state guards hit miss [] = refl
+found_by_tests state guards hit miss (row ∷ rows) =
+    row_fits (has_state row.1 state) (are_met row.2 guards) hit miss row (find (fits state guards) rows)
+    ∙ (ap (λ others. if has_state row.1 state then others else answer_of hit miss (find (fits state guards) rows))
+    (met_asked row.2 guards (hit row) (answer_of hit miss (find (fits state guards) rows)))
+    ∙ ap (λ others. if has_state row.1 state then where_asked row.2 guards (hit row) others else others) (found_by_tests state guards hit miss rows))
 
--- If no fact is asked for, all facts that are asked for hold.
-pub none_asked : (facts : List Guard) → are_met 0 facts ≡ true
+-- If no guard is asked for, all guards that are asked for hold.
+pub none_asked : (guards : List Guard) → are_met 0 guards ≡ true
 none_asked [] = refl
-none_asked (f ∷ facts) = none_asked facts
+none_asked (f ∷ guards) = none_asked guards
 
--- The facts of two lists hold together exactly if those of each list do.
-pub both_met : (asked : ℕ) (facts others : List Guard) (a b : Bool) → a ≡ are_met asked facts
-    → b ≡ are_met asked others → (a && b) ≡ are_met asked (facts ++ others)
-both_met asked facts others a b met met_too =
-    ap (λ c. c && b) met ∙ (ap (λ c. are_met asked facts && c) met_too ∙ sym (list_all-append (λ f. (bit_and asked f.bit == 0) || f.holds) facts others))
+-- The guards of two lists hold together exactly if those of each list do.
+pub both_met : (asked : ℕ) (guards others : List Guard) (a b : Bool) → a ≡ are_met asked guards
+    → b ≡ are_met asked others → (a && b) ≡ are_met asked (guards ++ others)
+both_met asked guards others a b met met_too =
+    ap (λ c. c && b) met ∙ (ap (λ c. are_met asked guards && c) met_too ∙ sym (list_all-append (λ f. (bit_and asked f.bit == 0) || f.holds) guards others))
 
 -- If both sides of a choice are true, the choice is true.
 either : (b here others : Bool) → here ≡ true → others ≡ true → (if b then here else others) ≡ true
 either true here others h o = h
 either false here others h o = o
 
--- If `here` and `others` are true, the tests of the facts give true.
-asked_true : (asked : ℕ) (facts : List Guard) (here others : Bool) → here ≡ true → others ≡ true
-    → where_asked asked facts here others ≡ true
+-- If `here` and `others` are true, the tests of the guards give true.
+asked_true : (asked : ℕ) (guards : List Guard) (here others : Bool) → here ≡ true → others ≡ true
+    → where_asked asked guards here others ≡ true
 asked_true asked [] here others h o = h
-asked_true asked (f ∷ facts) here others h o =
-    either (bit_and asked f.bit == 0) (where_asked asked facts here others) (if f.holds then where_asked asked facts here others else others) (asked_true asked facts here others h o)
-    (either f.holds (where_asked asked facts here others) others (asked_true asked facts here others h o) o)
+asked_true asked (f ∷ guards) here others h o =
+    either (bit_and asked f.bit == 0) (where_asked asked guards here others) (if f.holds then where_asked asked guards here others else others) (asked_true asked guards here others h o)
+    (either f.holds (where_asked asked guards here others) others (asked_true asked guards here others h o) o)
 
 -- If a row that has the state gives true, and the other rows do, then the tests give true.
-row_true : (is_in : Bool) (asked : ℕ) (facts : List Guard) (here others : Bool) → implies is_in here ≡ true → others ≡ true
-    → (if is_in then where_asked asked facts here others else others) ≡ true
-row_true true asked facts here others h o = asked_true asked facts here others h o
-row_true false asked facts here others h o = o
+row_true : (is_in : Bool) (asked : ℕ) (guards : List Guard) (here others : Bool) → implies is_in here ≡ true → others ≡ true
+    → (if is_in then where_asked asked guards here others else others) ≡ true
+row_true true asked guards here others h o = asked_true asked guards here others h o
+row_true false asked guards here others h o = o
 
 -- If `holds` is true of each row that has the state, it is true of the one that is found.
-pub lines_true : {K : Type 0} (state : State) (facts : List Guard) (holds : Row K → Bool) (rows : List (Row K))
-    → list_all (λ row. implies (has_state row.1 state) (holds row)) rows ≡ true → lines state facts holds true rows ≡ true
-lines_true state facts holds [] h = refl
-lines_true state facts holds (row ∷ rows) h =
-    row_true (has_state row.1 state) row.2 facts (holds row) (lines state facts holds true rows) (and_parts _ _ h).0
-    (lines_true state facts holds rows (and_parts _ _ h).1)
+pub tests_true : {K : Type 0} (state : State) (guards : List Guard) (holds : Row K → Bool) (rows : List (Row K))
+    → list_all (λ row. implies (has_state row.1 state) (holds row)) rows ≡ true → by_tests state guards holds true rows ≡ true
+tests_true state guards holds [] h = refl
+tests_true state guards holds (row ∷ rows) h =
+    row_true (has_state row.1 state) row.2 guards (holds row) (by_tests state guards holds true rows) (and_parts _ _ h).0
+    (tests_true state guards holds rows (and_parts _ _ h).1)

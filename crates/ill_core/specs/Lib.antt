@@ -12,13 +12,13 @@ pub mod RequesterRules
 pub mod RequesterTables
 pub mod RequesterActions
 pub mod RequesterDeliveries
-pub mod RequesterFacts
+pub mod RequesterEvidence
 pub mod RequesterNotices
 pub mod Responder
 pub mod ResponderRules
 pub mod ResponderActions
 pub mod ResponderTables
 pub mod ResponderDeliveries
-pub mod ResponderFacts
+pub mod ResponderEvidence
 pub mod ResponderNotices
 pub mod Verbs

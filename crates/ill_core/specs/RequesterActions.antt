@@ -1,5 +1,5 @@
--- The wishes of a requester: its table of actions (this profile's own; the services are those of ISO 10160). A line
--- has the states before, the state after, the APDU that is issued, and the conditions held then. A wish that no line
+-- The wishes of a requester: its table of actions (this profile's own; the services are those of ISO 10160). A transition
+-- has the states before, the state after, the APDU that is issued, and the conditions held then. A wish that no transition
 -- has is not done now.
 use Rattle.std.specs.Prelude.{◌≡◌, ℕ, Bool, not, ◌&&◌, [], ◌∷◌, List, Option, None, Result, Ok, Err, IsOk, if◌then◌else◌}
 use Rattle.std.specs.Option.{unwrap_or}
@@ -17,33 +17,33 @@ use Rattle.ill_core.specs.Issued.{next_number, with_next}
 use Rattle.ill_core.specs.Requester.{RequesterRecord, is_declined, is_received_by}
 
 -- The effect of a wish: the next state, the APDU that is issued, and the conditions held then.
-pub record Line : Type 0 where
+pub record Transition : Type 0 where
   pub next : State
   pub body : Body
   pub held : Option ℕ
 
--- The line that leads to `next`, issues `body`, and keeps the conditions.
-abbrev pub leads_to : State → Body → RequesterRecord → Result Line Refusal
+-- The transition that leads to `next`, issues `body`, and keeps the conditions.
+abbrev pub leads_to : State → Body → RequesterRecord → Result Transition Refusal
 leads_to next body x = Ok (record { next = next; body = body; held = x.held })
 
 -- The wish is refused with `NotNow` and the present state.
-abbrev pub not_now : RequesterRecord → Result Line Refusal
+abbrev pub not_now : RequesterRecord → Result Transition Refusal
 not_now x = Err (refusals.NotNow x.state)
 
 -- Request leads from IDLE to PENDING, and issues an ILL-Request with `expiry` and `item`.
-abbrev pub request_line : RequesterRecord → Option Date → List ℕ → Result Line Refusal
-request_line x expiry item =
+abbrev pub request_transition : RequesterRecord → Option Date → List ℕ → Result Transition Refusal
+request_transition x expiry item =
     if is_among (Idle ∷ []) x.state then leads_to Pending (types.IllRequest expiry item) x
     else not_now x
 
 -- Cancel leads from PENDING to CANCEL-PENDING, and issues a Cancel.
-abbrev pub cancel_line : RequesterRecord → Result Line Refusal
-cancel_line x =
+abbrev pub cancel_transition : RequesterRecord → Result Transition Refusal
+cancel_transition x =
     if is_among (Pending ∷ []) x.state then leads_to CancelPending types.Cancel x
     else not_now x
 
 -- A reply answers the conditions held. A yes leads to PENDING and holds none; a no stays in CONDITIONAL.
-abbrev pub answer_held : RequesterRecord → Bool → Line
+abbrev pub answer_held : RequesterRecord → Bool → Transition
 answer_held x is_yes =
     record {
       next = if is_yes then Pending else Conditional;
@@ -51,16 +51,16 @@ answer_held x is_yes =
       held = if is_yes then None else x.held;
     }
 
--- Reply has a line in CONDITIONAL, unless the conditions were declined.
-abbrev pub reply_line : RequesterRecord → Bool → Result Line Refusal
-reply_line x is_yes =
+-- Reply has a transition in CONDITIONAL, unless the conditions were declined.
+abbrev pub reply_transition : RequesterRecord → Bool → Result Transition Refusal
+reply_transition x is_yes =
     if is_among (Conditional ∷ []) x.state && not (is_declined x) then Ok (answer_held x is_yes)
     else not_now x
 
 -- Receive leads from SHIPPED to RECEIVED, and from NOT-RECEIVED/OVERDUE to OVERDUE. In RECALL it stays, and needs
 -- that no Received was issued.
-abbrev pub receive_line : RequesterRecord → Result Line Refusal
-receive_line x =
+abbrev pub receive_transition : RequesterRecord → Result Transition Refusal
+receive_transition x =
     if is_among (Shipped ∷ []) x.state then leads_to Received types.Received x
     else if is_among (NotReceivedOverdue ∷ []) x.state then leads_to Overdue types.Received x
     else if is_among (Recall ∷ []) x.state && not (is_received_by x)
@@ -68,52 +68,52 @@ receive_line x =
     else not_now x
 
 -- Renew leads from RECEIVED to RENEW/PENDING, and from OVERDUE to RENEW/OVERDUE.
-abbrev pub renew_line : RequesterRecord → Option Date → Result Line Refusal
-renew_line x wished =
+abbrev pub renew_transition : RequesterRecord → Option Date → Result Transition Refusal
+renew_transition x wished =
     if is_among (Received ∷ []) x.state then leads_to RenewPending (types.Renew wished) x
     else if is_among (Overdue ∷ []) x.state then leads_to RenewOverdue (types.Renew wished) x
     else not_now x
 
 -- Return leads to RETURNED, from each state in which the item is with the requester.
-abbrev pub return_line : RequesterRecord → Result Line Refusal
-return_line x =
+abbrev pub return_transition : RequesterRecord → Result Transition Refusal
+return_transition x =
     if is_among (Received ∷ RenewPending ∷ Overdue ∷ RenewOverdue ∷ []) x.state
     then leads_to Returned types.Returned x
     else if is_among (Recall ∷ []) x.state && is_received_by x
     then leads_to Returned types.Returned x
     else not_now x
 
--- Returns the line of a wish, or the refusal `NotNow`.
-abbrev pub line_of : RequesterRecord → Wish → Result Line Refusal
-line_of x (wishes.Request expiry item) = request_line x expiry item
-line_of x wishes.Cancel = cancel_line x
-line_of x (wishes.Reply is_yes) = reply_line x is_yes
-line_of x wishes.Receive = receive_line x
-line_of x (wishes.Renew wished) = renew_line x wished
-line_of x wishes.Return = return_line x
+-- Returns the transition of a wish, or the refusal `NotNow`.
+abbrev pub transition_of : RequesterRecord → Wish → Result Transition Refusal
+transition_of x (wishes.Request expiry item) = request_transition x expiry item
+transition_of x wishes.Cancel = cancel_transition x
+transition_of x (wishes.Reply is_yes) = reply_transition x is_yes
+transition_of x wishes.Receive = receive_transition x
+transition_of x (wishes.Renew wished) = renew_transition x wished
+transition_of x wishes.Return = return_transition x
 
--- Returns the record after a line: it has the next state, the conditions of the line, and one more APDU.
-abbrev pub record_after : RequesterRecord → Line → RequesterRecord
-record_after x line =
+-- Returns the record after a transition: it has the next state, the conditions of the transition, and one more APDU.
+abbrev pub record_after : RequesterRecord → Transition → RequesterRecord
+record_after x transition =
     record {
       txn = x.txn;
-      state = line.next;
-      held = line.held;
+      state = transition.next;
+      held = transition.held;
       checked_in = x.checked_in;
       due = x.due;
-      issued = with_next x.txn x.issued line.body;
+      issued = with_next x.txn x.issued transition.body;
     }
 
--- Returns the record after a line, or the refusal of the line, or else that of the number.
-abbrev pub acts_by : RequesterRecord → Result Line Refusal → Result ℕ Refusal →
+-- Returns the record after a transition, or the refusal of the transition, or else that of the number.
+abbrev pub acts_by : RequesterRecord → Result Transition Refusal → Result ℕ Refusal →
     Result RequesterRecord Refusal
 acts_by x (Err refusal) number = Err refusal
-acts_by x (Ok line) (Err refusal) = Err refusal
-acts_by x (Ok line) (Ok number) = Ok (record_after x line)
+acts_by x (Ok transition) (Err refusal) = Err refusal
+acts_by x (Ok transition) (Ok number) = Ok (record_after x transition)
 
 -- Returns the record after a wish, or its refusal: first `NotNow`, then `NumbersUsed`.
 abbrev pub acts : RequesterRecord → Wish → Result RequesterRecord Refusal
-acts x wish = acts_by x (line_of x wish) (next_number x.issued)
+acts x wish = acts_by x (transition_of x wish) (next_number x.issued)
 
 -- A requester answers `wish` so, and `new` is the record after it. `OutOfMemory` comes only for a wish that would be
 -- done. A refusal leaves the record.

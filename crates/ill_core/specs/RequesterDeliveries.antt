@@ -1,5 +1,5 @@
--- The messages of a responder to a requester: the table of deliveries (this profile's own). The first line that fits
--- decides. An APDU that no line fits is a conflict with the present state.
+-- The messages of a responder to a requester: the table of deliveries (this profile's own). The first transition that fits
+-- decides. An APDU that no transition fits is a conflict with the present state.
 use Rattle.std.specs.Prelude.{◌≡◌, ℕ, Bool, true, not, ◌&&◌, [], ◌∷◌, Option, Some, None, Result, if◌then◌else◌}
 use Rattle.ill_values.specs.Day.{Date}
 use Rattle.ill_values.specs.declared.apdu.Apdu.{Apdu}

@@ -1,4 +1,4 @@
--- A requester's tables as arrays of rows: their facts and their changes (this profile's own).
+-- A requester's tables as arrays of rows: their guards and their changes (this profile's own).
 use Rattle.std.specs.Prelude.{ℕ, Bool, false, not, ◌||◌, ◌==◌, List, [], ◌∷◌, ◌++◌, Option, Some, None, if◌then◌else◌}
 use Rattle.std.specs.List.{filter, find}
 use Rattle.std.specs.Option.{unwrap_or}
@@ -45,35 +45,35 @@ abbrev pub is_dated : (Date → Bool) → Option Date → Bool
 is_dated f None = false
 is_dated f (Some d) = f d
 
--- The facts of conditions that message k names: k is at most the accepted number, or k is held.
-abbrev pub number_facts : RequesterRecord → ℕ → List Guard
-number_facts x k =
+-- The guards of conditions that message k names: k is at most the accepted number, or k is held.
+abbrev pub number_guards : RequesterRecord → ℕ → List Guard
+number_guards x k =
     record { bit = delivery.PASSED; holds = is_at_most k (accepted_number x) }
     ∷ record { bit = delivery.HELD; holds = is_the k x.held } ∷ []
 
--- The facts of an answer to message c: c is the last Cancel, or some Cancel.
-abbrev pub cancel_facts : RequesterRecord → ℕ → List Guard
-cancel_facts x c =
+-- The guards of an answer to message c: c is the last Cancel, or some Cancel.
+abbrev pub cancel_guards : RequesterRecord → ℕ → List Guard
+cancel_guards x c =
     record { bit = delivery.LAST_CANCEL; holds = is_the c (last_cancel x) }
     ∷ record { bit = delivery.WAS_CANCEL; holds = was is_cancel x.issued c } ∷ []
 
--- The facts of an answer to message c: c is the last Renew, or some Renew.
-abbrev pub renew_facts : RequesterRecord → ℕ → List Guard
-renew_facts x c =
+-- The guards of an answer to message c: c is the last Renew, or some Renew.
+abbrev pub renew_guards : RequesterRecord → ℕ → List Guard
+renew_guards x c =
     record { bit = delivery.LAST_RENEW; holds = is_the c (last_renew x) }
     ∷ record { bit = delivery.WAS_RENEW; holds = was is_renew x.issued c } ∷ []
 
--- The facts of a date: it is not the due date; it is later; the checked-in mark is not set.
-abbrev pub due_facts : RequesterRecord → Option Date → List Guard
-due_facts x date =
+-- The guards of a date: it is not the due date; it is later; the checked-in mark is not set.
+abbrev pub due_guards : RequesterRecord → Option Date → List Guard
+due_guards x date =
     record { bit = delivery.NOT_DUE; holds = not (is_dated (λ d. is_due_on d x.due) date) }
     ∷ record { bit = delivery.LATER; holds = is_dated (λ d. is_after_due d x.due) date }
     ∷ record { bit = delivery.UNMARKED; holds = not x.checked_in } ∷ []
 
--- The facts that rows of deliveries may ask for, of a message that tells k and `date`.
-abbrev pub delivery_facts : RequesterRecord → ℕ → Option Date → List Guard
-delivery_facts x k date =
-    number_facts x k ++ (cancel_facts x k ++ (renew_facts x k ++ due_facts x date))
+-- The guards that rows of deliveries may ask for, of a message that tells k and `date`.
+abbrev pub delivery_guards : RequesterRecord → ℕ → Option Date → List Guard
+delivery_guards x k date =
+    number_guards x k ++ (cancel_guards x k ++ (renew_guards x k ++ due_guards x date))
 
 -- Returns the rows of a kind, in the order of the table.
 abbrev pub delivery_rows : ResponderKind → List (Row ResponderKind)
@@ -84,7 +84,7 @@ abbrev pub delivery_row_of : RequesterRecord → Apdu → Body → Option Respon
     Option (Row ResponderKind)
 delivery_row_of x a body None = None
 delivery_row_of x a body (Some kind) =
-    find (fits x.state (delivery_facts x (number_in a body) (date_in body))) (delivery_rows kind)
+    find (fits x.state (delivery_guards x (number_in a body) (date_in body))) (delivery_rows kind)
 
 -- Returns the first row that fits an APDU.
 abbrev pub delivery_row : RequesterRecord → Apdu → Option (Row ResponderKind)
@@ -99,9 +99,9 @@ wish_body x wishes.Receive = types.Received
 wish_body x (wishes.Renew wished) = types.Renew wished
 wish_body x wishes.Return = types.Returned
 
--- The facts that rows of wishes may ask for: no conditions declined, no item received, item received.
-abbrev pub wish_facts : RequesterRecord → List Guard
-wish_facts x =
+-- The guards that rows of wishes may ask for: no conditions declined, no item received, item received.
+abbrev pub wish_guards : RequesterRecord → List Guard
+wish_guards x =
     record { bit = wish.UNDECLINED; holds = not (is_declined x) }
     ∷ record { bit = wish.NOT_HERE; holds = not (is_received_by x) }
     ∷ record { bit = wish.IS_HERE; holds = is_received_by x } ∷ []
@@ -112,4 +112,4 @@ wish_rows kind = filter (λ r. requester_place r.0 == requester_place kind) wish
 
 -- Returns the first row that fits a wish.
 abbrev pub wish_row : RequesterRecord → Wish → Option (Row RequesterKind)
-wish_row x w = find (fits x.state (wish_facts x)) (wish_rows (wish_kind w))
+wish_row x w = find (fits x.state (wish_guards x)) (wish_rows (wish_kind w))

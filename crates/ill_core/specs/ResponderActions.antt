@@ -1,5 +1,5 @@
--- The deeds of a responder: its table of actions (this profile's own; the services are those of ISO 10160). A line
--- has the states before, the state after, the APDU that is issued, and the date that forbids it. A deed that no line
+-- The deeds of a responder: its table of actions (this profile's own; the services are those of ISO 10160). A transition
+-- has the states before, the state after, the APDU that is issued, and the date that forbids it. A deed that no transition
 -- has is not done now.
 use Rattle.std.specs.Prelude.{◌≡◌, ℕ, Bool, true, false, not, [], ◌∷◌, Option, Some, None, Result, Ok, Err, IsOk, if◌then◌else◌}
 use Rattle.std.specs.Option.{unwrap_or}
@@ -21,22 +21,22 @@ use Rattle.ill_core.specs.Issued.{next_number, with_next}
 use Rattle.ill_core.specs.Responder.{ResponderRecord, due_of}
 
 -- The effect of a deed.
-pub record Line : Type 0 where
+pub record Transition : Type 0 where
   pub next : State  -- the state after the deed
   pub body : Body  -- the body of the APDU that is issued
 
--- The line that leads to `next` and issues `body`.
-abbrev pub leads_to : State → Body → Result Line Refusal
+-- The transition that leads to `next` and issues `body`.
+abbrev pub leads_to : State → Body → Result Transition Refusal
 leads_to next body = Ok (record { next = next; body = body })
 
 -- The deed is refused with `NotNow` and the present state.
-abbrev pub not_now : ResponderRecord → Result Line Refusal
+abbrev pub not_now : ResponderRecord → Result Transition Refusal
 not_now y = Err (refusals.NotNow y.state)
 
--- Returns the line if its date allows it, and else the refusal.
-abbrev pub if_allowed : Bool → Refusal → Result Line Refusal → Result Line Refusal
-if_allowed true refusal line = line
-if_allowed false refusal line = Err refusal
+-- Returns the transition if its date allows it, and else the refusal.
+abbrev pub if_allowed : Bool → Refusal → Result Transition Refusal → Result Transition Refusal
+if_allowed true refusal transition = transition
+if_allowed false refusal transition = Err refusal
 
 -- Returns the state after an ILL-Answer is issued.
 abbrev pub after_answer : AnswerResult → State
@@ -45,23 +45,23 @@ after_answer results.WillSupply = InProcess
 after_answer results.HoldPlaced = InProcess
 after_answer other = NotSupplied
 
--- Answer has a line in IN-PROCESS, and leads to the state of its result.
-abbrev pub answer_line : ResponderRecord → AnswerResult → Result Line Refusal
-answer_line y answer =
+-- Answer has a transition in IN-PROCESS, and leads to the state of its result.
+abbrev pub answer_transition : ResponderRecord → AnswerResult → Result Transition Refusal
+answer_transition y answer =
     if is_among (InProcess ∷ []) y.state then leads_to (after_answer answer) (types.IllAnswer answer)
     else not_now y
 
 -- CancelReply leads from CANCEL-PENDING to CANCELLED on yes, and to IN-PROCESS on no. It answers the last Cancel.
-abbrev pub cancel_reply_line : ResponderRecord → Bool → Result Line Refusal
-cancel_reply_line y is_yes =
+abbrev pub cancel_reply_transition : ResponderRecord → Bool → Result Transition Refusal
+cancel_reply_transition y is_yes =
     if is_among (CancelPending ∷ []) y.state
     then leads_to (if is_yes then Cancelled else InProcess)
     (types.CancelReply (unwrap_or y.last_cancel 0) is_yes)
     else not_now y
 
 -- Ship leads from IN-PROCESS to SHIPPED, unless `due` is before `today`.
-abbrev pub ship_line : ResponderRecord → Date → Date → Result Line Refusal
-ship_line y due today =
+abbrev pub ship_transition : ResponderRecord → Date → Date → Result Transition Refusal
+ship_transition y due today =
     if is_among (InProcess ∷ []) y.state
     then if_allowed (not (is_before due today)) refusals.DateEarlier
     (leads_to Shipped (types.Shipped due))
@@ -69,17 +69,17 @@ ship_line y due today =
 
 -- A RenewAnswer yes leads to SHIPPED if its date is after the due date. A no leads to `unrenewed`. Both answer the
 -- last Renew.
-abbrev pub renewal_line : ResponderRecord → State → Option Date → Result Line Refusal
-renewal_line y unrenewed None = leads_to unrenewed (types.RenewAnswer (unwrap_or y.last_renew 0) None)
-renewal_line y unrenewed (Some d) =
+abbrev pub renewal_transition : ResponderRecord → State → Option Date → Result Transition Refusal
+renewal_transition y unrenewed None = leads_to unrenewed (types.RenewAnswer (unwrap_or y.last_renew 0) None)
+renewal_transition y unrenewed (Some d) =
     if_allowed (is_after_due d (due_of y)) refusals.DateNotLater
     (leads_to Shipped (types.RenewAnswer (unwrap_or y.last_renew 0) (Some d)))
 
--- RenewAnswer has a line in RENEW/PENDING and in RENEW/OVERDUE. After a no the item is in SHIPPED or in OVERDUE.
-abbrev pub renew_answer_line : ResponderRecord → Option Date → Result Line Refusal
-renew_answer_line y granted =
-    if is_among (RenewPending ∷ []) y.state then renewal_line y Shipped granted
-    else if is_among (RenewOverdue ∷ []) y.state then renewal_line y Overdue granted
+-- RenewAnswer has a transition in RENEW/PENDING and in RENEW/OVERDUE. After a no the item is in SHIPPED or in OVERDUE.
+abbrev pub renew_answer_transition : ResponderRecord → Option Date → Result Transition Refusal
+renew_answer_transition y granted =
+    if is_among (RenewPending ∷ []) y.state then renewal_transition y Shipped granted
+    else if is_among (RenewOverdue ∷ []) y.state then renewal_transition y Overdue granted
     else not_now y
 
 -- A date that stands for none.
@@ -87,27 +87,27 @@ abbrev pub no_date : Date
 no_date = record { year = 0; month = 0; day = 0 }
 
 -- Overdue leads to `next` if `today` is after the due date. It issues an Overdue for the due date.
-abbrev pub overdue_line_to : ResponderRecord → Date → State → Result Line Refusal
-overdue_line_to y today next =
+abbrev pub overdue_transition_to : ResponderRecord → Date → State → Result Transition Refusal
+overdue_transition_to y today next =
     if_allowed (is_after_due today (due_of y)) refusals.NotDue
     (leads_to next (types.Overdue (unwrap_or (due_of y) no_date)))
 
 -- Overdue leads from SHIPPED to OVERDUE, and from RENEW/PENDING to RENEW/OVERDUE.
-abbrev pub overdue_line : ResponderRecord → Date → Result Line Refusal
-overdue_line y today =
-    if is_among (Shipped ∷ []) y.state then overdue_line_to y today Overdue
-    else if is_among (RenewPending ∷ []) y.state then overdue_line_to y today RenewOverdue
+abbrev pub overdue_transition : ResponderRecord → Date → Result Transition Refusal
+overdue_transition y today =
+    if is_among (Shipped ∷ []) y.state then overdue_transition_to y today Overdue
+    else if is_among (RenewPending ∷ []) y.state then overdue_transition_to y today RenewOverdue
     else not_now y
 
 -- Recall leads from SHIPPED and OVERDUE to RECALL.
-abbrev pub recall_line : ResponderRecord → Result Line Refusal
-recall_line y =
+abbrev pub recall_transition : ResponderRecord → Result Transition Refusal
+recall_transition y =
     if is_among (Shipped ∷ Overdue ∷ []) y.state then leads_to Recall types.Recall
     else not_now y
 
 -- CheckIn leads from RETURNED to CHECKED-IN.
-abbrev pub check_in_line : ResponderRecord → Result Line Refusal
-check_in_line y =
+abbrev pub check_in_transition : ResponderRecord → Result Transition Refusal
+check_in_transition y =
     if is_among (Returned ∷ []) y.state then leads_to CheckedIn types.CheckedIn
     else not_now y
 
@@ -122,23 +122,23 @@ expiry_of None = None
 expiry_of (Some a) = expiry_in a.body
 
 -- Expire leads from IN-PROCESS and CONDITIONAL to NOT-SUPPLIED, if `today` is after the expiry date.
-abbrev pub expire_line : ResponderRecord → Date → Result Line Refusal
-expire_line y today =
+abbrev pub expire_transition : ResponderRecord → Date → Result Transition Refusal
+expire_transition y today =
     if is_among (InProcess ∷ Conditional ∷ []) y.state
     then if_allowed (is_after_due today (expiry_of y.request)) refusals.NotExpired
     (leads_to NotSupplied types.Expired)
     else not_now y
 
--- Returns the line of a deed, or the refusal: `NotNow`, or that of its date.
-abbrev pub line_of : ResponderRecord → Deed → Date → Result Line Refusal
-line_of y (deeds.Answer answer) today = answer_line y answer
-line_of y (deeds.CancelReply is_yes) today = cancel_reply_line y is_yes
-line_of y (deeds.Ship due) today = ship_line y due today
-line_of y (deeds.RenewAnswer granted) today = renew_answer_line y granted
-line_of y deeds.Overdue today = overdue_line y today
-line_of y deeds.Recall today = recall_line y
-line_of y deeds.CheckIn today = check_in_line y
-line_of y deeds.Expire today = expire_line y today
+-- Returns the transition of a deed, or the refusal: `NotNow`, or that of its date.
+abbrev pub transition_of : ResponderRecord → Deed → Date → Result Transition Refusal
+transition_of y (deeds.Answer answer) today = answer_transition y answer
+transition_of y (deeds.CancelReply is_yes) today = cancel_reply_transition y is_yes
+transition_of y (deeds.Ship due) today = ship_transition y due today
+transition_of y (deeds.RenewAnswer granted) today = renew_answer_transition y granted
+transition_of y deeds.Overdue today = overdue_transition y today
+transition_of y deeds.Recall today = recall_transition y
+transition_of y deeds.CheckIn today = check_in_transition y
+transition_of y deeds.Expire today = expire_transition y today
 
 -- Returns the record in `state`, with one more APDU of this body.
 abbrev pub issues_to : ResponderRecord → Body → State → ResponderRecord
@@ -154,20 +154,20 @@ issues_to y body state =
       issued = with_next y.txn y.issued body;
     }
 
--- Returns the record after a line.
-abbrev pub record_after : ResponderRecord → Line → ResponderRecord
-record_after y line = issues_to y line.body line.next
+-- Returns the record after a transition.
+abbrev pub record_after : ResponderRecord → Transition → ResponderRecord
+record_after y transition = issues_to y transition.body transition.next
 
--- Returns the record after a line, or the refusal of the line, or else that of the number.
-abbrev pub acts_by : ResponderRecord → Result Line Refusal → Result ℕ Refusal →
+-- Returns the record after a transition, or the refusal of the transition, or else that of the number.
+abbrev pub acts_by : ResponderRecord → Result Transition Refusal → Result ℕ Refusal →
     Result ResponderRecord Refusal
 acts_by y (Err refusal) number = Err refusal
-acts_by y (Ok line) (Err refusal) = Err refusal
-acts_by y (Ok line) (Ok number) = Ok (record_after y line)
+acts_by y (Ok transition) (Err refusal) = Err refusal
+acts_by y (Ok transition) (Ok number) = Ok (record_after y transition)
 
 -- Returns the record after a deed, or its refusal: first `NotNow`, then that of its date, then `NumbersUsed`.
 abbrev pub acts : ResponderRecord → Deed → Date → Result ResponderRecord Refusal
-acts y deed today = acts_by y (line_of y deed today) (next_number y.issued)
+acts y deed today = acts_by y (transition_of y deed today) (next_number y.issued)
 
 -- A responder answers `deed` so on the day `today`, and `new` is the record after it. `OutOfMemory` comes only for a
 -- deed that would be done. A refusal leaves the record.

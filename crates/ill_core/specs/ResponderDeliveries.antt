@@ -1,5 +1,5 @@
--- The messages of a requester to a responder: the table of deliveries (this profile's own). The first line that fits
--- decides. An APDU that no line fits is a conflict with the present state.
+-- The messages of a requester to a responder: the table of deliveries (this profile's own). The first transition that fits
+-- decides. An APDU that no transition fits is a conflict with the present state.
 use Rattle.std.specs.Prelude.{◌≡◌, ℕ, Bool, true, false, not, ◌&&◌, [], ◌∷◌, Some, Result, Ok, Err, if◌then◌else◌}
 use Rattle.ill_values.specs.declared.apdu.Apdu.{Apdu}
 use Rattle.ill_values.specs.declared.apdu.Body.{Body}

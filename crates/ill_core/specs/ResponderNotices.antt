@@ -15,7 +15,7 @@ use Rattle.ill_core.specs.Numbers.{is_the, is_at_most}
 use Rattle.ill_core.specs.Bodies.{is_shipped}
 use Rattle.ill_core.specs.Issued.{message, has}
 use Rattle.ill_core.specs.Responder.{ResponderRecord, due_of, outstanding_number, later}
-use Rattle.ill_core.specs.ResponderFacts.{Question, MayCancel, MayRenew, last_asked, answers_to}
+use Rattle.ill_core.specs.ResponderEvidence.{Question, MayCancel, MayRenew, last_asked, answers_to}
 
 -- ---- questions
 

@@ -1,4 +1,4 @@
--- A responder's tables as arrays of rows: their facts and their changes (this profile's own).
+-- A responder's tables as arrays of rows: their guards and their changes (this profile's own).
 use Rattle.std.specs.Prelude.{◌≡◌, ℕ, Bool, true, false, not, ◌||◌, ◌==◌, List, [], ◌∷◌, ◌++◌, Option, Some, None, IsSome, Result, Ok, Err, if◌then◌else◌}
 use Rattle.std.specs.List.{filter, find}
 use Rattle.std.specs.Option.{unwrap_or}
@@ -81,24 +81,24 @@ IsRefused changes issued refusals.OutOfMemory =
     (grows changes ≡ true) × (number_refusal changes issued ≡ None)
 IsRefused changes issued refusal = number_refusal changes issued ≡ Some refusal
 
--- The facts of an answer to message c: c is outstanding, c is accepted, c named conditions.
-abbrev pub reply_facts : ResponderRecord → ℕ → List Guard
-reply_facts y c =
+-- The guards of an answer to message c: c is outstanding, c is accepted, c named conditions.
+abbrev pub reply_guards : ResponderRecord → ℕ → List Guard
+reply_guards y c =
     record { bit = delivery.OUTSTANDING; holds = is_the c (outstanding_number y) }
     ∷ record { bit = delivery.ACCEPTED; holds = is_the c y.accepted }
     ∷ record { bit = delivery.WAS_CONDITIONAL; holds = was names_conditions y.issued c } ∷ []
 
--- The facts of a message with number n: n is at most the last Cancel, or the last Renew. The last fact is that the
+-- The guards of a message with number n: n is at most the last Cancel, or the last Renew. The last guard is that the
 -- received mark is not set.
-abbrev pub past_facts : ResponderRecord → ℕ → List Guard
-past_facts y n =
+abbrev pub past_guards : ResponderRecord → ℕ → List Guard
+past_guards y n =
     record { bit = delivery.PAST_CANCEL; holds = is_at_most n y.last_cancel }
     ∷ record { bit = delivery.PAST_RENEW; holds = is_at_most n y.last_renew }
     ∷ record { bit = delivery.UNMARKED; holds = not y.received } ∷ []
 
--- The facts that rows of deliveries may ask for, of a message that tells k.
-abbrev pub delivery_facts : ResponderRecord → ℕ → List Guard
-delivery_facts y k = reply_facts y k ++ past_facts y k
+-- The guards that rows of deliveries may ask for, of a message that tells k.
+abbrev pub delivery_guards : ResponderRecord → ℕ → List Guard
+delivery_guards y k = reply_guards y k ++ past_guards y k
 
 -- Returns the rows of deliveries of a kind, in the order of the table.
 abbrev pub delivery_rows : RequesterKind → List (Row RequesterKind)
@@ -109,7 +109,7 @@ abbrev pub delivery_row_of : ResponderRecord → Apdu → Body → Option Reques
     Option (Row RequesterKind)
 delivery_row_of y a body None = None
 delivery_row_of y a body (Some kind) =
-    find (fits y.state (delivery_facts y (number_in a body))) (delivery_rows kind)
+    find (fits y.state (delivery_guards y (number_in a body))) (delivery_rows kind)
 
 -- Returns the first row that fits an APDU.
 abbrev pub delivery_row : ResponderRecord → Apdu → Option (Row RequesterKind)
@@ -119,7 +119,7 @@ delivery_row y a = delivery_row_of y a a.body (requester_kind a.body)
 abbrev pub deed_rows : ResponderKind → List (Row ResponderKind)
 deed_rows kind = filter (λ r. responder_place r.0 == responder_place kind) action.ROWS
 
--- Returns the first row that has the state and the kind of a deed. It asks for no facts.
+-- Returns the first row that has the state and the kind of a deed. It asks for no guards.
 abbrev pub deed_row : State → Deed → Option (Row ResponderKind)
 deed_row state deed = find (fits state []) (deed_rows (deed_kind deed))
 
@@ -150,11 +150,11 @@ deed_body y deeds.CheckIn = types.CheckedIn
 deed_body y deeds.Expire = types.Expired
 
 -- The record has the number or the date that the APDU of a deed tells.
-abbrev pub HasTold : ResponderRecord → Deed → Type 0
-HasTold y (deeds.CancelReply is_yes) = IsSome y.last_cancel
-HasTold y (deeds.RenewAnswer granted) = IsSome y.last_renew
-HasTold y deeds.Overdue = IsSome (due_of y)
-HasTold y other = Unit
+abbrev pub HasValueFor : ResponderRecord → Deed → Type 0
+HasValueFor y (deeds.CancelReply is_yes) = IsSome y.last_cancel
+HasValueFor y (deeds.RenewAnswer granted) = IsSome y.last_renew
+HasValueFor y deeds.Overdue = IsSome (due_of y)
+HasValueFor y other = Unit
 
 -- Returns the record after a row is followed for a deed, whose APDU has this number and body.
 abbrev pub after_deed : ResponderRecord → Row ResponderKind → ℕ → Body → ResponderRecord

@@ -1,4 +1,4 @@
--- The tables of both roles as arrays of rows (this profile's own). A row fits if its kind, its states and its facts
+-- The tables of both roles as arrays of rows (this profile's own). A row fits if its kind, its states and its guards
 -- do; the first that fits decides.
 use Rattle.std.specs.Prelude.{ℕ, ◌^◌, ◌/◌, Bool, not, ◌&&◌, ◌||◌, ◌==◌, bit_and, List}
 use Rattle.std.specs.List.{list_all}
@@ -36,15 +36,15 @@ abbrev pub next_state : Then → State → State
 next_state (To next) state = next
 next_state other state = state
 
--- A fact: the bit by which a row asks for it, and the test of it.
+-- A guard: the bit by which a row asks for it, and the test of it.
 pub record Guard : Type 0 where
   pub bit : ℕ
   pub holds : Bool
 
--- Returns true if each of the `facts` that `asked` has a bit of holds.
+-- Returns true if each of the `guards` that `asked` has a bit of holds.
 abbrev pub are_met : ℕ → List Guard → Bool
-are_met asked facts = list_all (λ f. (bit_and asked f.bit == 0) || f.holds) facts
+are_met asked guards = list_all (λ f. (bit_and asked f.bit == 0) || f.holds) guards
 
--- Returns true if `row` has `state`, and all `facts` hold that it asks for.
+-- Returns true if `row` has `state`, and all `guards` hold that it asks for.
 abbrev pub fits : {K : Type 0} → State → List Guard → Row K → Bool
-fits state facts row = has_state row.1 state && are_met row.2 facts
+fits state guards row = has_state row.1 state && are_met row.2 guards

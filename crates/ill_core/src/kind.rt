@@ -145,8 +145,8 @@ pub fn date_in(body: &Body) -> Option<Day>
     }
 }
 
-/// Returns the number or the date that a message tells, which is there.
-pub fn told<T: Copy>(value: Option<T>) -> T
+/// Returns the number or the date that is known.
+pub fn known_value<T: Copy>(value: Option<T>) -> T
     requires there { IsSome value }
     ensures { Some result ≡ value }
 {

@@ -8,10 +8,10 @@ ghost use Rattle.ill_core.specs.Tables.{Guard, are_met, has_state, fits, taking_
 use crate::state::State;
 use crate::taking::Taking;
 
-/// A row: the kind of action or message, the states and the facts that it asks for, its effect, and
+/// A row: the kind of action or message, the states and the guards that it asks for, its effect, and
 /// its changes beside the state.
 ///
-/// Bit i of the states is variant i of `State`, from 0. Each role names the bits of its facts and of
+/// Bit i of the states is variant i of `State`, from 0. Each role names the bits of its guards and of
 /// its changes. The rows of a kind stand together, and the first of them that fits decides.
 pub struct Row<K>(pub K, pub u16, pub u16, pub Then, pub u16);
 
@@ -54,30 +54,30 @@ impl Then {
     }
 }
 
-/// The facts that rows may ask for.
-pub trait Facts {
-    /// Each fact with its bit.
-    ghost facts: { Self → List Guard };
+/// The guards that rows may ask for.
+pub trait Guards {
+    /// Each guard with its bit.
+    ghost guards: { Self → List Guard };
 
-    /// Returns true if all facts with a bit in `asked` hold.
+    /// Returns true if all guards with a bit in `asked` hold.
     fn hold(&self, asked: u16) -> bool
-        ensures { result ≡ are_met asked (facts self.now) };
+        ensures { result ≡ are_met asked (guards self.now) };
 }
 
-/// Returns the first of `rows` that has `state`, and whose facts hold.
-pub fn find<'a, K, F: Facts>(rows: &'a [Row<K>], state: State, facts: &F) -> Option<&'a Row<K>>
-    ensures { option_copied result ≡ find (fits state (F.facts facts.now)) rows.now }
+/// Returns the first of `rows` that has `state`, and whose guards hold.
+pub fn find<'a, K, F: Guards>(rows: &'a [Row<K>], state: State, guards: &F) -> Option<&'a Row<K>>
+    ensures { option_copied result ≡ find (fits state (F.guards guards.now)) rows.now }
 {
     rows.iter()
-        .find(|row| has_state(row.1, state) && are_met(facts, row.2))
+        .find(|row| has_state(row.1, state) && are_met(guards, row.2))
 }
 
-/// Returns true if all facts with a bit in `asked` hold. If it has none, no fact is looked at.
+/// Returns true if all guards with a bit in `asked` hold. If it has none, no guard is looked at.
 #[tactic(auto, using(crate::proofs::TableLemmas::none_asked))]
-fn are_met<F: Facts>(facts: &F, asked: u16) -> bool
-    ensures { result ≡ are_met asked (F.facts facts.now) }
+fn are_met<F: Guards>(guards: &F, asked: u16) -> bool
+    ensures { result ≡ are_met asked (F.guards guards.now) }
 {
-    asked == NONE || facts.hold(asked)
+    asked == NONE || guards.hold(asked)
 }
 
 /// Returns true if `state` has its bit in `states`.
@@ -94,7 +94,7 @@ fn place_of(state: State) -> u16
     state as u16
 }
 
-/// No facts, or no changes.
+/// No guards, or no changes.
 pub const NONE: u16 = 0;
 
 pub const IDLE: u16 = 1 << State::Idle as u16;

@@ -6,7 +6,7 @@ use crate::side::{NO_MEMORY, Side};
 use crate::states::{Role, letters_of, role_of, state_of};
 use ill_core::State;
 use ill_test_kit::marks::TRIES;
-use ill_test_kit::{Lines, Page};
+use ill_test_kit::{Transitions, Page};
 use std::alloc::Global;
 use std::mem;
 
@@ -49,8 +49,8 @@ impl Bench {
         }
     }
 
-    fn push_answer(&mut self, page: &mut Page, line: &str) {
-        let Some((name, rest)) = line.split_once('|') else {
+    fn push_answer(&mut self, page: &mut Page, transition: &str) {
+        let Some((name, rest)) = transition.split_once('|') else {
             return;
         };
         match rest.split_once('|') {
@@ -120,13 +120,13 @@ impl Bench {
     }
 }
 
-impl Lines for Bench {
+impl Transitions for Bench {
     /// Adds a line, and after it what it is answered, in place of the answer that stands there.
-    fn perform(&mut self, page: &mut Page, line: &str) {
-        if line.starts_with('#') {
-            return page.line(line);
+    fn perform(&mut self, page: &mut Page, transition: &str) {
+        if transition.starts_with('#') {
+            return page.transition(transition);
         }
-        let case = without_answer(line);
+        let case = without_answer(transition);
         page.text(case);
         self.push_answer(page, case);
         page.text("\n");
@@ -139,16 +139,16 @@ impl Lines for Bench {
 
 /// A case without its answer, which stands after the bar of a name, or after the fourth bar of a row
 /// and before its fifth. A ruler, which has no fifth, has no answer.
-fn without_answer(line: &str) -> &str {
-    let bars = line.matches('|').count();
+fn without_answer(transition: &str) -> &str {
+    let bars = transition.matches('|').count();
     let fields = match bars {
         1 => 1,
         5 => 4,
-        _ => return line,
+        _ => return transition,
     };
-    match line.match_indices('|').nth(fields - 1) {
-        Some((at, _)) => line.get(..=at).unwrap_or(line),
-        None => line,
+    match transition.match_indices('|').nth(fields - 1) {
+        Some((at, _)) => transition.get(..=at).unwrap_or(transition),
+        None => transition,
     }
 }
 

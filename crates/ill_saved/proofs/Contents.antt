@@ -37,7 +37,7 @@ use Rattle.ill_saved.specs.Sides.{SidesOf, is_same_role, most_sides, found_by, p
 use Rattle.ill_der.specs.Format.{◌>>=◌}
 use Rattle.ill_der.specs.Laws.{IsBytes}
 use Rattle.ill_saved.specs.Records.{record_at, record_spelling}
-use Rattle.ill_saved.specs.Records2.{AreSides, alone, read_alone, is_version_1, unsealed, sides_at, sides_spelling, records_at}
+use Rattle.ill_saved.specs.RecordsV2.{AreSides, alone, read_alone, is_version_1, unsealed, sides_at, sides_spelling, records_at}
 use Rattle.ill_saved.specs.Holdings.{DeskEntry, DeskActs, DeskTakesApdu, IsBacked, IsBackedBy, IsBackedByRead, IsRecordOf, StaysBacked, landed_live, map_ok, whole}
 use Rattle.ill_saved.specs.ManySides.{DeskContents, held_of, counts, txn_held, idle_held, found_or, held_for, with_held, sides_held, whole_of, no_sides, is_own, held_or_begun, reached, acted as acted_by, acts_reached, desk_acts, took as took_by, takes_reached, desk_takes, many_sides, FirstActs, FirstTakes, side_for, AreBackedBy, AreBackable, ManyBack}
 use Rattle.ill_saved.proofs.Desks.{RowsGrow, RefusalsStay, core_answer, itself_backs, no_less, idle_consistent}

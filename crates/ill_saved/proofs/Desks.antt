@@ -25,8 +25,8 @@ use Rattle.ill_core.specs.Requester as requesters
 use Rattle.ill_core.specs.Requester.{RequesterRecord, requester_of}
 use Rattle.ill_core.specs.Responder as responders
 use Rattle.ill_core.specs.Responder.{ResponderRecord, responder_of, request_in, rise_from, ships_first}
-use Rattle.ill_core.specs.ResponderFacts as responder_facts
-use Rattle.ill_core.specs.ResponderFacts.{IssuesUnfilled}
+use Rattle.ill_core.specs.ResponderEvidence as responder_evidence
+use Rattle.ill_core.specs.ResponderEvidence.{IssuesUnfilled}
 use Rattle.ill_core.specs.RequesterActions as requester_actions
 use Rattle.ill_core.specs.RequesterDeliveries as requester_deliveries
 use Rattle.ill_core.specs.ResponderActions as responder_actions
@@ -51,7 +51,7 @@ use Rattle.ill_saved.proofs.Records.{no_digest}
 use Rattle.ill_saved.specs.Records.{record_at, record_spelling, Decodes}
 use Rattle.ill_saved.specs.Ranges.{Each, IsSide}
 use Rattle.ill_saved.specs.Store.{Allows, StoreState, StoreLoads}
-use Rattle.ill_saved.specs.Kept.{KeptBytes, IsKept, Keeps, GoesBackTo}
+use Rattle.ill_saved.specs.LandedBytes.{LandedBytes, IsLandedRecord, HoldsReleased, GoesBackTo}
 use Rattle.ill_saved.specs.Holdings.{DeskEntry, Effects, DeskActs, DeskTakesApdu, GoesBackToLanded, IsBacked, IsBackedBy, IsBackedByRead, IsReadFault, IsRecordOf, ReadsRecord, Sends, StaysBacked, landed_live, map_ok, whole}
 use Rattle.ill_saved.specs.OneSide.{OneBacks, alone, one_acts, one_answers, one_side, with_side}
 use Rattle.ill_saved.specs.Desk.{IsOneApdu, Restarts}
@@ -143,19 +143,19 @@ row_grows rows old new (took a e) = subst (Grows old) e (takes_grow rows old a)
 
 -- The laws of ill_core on a responder's request: each deed and each APDU keeps it.
 pub record RequestRows : Type 0 where
-  pub deed : (y new : ResponderRecord) (deed : Deed) (today : Date) → responder_actions.acts y deed today ≡ Ok new → responder_facts.KeepsRequest y new
-  pub message : (y : ResponderRecord) (a : Apdu) → responder_facts.KeepsRequest y (responder_deliveries.takes y a).1
+  pub deed : (y new : ResponderRecord) (deed : Deed) (today : Date) → responder_actions.acts y deed today ≡ Ok new → responder_evidence.KeepsRequest y new
+  pub message : (y : ResponderRecord) (a : Apdu) → responder_evidence.KeepsRequest y (responder_deliveries.takes y a).1
 
 -- If `not b` is true, `b` is false.
 not_true : (b : Bool) → not b ≡ true → b ≡ false
 not_true b h = search rules
 
 -- If a responder keeps its request, its side does.
-keeps_request : (y new : ResponderRecord) → responder_facts.KeepsRequest y new
+keeps_request : (y new : ResponderRecord) → responder_evidence.KeepsRequest y new
     → KeepsRequest (sides.Responder y) (sides.Responder new)
 keeps_request y new keeps asked =
-    let kept = keeps (not_true _ asked) in
-    (ap not kept.0, kept.1)
+    let landed_record = keeps (not_true _ asked) in
+    (ap not landed_record.0, landed_record.1)
 
 -- A requester was never asked, so its side has no request to keep.
 never_asked : (x : RequesterRecord) (new : Side) → KeepsRequest (sides.Requester x) new
@@ -317,10 +317,10 @@ back_on (standings.Requester s) count (sides.Requester x) (sides.Responder new) 
 back_on (standings.Responder s) count (sides.Responder y) (sides.Requester new) side grows keeps few asked e = absurd cc
 
 -- If a desk keeps a record, it keeps it after its side grows and keeps its request.
-keeps_on : (kept : KeptBytes) (old new : Side) (released : ℕ) → released ≤ length (issued_of old) → Grows old new
-    → KeepsRequest old new → Keeps kept old released → Keeps kept new released
-keeps_on kept old new released few grows keeps (inl none) = inl none
-keeps_on kept old new released few grows keeps (inr (side, is, of)) =
+keeps_on : (landed_record : LandedBytes) (old new : Side) (released : ℕ) → released ≤ length (issued_of old) → Grows old new
+    → KeepsRequest old new → HoldsReleased landed_record old released → HoldsReleased landed_record new released
+keeps_on landed_record old new released few grows keeps (inl none) = inl none
+keeps_on landed_record old new released few grows keeps (inr (side, is, of)) =
     inr (
       side,
       is,
@@ -333,41 +333,41 @@ keeps_on kept old new released few grows keeps (inr (side, is, of)) =
     )
 
 -- The rules of a held side: no more messages are released than issued, and its kept record has just the released ones.
-abbrev pub Rules : KeptBytes → Side → ℕ → Type 0
-Rules kept live released = (released ≤ length (issued_of live)) × Keeps kept live released
+abbrev pub Rules : LandedBytes → Side → ℕ → Type 0
+Rules landed_record live released = (released ≤ length (issued_of live)) × HoldsReleased landed_record live released
 
 -- A held side after a row keeps its rules, and all bytes that backed it back it.
-abbrev pub StaysRight : KeptBytes → Side → Side → ℕ → Type 0
-StaysRight kept old new released =
-    Rules kept new released × StaysBacked one_side OneBacks (entry old released) (entry new released)
+abbrev pub StaysRight : LandedBytes → Side → Side → ℕ → Type 0
+StaysRight landed_record old new released =
+    Rules landed_record new released × StaysBacked one_side OneBacks (entry old released) (entry new released)
 
 -- A held side stays right after a row.
-row_rules : RowsGrow → RowsKeepRequest → (kept : KeptBytes) (old new : Side) (released : ℕ)
-    → IsStep old new → Rules kept old released → StaysRight kept old new released
-row_rules grows keeps kept old new released row rules =
+row_rules : RowsGrow → RowsKeepRequest → (landed_record : LandedBytes) (old new : Side) (released : ℕ)
+    → IsStep old new → Rules landed_record old released → StaysRight landed_record old new released
+row_rules grows keeps landed_record old new released row rules =
     let more = grows old new row in
-    ((omega (arith, rules.0, no_less _ _ more.1), keeps_on kept old new released rules.0 more (keeps old new row) rules.1), row_backs grows old new released row)
+    ((omega (arith, rules.0, no_less _ _ more.1), keeps_on landed_record old new released rules.0 more (keeps old new row) rules.1), row_backs grows old new released row)
 
 -- A held side stays right if it does not change.
-same_rules : (kept : KeptBytes) (old new : Side) (released : ℕ) → new ≡ old
-    → Rules kept old released → StaysRight kept old new released
-same_rules kept old new released e rules = subst (λ side. StaysRight kept old side released) (sym e) (rules, λ landed backed. backed)
+same_rules : (landed_record : LandedBytes) (old new : Side) (released : ℕ) → new ≡ old
+    → Rules landed_record old released → StaysRight landed_record old new released
+same_rules landed_record old new released e rules = subst (λ side. StaysRight landed_record old side released) (sym e) (rules, λ landed backed. backed)
 
 -- A held side stays right after an action, whatever its answer.
 pub acts_rules : RowsGrow → RowsKeepRequest
-    → (kept : KeptBytes) (old new : Side) (released : ℕ) (action : Action) (answer : Result (Unit {0}) Refusal)
-    → Acts old action answer new → Rules kept old released → StaysRight kept old new released
-acts_rules grows keeps kept old new released action (Ok done) acts rules = row_rules grows keeps kept old new released (acted action acts) rules
-acts_rules grows keeps kept old new released action (Err refusals.OutOfMemory) acts rules = same_rules kept old new released acts.1 rules
-acts_rules grows keeps kept old new released action (Err refusal) acts rules = same_rules kept old new released acts.1 rules
+    → (landed_record : LandedBytes) (old new : Side) (released : ℕ) (action : Action) (answer : Result (Unit {0}) Refusal)
+    → Acts old action answer new → Rules landed_record old released → StaysRight landed_record old new released
+acts_rules grows keeps landed_record old new released action (Ok done) acts rules = row_rules grows keeps landed_record old new released (acted action acts) rules
+acts_rules grows keeps landed_record old new released action (Err refusals.OutOfMemory) acts rules = same_rules landed_record old new released acts.1 rules
+acts_rules grows keeps landed_record old new released action (Err refusal) acts rules = same_rules landed_record old new released acts.1 rules
 
 -- A held side stays right after an APDU, whatever the answer.
 pub takes_rules : RowsGrow → RowsKeepRequest
-    → (kept : KeptBytes) (old new : Side) (released : ℕ) (a : Apdu) (answer : Result Taking Refusal)
-    → Takes old a answer new → Rules kept old released → StaysRight kept old new released
-takes_rules grows keeps kept old new released a (Err refusals.OutOfMemory) takes rules = same_rules kept old new released takes.2 rules
-takes_rules grows keeps kept old new released a answer takes rules =
-    row_rules grows keeps kept old new released (took a (ap (λ (r : Result Taking Refusal × Side). r.1) takes)) rules
+    → (landed_record : LandedBytes) (old new : Side) (released : ℕ) (a : Apdu) (answer : Result Taking Refusal)
+    → Takes old a answer new → Rules landed_record old released → StaysRight landed_record old new released
+takes_rules grows keeps landed_record old new released a (Err refusals.OutOfMemory) takes rules = same_rules landed_record old new released takes.2 rules
+takes_rules grows keeps landed_record old new released a answer takes rules =
+    row_rules grows keeps landed_record old new released (took a (ap (λ (r : Result Taking Refusal × Side). r.1) takes)) rules
 
 -- Returns the answer of a held side for the answer of its core.
 abbrev pub core_answer : {A : Type 0} → Result A Refusal → Result A DeskFault
@@ -431,9 +431,9 @@ back_to_itself (sides.Responder y) count is all =
     ∙ ap (λ l. Some (sides.Responder (responder_of y.txn y.state y.accepted y.last_cancel y.last_renew y.received y.request l))) (take_all count y.issued (omega (arith, all)))
 
 -- If the record of a side is kept and all of its messages are released, its desk keeps the record.
-pub keeps_whole : (kept : KeptBytes) (side : Side) (count : ℕ) → IsKept kept side → count ≡ length (issued_of side)
-    → Keeps kept side count
-keeps_whole kept side count is all =
+pub keeps_whole : (landed_record : LandedBytes) (side : Side) (count : ℕ) → IsLandedRecord landed_record side → count ≡ length (issued_of side)
+    → HoldsReleased landed_record side count
+keeps_whole landed_record side count is all =
     inr (side, is, record { prefix = none_more (issued_of side) (issued_of side) refl; all = all; back = back_to_itself side count is.0.0 all; asked = λ asked. asked })
 
 -- A consistent side backs itself with all messages released.
@@ -441,10 +441,10 @@ pub itself_backs : (side : Side) (count : ℕ) → IsConsistent side → count �
 itself_backs side count is few = record { consistent = is; follows = same; has-released = few }
 
 -- The kept record of a side in range is its record.
-pub record_of : ReadsAgain → (kept : KeptBytes) (live : Side) (released : ℕ) → IsKept kept live
-    → released ≤ length (issued_of live) → IsRecordOf one_side OneBacks kept.bytes (entry live released)
-record_of again kept live released is few =
-    let spelled : kept.bytes ≡ record_spelling live = ap (λ (k : KeptBytes). k.bytes) is.1 in
+pub record_of : ReadsAgain → (landed_record : LandedBytes) (live : Side) (released : ℕ) → IsLandedRecord landed_record live
+    → released ≤ length (issued_of live) → IsRecordOf one_side OneBacks landed_record.bytes (entry live released)
+record_of again landed_record live released is few =
+    let spelled : landed_record.bytes ≡ record_spelling live = ap (λ (k : LandedBytes). k.bytes) is.1 in
     record {
       spelled = spelled;
       read = ap one_side.read spelled ∙ ap (map_ok whole) (again live is.0);
@@ -453,10 +453,10 @@ record_of again kept live released is few =
     }
 
 -- The next kept record is the record of the side.
-pub next_record : {E : Type 0} → ReadsAgain → (live : Side) (released : ℕ) (result : Result KeptBytes E)
-    → IfOk result (λ kept. IsKept kept live) → released ≤ length (issued_of live)
-    → IfOk result (λ kept. IsRecordOf one_side OneBacks kept.bytes (entry live released))
-next_record again live released (Ok kept) is few = record_of again kept live released is few
+pub next_record : {E : Type 0} → ReadsAgain → (live : Side) (released : ℕ) (result : Result LandedBytes E)
+    → IfOk result (λ landed_record. IsLandedRecord landed_record live) → released ≤ length (issued_of live)
+    → IfOk result (λ landed_record. IsRecordOf one_side OneBacks landed_record.bytes (entry live released))
+next_record again live released (Ok landed_record) is few = record_of again landed_record live released is few
 next_record again live released (Err fault) is few = tt
 
 -- ---- loading
@@ -502,18 +502,18 @@ pub read_is_backed : {L K : Type 0} (effects : Effects L K) (backs : L → L →
 read_is_backed effects backs bytes live read backed = subst (λ r. IsBackedByRead backs r live) (sym read) backed
 
 -- If the live side goes back to the kept record, the loaded bytes encode it with all of its messages released.
-pub back_is : ReadsAgain → (kept : KeptBytes) (released : ℕ) (bytes : Option (List ℕ)) (old new : Side)
-    → GoesBackTo kept released bytes true old new → landed_live one_side bytes (entry old released) ≡ Ok (whole new)
-back_is again kept released bytes old new (spelled, is, of) =
-    ap (λ o. landed_live one_side o (entry old released)) (spelled ∙ ap (λ (k : KeptBytes). Some k.bytes) is.1) ∙ ap (map_ok whole) (again new is.0)
+pub back_is : ReadsAgain → (landed_record : LandedBytes) (released : ℕ) (bytes : Option (List ℕ)) (old new : Side)
+    → GoesBackTo landed_record released bytes true old new → landed_live one_side bytes (entry old released) ≡ Ok (whole new)
+back_is again landed_record released bytes old new (spelled, is, of) =
+    ap (λ o. landed_live one_side o (entry old released)) (spelled ∙ ap (λ (k : LandedBytes). Some k.bytes) is.1) ∙ ap (map_ok whole) (again new is.0)
 
 -- If the live side goes back to the kept record, the loaded bytes back it, and it keeps its rules.
-pub back_rules : ReadsAgain → (kept : KeptBytes) (released : ℕ) (bytes : Option (List ℕ)) (old new : Side)
-    → GoesBackTo kept released bytes true old new
-    → Rules kept new released × IsBacked one_side OneBacks bytes (entry new released) × (entry new released ≡ whole new)
-back_rules again kept released bytes old new (spelled, is, of) = (
-  (omega (arith, of.all), keeps_whole kept new released is of.all),
-  subst (λ o. IsBacked one_side OneBacks o (entry new released)) (sym (spelled ∙ ap (λ (k : KeptBytes). Some k.bytes) is.1))
+pub back_rules : ReadsAgain → (landed_record : LandedBytes) (released : ℕ) (bytes : Option (List ℕ)) (old new : Side)
+    → GoesBackTo landed_record released bytes true old new
+    → Rules landed_record new released × IsBacked one_side OneBacks bytes (entry new released) × (entry new released ≡ whole new)
+back_rules again landed_record released bytes old new (spelled, is, of) = (
+  (omega (arith, of.all), keeps_whole landed_record new released is of.all),
+  subst (λ o. IsBacked one_side OneBacks o (entry new released)) (sym (spelled ∙ ap (λ (k : LandedBytes). Some k.bytes) is.1))
       (read_is_backed one_side OneBacks (record_spelling new) (entry new released) (ap (map_ok whole) (again new is.0) ∙ ap (λ n. Ok (entry new n)) (sym of.all)) (itself_backs new released is.0.0 (omega (arith, of.all)))),
   ap (entry new) of.all,
 )
@@ -593,32 +593,32 @@ restarts_to effects backs {bytes_of} {before} {after} {found} old new answer sto
 -- ---- sending
 
 -- If the encodings of issued APDUs have `bytes` at index `n`, APDU `n` is in range and has that encoding.
-message_kept : (issued more : List Apdu) (n : ℕ) (bytes : List ℕ) → Each IsApdu issued
+message_stays : (issued more : List Apdu) (n : ℕ) (bytes : List ℕ) → Each IsApdu issued
     → slice_get (map spelling issued) n ≡ Some bytes
     → (a : Apdu) × (slice_get (issued ++ more) n ≡ Some a) × IsApdu a × (bytes ≡ spelling a)
 unfolding Each
-message_kept [] more n bytes are e = absurd cc
-message_kept (a ∷ issued) more zero bytes are e = (a, refl, are.0, cc)
-message_kept (a ∷ issued) more (suc n) bytes are e = message_kept issued more n bytes are.1 e
+message_stays [] more n bytes are e = absurd cc
+message_stays (a ∷ issued) more zero bytes are e = (a, refl, are.0, cc)
+message_stays (a ∷ issued) more (suc n) bytes are e = message_stays issued more n bytes are.1 e
 
 -- If the kept record has `bytes` as message `number`, they encode that message of the live side.
-pub message_released : (kept : KeptBytes) (live : Side) (released number : ℕ) (bytes : List ℕ)
-    → Keeps kept live released → 1 ≤ number → slice_get kept.pieces (number - 1) ≡ Some bytes
+pub message_released : (landed_record : LandedBytes) (live : Side) (released number : ℕ) (bytes : List ℕ)
+    → HoldsReleased landed_record live released → 1 ≤ number → slice_get landed_record.pieces (number - 1) ≡ Some bytes
     → (a : Apdu) × (message (issued_of live) number ≡ Some a) × IsApdu a × (bytes ≡ spelling a)
-message_released kept live released zero bytes keeps first e = absurd (omega (arith, first))
-message_released kept live released (suc n) bytes (inl none) first e = absurd (subst (λ (k : KeptBytes). slice_get k.pieces (suc n - 1) ≡ Some bytes → ⊥) (sym none.0) (λ found. cc) e)
-message_released kept live released (suc n) bytes (inr (side, is, of)) first e =
+message_released landed_record live released zero bytes keeps first e = absurd (omega (arith, first))
+message_released landed_record live released (suc n) bytes (inl none) first e = absurd (subst (λ (k : LandedBytes). slice_get k.pieces (suc n - 1) ≡ Some bytes → ⊥) (sym none.0) (λ found. cc) e)
+message_released landed_record live released (suc n) bytes (inr (side, is, of)) first e =
     let at : suc n - 1 ≡ n = omega arith in
-    let piece : slice_get (map spelling (issued_of side)) n ≡ Some bytes = ap (slice_get (map spelling (issued_of side))) (sym at) ∙ subst (λ (k : KeptBytes). slice_get k.pieces (suc n - 1) ≡ Some bytes) is.1 e in
-    let found = message_kept (issued_of side) of.prefix.0 n bytes is.0.1.issued piece in
+    let piece : slice_get (map spelling (issued_of side)) n ≡ Some bytes = ap (slice_get (map spelling (issued_of side))) (sym at) ∙ subst (λ (k : LandedBytes). slice_get k.pieces (suc n - 1) ≡ Some bytes) is.1 e in
+    let found = message_stays (issued_of side) of.prefix.0 n bytes is.0.1.issued piece in
     (found.0, subst (λ apdus. slice_get apdus n ≡ Some found.0) (sym of.prefix.1) found.1, found.2, found.3)
 
 -- If a released message is taken from the kept record, the answer is as `Sends` says.
-pub sends_released : {X : Type 0} (view : X → List ℕ) (value : X) (kept : KeptBytes) (live : Side) (released number : ℕ) (bytes : List ℕ)
-    → Keeps kept live released → 1 ≤ number → number ≤ released
-    → slice_get kept.pieces (number - 1) ≡ Some bytes → view value ≡ bytes
+pub sends_released : {X : Type 0} (view : X → List ℕ) (value : X) (landed_record : LandedBytes) (live : Side) (released number : ℕ) (bytes : List ℕ)
+    → HoldsReleased landed_record live released → 1 ≤ number → number ≤ released
+    → slice_get landed_record.pieces (number - 1) ≡ Some bytes → view value ≡ bytes
     → Sends view (message (issued_of live) number) (nat_le number released) (Ok value)
-sends_released view value kept live released number bytes keeps first few e are =
-    let found = message_released kept live released number bytes keeps first e in
+sends_released view value landed_record live released number bytes keeps first few e are =
+    let found = message_released landed_record live released number bytes keeps first e in
     subst (λ m. Sends view m (nat_le number released) (Ok value)) (sym found.1)
     (subst (λ b. Sends view (Some found.0) b (Ok value)) (sym (le-leb number released few)) (found.2, are ∙ found.3))

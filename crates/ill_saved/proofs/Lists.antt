@@ -81,14 +81,14 @@ module _ {V : Type 0} (field : Field V) (values : List V) (count counter : ℕ) 
       sym reads ∙ (ap (λ n. after values (read_all field n left)) none ∙ all_read field values left)
 
 -- If the second reading keeps each fault of the first, a reader's fault that fits the first fits it too.
-pub fault_kept : {X Y V W : Type 0} (f : X → V) (g : Y → W) (fault : RecordFault) (left next : Cursor) (first : Result (V × Cursor) LayoutFault) (then_read : Result (W × Cursor) LayoutFault)
+pub fault_stays : {X Y V W : Type 0} (f : X → V) (g : Y → W) (fault : RecordFault) (left next : Cursor) (first : Result (V × Cursor) LayoutFault) (then_read : Result (W × Cursor) LayoutFault)
     → ((d : LayoutFault) → first ≡ Err d → then_read ≡ Err d) → ReadsInMemory f (Err fault) left first
     → ReadsInMemory g (Err fault) next then_read
-fault_kept f g faults.Short left next first then_read stays read = stays Short read
-fault_kept f g (faults.Bad at) left next first then_read stays read = stays (Bad at) read
-fault_kept f g faults.Inconsistent left next first then_read stays read = absurd read
-fault_kept f g faults.Digest left next first then_read stays read = absurd read
-fault_kept f g faults.OutOfMemory left next first then_read stays read = tt
+fault_stays f g faults.Short left next first then_read stays read = stays Short read
+fault_stays f g (faults.Bad at) left next first then_read stays read = stays (Bad at) read
+fault_stays f g faults.Inconsistent left next first then_read stays read = absurd read
+fault_stays f g faults.Digest left next first then_read stays read = absurd read
+fault_stays f g faults.OutOfMemory left next first then_read stays read = tt
 
 -- The encoding of no value is empty.
 pub spell_none : {V : Type 0} (spell : V → List ℕ) → spell_all spell [] ≡ []

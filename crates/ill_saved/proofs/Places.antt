@@ -5,7 +5,7 @@ use Rattle.std.proofs.lemmas.List.{map-append, take_at, drop_at, drop-drop, take
 use Rattle.std.proofs.lemmas.List.Elements.{All-head, All-tail, All-push, All-weaker}
 use Rattle.ill_values.specs.declared.apdu.Apdu.{Apdu}
 use Rattle.ill_der.specs.ShortForm.{spelling}
-use Rattle.ill_saved.specs.declared.kept.Place.{Place}
+use Rattle.ill_saved.specs.declared.landed_record.Place.{Place}
 use Rattle.ill_saved.specs.declared.role.Role.TheVariants as roles
 use Rattle.ill_saved.specs.declared.side.Side.{Side}
 use Rattle.ill_saved.specs.declared.side.Side.TheVariants as sides
@@ -13,7 +13,7 @@ use Rattle.ill_saved.specs.Layout.{spell_all, apdu, ill_request, mark, marked, c
 use Rattle.ill_saved.specs.Records.{due_octets, heading, requester_states, responder_states, requester_rest, responder_rest, spell_start, record_spelling}
 use Rattle.ill_saved.specs.declared.side.Standing.{Standing}
 use Rattle.ill_saved.specs.Side.{issued_of, standing_of}
-use Rattle.ill_saved.specs.Kept.{KeptBytes, none_kept, IsKept, Keeps, piece_at, IsWithin, EndsWith}
+use Rattle.ill_saved.specs.LandedBytes.{LandedBytes, no_landed_record, IsLandedRecord, HoldsReleased, piece_at, IsWithin, EndsWith}
 use Rattle.std.specs.Prelude.{IfOk}
 use Rattle.ill_saved.specs.Ranges.{Each, IsSide}
 use Rattle.ill_values.specs.Apdu.{IsApdu}
@@ -134,45 +134,45 @@ ends_with_messages (sides.Responder y) =
 -- ---- a side that begins with the messages kept
 
 -- The kept messages, followed by `others`, are all that the side has issued.
-pub record Continues (kept : KeptBytes) (issued others : List Apdu) : Type 0 where
-  pub messages : kept.messages ++ spell_all spelling others ≡ spell_all spelling issued
-  pub pieces : kept.pieces ++ map spelling others ≡ map spelling issued
+pub record Continues (landed_record : LandedBytes) (issued others : List Apdu) : Type 0 where
+  pub messages : landed_record.messages ++ spell_all spelling others ≡ spell_all spelling issued
+  pub pieces : landed_record.pieces ++ map spelling others ≡ map spelling issued
   pub range : Each IsApdu others → Each IsApdu issued
 
 -- If the record of a side is kept, it continues with any messages issued after that side's.
-continues_prefix : (kept : KeptBytes) (side : Side) (more : List Apdu) → IsKept kept side
-    → Continues kept (issued_of side ++ more) more
-continues_prefix kept side more is = record {
-  messages = ap (λ (k : KeptBytes). k.messages ++ spell_all spelling more) is.1 ∙ sym (spell_both spelling (issued_of side) more);
-  pieces = ap (λ (k : KeptBytes). k.pieces ++ map spelling more) is.1 ∙ sym (map-append spelling (issued_of side) more);
+continues_prefix : (landed_record : LandedBytes) (side : Side) (more : List Apdu) → IsLandedRecord landed_record side
+    → Continues landed_record (issued_of side ++ more) more
+continues_prefix landed_record side more is = record {
+  messages = ap (λ (k : LandedBytes). k.messages ++ spell_all spelling more) is.1 ∙ sym (spell_both spelling (issued_of side) more);
+  pieces = ap (λ (k : LandedBytes). k.pieces ++ map spelling more) is.1 ∙ sym (map-append spelling (issued_of side) more);
   range = λ others. each_both IsApdu (issued_of side) more is.0.1.issued others;
 }
 
 -- If no record is kept, `others` are all messages.
-continues_none : (kept : KeptBytes) (issued : List Apdu) → kept ≡ none_kept → Continues kept issued issued
-continues_none kept issued none = record {
-  messages = ap (λ (k : KeptBytes). k.messages ++ spell_all spelling issued) none;
-  pieces = ap (λ (k : KeptBytes). k.pieces ++ map spelling issued) none;
+continues_none : (landed_record : LandedBytes) (issued : List Apdu) → landed_record ≡ no_landed_record → Continues landed_record issued issued
+continues_none landed_record issued none = record {
+  messages = ap (λ (k : LandedBytes). k.messages ++ spell_all spelling issued) none;
+  pieces = ap (λ (k : LandedBytes). k.pieces ++ map spelling issued) none;
   range = λ all. all;
 }
 
 -- The kept messages, followed by those that are not released, are all that the live side has issued.
-pub kept_continues : (kept : KeptBytes) (live : Side) (released : ℕ) (others : List Apdu) → Keeps kept live released
-    → others ≡ drop released (issued_of live) → Continues kept (issued_of live) others
-kept_continues kept live released others (inl none) e =
-    subst (λ more. Continues kept (issued_of live) more) (sym (e ∙ ap (λ n. drop n (issued_of live)) none.1)) (continues_none kept (issued_of live) none.0)
-kept_continues kept live released others (inr (side, is, of)) e =
+pub landed_continues : (landed_record : LandedBytes) (live : Side) (released : ℕ) (others : List Apdu) → HoldsReleased landed_record live released
+    → others ≡ drop released (issued_of live) → Continues landed_record (issued_of live) others
+landed_continues landed_record live released others (inl none) e =
+    subst (λ more. Continues landed_record (issued_of live) more) (sym (e ∙ ap (λ n. drop n (issued_of live)) none.1)) (continues_none landed_record (issued_of live) none.0)
+landed_continues landed_record live released others (inr (side, is, of)) e =
     let same : others ≡ of.prefix.0 = e ∙ (ap (drop released) of.prefix.1 ∙ drop_at (issued_of side) of.prefix.0 released (sym of.all)) in
-    subst (λ more. Continues kept (issued_of live) more) (sym same) (subst (λ issued. Continues kept issued of.prefix.0) (sym of.prefix.1) (continues_prefix kept side of.prefix.0 is))
+    subst (λ more. Continues landed_record (issued_of live) more) (sym same) (subst (λ issued. Continues landed_record issued of.prefix.0) (sym of.prefix.1) (continues_prefix landed_record side of.prefix.0 is))
 
 -- Kept bytes that gain the encodings of `others`, and the standing and record of `side`, are those of `side`.
-pub next_kept : {E : Type 0} (result : Result KeptBytes E) (kept : KeptBytes) (side : Side) (standing : Standing) (others : List Apdu) (bytes : List ℕ)
-    → Continues kept (issued_of side) others → IsSide side
+pub next_landed : {E : Type 0} (result : Result LandedBytes E) (landed_record : LandedBytes) (side : Side) (standing : Standing) (others : List Apdu) (bytes : List ℕ)
+    → Continues landed_record (issued_of side) others → IsSide side
     → standing ≡ standing_of side → bytes ≡ record_spelling side
-    → IfOk result (λ next. next ≡ record { standing = Some standing; bytes = bytes; messages = kept.messages ++ spell_all spelling others; pieces = kept.pieces ++ map spelling others })
-    → IfOk result (λ next. IsKept next side)
-next_kept (Ok next) kept side standing others bytes more is stands spelled e =
+    → IfOk result (λ next. next ≡ record { standing = Some standing; bytes = bytes; messages = landed_record.messages ++ spell_all spelling others; pieces = landed_record.pieces ++ map spelling others })
+    → IfOk result (λ next. IsLandedRecord next side)
+next_landed (Ok next) landed_record side standing others bytes more is stands spelled e =
     let messages = more.messages in
     let pieces = more.pieces in
     (is, cc)
-next_kept (Err fault) kept side standing others bytes more is stands spelled e = tt
+next_landed (Err fault) landed_record side standing others bytes more is stands spelled e = tt

@@ -56,24 +56,24 @@ pub judged_is : (read : Result Side LayoutFault) (side : Side) → read ≡ Ok s
 judged_is read side is consistent = ap judged is ∙ ap (λ keeps. cond keeps (Ok side) (Err faults.Inconsistent)) consistent
 
 -- If the test is false, judging gives `Inconsistent`.
-not_kept : (keeps : Bool) (side : Side) → (keeps ≡ true → ⊥)
+is_inconsistent : (keeps : Bool) (side : Side) → (keeps ≡ true → ⊥)
     → cond keeps (Ok side) (Err faults.Inconsistent) ≡ Err faults.Inconsistent
-not_kept true side breaks = absurd (breaks refl)
-not_kept false side breaks = refl
+is_inconsistent true side breaks = absurd (breaks refl)
+is_inconsistent false side breaks = refl
 
 -- If the side that was read is not consistent, judging gives `Inconsistent`.
 pub judged_not : (read : Result Side LayoutFault) (side : Side) → read ≡ Ok side → (IsConsistent side → ⊥)
     → judged read ≡ Err faults.Inconsistent
-judged_not read side is breaks = ap judged is ∙ not_kept (is_consistent side) side breaks
+judged_not read side is breaks = ap judged is ∙ is_inconsistent (is_consistent side) side breaks
 
 -- No test of a side gives `Digest`.
-kept_no_digest : (keeps : Bool) (side : Side) → Err faults.Digest ≡ cond keeps (Ok side) (Err faults.Inconsistent) → ⊥
-kept_no_digest true side is = cc
-kept_no_digest false side is = cc
+consistent_no_digest : (keeps : Bool) (side : Side) → Err faults.Digest ≡ cond keeps (Ok side) (Err faults.Inconsistent) → ⊥
+consistent_no_digest true side is = cc
+consistent_no_digest false side is = cc
 
 -- Judging never gives `Digest`.
 judged_no_digest : (read : Result Side LayoutFault) → Err faults.Digest ≡ judged read → ⊥
-judged_no_digest (Ok side) is = kept_no_digest (is_consistent side) side is
+judged_no_digest (Ok side) is = consistent_no_digest (is_consistent side) side is
 judged_no_digest (Err Short) is = cc
 judged_no_digest (Err (Bad at)) is = cc
 

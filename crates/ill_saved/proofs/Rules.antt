@@ -25,9 +25,9 @@ requester_state x is = not-true _ (and_parts _ _ (and_parts _ _ (and_parts _ _ i
 pub requester_request : (x : RequesterRecord) → IsRequester x → begins_with_request x.issued ≡ true
 unfolding requester.is_consistent
 requester_request x is =
-    let kept = requester.issued_keeps_rules x.state x.issued in
-    let fits = and_parts (are_numbered x.txn 1 x.issued) (requester_parts x && kept) is in
-    let types = and_parts (requester_parts x) kept fits.1 in
+    let landed_record = requester.issued_keeps_rules x.state x.issued in
+    let fits = and_parts (are_numbered x.txn 1 x.issued) (requester_parts x && landed_record) is in
+    let types = and_parts (requester_parts x) landed_record fits.1 in
     let begins = begins_with_request x.issued && requester.issued_fits x.state x.issued in
     let request = and_parts (list_all (λ a. is_requesters a.body) x.issued) begins types.1 in
     (and_parts (begins_with_request x.issued) (requester.issued_fits x.state x.issued) request.1).0

@@ -23,7 +23,7 @@ use Rattle.ill_saved.specs.declared.fault.RecordFault.TheVariants as faults
 use Rattle.ill_saved.specs.Sides.{SidesOf, most_sides, may_be_held}
 use Rattle.ill_saved.specs.Layout.{sized, counted_by, spell_all, ended}
 use Rattle.ill_saved.specs.Records.{role, role_octet, all_of, record_at, record_spelling}
-use Rattle.ill_saved.specs.Records2.{version_2, two_octets, few_sides, side_count, bad_at, one_record, part, role_and_sides, body_of, sides_spelling, body, unsealed, judged_together, sides_at, read_alone, is_version_1, records_at, AreSides}
+use Rattle.ill_saved.specs.RecordsV2.{version_2, two_octets, few_sides, side_count, bad_at, one_record, part, role_and_sides, body_of, sides_spelling, body, unsealed, judged_together, sides_at, read_alone, is_version_1, records_at, AreSides}
 use Rattle.ill_saved.specs.Ranges.{IsSide}
 use Rattle.ill_saved.proofs.Steps.{bind_ok, ok_is, passed, went_on, IsBytes-take, IsBytes-rest}
 use Rattle.ill_saved.proofs.Fields.{ReadsAgain, Takes, IsField, IsSized, Any, Both, CountedBy, rest_fits, sized_is, followed_is, counted_by_is, role_is}

@@ -24,7 +24,7 @@ use Rattle.ill_saved.specs.Layout.{apdu, ill_request, marked, counted, spell_all
 use Rattle.ill_saved.specs.Records.{due_octets, heading, requester_states, responder_states, requester_rest, responder_rest, record_spelling}
 use Rattle.ill_saved.specs.Ranges.{Each, IsSide}
 use Rattle.ill_saved.specs.Sides.{SidesOf}
-use Rattle.ill_saved.specs.Records2.{two_octets, part, body_of, sides_spelling, AreSides}
+use Rattle.ill_saved.specs.RecordsV2.{two_octets, part, body_of, sides_spelling, AreSides}
 use Rattle.ill_saved.proofs.Rules.{requester_request, responder_types}
 
 -- The laws below bound the lengths of a qualifier, of an APDU, and of one that is no ILL-Request.

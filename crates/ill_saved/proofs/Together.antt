@@ -17,7 +17,7 @@ use Rattle.ill_saved.specs.Side.{role_of, txn_of, is_idle}
 use Rattle.ill_saved.specs.Sides.{SidesOf, side_with, is_same_role, is_begun, are_apart, may_be_held, most_sides, put_refusal}
 use Rattle.ill_saved.specs.Layout.{counted_by, read_all, ended}
 use Rattle.ill_saved.specs.Records.{role, heading, start, has_prefix, has_prefix_after, requester_fields, responder_fields, requester_states, responder_states, read_fields, side_at, side_spelled, record_at, begins_as_record, Decodes}
-use Rattle.ill_saved.specs.Records2.{part, side_count, role_and_sides, unsealed, together, judged_together, sides_at, read_alone, is_version_1, counts_any, has_sides, records_at, begins_as_records, PutsRead}
+use Rattle.ill_saved.specs.RecordsV2.{part, side_count, role_and_sides, unsealed, together, judged_together, sides_at, read_alone, is_version_1, counts_any, has_sides, records_at, begins_as_records, PutsRead}
 use Rattle.ill_saved.proofs.Steps.{bind_ok}
 use Rattle.ill_saved.proofs.Records.{judged_ok}
 use Rattle.ill_saved.proofs.Finding.{apart_back}

@@ -2,11 +2,11 @@ pub mod Side
 pub mod Sides
 pub mod Layout
 pub mod Records
-pub mod Records2
+pub mod RecordsV2
 pub mod Ranges
 pub mod Store
 pub mod Faults
-pub mod Kept
+pub mod LandedBytes
 pub mod Holdings
 pub mod OneSide
 pub mod Desk

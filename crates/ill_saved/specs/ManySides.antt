@@ -18,7 +18,7 @@ use Rattle.ill_saved.specs.declared.fault.DeskFault.TheVariants.{Core, NoSuchTra
 use Rattle.ill_saved.specs.Side.{issued_of, txn_of, idle_side, role_for, begins, acts, takes}
 pub use Rattle.ill_saved.specs.Sides.{found_by, put_by}
 use Rattle.ill_saved.specs.Sides.{SidesOf, is_same_role, most_sides, side_with}
-use Rattle.ill_saved.specs.Records2.{records_at, begins_as_records, sides_spelling}
+use Rattle.ill_saved.specs.RecordsV2.{records_at, begins_as_records, sides_spelling}
 use Rattle.ill_saved.specs.Holdings.{DeskEntry, Effects, ReadsRecord, whole, map_ok, IsBackedBy}
 
 -- The content of a desk: sides of one role, in the order in which they were begun.

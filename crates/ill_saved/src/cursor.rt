@@ -7,7 +7,7 @@ ghost use Rattle.ill_der.specs.Format as model;
 ghost use Rattle.ill_der.specs.Format.{cursor_at};
 ghost use Rattle.ill_saved.specs.Layout.{Reads, ReadsInMemory, bytes_at, sized, constant, count, optional_number, mark, text_size, counted_text, apdu, ill_request, marked, counted, ended};
 ghost use Rattle.ill_saved.specs.Records.{state_in, requester_states, responder_states, due, role};
-ghost use Rattle.ill_saved.specs.Records2.{two_octets, side_count};
+ghost use Rattle.ill_saved.specs.RecordsV2.{two_octets, side_count};
 ghost use Rattle.ill_saved.specs.Sides.{most_sides};
 
 use crate::fault::{LayoutFault, RecordFault};

@@ -8,7 +8,7 @@ ghost use Rattle.ill_saved.specs.declared.side.Side.{Side};
 ghost use Rattle.ill_saved.specs.declared.side.Action.{Action};
 ghost use Rattle.ill_saved.specs.Side.{issued_of, is_idle, acts, takes, IsStep, Grows, KeepsRequest, Follows, IsPrefix};
 ghost use Rattle.ill_saved.specs.Records.{side_spelled, record_at, record_spelling};
-ghost use Rattle.ill_saved.specs.Records2.{sides_spelling, is_version_1, records_at, AreSides};
+ghost use Rattle.ill_saved.specs.RecordsV2.{sides_spelling, is_version_1, records_at, AreSides};
 ghost use Rattle.ill_saved.specs.Ranges.{IsInRange, IsSide};
 ghost use Rattle.ill_saved.specs.Sides.{SidesOf};
 

@@ -4,16 +4,16 @@
 
 mod cursor;
 mod decoding;
-mod decoding2;
+mod decoding_v2;
 mod desk;
 mod encoding;
-mod encoding2;
+mod encoding_v2;
 mod fault;
 mod file_lock;
 mod file_store;
 mod fuse_store;
 mod holdings;
-mod kept;
+mod landed_record;
 pub mod laws;
 mod many_sides;
 mod memory_store;
@@ -26,10 +26,10 @@ mod sides;
 mod store;
 
 pub use decoding::decode_record;
-pub use decoding2::decode_record2;
+pub use decoding_v2::decode_record2;
 pub use desk::{AnyDesk, Desk, Desk1};
 pub use encoding::encode_record;
-pub use encoding2::encode_record2;
+pub use encoding_v2::encode_record2;
 pub use fault::{DeskFault, RecordFault, SidesFault};
 pub use file_lock::{FileLock, LockFiles};
 pub use file_store::{FileStore, RECORD_LIMIT};

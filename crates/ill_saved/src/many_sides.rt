@@ -6,13 +6,13 @@ ghost use Rattle.ill_saved.specs.declared.fault.DeskFault.TheVariants as desks;
 ghost use Rattle.ill_saved.specs.Side.{issued_of, txn_of, idle_side, role_for, begins, IsConsistent, IsStep};
 ghost use Rattle.ill_saved.specs.Ranges.{Each};
 ghost use Rattle.ill_saved.specs.Sides.{is_same_role, put_refusal, most_sides, found_by};
-ghost use Rattle.ill_saved.specs.Records2.{AreSides};
+ghost use Rattle.ill_saved.specs.RecordsV2.{AreSides};
 ghost use Rattle.ill_saved.specs.Holdings.{DeskActs, DeskTakesApdu, StaysBacked, IsBacked, ReadsRecord, IsReadFault};
 ghost use Rattle.ill_saved.specs.Desk.{IsWhole};
 ghost use Rattle.ill_saved.specs.ManySides.{DeskContents, held_of, txn_held, held_for, with_held, sides_held, whole_of, is_own, counts, MayBegin, FirstActs, FirstTakes, AreBackable, ManyBack, ReadsOrNone, many_sides, no_sides};
 
-use crate::decoding2::decode_record2;
-use crate::encoding2::encode_record2;
+use crate::decoding_v2::decode_record2;
+use crate::encoding_v2::encode_record2;
 use crate::fault::DeskFault;
 use crate::holdings::Holdings;
 use crate::laws;

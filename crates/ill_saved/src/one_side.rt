@@ -7,12 +7,12 @@ ghost use Rattle.ill_saved.specs.Ranges.{IsSide};
 ghost use Rattle.ill_saved.specs.Holdings.{DeskEntry, IsBacked, IsReadFault};
 ghost use Rattle.ill_saved.specs.Desk.{IsWhole};
 ghost use Rattle.ill_saved.specs.OneSide.{OneBacks, ReadsOrIdle, alone, one_side};
-ghost use Rattle.ill_saved.specs.Kept.{Keeps, IsKept};
+ghost use Rattle.ill_saved.specs.LandedBytes.{HoldsReleased, IsLandedRecord};
 
 use crate::decoding::decode_record;
 use crate::fault::{DeskFault, RecordFault};
 use crate::holdings::Holdings;
-use crate::kept::KeptRecord;
+use crate::landed_record::LandedRecord;
 use crate::laws;
 use crate::role::Role;
 use crate::shown::Shown;
@@ -30,7 +30,7 @@ use std::marker::Model;
 pub struct OneSide {
     side: Side,
     released: u8,
-    kept: KeptRecord,
+    landed_record: LandedRecord,
 }
 
 impl Model for OneSide {
@@ -39,7 +39,7 @@ impl Model for OneSide {
     ghost view = { λ held. record { side = held.side; released = held.released } };
 
     ghost invariant = { λ held. (held.released ≤ length (issued_of held.side))
-        × Keeps held.kept held.side held.released };
+        × HoldsReleased held.landed_record held.side held.released };
 }
 
 impl OneSide {
@@ -50,7 +50,7 @@ impl OneSide {
         OneSide {
             side,
             released: 0,
-            kept: KeptRecord::none(alloc),
+            landed_record: LandedRecord::none(alloc),
         }
     }
 
@@ -78,7 +78,7 @@ impl Holdings for OneSide {
 
     type First = (Role, TxnId);
 
-    type Record = KeptRecord;
+    type Record = LandedRecord;
 
     ghost effects = { one_side };
 
@@ -90,7 +90,7 @@ impl Holdings for OneSide {
 
     ghost encoded = { λ made. made.bytes };
 
-    ghost fits = { λ made held. IsKept made held.side };
+    ghost fits = { λ made held. IsLandedRecord made held.side };
 
     fn begin(alloc: Global, first: (Role, TxnId)) -> OneSide {
         let (role, txn) = first;
@@ -99,12 +99,12 @@ impl Holdings for OneSide {
 
     fn read(alloc: Global, bytes: Vec<u8>) -> Result<OneSide, DeskFault> {
         let side = read_side(alloc, &bytes)?;
-        let kept = KeptRecord::of(alloc, bytes, &side)?;
+        let landed_record = LandedRecord::of(alloc, bytes, &side)?;
         let released = side.issued_count();
         Ok(OneSide {
             side,
             released,
-            kept,
+            landed_record,
         })
     }
 
@@ -131,26 +131,26 @@ impl Holdings for OneSide {
         if number.get() > self.released {
             return Err(DeskFault::NotSaved);
         }
-        Ok(Vec::from_slice(alloc, self.kept.message(number))?)
+        Ok(Vec::from_slice(alloc, self.landed_record.message(number))?)
     }
 
-    fn record(&self, alloc: Global) -> Result<KeptRecord, OutOfMemory> {
+    fn record(&self, alloc: Global) -> Result<LandedRecord, OutOfMemory> {
         laws::read_again();
-        self.kept.next(alloc, &self.side, self.released)
+        self.landed_record.next(alloc, &self.side, self.released)
     }
 
-    fn bytes(made: &KeptRecord) -> &[u8] {
+    fn bytes(made: &LandedRecord) -> &[u8] {
         made.bytes()
     }
 
-    fn release(&mut self, landed: KeptRecord) {
+    fn release(&mut self, landed: LandedRecord) {
         self.released = self.side.issued_count();
-        self.kept = landed;
+        self.landed_record = landed;
     }
 
     fn go_back(&mut self, alloc: Global, bytes: Option<Vec<u8>>) -> Result<(), DeskFault> {
         laws::read_again();
-        if self.kept.take_back(&bytes, self.released, &mut self.side) {
+        if self.landed_record.take_back(&bytes, self.released, &mut self.side) {
             return Ok(());
         }
         *self = read_or_idle(alloc, bytes, &self.side)?;

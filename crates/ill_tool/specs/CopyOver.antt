@@ -2,7 +2,7 @@
 use Rattle.std.specs.Prelude.{◌≡◌, ℕ, ◌<◌, ◌≤◌, List, length, Option, None, Some, Result, Ok, Err}
 use Rattle.ill_saved.specs.declared.fault.RecordFault.{RecordFault}
 use Rattle.ill_saved.specs.Sides.{SidesOf}
-use Rattle.ill_saved.specs.Records2.{records_at, sides_spelling}
+use Rattle.ill_saved.specs.RecordsV2.{records_at, sides_spelling}
 use Rattle.ill_tool.specs.declared.fault.ToolFault.{ToolFault}
 use Rattle.ill_tool.specs.declared.copy.Copied.{Copied}
 use Rattle.ill_tool.specs.declared.copy.Copied.TheVariants.{Done, Kept}

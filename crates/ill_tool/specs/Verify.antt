@@ -4,7 +4,7 @@ use Rattle.std.specs.Io.KnownBytes.{Appends}
 use Rattle.ill_saved.specs.declared.side.Side.{Side}
 use Rattle.ill_saved.specs.Side.{issued_of}
 use Rattle.ill_saved.specs.Sides.{SidesOf, most_sides}
-use Rattle.ill_saved.specs.Records2.{is_version_1, records_at}
+use Rattle.ill_saved.specs.RecordsV2.{is_version_1, records_at}
 use Rattle.ill_saved.specs.Faults.{of_store}
 use Rattle.ill_saved.specs.Store.{StoreState}
 use Rattle.ill_saved.specs.declared.fault.RecordFault.{RecordFault}

@@ -2,7 +2,7 @@
 
 ghost use Rattle.std.specs.Prelude.{◌≡◌, ◌≤◌, Ok, IfErr, IfOk, OnOk};
 ghost use Rattle.ill_saved.specs.ManySides.{sides_held};
-ghost use Rattle.ill_saved.specs.Records2.{records_at, sides_spelling};
+ghost use Rattle.ill_saved.specs.RecordsV2.{records_at, sides_spelling};
 ghost use Rattle.ill_tool.specs.Performing.{CountsToolFailure, known};
 ghost use Rattle.ill_tool.specs.declared.fault.ToolFault.TheVariants.{OutOfMemory};
 ghost use Rattle.ill_tool.specs.Copy.{Copies};

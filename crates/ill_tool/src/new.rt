@@ -3,7 +3,7 @@
 ghost use Rattle.std.specs.Prelude.{◌≡◌, codes, IfOk};
 ghost use Rattle.ill_saved.specs.Side.{idle_side};
 ghost use Rattle.ill_saved.specs.Records.{record_spelling};
-ghost use Rattle.ill_saved.specs.Records2.{sides_spelling};
+ghost use Rattle.ill_saved.specs.RecordsV2.{sides_spelling};
 ghost use Rattle.ill_saved.specs.ManySides.{sides_held};
 ghost use Rattle.ill_saved.specs.Desk.{answer_of, store_of};
 ghost use Rattle.ill_saved.specs.OneSide.{alone};

@@ -1,7 +1,7 @@
 //! The command `verify`.
 
 ghost use Rattle.std.specs.Prelude.{◌≡◌, ◌≤◌, ◌++◌, true, map, length, OnOk};
-ghost use Rattle.ill_saved.specs.Records2.{records_at};
+ghost use Rattle.ill_saved.specs.RecordsV2.{records_at};
 ghost use Rattle.ill_saved.specs.Sides.{most_sides};
 ghost use Rattle.ill_tool.specs.Performing.{CountsToolFailure};
 ghost use Rattle.ill_tool.specs.Output.{WritesText};

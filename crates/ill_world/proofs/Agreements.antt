@@ -11,9 +11,9 @@ use Rattle.ill_core.specs.State.{is_among}
 use Rattle.ill_core.specs.Bodies.{is_cancelled, is_shipped, is_ill_request, is_cancel, is_received, is_returned, is_checked_in, accepts}
 use Rattle.ill_core.specs.Issued.{message, has, was, is_there}
 use Rattle.ill_core.specs.Requester.{RequesterRecord, later}
-use Rattle.ill_core.specs.RequesterFacts as requester
+use Rattle.ill_core.specs.RequesterEvidence as requester
 use Rattle.ill_core.specs.Responder.{ResponderRecord, later as shipped_states}
-use Rattle.ill_core.specs.ResponderFacts as responder
+use Rattle.ill_core.specs.ResponderEvidence as responder
 use Rattle.ill_saved.specs.declared.side.Side.{Side}
 use Rattle.ill_saved.specs.declared.side.Side.TheVariants as sides
 use Rattle.ill_saved.specs.Side.{issued_of}

@@ -16,10 +16,10 @@ use Rattle.ill_core.specs.Bodies.{is_unsupplied, is_shipped, is_end, is_ill_requ
 use Rattle.ill_core.specs.Issued.{message, has, is_none, is_same_txn}
 use Rattle.ill_core.specs.Requester.{RequesterRecord, later, last_cancel}
 use Rattle.ill_core.specs.RequesterDeliveries as requester_deliveries
-use Rattle.ill_core.specs.RequesterFacts as requester
+use Rattle.ill_core.specs.RequesterEvidence as requester
 use Rattle.ill_core.specs.Responder.{ResponderRecord, later as shipped_states}
 use Rattle.ill_core.specs.ResponderDeliveries as responder_deliveries
-use Rattle.ill_core.specs.ResponderFacts as responder
+use Rattle.ill_core.specs.ResponderEvidence as responder
 use Rattle.ill_saved.specs.declared.side.Side.{Side}
 use Rattle.ill_saved.specs.declared.side.Side.TheVariants as sides
 use Rattle.ill_saved.specs.Side.{issued_of}

@@ -13,9 +13,9 @@ use Rattle.ill_core.specs.State.{is_among}
 use Rattle.ill_core.specs.Bodies.{is_end, is_final, is_returned}
 use Rattle.ill_core.specs.Issued.{message}
 use Rattle.ill_core.specs.Requester.{RequesterRecord}
-use Rattle.ill_core.specs.RequesterFacts.{replied_number, KeepsDue}
+use Rattle.ill_core.specs.RequesterEvidence.{replied_number, KeepsDue}
 use Rattle.ill_core.specs.Responder.{ResponderRecord}
-use Rattle.ill_core.specs.ResponderFacts.{MayCancel, MayRenew, answered_number}
+use Rattle.ill_core.specs.ResponderEvidence.{MayCancel, MayRenew, answered_number}
 use Rattle.ill_saved.specs.declared.side.Side.{Side}
 use Rattle.ill_saved.specs.declared.side.Side.TheVariants as sides
 use Rattle.ill_saved.specs.Side.{issued_of, due_date_of}

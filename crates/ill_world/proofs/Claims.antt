@@ -11,9 +11,9 @@ use Rattle.ill_core.specs.State.{is_among}
 use Rattle.ill_core.specs.Bodies.{is_shipped, is_renewal, grant_in}
 use Rattle.ill_core.specs.Issued.{message, has}
 use Rattle.ill_core.specs.Requester.{RequesterRecord}
-use Rattle.ill_core.specs.RequesterFacts as requester
+use Rattle.ill_core.specs.RequesterEvidence as requester
 use Rattle.ill_core.specs.Responder.{ResponderRecord, ships_first}
-use Rattle.ill_core.specs.ResponderFacts as responder
+use Rattle.ill_core.specs.ResponderEvidence as responder
 use Rattle.ill_saved.specs.declared.side.Side.{Side}
 use Rattle.ill_saved.specs.declared.side.Side.TheVariants as sides
 use Rattle.ill_saved.specs.Side.{issued_of}

@@ -8,7 +8,7 @@ use Rattle.ill_core.specs.State.{is_among}
 use Rattle.ill_core.specs.Bodies.{is_ill_request, is_returned, is_shipped}
 use Rattle.ill_core.specs.Issued.{message, has, is_none}
 use Rattle.ill_core.specs.Rules.{implies}
-use Rattle.ill_core.specs.ResponderFacts as responder
+use Rattle.ill_core.specs.ResponderEvidence as responder
 use Rattle.ill_saved.specs.declared.role.Role.{Role as Who}
 use Rattle.ill_saved.specs.declared.role.Role.TheVariants as who
 use Rattle.ill_saved.specs.declared.side.Side.{Side}

@@ -10,7 +10,7 @@ use Rattle.ill_saved.specs.ManySides.{found_or}
 use Rattle.ill_saved.proofs.Finding.{same_is, put_last, some_is}
 use Rattle.ill_world.specs.World.{nothing_sent, sent_message, with_sent}
 use Rattle.ill_world.specs.Desks.{Sending, txn_sent, sent_for, with_sent_for}
-use Rattle.ill_world.specs.DeskView.{sendings_of, BecomesAmong}
+use Rattle.ill_world.specs.DeskRefinement.{sendings_of, BecomesAmong}
 use Rattle.ill_world.proofs.Standings.{none_sent}
 
 -- The entries of a map: the messages sent, by transaction.

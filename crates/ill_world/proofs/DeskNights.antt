@@ -19,7 +19,7 @@ use Rattle.ill_world.specs.World.{Party, Parties, party, happens, run_by, run_of
 use Rattle.ill_world.specs.Desks.{DeskParties, desks_happen, desks_run, project}
 use Rattle.ill_world.specs.DeskCounts.{is_one_of, AreApart}
 use Rattle.ill_world.specs.DeskSafety.{DesksStand}
-use Rattle.ill_world.specs.Round.{passes_on}
+use Rattle.ill_world.specs.Round.{sends_and_delivers}
 use Rattle.ill_world.specs.Night.{wants_sending, asks, half_if, asking_half, night_of}
 use Rattle.ill_world.specs.DeskNight.{desk_half_if, is_asked_by, desk_asking_half, desk_night_of}
 use Rattle.ill_world.proofs.Runs.{run_both}
@@ -90,13 +90,13 @@ module _ (wants : Side → Bool) where
 
 -- Returns the events by which all messages of a side are passed on.
 abbrev passes_of : Who → Side → List Event
-passes_of role side = passes_on role 1 (length (issued_of side))
+passes_of role side = sends_and_delivers role 1 (length (issued_of side))
 
 module _ (projects : EachProjects) (reaches : EachReaches) (after : EachStands) (txn : Qualifiers) where
   -- The half of the sides that want sending is, in `txn`, the half of its side if that wants sending.
   half_if_alike : (wants : Side → Bool) (w : DeskParties) (role : Who) → DesksStand w
       → project txn (desks_run w (desk_half_if wants role w)) ≡ run_of (project txn w) (half_if (wants (party (project txn w) role).live) role (project txn w))
-  unfolding run_by side_with passes_on
+  unfolding run_by side_with sends_and_delivers
   half_if_alike wants w role stands = saved_alike ∙ go (wants side) ∙ ap (λ (p : Party). run_of v (half_if (wants p.live) role v)) (sym (shown txn w role))
     where
       v : Parties
@@ -129,7 +129,7 @@ module _ (projects : EachProjects) (reaches : EachReaches) (after : EachStands) 
 
       go : (wanted : Bool) → run_of v (events.Save role ∷ passes_of role (cond wanted side idle)) ≡ run_of v (half_if wanted role v)
       go true = ap (λ (p : Party). run_of v (events.Save role ∷ passes_of role p.live)) (sym (shown txn w role))
-      go false = ap (λ (apdus : List Apdu). run_of v (events.Save role ∷ passes_on role 1 (length apdus))) (idle_issues live.role txn)
+      go false = ap (λ (apdus : List Apdu). run_of v (events.Save role ∷ sends_and_delivers role 1 (length apdus))) (idle_issues live.role txn)
 
   -- A night of two desks is a night of both sides in the transaction.
   pub night_alike : (w : DeskParties) → DesksStand w → project txn (desks_run w (desk_night_of w)) ≡ run_of (project txn w) (night_of (project txn w))

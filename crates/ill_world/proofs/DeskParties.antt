@@ -12,7 +12,7 @@ use Rattle.ill_der.specs.ShortForm.{Decodes}
 use Rattle.ill_world.specs.declared.event.Outcome.{Outcome}
 use Rattle.ill_world.specs.declared.event.Outcome.TheVariants.{Forged, Garbled}
 use Rattle.ill_world.specs.Desks.{DeskParty, desk_hears}
-use Rattle.ill_world.specs.DeskView.{CanBeSeen}
+use Rattle.ill_world.specs.DeskRefinement.{CanBeSeen}
 use Rattle.ill_world.proofs.Messages.{whole_reads, part_reads}
 use Rattle.ill_world.proofs.Desks.{receives_role}
 

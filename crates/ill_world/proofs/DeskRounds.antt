@@ -35,7 +35,7 @@ use Rattle.ill_world.specs.DeskScript.{in_txn}
 use Rattle.ill_world.specs.DeskChanges.{Reaches}
 use Rattle.ill_world.specs.DeskCounts.{is_one_of, AreApart}
 use Rattle.ill_world.specs.DeskSafety.{DesksStand}
-use Rattle.ill_world.specs.Round.{passes_on, half_of, round_of}
+use Rattle.ill_world.specs.Round.{sends_and_delivers, half_of, round_of}
 use Rattle.ill_world.specs.DeskRound.{passes_side, desk_half_of, desk_round_of}
 use Rattle.ill_world.proofs.Runs.{run_both}
 use Rattle.ill_world.proofs.Desks.{EachProjects, EachStands, desks_stand_on}
@@ -210,8 +210,8 @@ module _ (projects : EachProjects) (reaches : EachReaches) (after : EachStands) 
   -- ---- the messages of a side
 
   -- Passing on messages of the transaction leads on as in it alone.
-  passes_alike : (w : DeskParties) (role : Who) (n count : ℕ) → DesksStand w → project txn (desks_run w (map (in_txn txn) (passes_on role n count))) ≡ run_of (project txn w) (passes_on role n count)
-  unfolding passes_on run_by
+  passes_alike : (w : DeskParties) (role : Who) (n count : ℕ) → DesksStand w → project txn (desks_run w (map (in_txn txn) (sends_and_delivers role n count))) ≡ run_of (project txn w) (sends_and_delivers role n count)
+  unfolding sends_and_delivers run_by
   passes_alike w role n zero stands = refl
   passes_alike w role n (suc count) stands =
       let send = desk_events.Send role txn n in
@@ -219,11 +219,11 @@ module _ (projects : EachProjects) (reaches : EachReaches) (after : EachStands) 
       let sent = (desks_happen w send).1 in
       let sent_stands = after w send stands in
       passes_alike (desks_happen sent deliver).1 role (n + 1) count (after sent deliver sent_stands)
-      ∙ ap (λ v. run_of v (passes_on role (n + 1) count)) (deliver_alike sent (other role) n sent_stands ∙ ap (λ v. (happens v (events.Deliver (other role) n)).1) (send_alike w role n stands))
+      ∙ ap (λ v. run_of v (sends_and_delivers role (n + 1) count)) (deliver_alike sent (other role) n sent_stands ∙ ap (λ v. (happens v (events.Deliver (other role) n)).1) (send_alike w role n stands))
 
   -- Passing on messages of another transaction changes nothing.
-  others_stay : (of : Qualifiers) → is_same_txn txn of ≡ false → (w : DeskParties) (role : Who) (n count : ℕ) → DesksStand w → project txn (desks_run w (map (in_txn of) (passes_on role n count))) ≡ project txn w
-  unfolding passes_on run_by
+  others_stay : (of : Qualifiers) → is_same_txn txn of ≡ false → (w : DeskParties) (role : Who) (n count : ℕ) → DesksStand w → project txn (desks_run w (map (in_txn of) (sends_and_delivers role n count))) ≡ project txn w
+  unfolding sends_and_delivers run_by
   others_stay of apart w role n zero stands = refl
   others_stay of apart w role n (suc count) stands =
       let send = desk_events.Send role of n in
@@ -252,9 +252,9 @@ module _ (projects : EachProjects) (reaches : EachReaches) (after : EachStands) 
 
   -- Passing on the messages of sides that are apart is, in the transaction, passing on those of its side.
   pub sides_alike : (w : DeskParties) (role : Who) (idle : Side) → issued_of idle ≡ [] → (all : List Side) → AreApart (map txn_of all) → DesksStand w
-      → project txn (desks_run w (flat_map (passes_side role) all)) ≡ run_of (project txn w) (passes_on role 1 (length (issued_of (found_or idle (found_by txn_of txn all)))))
-  unfolding run_by passes_on
-  sides_alike w role idle nothing [] apart stands = ap (λ apdus. run_of (project txn w) (passes_on role 1 (length apdus))) (sym nothing)
+      → project txn (desks_run w (flat_map (passes_side role) all)) ≡ run_of (project txn w) (sends_and_delivers role 1 (length (issued_of (found_or idle (found_by txn_of txn all)))))
+  unfolding run_by sends_and_delivers
+  sides_alike w role idle nothing [] apart stands = ap (λ apdus. run_of (project txn w) (sends_and_delivers role 1 (length apdus))) (sym nothing)
   sides_alike w role idle nothing (side ∷ more) apart stands = ap (project txn) (passes_both w role side more) ∙ go (is_same_txn txn (txn_of side)) refl (sides_alike next role idle nothing more apart.1 next_stands)
     where
       next : DeskParties
@@ -264,17 +264,17 @@ module _ (projects : EachProjects) (reaches : EachReaches) (after : EachStands) 
       next_stands = desks_stand_on after w (passes_side role side) stands
 
       go : (same : Bool) → is_same_txn txn (txn_of side) ≡ same
-          → project txn (desks_run next (flat_map (passes_side role) more)) ≡ run_of (project txn next) (passes_on role 1 (length (issued_of (found_or idle (found_by txn_of txn more)))))
-          → project txn (desks_run next (flat_map (passes_side role) more)) ≡ run_of (project txn w) (passes_on role 1 (length (issued_of (found_or idle (cond same (Some side) (found_by txn_of txn more))))))
+          → project txn (desks_run next (flat_map (passes_side role) more)) ≡ run_of (project txn next) (sends_and_delivers role 1 (length (issued_of (found_or idle (found_by txn_of txn more)))))
+          → project txn (desks_run next (flat_map (passes_side role) more)) ≡ run_of (project txn w) (sends_and_delivers role 1 (length (issued_of (found_or idle (cond same (Some side) (found_by txn_of txn more))))))
       go true e further =
           let is = same_is txn (txn_of side) e in
           let none : is_one_of txn (map txn_of more) ≡ false = subst (λ t. is_one_of t (map txn_of more) ≡ false) (sym is) apart.0 in
           sides_stay next role more none next_stands
-          ∙ subst (λ t. project txn (desks_run w (map (in_txn t) (passes_on role 1 (length (issued_of side))))) ≡ run_of (project txn w) (passes_on role 1 (length (issued_of side)))) is
+          ∙ subst (λ t. project txn (desks_run w (map (in_txn t) (sends_and_delivers role 1 (length (issued_of side))))) ≡ run_of (project txn w) (sends_and_delivers role 1 (length (issued_of side)))) is
           (passes_alike w role 1 (length (issued_of side)) stands)
       go false e further =
           further
-          ∙ ap (λ v. run_of v (passes_on role 1 (length (issued_of (found_or idle (found_by txn_of txn more)))))) (others_stay (txn_of side) e w role 1 (length (issued_of side)) stands)
+          ∙ ap (λ v. run_of v (sends_and_delivers role 1 (length (issued_of (found_or idle (found_by txn_of txn more)))))) (others_stay (txn_of side) e w role 1 (length (issued_of side)) stands)
 
   -- ---- a round
 
@@ -286,7 +286,7 @@ module _ (projects : EachProjects) (reaches : EachReaches) (after : EachStands) 
   -- The half of a desk is, in the transaction, the half of its side.
   half_alike : (w : DeskParties) (role : Who) → DesksStand w → project txn (desks_run w (desk_half_of role w)) ≡ run_of (project txn w) (half_of role (project txn w))
   unfolding run_by side_with
-  half_alike w role stands = saved_alike ∙ ap (λ (p : Party). run_of (project txn w) (events.Save role ∷ passes_on role 1 (length (issued_of p.live)))) (sym (shown txn w role))
+  half_alike w role stands = saved_alike ∙ ap (λ (p : Party). run_of (project txn w) (events.Save role ∷ sends_and_delivers role 1 (length (issued_of p.live)))) (sym (shown txn w role))
     where
       live : DeskContents
       live = (party w role).live
@@ -297,11 +297,11 @@ module _ (projects : EachProjects) (reaches : EachReaches) (after : EachStands) 
       saved : DeskParties
       saved = (desks_happen w (desk_events.Save role)).1
 
-      saved_alike : project txn (desks_run w (desk_half_of role w)) ≡ run_of (project txn w) (events.Save role ∷ passes_on role 1 (length (issued_of (held_for txn live).side)))
+      saved_alike : project txn (desks_run w (desk_half_of role w)) ≡ run_of (project txn w) (events.Save role ∷ sends_and_delivers role 1 (length (issued_of (held_for txn live).side)))
       saved_alike =
           sides_alike saved role idle (idle_issues live.role txn) (sides_held live).sides (held_apart w role stands) (after w (desk_events.Save role) stands)
-          ∙ ap (λ side. run_of (project txn saved) (passes_on role 1 (length (issued_of side)))) (side_of_held txn live)
-          ∙ ap (λ v. run_of v (passes_on role 1 (length (issued_of (held_for txn live).side)))) (projects txn w (desk_events.Save role) stands).1
+          ∙ ap (λ side. run_of (project txn saved) (sends_and_delivers role 1 (length (issued_of side)))) (side_of_held txn live)
+          ∙ ap (λ v. run_of v (sends_and_delivers role 1 (length (issued_of (held_for txn live).side)))) (projects txn w (desk_events.Save role) stands).1
 
   -- A round of two desks is a round of both sides in the transaction.
   pub round_alike : (w : DeskParties) → DesksStand w → project txn (desks_run w (desk_round_of w)) ≡ run_of (project txn w) (round_of (project txn w))

@@ -10,7 +10,7 @@ use Rattle.ill_core.specs.Issued.{message}
 use Rattle.ill_core.specs.Requester.{RequesterRecord, later}
 use Rattle.ill_core.specs.RequesterActions as requester_actions
 use Rattle.ill_core.specs.RequesterDeliveries as requester_deliveries
-use Rattle.ill_core.specs.RequesterFacts.{KeepsDue, is_raised}
+use Rattle.ill_core.specs.RequesterEvidence.{KeepsDue, is_raised}
 use Rattle.ill_core.proofs.GrantLemmas.{before_on}
 use Rattle.ill_saved.specs.declared.side.Side.{Side}
 use Rattle.ill_saved.specs.declared.side.Side.TheVariants as sides

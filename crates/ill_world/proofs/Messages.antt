@@ -7,7 +7,7 @@ use Rattle.ill_values.specs.declared.apdu.Apdu.{Apdu}
 use Rattle.ill_values.specs.Apdu.{IsApdu}
 use Rattle.ill_der.specs.declared.fault.DerFault.{DerFault}
 use Rattle.ill_der.specs.ShortForm.{spelling, apdu_at, Decodes}
-use Rattle.ill_world.specs.PartyView.{apdu_of, is_of}
+use Rattle.ill_world.specs.PartyRefinement.{apdu_of, is_of}
 
 -- An APDU is read from its spelling, and all bytes after it are left.
 abbrev pub ReadAgain : Type 0

@@ -9,7 +9,7 @@ use Rattle.ill_core.specs.State.{is_among}
 use Rattle.ill_core.specs.Issued.{is_none}
 use Rattle.ill_core.specs.Requester.{RequesterRecord, is_declined}
 use Rattle.ill_core.specs.Responder.{ResponderRecord}
-use Rattle.ill_core.specs.ResponderFacts as responder
+use Rattle.ill_core.specs.ResponderEvidence as responder
 use Rattle.ill_core.specs.Verbs.{requester_turn_in, responder_turn_in}
 use Rattle.ill_saved.specs.declared.role.Role.TheVariants as who
 use Rattle.ill_saved.specs.declared.side.Side.{Side}
@@ -20,7 +20,7 @@ use Rattle.ill_world.specs.declared.event.Event.TheVariants.{Save}
 use Rattle.ill_world.specs.World.{Parties, happens, run_by, run_of}
 use Rattle.ill_world.specs.Agreement.{Facing}
 use Rattle.ill_world.specs.Invariant.{RequesterStands, ResponderStands, RequesterSideStands, ResponderSideStands, Invariant}
-use Rattle.ill_world.specs.Round.{passes_on, half_of, round_of, faced_in, AreInStep}
+use Rattle.ill_world.specs.Round.{sends_and_delivers, half_of, round_of, faced_in, AreInStep}
 use Rattle.ill_world.specs.Night.{is_nobodys, is_over, wants_sending, asks, half_if, night_of, AtRest, AreAtRest, AreInStepOrAtRest}
 use Rattle.ill_world.proofs.Claims.{AreIssued, live_issues, cancelled_faces, not_supplied_faces}
 use Rattle.ill_world.proofs.Agreements.{says_true}
@@ -124,8 +124,8 @@ night_from w first = first ++ half_if (wants_sending (asks w.requester.live) (ru
 -- The half of a requester that has issued nothing is a save, which leaves the responder.
 nothing_passes : (w : Parties) (apdus : List Apdu) → issued_of w.requester.live ≡ apdus → is_none apdus ≡ true
     → (run_of w (half_of who.Requester w)).responder.live ≡ w.responder.live
-unfolding run_by passes_on
-nothing_passes w [] is none = ap (λ (l : List Apdu). (run_of w (Save who.Requester ∷ passes_on who.Requester 1 (length l))).responder.live) is
+unfolding run_by sends_and_delivers
+nothing_passes w [] is none = ap (λ (l : List Apdu). (run_of w (Save who.Requester ∷ sends_and_delivers who.Requester 1 (length l))).responder.live) is
 nothing_passes w (a ∷ apdus) is none = search rules
 
 module _ (txn : Qualifiers) (after : (w : Parties) (event : Event) → Invariant txn w → Invariant txn (happens w event).1) where

@@ -22,7 +22,7 @@ use Rattle.ill_core.specs.RequesterDeliveries as requester_deliveries
 use Rattle.ill_core.specs.RequesterNotices as notices
 use Rattle.ill_core.specs.Responder.{ResponderRecord, later}
 use Rattle.ill_core.specs.ResponderDeliveries as responder_deliveries
-use Rattle.ill_core.specs.ResponderFacts.{IssuesUnfilled, Ends}
+use Rattle.ill_core.specs.ResponderEvidence.{IssuesUnfilled, Ends}
 use Rattle.ill_core.specs.ResponderNotices as records
 use Rattle.ill_core.specs.ResponderNotices.{is_recall, grant, grant_of}
 use Rattle.ill_saved.specs.declared.side.Side.{Side}

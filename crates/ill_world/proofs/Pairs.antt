@@ -19,12 +19,12 @@ use Rattle.ill_core.specs.Numbers.{is_the, is_at_most, is_below}
 use Rattle.ill_core.specs.Bodies.{is_ill_request, is_cancel, is_received, is_renew, is_returned, is_shipped, is_checked_in, is_cancelled, is_unsupplied, is_end, is_renewal, grant_in, names_conditions, declines, accepts}
 use Rattle.ill_core.specs.Issued.{message, has, was, is_there, is_none, last_of, accepted_in, granted_day}
 use Rattle.ill_core.specs.Requester.{RequesterRecord, later, begins_with_request, is_declined, is_received_by, accepted_number, last_cancel, last_renew}
-use Rattle.ill_core.specs.RequesterFacts as requester
+use Rattle.ill_core.specs.RequesterEvidence as requester
 use Rattle.ill_core.specs.RequesterNotices as notices
 use Rattle.ill_core.specs.RequesterNotices.{awaits, awaits_cancel, is_due_after, in_time, undecided, lent}
 use Rattle.ill_core.specs.Responder.{ResponderRecord, due_of, later as shipped_states, outstanding_number, ships_first}
-use Rattle.ill_core.specs.ResponderFacts as responder
-use Rattle.ill_core.specs.ResponderFacts.{Question, MayCancel, MayRenew, answered_number}
+use Rattle.ill_core.specs.ResponderEvidence as responder
+use Rattle.ill_core.specs.ResponderEvidence.{Question, MayCancel, MayRenew, answered_number}
 use Rattle.ill_core.specs.ResponderNotices as records
 use Rattle.ill_core.specs.ResponderNotices.{is_recall, is_overdue_of, grant, grant_of}
 use Rattle.ill_world.specs.Invariant.{RequesterStands, ResponderStands}

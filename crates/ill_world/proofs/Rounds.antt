@@ -14,7 +14,7 @@ use Rattle.ill_world.specs.declared.event.Event.{Event}
 use Rattle.ill_world.specs.declared.event.Event.TheVariants as events
 use Rattle.ill_world.specs.World.{Party, Parties, party, saves, sends, receives, sent_message, with_sent, happens, run_of, run_by}
 use Rattle.std.specs.Prelude.{IsErr, OnOk}
-use Rattle.ill_world.specs.Round.{passes_on, half_of, round_of, Performs}
+use Rattle.ill_world.specs.Round.{sends_and_delivers, half_of, round_of, Performs}
 use Rattle.ill_world.proofs.Runs.{run_both}
 use Rattle.ill_world.proofs.Sendings.{places_kept}
 
@@ -99,10 +99,10 @@ unfolding takes_all
 passed_on who.Requester w new n a apdus has = record { live = has.live; taken = has.taken }
 passed_on who.Responder w new n a apdus has = record { live = has.live; taken = has.taken }
 
--- If a party may send `prefix ++ rest`, the events of `passes_on` from the end of `prefix` on pass `rest`.
+-- If a party may send `prefix ++ rest`, the events of `sends_and_delivers` from the end of `prefix` on pass `rest`.
 pass_all : (of : Who) (w : Parties) (n : ℕ) (prefix rest : List Apdu) → n ≡ length prefix + 1
-    → MaySend (party w of) (prefix ++ rest) → HasPassed of w (run_of w (passes_on of n (length rest))) rest
-unfolding passes_on run_by takes_all
+    → MaySend (party w of) (prefix ++ rest) → HasPassed of w (run_of w (sends_and_delivers of n (length rest))) rest
+unfolding sends_and_delivers run_by takes_all
 pass_all of w n prefix [] is may = record { live = refl; taken = refl }
 pass_all of w n prefix (a ∷ rest) is may =
     let p = party w of in
@@ -113,8 +113,8 @@ pass_all of w n prefix (a ∷ rest) is may =
     let there : sent_message (with_sent p.sent n a) n ≡ Some a = subst (λ k. sent_message (with_sent p.sent k a) k ≡ Some a) (sym place) (put_here p.sent (length prefix) a (omega (arith, size, may.few, may.places))) in
     let may_more = subst (MaySend (party (passed w of n a) of)) (sym (append_assoc prefix (a ∷ []) rest)) (may_still of w n a (prefix ++ a ∷ rest) may) in
     let more = pass_all of (passed w of n a) (n + 1) (prefix ++ a ∷ []) rest (omega (arith, is, length-append prefix (a ∷ []))) may_more in
-    subst (λ v. HasPassed of w (run_of v (passes_on of (n + 1) (length rest))) (a ∷ rest)) (sym (passes of w n a at free there))
-    (passed_on of w (run_of (passed w of n a) (passes_on of (n + 1) (length rest))) n a rest more)
+    subst (λ v. HasPassed of w (run_of v (sends_and_delivers of (n + 1) (length rest))) (a ∷ rest)) (sym (passes of w n a at free there))
+    (passed_on of w (run_of (passed w of n a) (sends_and_delivers of (n + 1) (length rest))) n a rest more)
 
 -- ---- a half of a round
 
@@ -161,20 +161,20 @@ round_passes w few places few_more places_more =
 -- After the two events of message n are added, those of one message fewer are left.
 pub passes_grow : (of partner : Who) (n number size left : ℕ) (before sent delivered all : List Event)
     → partner ≡ other of → number ≡ n → size ≡ suc left → sent ≡ before ++ events.Send of number ∷ []
-    → delivered ≡ sent ++ events.Deliver partner number ∷ [] → before ++ passes_on of n size ≡ all
-    → delivered ++ passes_on of (n + 1) left ≡ all
-unfolding passes_on
+    → delivered ≡ sent ++ events.Deliver partner number ∷ [] → before ++ sends_and_delivers of n size ≡ all
+    → delivered ++ sends_and_delivers of (n + 1) left ≡ all
+unfolding sends_and_delivers
 passes_grow of partner n number size left before sent delivered all is_other is_n is_size is_sent is_delivered is_all =
-    let rest = passes_on of (n + 1) left in
+    let rest = sends_and_delivers of (n + 1) left in
     let two : delivered ≡ before ++ events.Send of n ∷ events.Deliver (other of) n ∷ [] =
     is_delivered ∙ ap (λ l. l ++ events.Deliver partner number ∷ []) is_sent ∙ append_assoc before (events.Send of number ∷ []) (events.Deliver partner number ∷ [])
     ∙ ap (λ k. before ++ events.Send of k ∷ events.Deliver partner k ∷ []) is_n ∙ ap (λ w. before ++ events.Send of n ∷ events.Deliver w n ∷ []) is_other in
-    let whole : before ++ passes_on of n (suc left) ≡ all = subst (λ k. before ++ passes_on of n k ≡ all) is_size is_all in
+    let whole : before ++ sends_and_delivers of n (suc left) ≡ all = subst (λ k. before ++ sends_and_delivers of n k ≡ all) is_size is_all in
     ap (λ l. l ++ rest) two ∙ append_assoc before (events.Send of n ∷ events.Deliver (other of) n ∷ []) rest ∙ whole
 
 -- Of no message there are no events.
-pub passes_none : (before : List Event) (of : Who) (n count : ℕ) → count ≡ 0 → before ≡ before ++ passes_on of n count
-unfolding passes_on
+pub passes_none : (before : List Event) (of : Who) (n count : ℕ) → count ≡ 0 → before ≡ before ++ sends_and_delivers of n count
+unfolding sends_and_delivers
 passes_none before of n zero none = sym (append-nil before)
 passes_none before of n (suc count) none = absurd (omega (arith, none))
 

@@ -19,7 +19,7 @@ use Rattle.ill_world.specs.Desks.{DeskParties, first_desks, desks_happen, desks_
 use Rattle.ill_world.specs.DeskScript.{in_txn}
 use Rattle.ill_world.specs.DeskCounts.{is_one_of}
 use Rattle.ill_world.specs.DeskSafety.{DesksStand}
-use Rattle.ill_world.specs.Round.{passes_on}
+use Rattle.ill_world.specs.Round.{sends_and_delivers}
 use Rattle.ill_world.specs.DeskRound.{passes_side}
 use Rattle.ill_world.specs.Night.{wants_sending}
 use Rattle.ill_world.specs.DeskNight.{desk_half_if, is_asked_by, desk_asking_half, desk_night_of}
@@ -75,7 +75,7 @@ module _ (group : List ℕ) where
   -- The events that pass on the messages of sides of the group have their home there.
   passes_at : (role : Who) (all : List Side) → AllOf all → AllAt (flat_map (passes_side role) all)
   passes_at role [] of = tt
-  passes_at role (side ∷ more) of = both_at (passes_side role side) (flat_map (passes_side role) more) (txn_at (txn_of side) (passes_on role 1 (length (issued_of side))) of.0) (passes_at role more of.1)
+  passes_at role (side ∷ more) of = both_at (passes_side role side) (flat_map (passes_side role) more) (txn_at (txn_of side) (sends_and_delivers role 1 (length (issued_of side))) of.0) (passes_at role more of.1)
 
   -- If sides are of the group, so are those of them that want sending.
   wanted_of : (wants : Side → Bool) (all : List Side) → AllOf all → AllOf (filter wants all)

@@ -14,14 +14,14 @@ use Rattle.ill_core.specs.Requester.{RequesterRecord, requester_of}
 use Rattle.ill_core.specs.RequesterRules.{RequesterRules}
 use Rattle.ill_core.specs.RequesterActions as requester_actions
 use Rattle.ill_core.specs.RequesterDeliveries as requester_deliveries
-use Rattle.ill_core.specs.RequesterFacts as requester
+use Rattle.ill_core.specs.RequesterEvidence as requester
 use Rattle.ill_core.specs.RequesterNotices.{Notice, Recalled, Named, Answered, GrantedBefore, PastDue, Reflects}
 use Rattle.ill_core.specs.ResponderRules.{ResponderRules}
 use Rattle.ill_core.specs.Responder.{ResponderRecord, responder_of, rise_from, ships_first}
 use Rattle.ill_core.specs.ResponderActions as responder_actions
 use Rattle.ill_core.specs.ResponderDeliveries as responder_deliveries
-use Rattle.ill_core.specs.ResponderFacts as responder
-use Rattle.ill_core.specs.ResponderFacts.{Question, MayCancel, MayRenew}
+use Rattle.ill_core.specs.ResponderEvidence as responder
+use Rattle.ill_core.specs.ResponderEvidence.{Question, MayCancel, MayRenew}
 use Rattle.ill_core.specs.ResponderNotices.{WasAsked, HasAnsweredLast}
 use Rattle.ill_saved.specs.declared.side.Side.{Side}
 use Rattle.ill_saved.specs.declared.side.Side.TheVariants as sides

@@ -102,10 +102,10 @@ module _ {W E C : Type 0} (play : Play W E C) where
   -- ---- the answers of a step
 
   -- If the rest of a script ends with a fault, so does a step of the simulation.
-  pub passes_on : (c kept : C) (n : ℕ) (w next : W) (count next_count : ℕ) (old new before after : Option (List ℕ)) (result : Result Bool SimFault) (fault : SimFault)
+  pub sends_and_delivers : (c kept : C) (n : ℕ) (w next : W) (count next_count : ℕ) (old new before after : Option (List ℕ)) (result : Result Bool SimFault) (fault : SimFault)
       → IsErrAnd result (λ f. f ≡ fault) → Plays play c n w count old new before after (Err fault) → StepsLine play c n w count old new before after result kept next next_count
-  passes_on c kept n w next count next_count old new before after (Ok more) fault is plays = absurd is
-  passes_on c kept n w next count next_count old new before after (Err f) fault is plays = subst (λ f. Plays play c n w count old new before after (Err f)) (sym is) plays
+  sends_and_delivers c kept n w next count next_count old new before after (Ok more) fault is plays = absurd is
+  sends_and_delivers c kept n w next count next_count old new before after (Err f) fault is plays = subst (λ f. Plays play c n w count old new before after (Err f)) (sym is) plays
 
   -- If line n cannot be read for a fault, the rest of the script ends with this fault.
   pub not_read : (c : C) (n : ℕ) (w : W) (count : ℕ) (old new before : Option (List ℕ)) (bytes : List ℕ) (fault : SimFault) → n ≤ 100000 → ReadsLine old new bytes (Err fault)

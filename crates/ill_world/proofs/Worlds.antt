@@ -9,7 +9,7 @@ use Rattle.ill_world.specs.declared.event.Event.TheVariants as events
 use Rattle.ill_world.specs.declared.event.Outcome.{Outcome}
 use Rattle.ill_world.specs.World.{Party, Parties, TwoOf, happens_at, first_party, first_world, party, with_party, who_of, happens_to, happens}
 use Rattle.ill_saved.specs.Side.{idle_side, other}
-use Rattle.ill_world.specs.PartyView.{GivesOutcome}
+use Rattle.ill_world.specs.PartyRefinement.{GivesOutcome}
 use Rattle.ill_world.specs.Invariant.{Invariant}
 use Rattle.ill_world.specs.Agreement.{KeepsDates}
 

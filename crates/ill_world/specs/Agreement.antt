@@ -13,9 +13,9 @@ use Rattle.ill_core.specs.Bodies.{is_end, is_received, is_returned, accepts}
 use Rattle.ill_core.specs.Issued.{message, has, last_of, number_of_end}
 use Rattle.ill_core.specs.Requester.{RequesterRecord}
 use Rattle.ill_core.specs.Requester as requester
-use Rattle.ill_core.specs.RequesterFacts.{replied_number, KeepsDue}
+use Rattle.ill_core.specs.RequesterEvidence.{replied_number, KeepsDue}
 use Rattle.ill_core.specs.Responder.{ResponderRecord, due_of}
-use Rattle.ill_core.specs.ResponderFacts.{MayCancel, MayRenew, answered_number}
+use Rattle.ill_core.specs.ResponderEvidence.{MayCancel, MayRenew, answered_number}
 use Rattle.ill_saved.specs.declared.side.Side.{Side}
 use Rattle.ill_saved.specs.declared.side.Side.TheVariants as sides
 use Rattle.ill_saved.specs.Side.{issued_of, state_of, due_date_of}

@@ -11,13 +11,13 @@ use Rattle.ill_saved.specs.declared.role.Role.TheVariants.{Requester, Responder}
 use Rattle.ill_world.specs.declared.event.Event.{Event}
 use Rattle.ill_world.specs.declared.event.Event.TheVariants.{Wish, Deed, Save, Send, Deliver}
 use Rattle.ill_world.specs.World.{Parties, first_world, party, run_of}
-use Rattle.ill_world.specs.Round.{passes_on, half_of}
+use Rattle.ill_world.specs.Round.{sends_and_delivers, half_of}
 
 -- ---- a round that is cut short
 
 -- Returns the half of a round of `who` without its last message.
 abbrev pub cut_half : Who → Parties → List Event
-cut_half who w = Save who ∷ passes_on who 1 (length (issued_of (party w who).live) - 1)
+cut_half who w = Save who ∷ sends_and_delivers who 1 (length (issued_of (party w who).live) - 1)
 
 -- Returns a round without the last message of the given party.
 abbrev pub cut_round : Who → Parties → List Event

@@ -10,11 +10,11 @@ use Rattle.ill_world.specs.declared.event.DeskEvent.TheVariants.{Save}
 use Rattle.ill_world.specs.World.{party}
 use Rattle.ill_world.specs.Desks.{DeskParties, desks_run}
 use Rattle.ill_world.specs.DeskScript.{in_txn}
-use Rattle.ill_world.specs.Round.{passes_on}
+use Rattle.ill_world.specs.Round.{sends_and_delivers}
 
 -- Returns a Send and a Deliver for each message of `side`, in its transaction.
 abbrev pub passes_side : Who → Side → List DeskEvent
-passes_side who side = map (in_txn (txn_of side)) (passes_on who 1 (length (issued_of side)))
+passes_side who side = map (in_txn (txn_of side)) (sends_and_delivers who 1 (length (issued_of side)))
 
 -- Returns the save of desk `who`, and then events that pass on the messages of `sides`, side after side.
 abbrev pub saves_and_passes : Who → List Side → List DeskEvent

@@ -8,11 +8,11 @@ use Rattle.ill_core.specs.Requester.{RequesterRecord}
 use Rattle.ill_core.specs.RequesterRules.{RequesterRules}
 use Rattle.ill_core.specs.Responder.{ResponderRecord}
 use Rattle.ill_core.specs.ResponderRules.{ResponderRules}
-use Rattle.ill_core.specs.RequesterFacts as requester
-use Rattle.ill_core.specs.RequesterFacts.{KeepsDue}
+use Rattle.ill_core.specs.RequesterEvidence as requester
+use Rattle.ill_core.specs.RequesterEvidence.{KeepsDue}
 use Rattle.ill_core.specs.RequesterNotices.{Notice, Reflects, Attests}
-use Rattle.ill_core.specs.ResponderFacts as responder
-use Rattle.ill_core.specs.ResponderFacts.{Question, asks}
+use Rattle.ill_core.specs.ResponderEvidence as responder
+use Rattle.ill_core.specs.ResponderEvidence.{Question, asks}
 use Rattle.ill_core.specs.ResponderNotices.{WasAsked, HasAnsweredLast, RecallFits, ShipsBeforeRecall, GrantsRise, OverdueFits, GrantsBeforeOverdue}
 use Rattle.ill_saved.specs.declared.side.Side.{Side}
 use Rattle.ill_saved.specs.declared.side.Side.TheVariants as sides

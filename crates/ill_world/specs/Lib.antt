@@ -1,6 +1,6 @@
 pub mod World
 pub mod Desks
-pub mod PartyView
+pub mod PartyRefinement
 pub mod Words
 pub mod Script
 pub mod Trace
@@ -26,4 +26,4 @@ pub mod BadRounds
 pub mod BadNights
 pub mod Changes
 pub mod DeskChanges
-pub mod DeskView
+pub mod DeskRefinement

@@ -20,14 +20,14 @@ use Rattle.ill_world.specs.Agreement.{Facing}
 -- ---- the events of a round
 
 -- Returns a Send and a Deliver for each of `count` messages of `who`, from `number` on, one after another.
-unfoldable pub passes_on : Who → ℕ → ℕ → List Event
-passes_on who number zero = []
-passes_on who number (suc count) =
-    Send who number ∷ Deliver (other who) number ∷ passes_on who (number + 1) count
+unfoldable pub sends_and_delivers : Who → ℕ → ℕ → List Event
+sends_and_delivers who number zero = []
+sends_and_delivers who number (suc count) =
+    Send who number ∷ Deliver (other who) number ∷ sends_and_delivers who (number + 1) count
 
 -- Returns a half of a round: `who` saves, and all its messages are passed on.
 abbrev pub half_of : Who → Parties → List Event
-half_of who w = Save who ∷ passes_on who 1 (length (issued_of (party w who).live))
+half_of who w = Save who ∷ sends_and_delivers who 1 (length (issued_of (party w who).live))
 
 -- Returns the requester's half of a round, and then the responder's.
 abbrev pub round_of : Parties → List Event

@@ -7,9 +7,9 @@ ghost use Rattle.ill_world.specs.World as model;
 ghost use Rattle.ill_world.specs.Desks as desks;
 ghost use Rattle.ill_world.specs.declared.event.DeskOutcome.TheVariants as desk_outcomes;
 ghost use Rattle.ill_world.specs.declared.event.Outcome.TheVariants as outcomes;
-ghost use Rattle.ill_world.specs.PartyView.{GivesOutcome};
+ghost use Rattle.ill_world.specs.PartyRefinement.{GivesOutcome};
 ghost use Rattle.ill_world.specs.Trace.{desk_shown};
-ghost use Rattle.ill_world.specs.DeskView.{desk_party_of, CanBeSeen, FaultSeen, IsReadyDesk};
+ghost use Rattle.ill_world.specs.DeskRefinement.{desk_party_of, CanBeSeen, FaultSeen, IsReadyDesk};
 
 use crate::desk_sent::DeskSent;
 use crate::event::{DeskOutcome, Outcome, Who};

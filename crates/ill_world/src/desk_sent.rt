@@ -6,7 +6,7 @@ ghost use Rattle.std.specs.Map.{lookup};
 ghost use Rattle.ill_core.specs.Issued.{is_same_txn};
 ghost use Rattle.ill_world.specs.World.{sent_message, with_sent};
 ghost use Rattle.ill_world.specs.Desks.{Sending, sent_for, with_sent_for};
-ghost use Rattle.ill_world.specs.DeskView.{sendings_of, BecomesAmong};
+ghost use Rattle.ill_world.specs.DeskRefinement.{sendings_of, BecomesAmong};
 
 use crate::message::Message;
 use crate::sent::Sent;

@@ -8,7 +8,7 @@ ghost use Rattle.ill_world.specs.Desks as model;
 ghost use Rattle.ill_world.specs.Desks.{plain, project, Projects};
 ghost use Rattle.ill_world.specs.Agreement.{KeepsDates};
 ghost use Rattle.ill_world.specs.DeskSafety.{DesksStand, ArrivesAt, IsRunOfEach, IsSafeDeskRun, IsAgreeingDeskRun};
-ghost use Rattle.ill_world.specs.PartyView.{GivesOutcome};
+ghost use Rattle.ill_world.specs.PartyRefinement.{GivesOutcome};
 ghost use Rattle.ill_world.specs.Trace.{desk_line};
 ghost use Rattle.ill_world.specs.Round.{Performs, CanAnswer, AreInStep};
 ghost use Rattle.ill_world.specs.DeskRound.{passes_side, saves_and_passes, desk_half_of, desk_round_of};
@@ -17,7 +17,7 @@ use crate::desk_laws;
 use crate::desk_party::{DeskParty, heard};
 use crate::event::{DeskEvent, DeskOutcome, Outcome, Who};
 use crate::trace::push_line;
-use crate::world::{copy, passes_on};
+use crate::world::{copy, sends_and_delivers};
 use ill_saved::{Action, Side, Sides};
 use ill_values::{OutOfMemory, TxnId};
 use std::alloc::Global;
@@ -202,7 +202,7 @@ fn push_passes(
 ) -> Result<(), OutOfMemory>
     ensures { OnOk result (events.new.items ≡ events.old.items ++ passes_side who side.now) }
 {
-    let passes = passes_on(alloc, who, side.issued_count())?;
+    let passes = sends_and_delivers(alloc, who, side.issued_count())?;
     for event in passes {
         events.push(event.in_txn(alloc, side.txn())?)?;
     }

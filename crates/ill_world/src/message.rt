@@ -4,7 +4,7 @@ ghost use Rattle.std.specs.Prelude.{◌≡◌, [], Ok};
 ghost use Rattle.ill_values.specs.declared.apdu.Apdu.{Apdu};
 ghost use Rattle.ill_values.specs.Apdu.{IsApdu};
 ghost use Rattle.ill_der.specs.ShortForm.{spelling, apdu_at};
-ghost use Rattle.ill_world.specs.PartyView.{apdu_of};
+ghost use Rattle.ill_world.specs.PartyRefinement.{apdu_of};
 
 use std::marker::Model;
 

@@ -7,7 +7,7 @@ ghost use Rattle.ill_saved.specs.Side.{acts, issued_of, idle_of, txn_of};
 ghost use Rattle.ill_world.specs.World as model;
 ghost use Rattle.ill_world.specs.declared.event.Outcome.TheVariants as outcomes;
 ghost use Rattle.ill_world.specs.Trace.{party_shown};
-ghost use Rattle.ill_world.specs.PartyView.{party_of, IsReady, GivesOutcome, is_of};
+ghost use Rattle.ill_world.specs.PartyRefinement.{party_of, IsReady, GivesOutcome, is_of};
 
 use crate::event::Outcome;
 use crate::message::Message;

@@ -8,8 +8,8 @@ ghost use Rattle.ill_world.specs.Trace.{line};
 ghost use Rattle.ill_world.specs.Safety.{IsSafeRun};
 ghost use Rattle.ill_world.specs.Agreement.{IsAgreeingRun, KeepsDates, Arrives};
 ghost use Rattle.ill_world.specs.Invariant.{Invariant};
-ghost use Rattle.ill_world.specs.PartyView.{GivesOutcome};
-ghost use Rattle.ill_world.specs.Round.{passes_on, half_of, round_of, Performs, CanAnswer, AreInStep};
+ghost use Rattle.ill_world.specs.PartyRefinement.{GivesOutcome};
+ghost use Rattle.ill_world.specs.Round.{sends_and_delivers, half_of, round_of, Performs, CanAnswer, AreInStep};
 ghost use Rattle.ill_world.specs.declared.event.Event.TheVariants.{Save};
 
 use crate::event::{Event, Outcome, Who};
@@ -177,17 +177,17 @@ pub fn run(alloc: Global, txn: &TxnId, events: &[Event]) -> Result<World, OutOfM
 
 /// Returns the events of half of a round: a side is saved, and each of its `count` messages is sent and delivered.
 fn half_of_round(alloc: Global, who: Who, count: u8) -> Result<Vec<Event>, OutOfMemory>
-    ensures { IfOk result (λ events. events.items ≡ Save who ∷ passes_on who 1 count) }
+    ensures { IfOk result (λ events. events.items ≡ Save who ∷ sends_and_delivers who 1 count) }
 {
     let mut events = Vec::new(alloc);
     events.push(Event::Save(who))?;
-    events.append(&mut passes_on(alloc, who, count)?)?;
+    events.append(&mut sends_and_delivers(alloc, who, count)?)?;
     Ok(events)
 }
 
 /// Returns the events by which the first `count` messages of a side are sent and delivered, one after another.
-pub(crate) fn passes_on(alloc: Global, who: Who, count: u8) -> Result<Vec<Event>, OutOfMemory>
-    ensures { IfOk result (λ events. events.items ≡ passes_on who 1 count) }
+pub(crate) fn sends_and_delivers(alloc: Global, who: Who, count: u8) -> Result<Vec<Event>, OutOfMemory>
+    ensures { IfOk result (λ events. events.items ≡ sends_and_delivers who 1 count) }
 {
     let mut events = Vec::new(alloc);
     for index in 0..count {

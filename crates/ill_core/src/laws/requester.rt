@@ -16,8 +16,8 @@ ghost use Rattle.ill_core.specs.Requester.{RequesterRecord, IsRequester, later, 
 ghost use Rattle.ill_core.specs.RequesterRules.{RequesterRules};
 ghost use Rattle.ill_core.specs.RequesterActions.{acts};
 ghost use Rattle.ill_core.specs.RequesterDeliveries.{takes};
-ghost use Rattle.ill_core.specs.RequesterFacts.{Fact, Claims, IsEvidence, KeepsDue, Holds, Replies, LeadsTo, AnswersOnce};
-ghost use Rattle.ill_core.specs.RequesterFacts as facts;
+ghost use Rattle.ill_core.specs.RequesterEvidence.{Fact, Claims, IsEvidence, KeepsDue, Holds, Replies, LeadsTo, AnswersOnce};
+ghost use Rattle.ill_core.specs.RequesterEvidence as evidence;
 ghost use Rattle.ill_core.specs.RequesterNotices.{Notice, Reflects, Attests, has_heard, reopens};
 
 /// A wish issues exactly one APDU, with the next number, and a message none. There are at most 255.
@@ -123,7 +123,7 @@ pub fn requester_follows()
         is_among (states.Pending ∷ states.Conditional ∷ states.CancelPending ∷ later)
         x.state ≡ true → LeadsTo later (takes x a) }
     ensures ended { (x : RequesterRecord) (a : Apdu) → is_same_txn a.txn x.txn ≡ true →
-        IsEvidence a.body facts.Ended →
+        IsEvidence a.body evidence.Ended →
         is_among (states.Pending ∷ states.Conditional ∷ states.CancelPending ∷ states.NotSupplied ∷ [])
         x.state ≡ true → LeadsTo (states.NotSupplied ∷ []) (takes x a) }
     ensures cancelled { (x : RequesterRecord) (a : Apdu) (c : ℕ) → is_same_txn a.txn x.txn ≡ true →

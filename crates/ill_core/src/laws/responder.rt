@@ -17,7 +17,7 @@ ghost use Rattle.ill_core.specs.ResponderActions.{acts};
 ghost use Rattle.ill_core.specs.ResponderDeliveries.{takes};
 ghost use Rattle.ill_values.specs.declared.apdu.Body.{Body};
 ghost use Rattle.ill_core.specs.ResponderNotices.{WasAsked, HasAnsweredLast, RecallFits, ShipsBeforeRecall, GrantsRise, OverdueFits, GrantsBeforeOverdue, has_heard, reopens};
-ghost use Rattle.ill_core.specs.ResponderFacts.{Fact, Claims, IsEvidence, KeepsRequest, IssuesUnfilled, StaysLater, Ends, EntersByEnd, EndsOnce, Question, MayCancel, MayRenew, asks, waits, last_asked, AnswersLast, KeepsLast, TakesNew, AnswersOnce, LeadsTo};
+ghost use Rattle.ill_core.specs.ResponderEvidence.{Fact, Claims, IsEvidence, KeepsRequest, IssuesUnfilled, StaysLater, Ends, EntersByEnd, EndsOnce, Question, MayCancel, MayRenew, asks, waits, last_asked, AnswersLast, KeepsLast, TakesNew, AnswersOnce, LeadsTo};
 
 /// A deed issues exactly one APDU, with the next number; a message none, or to a Conditional-Reply no
 /// one ILL-Answer unfilled. There are at most 255.
@@ -38,7 +38,7 @@ pub fn responder_keeps_txn()
     ensures takes { (y : ResponderRecord) (a : Apdu) → (takes y a).1.txn ≡ y.txn }
 {}
 
-/// Once a responder was asked, its request stays, and no line leads back to IDLE.
+/// Once a responder was asked, its request stays, and no transition leads back to IDLE.
 pub fn responder_keeps_request()
     ensures acts { (y new : ResponderRecord) (deed : Deed) (today : Date) →
         acts y deed today ≡ Ok new → KeepsRequest y new }

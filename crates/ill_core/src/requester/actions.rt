@@ -4,19 +4,19 @@ ghost use Rattle.std.specs.Prelude.{◌≡◌, IsOk, IsSome, IfOk, IfErr, option
 ghost use Rattle.std.specs.Option.{unwrap_or};
 ghost use Rattle.ill_core.specs.declared.refusal.Refusal.TheVariants as refusals;
 ghost use Rattle.ill_core.specs.Kinds.{wish_kind};
-ghost use Rattle.ill_core.specs.RequesterActions.{line_of};
-ghost use Rattle.ill_core.specs.RequesterTables.{wish_facts, wish_rows, wish_row, wish_body};
+ghost use Rattle.ill_core.specs.RequesterActions.{transition_of};
+ghost use Rattle.ill_core.specs.RequesterTables.{wish_guards, wish_rows, wish_row, wish_body};
 
 use super::standing::FREES;
 use super::{Requester, Wish};
-use crate::kind::{RequesterKind as Kind, told};
+use crate::kind::{RequesterKind as Kind, known_value};
 use crate::refusal::Refusal;
 use crate::state::State::{
     CancelPending, Overdue, Pending, Received, RenewOverdue, RenewPending, Returned,
 };
 use crate::table::Then::{Stay, To};
 use crate::table::{
-    CONDITIONAL, Facts, IDLE, NONE, NOT_RECEIVED_OVERDUE, OVERDUE, PENDING, RECALL, RECEIVED,
+    CONDITIONAL, Guards, IDLE, NONE, NOT_RECEIVED_OVERDUE, OVERDUE, PENDING, RECALL, RECEIVED,
     RENEW_OVERDUE, RENEW_PENDING, Row, SHIPPED, find,
 };
 use ill_values::{Body, Number};
@@ -85,9 +85,9 @@ fn kind_of(wish: &Wish) -> Kind
     }
 }
 
-/// The facts that the rows of wishes ask for.
-impl Facts for Requester {
-    ghost facts = { wish_facts };
+/// The guards that the rows of wishes ask for.
+impl Guards for Requester {
+    ghost guards = { wish_guards };
 
     fn hold(&self, asked: u16) -> bool {
         if asked & UNDECLINED != 0 && self.is_declined() {
@@ -100,9 +100,9 @@ impl Facts for Requester {
     }
 }
 
-/// Returns the body of the APDU that a wish with a line issues.
+/// Returns the body of the APDU that a wish with a transition issues.
 pub fn body_of(requester: &Requester, alloc: Global, wish: &Wish) -> Result<Body, Refusal>
-    requires done { IsOk (line_of requester.now wish.now) }
+    requires done { IsOk (transition_of requester.now wish.now) }
     ensures value { IfOk result (λ body. body ≡ wish_body requester.now wish.now) }
     ensures memory { IfErr result (λ refusal. refusal ≡ refusals.OutOfMemory) }
 {
@@ -116,7 +116,7 @@ pub fn body_of(requester: &Requester, alloc: Global, wish: &Wish) -> Result<Body
         }
         Wish::Cancel => Body::Cancel,
         Wish::Reply { yes } => Body::ConditionalReply {
-            answers: told(requester.standing.held),
+            answers: known_value(requester.standing.held),
             yes: *yes,
         },
         Wish::Receive => Body::Received,

@@ -6,7 +6,7 @@ ghost use Rattle.ill_core.specs.Issued.{was};
 ghost use Rattle.ill_core.specs.Dates.{is_due_on, is_after_due};
 ghost use Rattle.ill_core.specs.Tables.{are_met};
 ghost use Rattle.ill_core.specs.RequesterDeliveries.{take_message};
-ghost use Rattle.ill_core.specs.RequesterTables.{is_dated, number_facts, cancel_facts, renew_facts, due_facts, delivery_facts, delivery_rows, delivery_row};
+ghost use Rattle.ill_core.specs.RequesterTables.{is_dated, number_guards, cancel_guards, renew_guards, due_guards, delivery_guards, delivery_rows, delivery_row};
 
 use super::Requester;
 use super::standing::{DUE, FREES, HOLDS, MARK};
@@ -20,7 +20,7 @@ use crate::state::State::{
 };
 use crate::table::Then::{Conflict, Repeat, Stale, Stay, To};
 use crate::table::{
-    ANY, CANCEL_PENDING, CANCELLED, CONDITIONAL, Facts, NONE, NOT_RECEIVED_OVERDUE, NOT_SUPPLIED,
+    ANY, CANCEL_PENDING, CANCELLED, CONDITIONAL, Guards, NONE, NOT_RECEIVED_OVERDUE, NOT_SUPPLIED,
     OVERDUE, PENDING, RECALL, RECEIVED, RENEW_OVERDUE, RENEW_PENDING, RETURNED, Row, SHIPPED, find,
 };
 use crate::taking::Taking;
@@ -142,8 +142,8 @@ struct Arrival<'a> {
     date: Option<Day>,
 }
 
-impl Facts for Arrival<'_> {
-    ghost facts = { λ a. delivery_facts a.requester.now a.number a.date };
+impl Guards for Arrival<'_> {
+    ghost guards = { λ a. delivery_guards a.requester.now a.number a.date };
 
     fn hold(&self, asked: u16) -> bool {
         let requester = self.requester;
@@ -155,7 +155,7 @@ impl Facts for Arrival<'_> {
 }
 
 fn number_holds(requester: &Requester, number: Number, asked: u16) -> bool
-    ensures { result ≡ are_met asked (number_facts requester.now number) }
+    ensures { result ≡ are_met asked (number_guards requester.now number) }
 {
     if asked & PASSED != 0 && !is_at_most(number, requester.accepted()) {
         return false;
@@ -164,7 +164,7 @@ fn number_holds(requester: &Requester, number: Number, asked: u16) -> bool
 }
 
 fn cancel_holds(requester: &Requester, number: Number, asked: u16) -> bool
-    ensures { result ≡ are_met asked (cancel_facts requester.now number) }
+    ensures { result ≡ are_met asked (cancel_guards requester.now number) }
 {
     if asked & LAST_CANCEL != 0 && requester.issued.last(Sought::CancelNumber) != Some(number) {
         return false;
@@ -173,7 +173,7 @@ fn cancel_holds(requester: &Requester, number: Number, asked: u16) -> bool
 }
 
 fn renew_holds(requester: &Requester, number: Number, asked: u16) -> bool
-    ensures { result ≡ are_met asked (renew_facts requester.now number) }
+    ensures { result ≡ are_met asked (renew_guards requester.now number) }
 {
     if asked & LAST_RENEW != 0 && requester.issued.last(Sought::RenewNumber) != Some(number) {
         return false;
@@ -182,7 +182,7 @@ fn renew_holds(requester: &Requester, number: Number, asked: u16) -> bool
 }
 
 fn due_holds(requester: &Requester, date: &Option<Day>, asked: u16) -> bool
-    ensures { result ≡ are_met asked (due_facts requester.now date.now) }
+    ensures { result ≡ are_met asked (due_guards requester.now date.now) }
 {
     if asked & NOT_DUE != 0 && is_due(requester, date) {
         return false;

@@ -3,11 +3,11 @@
 ghost use Rattle.std.specs.Prelude.{◌≡◌, Bool, [], filter, option_copied};
 ghost use Rattle.ill_core.specs.Kinds.{deed_kind};
 ghost use Rattle.ill_core.specs.ResponderActions.{expiry_of};
-ghost use Rattle.ill_core.specs.ResponderTables.{deed_rows, deed_row, check, check_date, deed_body, HasTold};
+ghost use Rattle.ill_core.specs.ResponderTables.{deed_rows, deed_row, check, check_date, deed_body, HasValueFor};
 
 use super::{Deed, Responder};
 use crate::date::is_after;
-use crate::kind::{ResponderKind as Kind, told};
+use crate::kind::{ResponderKind as Kind, known_value};
 use crate::refusal::Refusal;
 use crate::state::State::{
     self, Cancelled, CheckedIn, Conditional, InProcess, NotSupplied, Overdue, Recall, RenewOverdue,
@@ -15,7 +15,7 @@ use crate::state::State::{
 };
 use crate::table::Then::{Stay, To};
 use crate::table::{
-    CANCEL_PENDING, CONDITIONAL, Facts, IN_PROCESS, NONE, OVERDUE, RENEW_OVERDUE, RENEW_PENDING,
+    CANCEL_PENDING, CONDITIONAL, Guards, IN_PROCESS, NONE, OVERDUE, RENEW_OVERDUE, RENEW_PENDING,
     RETURNED, Row, SHIPPED, find,
 };
 use ill_values::{Body, Day};
@@ -49,7 +49,7 @@ const BEGINNINGS: [usize; 13] = [0, 1, 2, 3, 4, 5, 6, 7, 9, 10, 12, 13, 14];
 pub fn row_of(state: State, deed: &Deed) -> Option<&'static Row<Kind>>
     ensures { option_copied result ≡ deed_row state deed.now }
 {
-    find(rows_of(kind_of(deed)), state, &NoFacts)
+    find(rows_of(kind_of(deed)), state, &NoGuards)
 }
 
 /// The rows of a kind.
@@ -78,11 +78,11 @@ fn kind_of(deed: &Deed) -> Kind
     }
 }
 
-/// No row of actions asks for a fact.
-struct NoFacts;
+/// No row of actions asks for a guard.
+struct NoGuards;
 
-impl Facts for NoFacts {
-    ghost facts = { λ _. [] };
+impl Guards for NoGuards {
+    ghost guards = { λ _. [] };
 
     fn hold(&self, _asked: u16) -> bool {
         true
@@ -125,23 +125,23 @@ fn expiry(responder: &Responder) -> Option<Day>
 
 /// The message that a deed issues.
 pub fn body_of(responder: &Responder, deed: &Deed) -> Body
-    requires told { HasTold responder.now deed.now }
+    requires known { HasValueFor responder.now deed.now }
     ensures { result ≡ deed_body responder.now deed.now }
 {
     let standing = responder.standing;
     match deed {
         Deed::Answer(result) => Body::IllAnswer { result: *result },
         Deed::CancelReply { yes } => Body::CancelReply {
-            answers: told(standing.last_cancel),
+            answers: known_value(standing.last_cancel),
             yes: *yes,
         },
         Deed::Ship { due } => Body::Shipped { due: *due },
         Deed::RenewAnswer { granted } => Body::RenewAnswer {
-            answers: told(standing.last_renew),
+            answers: known_value(standing.last_renew),
             granted: *granted,
         },
         Deed::Overdue => Body::Overdue {
-            due: told(responder.due()),
+            due: known_value(responder.due()),
         },
         Deed::Recall => Body::Recall,
         Deed::CheckIn => Body::CheckedIn,

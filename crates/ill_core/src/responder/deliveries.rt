@@ -5,7 +5,7 @@ ghost use Rattle.ill_core.specs.Bodies.{names_conditions};
 ghost use Rattle.ill_core.specs.Issued.{is_same_txn, was};
 ghost use Rattle.ill_core.specs.Tables.{are_met};
 ghost use Rattle.ill_core.specs.ResponderDeliveries.{MayWantMemory, takes_memory, take_message};
-ghost use Rattle.ill_core.specs.ResponderTables.{request_after, issued_after, number_refusal, IsRefused, reply_facts, past_facts, delivery_facts, delivery_rows, delivery_row};
+ghost use Rattle.ill_core.specs.ResponderTables.{request_after, issued_after, number_refusal, IsRefused, reply_guards, past_guards, delivery_guards, delivery_rows, delivery_row};
 
 use super::Responder;
 use super::standing::{ACCEPTS, CANCELS, ENDS, KEEPS, RECEIVES, RENEWS};
@@ -19,7 +19,7 @@ use crate::state::State::{
 };
 use crate::table::Then::{Repeat, Stale, Stay, To};
 use crate::table::{
-    ANY, CHECKED_IN, CONDITIONAL, Facts, IDLE, IN_PROCESS, NONE, NOT_SUPPLIED, OVERDUE, RECALL,
+    ANY, CHECKED_IN, CONDITIONAL, Guards, IDLE, IN_PROCESS, NONE, NOT_SUPPLIED, OVERDUE, RECALL,
     RENEW_OVERDUE, RENEW_PENDING, RETURNED, Row, SHIPPED, find,
 };
 use crate::taking::Taking;
@@ -158,8 +158,8 @@ struct Arrival<'a> {
     number: Number,
 }
 
-impl Facts for Arrival<'_> {
-    ghost facts = { λ a. delivery_facts a.responder.now a.number };
+impl Guards for Arrival<'_> {
+    ghost guards = { λ a. delivery_guards a.responder.now a.number };
 
     fn hold(&self, asked: u16) -> bool {
         let responder = self.responder;
@@ -168,7 +168,7 @@ impl Facts for Arrival<'_> {
 }
 
 fn reply_holds(responder: &Responder, number: Number, asked: u16) -> bool
-    ensures { result ≡ are_met asked (reply_facts responder.now number) }
+    ensures { result ≡ are_met asked (reply_guards responder.now number) }
 {
     if asked & OUTSTANDING != 0 && responder.outstanding() != Some(number) {
         return false;
@@ -180,7 +180,7 @@ fn reply_holds(responder: &Responder, number: Number, asked: u16) -> bool
 }
 
 fn past_holds(responder: &Responder, number: Number, asked: u16) -> bool
-    ensures { result ≡ are_met asked (past_facts responder.now number) }
+    ensures { result ≡ are_met asked (past_guards responder.now number) }
 {
     if asked & PAST_CANCEL != 0 && !is_at_most(number, responder.standing.last_cancel) {
         return false;

@@ -2,7 +2,7 @@
 use Rattle.std.proofs.Common.{rules, ap, ◌∙◌, arith, Vec, Global, ◌-◌, ◌+◌}
 use Rattle.ill_values.specs.declared.apdu.Apdu.{Apdu}
 use Rattle.ill_saved.specs.Layout.{apdu, read_all}
-use Rattle.ill_saved.proofs.Lists.{after, one_more, none_more, all_there, fault_kept}
+use Rattle.ill_saved.proofs.Lists.{after, one_more, none_more, all_there, fault_stays}
 use Rattle.ill_saved.proofs.decoding.read_apdus.Goals as goal
 
 -- A fault of one APDU is the fault of the whole list.
@@ -10,7 +10,7 @@ pub returns-in_err-apdu : goal.returns-in_err-apdu
 returns-in_err-apdu c =
     let whole = read_all apdu c.args.count c.args.cursor.now in
     let stays = none_more apdu c.loop.apdus.items c.args.count c.loop.counter c.loop.cursor whole c.loop.invariant.read (omega (arith, c.loop-test.true)) in
-    search (rules, fault_kept (λ a. a) (λ (apdus : Vec Apdu Global). apdus.items) c.in_err-apdu.field-0.0 c.apdu.new.self c.apdu.new.self (apdu.read c.loop.cursor) whole stays c.in_err-apdu.ensures.read)
+    search (rules, fault_stays (λ a. a) (λ (apdus : Vec Apdu Global). apdus.items) c.in_err-apdu.field-0.0 c.apdu.new.self c.apdu.new.self (apdu.read c.loop.cursor) whole stays c.in_err-apdu.ensures.read)
 
 -- One more APDU keeps the invariant.
 pub loop-preserved : goal.loop-preserved

@@ -1,6 +1,6 @@
 -- Answers the contract of `responder_stands` (`src/laws.rt`).
 use Rattle.std.proofs.Common.{◌∙◌, inl, inr}
-use Rattle.ill_core.specs.ResponderFacts.{MayCancel, MayRenew}
+use Rattle.ill_core.specs.ResponderEvidence.{MayCancel, MayRenew}
 use Rattle.ill_world.proofs.Standings.{cancel_is_there, question_is_there}
 use Rattle.ill_world.proofs.laws.responder_stands.Goals as goal
 

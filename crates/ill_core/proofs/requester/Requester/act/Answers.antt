@@ -5,7 +5,7 @@ use Rattle.ill_core.specs.RequesterActions.{Acts}
 use Rattle.ill_core.specs.Issued.{next_number, with_next}
 use Rattle.ill_core.specs.Requester.{RequesterRecord, requester_of, IsRequester}
 use Rattle.ill_core.specs.RequesterTables.{wish_row, wish_body}
-use Rattle.ill_core.proofs.RequesterTable.{acts_this, line_there, wished_kept, wished_is, act_used, act_memory}
+use Rattle.ill_core.proofs.RequesterTable.{acts_this, transition_there, wished_kept, wished_is, act_used, act_memory}
 use Rattle.ill_core.proofs.requester.Requester.act.Goals as goal
 
 pub returns-in_err-number : goal.returns-in_err-number
@@ -19,7 +19,7 @@ returns-in_err-number c =
     subst (λ r. Acts x wish r x) (sym answer) (act_used x wish row _ fits refused)
 
 pub body_of-requires : goal.body_of-requires
-body_of-requires c = record { done = line_there c.args.self.now c.args.wish.now c.in-Some.row.now (search rules) }
+body_of-requires c = record { done = transition_there c.args.self.now c.args.wish.now c.in-Some.row.now (search rules) }
 
 pub returns-in_err-body : goal.returns-in_err-body
 returns-in_err-body c =

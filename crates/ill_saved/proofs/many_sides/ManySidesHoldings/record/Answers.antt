@@ -1,6 +1,6 @@
 -- Answers the contract of `ManySides::record` (`src/many_sides.rt`).
 use Rattle.std.proofs.Common.{subst, ap, ◌∙◌}
-use Rattle.ill_saved.specs.Records2.{AreSides}
+use Rattle.ill_saved.specs.RecordsV2.{AreSides}
 use Rattle.ill_saved.specs.ManySides.{counts, AreBackable}
 use Rattle.ill_saved.proofs.Contents.{as_seen, each_consistent, sides_record}
 use Rattle.ill_saved.proofs.many_sides.ManySidesHoldings.record.Goals as goal

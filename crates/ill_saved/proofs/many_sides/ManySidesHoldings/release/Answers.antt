@@ -1,6 +1,6 @@
 -- Answers the contract of `ManySides::release` (`src/many_sides.rt`).
 use Rattle.std.proofs.Common.{◌≡◌, ap, sym, subst, ◌∙◌}
-use Rattle.ill_saved.specs.Records2.{AreSides}
+use Rattle.ill_saved.specs.RecordsV2.{AreSides}
 use Rattle.ill_saved.specs.ManySides.{counts, whole_of}
 use Rattle.ill_saved.proofs.Contents.{as_many_counted, as_seen, each_consistent, whole_backable, whole_held}
 use Rattle.ill_saved.proofs.many_sides.ManySidesHoldings.release.Goals as goal

@@ -4,7 +4,7 @@ use Rattle.std.specs.Map.{lookup}
 use Rattle.ill_core.specs.Issued.{is_same_txn}
 use Rattle.ill_world.specs.World.{with_sent}
 use Rattle.ill_world.specs.Desks.{with_sent_for}
-use Rattle.ill_world.specs.DeskView.{sendings_of, BecomesAmong}
+use Rattle.ill_world.specs.DeskRefinement.{sendings_of, BecomesAmong}
 use Rattle.ill_world.proofs.DeskMaps.{becomes_put, becomes_none, first_put}
 use Rattle.ill_world.proofs.desk_sent.DeskSent.put.Goals as goal
 

@@ -3,7 +3,7 @@ use Rattle.std.proofs.Common.{sym, ◌∙◌, subst}
 use Rattle.ill_saved.specs.declared.role.Role.TheVariants as who
 use Rattle.ill_world.specs.World.{Parties, happens}
 use Rattle.ill_world.specs.Agreement.{KeepsDates, Arrives}
-use Rattle.ill_world.specs.PartyView.{GivesOutcome}
+use Rattle.ill_world.specs.PartyRefinement.{GivesOutcome}
 use Rattle.ill_world.proofs.Worlds.{world_gives, still_stands, dates_of}
 use Rattle.ill_world.proofs.world.World.step.Goals as goal
 

@@ -1,0 +1,166 @@
+//! The record that has landed, as a desk keeps it.
+
+ghost use Rattle.std.specs.Prelude.{◌≡◌, ◌++◌, ◌-◌, ◌≤◌, length, map, drop, Some, option_map, IfOk};
+ghost use Rattle.std.specs.List.{All, slice_get};
+ghost use Rattle.ill_der.specs.ShortForm.{spelling};
+ghost use Rattle.ill_saved.specs.Layout.{spell_all};
+ghost use Rattle.ill_saved.specs.Side.{issued_of};
+ghost use Rattle.ill_saved.specs.Records.{record_spelling};
+ghost use Rattle.ill_saved.specs.LandedBytes.{LandedBytes, no_landed_record, landed_bytes_of, IsLandedRecord, HoldsReleased, GoesBackTo, piece_at, IsWithin, EndsWith};
+
+use crate::encoding::encode_after;
+use crate::side::{Side, Standing};
+use ill_der::size;
+use ill_values::{Apdu, Number, OutOfMemory};
+use std::alloc::Global;
+use std::marker::Model;
+
+/// The place of a message in a record: its offset from the first message, and its length in bytes.
+#[derive(Clone, Copy, Debug)]
+pub struct Place {
+    start: usize,
+    size: usize,
+}
+
+/// The bytes of a record, the place of each message in them, and the standing of its side. The messages are
+/// the record's last part.
+#[derive(Debug, Drop)]
+pub struct LandedRecord {
+    standing: Option<Standing>,
+    bytes: Vec<u8>,
+    first: usize,
+    places: Vec<Place>,
+}
+
+impl Model for LandedRecord {
+    ghost Value = { LandedBytes };
+
+    ghost view = { λ k. record {
+      standing = k.standing;
+      bytes = k.bytes.items;
+      messages = drop k.first k.bytes.items;
+      pieces = map (piece_at (drop k.first k.bytes.items)) k.places.items;
+    } };
+
+    ghost invariant = { λ k. (k.first ≤ length k.bytes.items)
+        × All (IsWithin (length (drop k.first k.bytes.items))) k.places.items };
+}
+
+impl LandedRecord {
+    /// Returns no record. Allocates nothing.
+    pub fn none(alloc: Global) -> LandedRecord
+        ensures { result ≡ no_landed_record }
+    {
+        LandedRecord {
+            standing: None,
+            bytes: Vec::new(alloc),
+            first: 0,
+            places: Vec::new(alloc),
+        }
+    }
+
+    /// Returns the record of `side`, which is `bytes`. Allocates the places.
+    pub fn of(alloc: Global, bytes: Vec<u8>, side: &Side) -> Result<LandedRecord, OutOfMemory>
+        requires spelled { bytes.items ≡ record_spelling side.now }
+        ensures { IfOk result (λ landed_record. landed_record ≡ landed_bytes_of side.now) }
+    {
+        LandedRecord::none(alloc).followed_by(alloc, side.standing(), bytes, side.all_issued())
+    }
+
+    /// Returns the record of `side`, whose first `released` messages are kept here. Copies these, and encodes only
+    /// the others.
+    pub fn next(&self, alloc: Global, side: &Side, released: u8) -> Result<LandedRecord, OutOfMemory>
+        requires keeps { HoldsReleased self.now side.now released }
+        ensures { IfOk result (λ landed_record. IsLandedRecord landed_record side.now) }
+    {
+        let others = issued_after(side, released);
+        let bytes = encode_after(alloc, side, self.messages(), others)?;
+        self.followed_by(alloc, side.standing(), bytes, others)
+    }
+
+    /// Returns a record with the messages of this one, and `apdus` after them. `bytes` must end with all of these.
+    fn followed_by(
+        &self,
+        alloc: Global,
+        standing: Standing,
+        bytes: Vec<u8>,
+        apdus: &[Apdu],
+    ) -> Result<LandedRecord, OutOfMemory>
+        requires ends { EndsWith (self.now.messages ++ spell_all spelling apdus.now) bytes.items }
+        ensures { IfOk result (λ landed_record. landed_record ≡ record {
+          standing = Some standing;
+          bytes = bytes.items;
+          messages = self.now.messages ++ spell_all spelling apdus.now;
+          pieces = self.now.pieces ++ map spelling apdus.now;
+        }) }
+    {
+        let mut places = Vec::from_slice(alloc, &self.places)?;
+        let mut end = self.messages().len();
+        for apdu in apdus {
+            let size = size(apdu);
+            places.push(Place { start: end, size })?;
+            end += size;
+        }
+        let first = bytes.len() - end;
+        Ok(LandedRecord {
+            standing: Some(standing),
+            bytes,
+            first,
+            places,
+        })
+    }
+
+    /// Takes `live` back to the side of the kept record, and returns true, if `bytes` are that record. The number of
+    /// released messages is `released`. Allocates nothing.
+    pub fn take_back(&self, bytes: &Option<Vec<u8>>, released: u8, live: &mut Side) -> bool
+        requires keeps { HoldsReleased self.now live.old released }
+        ensures { GoesBackTo self.now released (option_map (λ b. b.items) bytes.now) result
+            live.old live.new }
+    {
+        match (bytes, &self.standing) {
+            (Some(bytes), Some(standing)) if *bytes == self.bytes => {
+                live.go_back(standing, released)
+            }
+            _ => false,
+        }
+    }
+
+    /// Returns the bytes of the record.
+    pub fn bytes(&self) -> &[u8]
+        ensures { result.now ≡ self.now.bytes }
+    {
+        &self.bytes
+    }
+
+    /// Returns the part of the bytes that has the messages.
+    fn messages(&self) -> &[u8]
+        ensures { result.now ≡ self.now.messages }
+    {
+        &self.bytes[self.first..]
+    }
+
+    /// Returns the bytes of message `number`, which must be one of them.
+    pub fn message(&self, number: Number) -> &[u8]
+        requires { number ≤ length self.now.pieces }
+        ensures { slice_get self.now.pieces (number - 1) ≡ Some result.now }
+    {
+        let place = self.places[usize::from(number.get()) - 1];
+        piece(self.messages(), place)
+    }
+}
+
+/// Returns the bytes at `place`.
+fn piece(messages: &[u8], place: Place) -> &[u8]
+    requires { IsWithin (length messages.now) place }
+    ensures { result.now ≡ piece_at messages.now place }
+{
+    &messages[place.start..place.start + place.size]
+}
+
+/// Returns the messages of `side` after the first `count`.
+fn issued_after(side: &Side, count: u8) -> &[Apdu]
+    requires { count ≤ length (issued_of side.now) }
+    ensures { result.now ≡ drop count (issued_of side.now) }
+{
+    &side.all_issued()[usize::from(count)..]
+}

@@ -1,0 +1,59 @@
+-- The view that the model of two desks has of a desk's memory, store and sent messages.
+use Rattle.std.specs.Prelude.{◌≡◌, true, List, map, Option, Some, None, Result, Ok, Err}
+use Rattle.std.specs.Map.{set_value}
+use Rattle.ill_values.specs.TxnId.{Qualifiers}
+use Rattle.ill_values.specs.declared.apdu.Apdu.{Apdu}
+use Rattle.ill_core.specs.Issued.{is_same_txn}
+use Rattle.ill_saved.specs.declared.store.NextCall.TheVariants.{Works}
+use Rattle.ill_saved.specs.declared.fault.DeskFault.{DeskFault}
+use Rattle.ill_saved.specs.declared.fault.DeskFault.TheVariants as faults
+use Rattle.ill_saved.specs.Sides.{SidesOf}
+use Rattle.ill_saved.specs.Store.{MemoryStoreState}
+use Rattle.ill_saved.specs.Holdings.{is_refusal, landed_live}
+use Rattle.ill_saved.specs.Desk.{DeskOf}
+use Rattle.ill_saved.specs.ManySides.{DeskContents, many_sides, sides_held, whole_of}
+use Rattle.ill_world.specs.declared.event.DeskOutcome.{DeskOutcome}
+use Rattle.ill_world.specs.PartyRefinement.{read_or}
+use Rattle.ill_world.specs.Desks.{Sending, DeskParty, fault_seen}
+
+-- ---- sent messages
+
+-- Returns the messages sent in each transaction, from the entries of a map.
+abbrev pub sendings_of : List (Qualifiers × List (Option Apdu)) → List Sending
+sendings_of entries = map (λ e. record { txn = e.0; sent = e.1 }) entries
+
+-- If something was sent in `txn`, its entry becomes `next` of it. Else `a` comes back, and nothing changes.
+abbrev pub BecomesAmong : Qualifiers → (List (Option Apdu) → List (Option Apdu)) → List (Qualifiers × List (Option Apdu)) →
+    Option (List (Option Apdu)) → Option Apdu → Apdu → List (Qualifiers × List (Option Apdu)) → Type 0
+BecomesAmong txn next old None back a new = (back ≡ Some a) × (new ≡ old)
+BecomesAmong txn next old (Some sent) back a new = (back ≡ None) × (new ≡ set_value (is_same_txn txn) old (next sent))
+
+-- ---- desks
+
+-- Returns the sides that have landed in the store of `desk`.
+abbrev pub landed_at : DeskOf DeskContents MemoryStoreState → SidesOf
+landed_at desk = sides_held (read_or desk.live (landed_live many_sides desk.store.landed desk.live))
+
+-- Returns the desk of the model for which `desk` and the messages `sent` from it stand.
+abbrev pub desk_party_of : DeskOf DeskContents MemoryStoreState → List Sending → DeskParty
+desk_party_of desk sent = record { live = desk.live; landed = landed_at desk; sent = sent }
+
+-- Between two events the next call of the store works. The landed sides have the desk's role.
+pub record IsReadyDesk (desk : DeskOf DeskContents MemoryStoreState) : Type 0 where
+  pub works : desk.store.next ≡ Works
+  pub landed : landed_live many_sides desk.store.landed desk.live ≡ Ok (whole_of (landed_at desk))
+  pub role : (landed_at desk).role ≡ desk.live.role
+
+-- ---- answers
+
+-- The fault is one of an action, or of a message that is exactly one APDU.
+abbrev pub CanBeSeen : DeskFault → Type 0
+CanBeSeen faults.OutOfMemory = Unit {0}
+CanBeSeen fault = is_refusal fault ≡ true
+
+-- The result is the outcome of a fault of an action or a message. If memory runs out, there is none.
+abbrev pub FaultSeen : {M : Type 0} → DeskFault → Result DeskOutcome M → Type 0
+FaultSeen faults.OutOfMemory (Err memory) = Unit {0}
+FaultSeen faults.OutOfMemory (Ok outcome) = ⊥
+FaultSeen fault (Ok outcome) = outcome ≡ fault_seen fault
+FaultSeen fault (Err memory) = ⊥

@@ -1,8 +1,10 @@
 -- The order of days, and the due dates that a responder grants in that order.
-use Rattle.std.proofs.Common.{rules, arith, ◌≡◌, ◌⊎◌, inl, inr, ℕ, zero, suc, ◌<◌, Bool, true, false, if◌then◌else◌, ◌==◌, nat_lt, List, [], ◌∷◌, Option, Some, None, refl, sym, ap, ◌∙◌, subst}
+use Rattle.std.proofs.Common.{rules, arith, ◌≡◌, ◌⊎◌, inl, inr, ℕ, zero, suc, ◌<◌, Bool, true, false, if◌then◌else◌, ◌==◌, nat_lt}
+use Rattle.std.proofs.Common.{List, [], ◌∷◌, Option, Some, None, refl, sym, ap, ◌∙◌, subst}
 use Rattle.std.specs.Prelude.{slice_get}
 use Rattle.std.specs.List.{filter_map, cons_option, last_or}
-use Rattle.std.proofs.lemmas.Bool.{and_parts, and_from, cases_order, eqb-true, eq-eqb, ne_eqb, ltb-true, lt-ltb, false_from_ne_true}
+use Rattle.std.proofs.lemmas.Bool.{and_parts, and_from, cases_order, eqb-true, eq-eqb, ne_eqb, ltb-true, lt-ltb}
+use Rattle.std.proofs.lemmas.Bool.{false_from_ne_true}
 use Rattle.std.proofs.lemmas.Option.{same_Some}
 use Rattle.ill_values.specs.Day.{Date}
 use Rattle.ill_values.specs.declared.apdu.Apdu.{Apdu}
@@ -45,14 +47,19 @@ before_is a b h =
     elim (less_is a.year b.year (less a.month b.month (nat_lt a.day b.day)) h) [
       | inl lt ↦ inl lt
       | inr both ↦
-          inr (both.0, elim (less_is a.month b.month (nat_lt a.day b.day) both.1) [ inl lt ↦ inl lt | inr days ↦ inr (days.0, ltb-true a.day b.day days.1) ])
+          inr (
+            both.0,
+            elim (less_is a.month b.month (nat_lt a.day b.day) both.1)
+                [ inl lt ↦ inl lt | inr days ↦ inr (days.0, ltb-true a.day b.day days.1) ],
+          )
     ]
 
 -- If day a is before day b, the test `is_before` is true.
 is_before_by : (a b : Date) → Before a b → is_before a b ≡ true
 is_before_by a b (inl lt) = is_less a.year b.year _ (inl lt)
 is_before_by a b (inr (year, inl lt)) = is_less a.year b.year _ (inr (year, is_less a.month b.month _ (inl lt)))
-is_before_by a b (inr (year, inr (month, day))) = is_less a.year b.year _ (inr (year, is_less a.month b.month _ (inr (month, lt-ltb a.day b.day day))))
+is_before_by a b (inr (year, inr (month, day))) =
+    is_less a.year b.year _ (inr (year, is_less a.month b.month _ (inr (month, lt-ltb a.day b.day day))))
 
 -- If p is less than q and q than r, p is less than r. If they are equal, the later parts decide.
 less_on : (p q r : ℕ) (A B C : Type 0) → (A → B → C) → Less p q A → Less q r B → Less p r C
@@ -69,7 +76,8 @@ day_on p q r one two = omega (arith, one, two)
 pub before_on : (a b c : Date) → is_before a b ≡ true → is_before b c ≡ true → is_before a c ≡ true
 before_on a b c one two =
     is_before_by a c
-    (less_on a.year b.year c.year _ _ _ (less_on a.month b.month c.month _ _ _ (day_on a.day b.day c.day)) (before_is a b one) (before_is b c two))
+    (less_on a.year b.year c.year _ _ _ (less_on a.month b.month c.month _ _ _ (day_on a.day b.day c.day)) (before_is a b one)
+    (before_is b c two))
 
 -- Of two equal numbers none is less, if what follows them is not.
 never_less : (p q : ℕ) (A : Type 0) → p ≡ q → (A → ⊥) → Less p q A → ⊥
@@ -82,7 +90,8 @@ not_before_same a b same h =
     let years = and_parts _ _ same in
     let days = and_parts _ _ years.1 in
     never_less a.year b.year _ (eqb-true a.year b.year years.0)
-    (never_less a.month b.month _ (eqb-true a.month b.month days.0) (λ lt. omega (arith, eqb-true a.day b.day days.1, lt))) (before_is a b h)
+    (never_less a.month b.month _ (eqb-true a.month b.month days.0) (λ lt. omega (arith, eqb-true a.day b.day days.1, lt)))
+    (before_is a b h)
 
 -- A day is equal to itself.
 pub same_itself : (a : Date) → is_same_day a a ≡ true
@@ -98,7 +107,8 @@ itself_not_before a = false_from_ne_true (is_before a a) (not_before_itself a)
 
 -- If d is before c, and e is not before c, then e is not before d.
 not_before_earlier : (d c e : Date) → is_before d c ≡ true → is_before e c ≡ false → is_before e d ≡ false
-not_before_earlier d c e earlier not_before = false_from_ne_true (is_before e d) (λ h. let no : true ≡ false = sym (before_on e d c h earlier) ∙ not_before in search rules)
+not_before_earlier d c e earlier not_before =
+    false_from_ne_true (is_before e d) (λ h. let no : true ≡ false = sym (before_on e d c h earlier) ∙ not_before in search rules)
 
 -- If p is less than r, then p is less than q, or q is less than r.
 less_either : (p q r : ℕ) (A B C : Type 0) → (A → B ⊎ C) → Less p r A → (Less p q B) ⊎ (Less q r C)
@@ -123,7 +133,8 @@ day_either p q r lt = go (cases_order p q)
 -- If a first day is not before a second but before a third, then the second is before the third.
 pub before_later : (a b c : Date) → is_before a b ≡ false → is_before a c ≡ true → is_before b c ≡ true
 before_later a b c not_before before =
-    go (less_either a.year b.year c.year _ _ _ (less_either a.month b.month c.month _ _ _ (day_either a.day b.day c.day)) (before_is a c before))
+    go (less_either a.year b.year c.year _ _ _ (less_either a.month b.month c.month _ _ _ (day_either a.day b.day c.day))
+    (before_is a c before))
   where
     go : Before a b ⊎ Before b c → is_before b c ≡ true
     go (inl first) = let both : true ≡ false = sym (is_before_by a b first) ∙ not_before in search rules
@@ -156,7 +167,8 @@ unfolding rise_from
 rise_here last None dates d p is rises = search rules
 rise_here last (Some c) dates d p is rises =
     let same : c ≡ d = search rules in
-    subst (λ x. (e : Date) × (last_or (Some c) dates ≡ Some e) × (is_before e x ≡ false)) same (rise_above c dates (and_parts _ _ rises).1)
+    subst (λ x. (e : Date) × (last_or (Some c) dates ≡ Some e) × (is_before e x ≡ false)) same
+    (rise_above c dates (and_parts _ _ rises).1)
 
 -- One more date put first leaves the last of `dates`, which is not before d.
 last_skips : (o : Option Date) (dates : List Date) (d : Date) (p : Option Date)
@@ -170,7 +182,8 @@ last_is_latest : (last : Option Date) (apdus : List Apdu) (i : ℕ) (a : Apdu) (
     → rise_from last (filter_map granted_day apdus) ≡ true → slice_get apdus i ≡ Some a
     → granted_day a ≡ Some d → (e : Date) × (last_or p (filter_map granted_day apdus) ≡ Some e) × (is_before e d ≡ false)
 last_is_latest last [] i a d p rises e is = search rules
-last_is_latest last (b ∷ apdus) zero a d p rises e is = rise_here last (granted_day b) (filter_map granted_day apdus) d p (ap granted_day (same_Some b a e) ∙ is) rises
+last_is_latest last (b ∷ apdus) zero a d p rises e is =
+    rise_here last (granted_day b) (filter_map granted_day apdus) d p (ap granted_day (same_Some b a e) ∙ is) rises
 last_is_latest last (b ∷ apdus) (suc i) a d p rises e is =
     let rest = rise_rest last (granted_day b) (filter_map granted_day apdus) rises in
     last_skips (granted_day b) (filter_map granted_day apdus) d p (λ q. last_is_latest rest.0 apdus i a d q rest.1 e is)

@@ -1,5 +1,7 @@
 -- The effect of one more APDU on the tests of a list of issued ones.
-use Rattle.std.proofs.Common.{rules, arith, ◌≡◌, ◌⊎◌, inl, inr, ℕ, zero, suc, ◌+◌, ◌<◌, ◌≤◌, Bool, true, false, not, ◌&&◌, ◌||◌, nat_eq, List, [], ◌∷◌, ◌++◌, length, take, drop, Option, Some, None, Ok, Err, nat_lt, if◌then◌else◌, refl, ap, append-nil, length-append, eq-eqb, subst, sym, ◌∙◌}
+use Rattle.std.proofs.Common.{rules, arith, ◌≡◌, ◌⊎◌, inl, inr, ℕ, zero, suc, ◌+◌, ◌<◌, ◌≤◌, Bool, true, false, not, ◌&&◌, ◌||◌}
+use Rattle.std.proofs.Common.{nat_eq, List, [], ◌∷◌, ◌++◌, length, take, drop, Option, Some, None, Ok, Err, nat_lt, if◌then◌else◌}
+use Rattle.std.proofs.Common.{refl, ap, append-nil, length-append, eq-eqb, subst, sym, ◌∙◌}
 use Rattle.std.proofs.lemmas.Bool.{and_parts, and_from, or_from, eqb-true}
 use Rattle.std.proofs.Math.Bool.{or-false}
 use Rattle.std.specs.List.{list_all, filter_map, cons_option, last_or}
@@ -14,13 +16,15 @@ use Rattle.ill_values.specs.declared.apdu.Body.{Body}
 use Rattle.ill_core.specs.declared.refusal.Refusal.TheVariants.{NumbersUsed}
 use Rattle.ill_core.specs.Numbers.{is_the}
 use Rattle.ill_core.specs.Bodies.{is_cancel, is_renew, is_ill_request}
-use Rattle.ill_core.specs.Issued.{was, number_of_cancel, number_of_renew, next_number, with_next, next_apdu, are_numbered, is_same_txn, has, last_of}
+use Rattle.ill_core.specs.Issued.{was, number_of_cancel, number_of_renew, next_number, with_next, next_apdu, are_numbered}
+use Rattle.ill_core.specs.Issued.{is_same_txn, has, last_of}
 use Rattle.ill_core.specs.Requester.{begins_with_request}
 use Rattle.ill_core.specs.Issued.{is_none}
 
 -- A list is numbered exactly if its first APDU has `txn` and `number`, and the rest goes on from there.
 numbered_cons : (txn : Qualifiers) (number : ℕ) (a : Apdu) (apdus : List Apdu)
-    → are_numbered txn number (a ∷ apdus) ≡ ((is_same_txn a.txn txn && (nat_eq a.number number)) && are_numbered txn (number + 1) apdus)
+    → are_numbered txn number (a ∷ apdus)
+    ≡ ((is_same_txn a.txn txn && (nat_eq a.number number)) && are_numbered txn (number + 1) apdus)
 unfolding are_numbered
 numbered_cons txn number a apdus = refl
 
@@ -35,9 +39,13 @@ pub numbered_at : (txn : Qualifiers) (apdus : List Apdu) (i : ℕ) (a : Apdu) (j
     → judged ≡ (is_same_txn a.txn txn && nat_eq a.number (i + 1))
     → are_numbered txn (i + 1) (drop i apdus) ≡ (judged && are_numbered txn (i + 1 + 1) (drop (i + 1) apdus))
 numbered_at txn apdus i a judged within there is =
-    let prefix : are_numbered txn (i + 1) (drop i apdus) ≡ are_numbered txn (i + 1) (get_or apdus i a ∷ drop (i + 1) apdus) = ap (are_numbered txn (i + 1)) (drop_more apdus i a within) in
-    let same : are_numbered txn (i + 1) (get_or apdus i a ∷ drop (i + 1) apdus) ≡ are_numbered txn (i + 1) (a ∷ drop (i + 1) apdus) = ap (λ b. are_numbered txn (i + 1) (b ∷ drop (i + 1) apdus)) (sym there) in
-    prefix ∙ (same ∙ (numbered_cons txn (i + 1) a (drop (i + 1) apdus) ∙ ap (λ b. b && are_numbered txn (i + 1 + 1) (drop (i + 1) apdus)) (sym is)))
+    let prefix : are_numbered txn (i + 1) (drop i apdus) ≡ are_numbered txn (i + 1) (get_or apdus i a ∷ drop (i + 1) apdus) =
+    ap (are_numbered txn (i + 1)) (drop_more apdus i a within) in
+    let same : are_numbered txn (i + 1) (get_or apdus i a ∷ drop (i + 1) apdus)
+    ≡ are_numbered txn (i + 1) (a ∷ drop (i + 1) apdus) =
+    ap (λ b. are_numbered txn (i + 1) (b ∷ drop (i + 1) apdus)) (sym there) in
+    prefix ∙ (same ∙ (numbered_cons txn (i + 1) a (drop (i + 1) apdus)
+    ∙ ap (λ b. b && are_numbered txn (i + 1 + 1) (drop (i + 1) apdus)) (sym is)))
 
 -- After the last APDU, nothing is left to be numbered.
 pub numbered_end : (txn : Qualifiers) (apdus : List Apdu) (i : ℕ) → length apdus ≤ i
@@ -54,7 +62,8 @@ found_first o (Some x) others = refl
 pub last_at : {X : Type 0} (f : Apdu → Option X) (o : Option X) (apdus : List Apdu) (i : ℕ) (d : Apdu) → i < length apdus
     → last_or o (filter_map f (drop i apdus)) ≡ last_or (option_or (f (get_or apdus i d)) o) (filter_map f (drop (i + 1) apdus))
 last_at f o apdus i d within =
-    let prefix : last_or o (filter_map f (drop i apdus)) ≡ last_or o (filter_map f (get_or apdus i d ∷ drop (i + 1) apdus)) = ap (λ xs. last_or o (filter_map f xs)) (drop_more apdus i d within) in
+    let prefix : last_or o (filter_map f (drop i apdus)) ≡ last_or o (filter_map f (get_or apdus i d ∷ drop (i + 1) apdus)) =
+    ap (λ xs. last_or o (filter_map f xs)) (drop_more apdus i d within) in
     prefix ∙ found_first o (f (get_or apdus i d)) (filter_map f (drop (i + 1) apdus))
 
 -- An APDU of `txn` with the next number keeps the numbering.
@@ -96,7 +105,8 @@ pub numbered_issue : (txn : Qualifiers) (apdus : List Apdu) (a : Apdu) (number :
     → (are_numbered txn 1 (apdus ++ a ∷ []) ≡ true) × (length (apdus ++ a ∷ []) ≤ 255)
 numbered_issue txn apdus a number numbered next same is =
     let n = next_of (length apdus) number next in (
-      numbered_next txn 1 apdus a numbered (subst (λ t. is_same_txn t txn ≡ true) (sym same) (same_txn txn)) (omega (arith, n.0, is)),
+      numbered_next txn 1 apdus a numbered (subst (λ t. is_same_txn t txn ≡ true) (sym same) (same_txn txn))
+          (omega (arith, n.0, is)),
       omega (arith, n.1, length-append apdus (a ∷ [])),
     )
 
@@ -168,17 +178,21 @@ renew_below : (txn : Qualifiers) (number : ℕ) (apdus : List Apdu) (o : Option 
     → are_numbered txn number apdus ≡ true → last_or o (filter_map number_of_renew apdus) ≡ Some n → n < number + length apdus
 renew_below txn number [] o n within numbered found = omega (arith, within n found)
 renew_below txn number (a ∷ apdus) o n within numbered found =
-    let parts : ((is_same_txn a.txn txn && nat_eq a.number number) ≡ true) × (are_numbered txn (number + 1) apdus ≡ true) = and_parts _ _ (sym (numbered_cons txn number a apdus) ∙ numbered) in
-    let same : a.number ≡ number = eqb-true a.number number (and_parts (is_same_txn a.txn txn) (nat_eq a.number number) parts.0).1 in
+    let parts : ((is_same_txn a.txn txn && nat_eq a.number number) ≡ true) × (are_numbered txn (number + 1) apdus ≡ true) =
+    and_parts _ _ (sym (numbered_cons txn number a apdus) ∙ numbered) in
+    let same : a.number ≡ number = eqb-true a.number number
+    (and_parts (is_same_txn a.txn txn) (nat_eq a.number number) parts.0).1 in
     let after : n < number + 1 + length apdus =
-    renew_below txn (number + 1) apdus (option_or (number_of_renew a) o) n (λ m. number_found number a.number m (is_renew a.body) o same within) parts.1
+    renew_below txn (number + 1) apdus (option_or (number_of_renew a) o) n
+    (λ m. number_found number a.number m (is_renew a.body) o same within) parts.1
     (sym (found_first o (number_of_renew a) (filter_map number_of_renew apdus)) ∙ found) in
     omega (arith, after)
 
 -- In a list numbered from 1 on, the number of the last Renew is at most the length.
 pub last_renew_within : (txn : Qualifiers) (apdus : List Apdu) (n : ℕ) → are_numbered txn 1 apdus ≡ true
     → last_of number_of_renew apdus ≡ Some n → n ≤ length apdus
-last_renew_within txn apdus n numbered found = let below : n < 1 + length apdus = renew_below txn 1 apdus None n (λ m no. search rules) numbered found in omega (arith, below)
+last_renew_within txn apdus n numbered found = let below : n < 1 + length apdus =
+    renew_below txn 1 apdus None n (λ m no. search rules) numbered found in omega (arith, below)
 
 -- If two APDUs are equal, so are their bodies.
 same_body : (a b : Apdu) → ◌≡◌ {A = List Apdu} (a ∷ []) (b ∷ []) → a.body ≡ b.body
@@ -213,7 +227,8 @@ was_more says apdus a zero h = search rules
 was_more says [] a (suc zero) h = search rules
 was_more says [] a (suc (suc n)) h = search rules
 was_more says (b ∷ apdus) a (suc zero) h = inl h
-was_more says (b ∷ apdus) a (suc (suc n)) h = one_further (says a.body) (was says apdus (suc n)) n (length apdus) (was_more says apdus a (suc n) h)
+was_more says (b ∷ apdus) a (suc (suc n)) h =
+    one_further (says a.body) (was says apdus (suc n)) n (length apdus) (was_more says apdus a (suc n) h)
 
 -- If the new APDU is no Cancel, each message that is a Cancel was one before.
 pub still_cancel : (apdus : List Apdu) (a : Apdu) (c : ℕ) → is_cancel a.body ≡ false

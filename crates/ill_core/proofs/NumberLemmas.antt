@@ -1,5 +1,6 @@
 -- Lists of numbers.
-use Rattle.std.proofs.Common.{rules, ◌≡◌, ℕ, Bool, true, false, not, nat_eq, List, [], ◌∷◌, ◌++◌, Option, Some, None, refl, ap, ◌∙◌}
+use Rattle.std.proofs.Common.{rules, ◌≡◌, ℕ, Bool, true, false, not, nat_eq, List, [], ◌∷◌, ◌++◌, Option, Some, None, refl, ap}
+use Rattle.std.proofs.Common.{◌∙◌}
 use Rattle.std.specs.List.{list_all}
 use Rattle.std.proofs.lemmas.Bool.{and_parts, and_from, or_from}
 use Rattle.std.proofs.lemmas.List.Folds.{list_any-append}
@@ -36,5 +37,6 @@ distinct_more [] n distinct below = refl
 distinct_more (m ∷ ns) n distinct below =
     let parts = and_parts _ _ distinct in
     let belows = and_parts _ _ below in
-    and_from _ _ (ap not (list_any-append (λ (i : ℕ). nat_eq i m) ns (n ∷ []) ∙ or_from _ _ (not_true _ parts.0) (or_from _ _ (above_not_same m n belows.0) refl)))
+    and_from _ _ (ap not (list_any-append (λ (i : ℕ). nat_eq i m) ns (n ∷ [])
+    ∙ or_from _ _ (not_true _ parts.0) (or_from _ _ (above_not_same m n belows.0) refl)))
     (distinct_more ns n parts.1 belows.1)

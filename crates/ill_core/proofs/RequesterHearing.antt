@@ -1,5 +1,6 @@
 -- A requester's record has heard a message after it has come, and hears it still after the next ones.
-use Rattle.std.proofs.Common.{rules, ◌≡◌, ℕ, Bool, true, false, not, ◌&&◌, ◌||◌, [], ◌∷◌, Some, None, Result, if◌then◌else◌, ap, refl}
+use Rattle.std.proofs.Common.{rules, ◌≡◌, ℕ, Bool, true, false, not, ◌&&◌, ◌||◌, [], ◌∷◌, Some, None, Result, if◌then◌else◌, ap}
+use Rattle.std.proofs.Common.{refl}
 use Rattle.std.proofs.lemmas.Bool.{cond_both}
 use Rattle.ill_values.specs.Day.{Date}
 use Rattle.ill_values.specs.declared.apdu.Apdu.{Apdu}
@@ -20,7 +21,8 @@ use Rattle.ill_core.specs.Answers.{unless_refused}
 use Rattle.ill_core.specs.Requester.{RequesterRecord, accepted_number}
 use Rattle.ill_core.specs.RequesterDeliveries.{take_message, takes}
 use Rattle.ill_core.specs.RequesterNotices.{awaits, awaits_cancel, undecided, lent, in_time, has_heard, reopens}
-use Rattle.ill_core.proofs.RequesterMoves.{Leads, nowhere, holds_conditions, ends, cancels, keeps_request, ships, misses, reminds, reminds_renewing, renews, refuses_renewal, recalls, checks_in, delivery_leads}
+use Rattle.ill_core.proofs.RequesterMoves.{Leads, nowhere, holds_conditions, ends, cancels, keeps_request, ships, misses, reminds}
+use Rattle.ill_core.proofs.RequesterMoves.{reminds_renewing, renews, refuses_renewal, recalls, checks_in, delivery_leads}
 
 -- ---- a message that comes is heard
 
@@ -43,18 +45,23 @@ message_heard x a (types.Shipped due) theirs = search rules
 message_heard x a (types.Overdue due) theirs = search rules
 message_heard x a (types.RenewAnswer renew (Some due)) theirs =
     transition a.number (types.RenewAnswer renew (Some due)) (awaits x renew) _ _ (λ waits.
-    transition a.number (types.RenewAnswer renew (Some due)) (is_after_due due x.due) _ _ (λ _. refl) (λ later_not. search rules)) (λ waits_not.
-    transition a.number (types.RenewAnswer renew (Some due)) (was is_renew x.issued renew) _ _ (λ _. ap (λ waits. not (waits && is_after_due due x.due)) waits_not) (λ _. ap (λ waits. not (waits && is_after_due due x.due)) waits_not))
+    transition a.number (types.RenewAnswer renew (Some due)) (is_after_due due x.due) _ _ (λ _. refl) (λ later_not. search rules))
+    (λ waits_not.
+    transition a.number (types.RenewAnswer renew (Some due)) (was is_renew x.issued renew) _ _
+    (λ _. ap (λ waits. not (waits && is_after_due due x.due)) waits_not)
+    (λ _. ap (λ waits. not (waits && is_after_due due x.due)) waits_not))
 message_heard x a (types.RenewAnswer renew None) theirs = search rules
 message_heard x a types.Recall theirs = search rules
 message_heard x a types.CheckedIn theirs = search rules
 message_heard x a other theirs = refl
 
 -- A responder's message of the transaction is not refused, so the record has heard it after the answer.
-admitted_heard : (x : RequesterRecord) (answer : Result Taking Refusal × RequesterRecord) (number : ℕ) (body : Body) (is_same is_own : Bool)
+admitted_heard : (x : RequesterRecord) (answer : Result Taking Refusal × RequesterRecord) (number : ℕ) (body : Body)
+    (is_same is_own : Bool)
     → is_same ≡ true → is_own ≡ false
     → has_heard answer.1 number body ≡ true
-    → has_heard (unless_refused (if is_same then (if is_own then Some WrongRole else None) else Some OtherTransaction) x answer).1 number body ≡ true
+    → has_heard (unless_refused (if is_same then (if is_own then Some WrongRole else None) else Some OtherTransaction) x answer).1
+    number body ≡ true
 admitted_heard x answer number body true false same own heard = heard
 admitted_heard x answer number body true true same own heard = search rules
 admitted_heard x answer number body false is_own same own heard = search rules
@@ -63,21 +70,26 @@ admitted_heard x answer number body false is_own same own heard = search rules
 pub takes_heard : (x : RequesterRecord) (a : Apdu) → is_same_txn a.txn x.txn ≡ true → is_requesters a.body ≡ false
     → has_heard (takes x a).1 a.number a.body ≡ true
 takes_heard x a same theirs =
-    admitted_heard x (take_message x a a.body) a.number a.body (is_same_txn a.txn x.txn) (is_requesters a.body) same theirs (message_heard x a a.body theirs)
+    admitted_heard x (take_message x a a.body) a.number a.body (is_same_txn a.txn x.txn) (is_requesters a.body) same theirs
+    (message_heard x a a.body theirs)
 
 -- ---- a message that was heard stays so
 
 -- The record `new` has heard each message that x has, unless the body of the message between reopens it.
 record Hears (x : RequesterRecord) (body : Body) (new : RequesterRecord) : Type 0 where
-  conditions : (number : ℕ) → reopens body (types.IllAnswer results.Conditional) ≡ false → not (is_among (Pending ∷ []) x.state) || is_at_most number (accepted_number x) ≡ true
+  conditions : (number : ℕ) → reopens body (types.IllAnswer results.Conditional) ≡ false
+      → not (is_among (Pending ∷ []) x.state) || is_at_most number (accepted_number x) ≡ true
       → not (is_among (Pending ∷ []) new.state) || is_at_most number (accepted_number new) ≡ true
   end : not (is_among undecided x.state) ≡ true → not (is_among undecided new.state) ≡ true
   cancel_reply : (cancel : ℕ) → not (awaits_cancel x cancel) ≡ true → not (awaits_cancel new cancel) ≡ true
   refusal : (renew : ℕ) → not (awaits x renew) ≡ true → not (awaits new renew) ≡ true
-  renewal : (renew : ℕ) (due : Date) → not (awaits x renew && is_after_due due x.due) ≡ true → not (awaits new renew && is_after_due due new.due) ≡ true
-  overdue : (day : Date) → reopens body (types.Overdue day) ≡ false → not (is_among in_time x.state && is_due_on day x.due) ≡ true → not (is_among in_time new.state && is_due_on day new.due) ≡ true
+  renewal : (renew : ℕ) (due : Date) → not (awaits x renew && is_after_due due x.due) ≡ true
+      → not (awaits new renew && is_after_due due new.due) ≡ true
+  overdue : (day : Date) → reopens body (types.Overdue day) ≡ false → not (is_among in_time x.state && is_due_on day x.due) ≡ true
+      → not (is_among in_time new.state && is_due_on day new.due) ≡ true
   recall : reopens body types.Recall ≡ false → not (is_among lent x.state) ≡ true → not (is_among lent new.state) ≡ true
-  checked_in : implies (is_among (Returned ∷ []) x.state) x.checked_in ≡ true → implies (is_among (Returned ∷ []) new.state) new.checked_in ≡ true
+  checked_in : implies (is_among (Returned ∷ []) x.state) x.checked_in ≡ true
+      → implies (is_among (Returned ∷ []) new.state) new.checked_in ≡ true
 
 -- After each row the record has heard what it had heard before, unless the message reopens it.
 hears : (x : RequesterRecord) (number : ℕ) (body : Body) (new : RequesterRecord) → Leads x number body new → Hears x body new

@@ -1,12 +1,14 @@
 -- A wish keeps the rules of a requester's record.
-use Rattle.std.proofs.Common.{rules, arith, ◌≡◌, ℕ, Bool, true, false, not, ◌||◌, List, [], ◌∷◌, Option, is_some, Ok, ap, subst, sym, ◌∙◌}
+use Rattle.std.proofs.Common.{rules, arith, ◌≡◌, ℕ, Bool, true, false, not, ◌||◌, List, [], ◌∷◌, Option, is_some, Ok, ap, subst}
+use Rattle.std.proofs.Common.{sym, ◌∙◌}
 use Rattle.ill_values.specs.Day.{Date}
 use Rattle.ill_values.specs.TxnId.{Qualifiers}
 use Rattle.ill_values.specs.declared.apdu.Apdu.{Apdu}
 use Rattle.ill_values.specs.declared.apdu.Body.{Body}
 use Rattle.ill_values.specs.declared.apdu.Body.TheVariants as types
 use Rattle.ill_core.specs.declared.state.State.{State}
-use Rattle.ill_core.specs.declared.state.State.TheVariants.{Idle, Pending, Conditional, CancelPending, Cancelled, Received, RenewPending, Overdue, RenewOverdue, Recall, Returned}
+use Rattle.ill_core.specs.declared.state.State.TheVariants.{Idle, Pending, Conditional, CancelPending, Cancelled, Received}
+use Rattle.ill_core.specs.declared.state.State.TheVariants.{RenewPending, Overdue, RenewOverdue, Recall, Returned}
 use Rattle.ill_core.specs.declared.requester.Wish.{Wish}
 use Rattle.ill_core.specs.declared.requester.Wish.TheVariants as wishes
 use Rattle.ill_core.specs.State.{is_among}
@@ -24,7 +26,8 @@ abbrev pub FitsWith : State → Option ℕ → RequesterRecord → Body → Type
 FitsWith state held x body =
     PartsFit state (is_some held) (is_some x.due) x.checked_in
     × IssuedFit state false (has is_received x.issued || is_received body) (has is_cancel x.issued || is_cancel body)
-    (has is_renew x.issued || is_renew body) (has is_returned x.issued || is_returned body) (has declines x.issued || declines body)
+    (has is_renew x.issued || is_renew body) (has is_returned x.issued || is_returned body)
+    (has declines x.issued || declines body)
     × (is_requesters body ≡ true) × (is_ill_request body ≡ is_none x.issued)
 
 -- A record that keeps the rules keeps them with one more APDU, if the new state fits.
@@ -40,19 +43,24 @@ kept x body state held h fits =
       parts = fits.0;
       issued = record {
         idle = none_more x.issued a ∙ fits.1.idle;
-        received = ap (implies (is_among (Received ∷ RenewPending ∷ Overdue ∷ RenewOverdue ∷ Returned ∷ []) state)) received ∙ fits.1.received;
-        not_received = ap (λ b. implies b (is_among (Received ∷ RenewPending ∷ Overdue ∷ RenewOverdue ∷ Recall ∷ Returned ∷ []) state)) received ∙ fits.1.not_received;
+        received = ap (implies (is_among (Received ∷ RenewPending ∷ Overdue ∷ RenewOverdue ∷ Returned ∷ []) state)) received
+            ∙ fits.1.received;
+        not_received = ap (λ b. implies b
+            (is_among (Received ∷ RenewPending ∷ Overdue ∷ RenewOverdue ∷ Recall ∷ Returned ∷ []) state)) received
+            ∙ fits.1.not_received;
         cancel = ap (implies (is_among (CancelPending ∷ Cancelled ∷ []) state)) (has_more is_cancel x.issued a) ∙ fits.1.cancel;
         renew = ap (implies (is_among (RenewPending ∷ RenewOverdue ∷ []) state)) (has_more is_renew x.issued a) ∙ fits.1.renew;
         returned = has_more is_returned x.issued a ∙ fits.1.returned;
-        declined = ap (λ b. implies b (not (is_among (Pending ∷ CancelPending ∷ Cancelled ∷ []) state))) (has_more declines x.issued a) ∙ fits.1.declined;
+        declined = ap (λ b. implies b (not (is_among (Pending ∷ CancelPending ∷ Cancelled ∷ []) state)))
+            (has_more declines x.issued a) ∙ fits.1.declined;
       };
     }
 
 -- In CONDITIONAL with none declined, the state after a reply fits.
 reply_fits : (txn : Qualifiers) (held : Option ℕ) (checked_in : Bool) (due : Option Date) (issued : List Apdu) (is_yes : Bool)
     → RequesterRules (requester_of txn Conditional held checked_in due issued) → has declines issued ≡ false
-    → (let x : RequesterRecord = requester_of txn Conditional held checked_in due issued in FitsWith (answer_held x is_yes).next (answer_held x is_yes).held x (answer_held x is_yes).body)
+    → (let x : RequesterRecord = requester_of txn Conditional held checked_in due issued in
+    FitsWith (answer_held x is_yes).next (answer_held x is_yes).held x (answer_held x is_yes).body)
 reply_fits txn held checked_in due issued true h undeclined = search rules
 reply_fits txn held checked_in due issued false h undeclined = search rules
 
@@ -69,7 +77,8 @@ return_fits : (txn : Qualifiers) (held : Option ℕ) (checked_in : Bool) (due : 
 return_fits txn held checked_in due issued h received = search rules
 
 -- The state to which the transition of a wish leads fits.
-pub fits : (txn : Qualifiers) (state : State) (held : Option ℕ) (checked_in : Bool) (due : Option Date) (issued : List Apdu) (wish : Wish) (row : Transition)
+pub fits : (txn : Qualifiers) (state : State) (held : Option ℕ) (checked_in : Bool) (due : Option Date) (issued : List Apdu)
+    (wish : Wish) (row : Transition)
     → RequesterRules (requester_of txn state held checked_in due issued)
     → transition_of (requester_of txn state held checked_in due issued) wish ≡ Ok row
     → FitsWith row.next row.held (requester_of txn state held checked_in due issued) row.body
@@ -77,7 +86,8 @@ fits txn Idle held checked_in due issued (wishes.Request expiry item) row h lead
 fits txn Conditional held checked_in due issued (wishes.Reply is_yes) row h leads =
     let x : RequesterRecord = requester_of txn Conditional held checked_in due issued in
     at_transition (λ r. FitsWith r.next r.held x r.body) (not (has declines issued)) _ _ row
-    (λ undeclined. is_this (λ r. FitsWith r.next r.held x r.body) _ row (reply_fits txn held checked_in due issued is_yes h (not_true _ undeclined)))
+    (λ undeclined. is_this (λ r. FitsWith r.next r.held x r.body) _ row
+    (reply_fits txn held checked_in due issued is_yes h (not_true _ undeclined)))
     (no_more (λ r. FitsWith r.next r.held x r.body) _ row) leads
 fits txn Recall held checked_in due issued wishes.Receive row h leads =
     let x : RequesterRecord = requester_of txn Recall held checked_in due issued in

@@ -31,7 +31,8 @@ acts_txn x new wish = of_acts (λ r. r.txn ≡ x.txn) x new wish (λ row there h
 pub acts_kept : (x new : RequesterRecord) (wish : Wish) → acts x wish ≡ Ok new → IsRequester x → IsRequester new
 acts_kept x new wish = of_acts (λ r. IsRequester x → IsRequester r) x new wish (λ row there how h.
     let rules = requester_rules x h in
-    is_requester _ (row_kept x row x.txn (with_next x.txn x.issued row.body) rules (fits x.txn x.state x.held x.checked_in x.due x.issued wish row rules there) refl refl))
+    is_requester _ (row_kept x row x.txn (with_next x.txn x.issued row.body) rules
+    (fits x.txn x.state x.held x.checked_in x.due x.issued wish row rules there) refl refl))
 
 -- After a wish a requester is not in IDLE.
 pub acts_begun : (x new : RequesterRecord) (wish : Wish) → acts x wish ≡ Ok new → is_among (Idle ∷ []) new.state ≡ false
@@ -40,12 +41,14 @@ acts_begun x new wish = of_acts (λ r. is_among (Idle ∷ []) r.state ≡ false)
 -- A wish in CANCELLED, NOT-SUPPLIED or RETURNED keeps the state.
 pub acts_final : (x new : RequesterRecord) (wish : Wish) → acts x wish ≡ Ok new
     → is_among (Cancelled ∷ NotSupplied ∷ Returned ∷ []) x.state ≡ true → new.state ≡ x.state
-acts_final x new wish = of_acts (λ r. is_among (Cancelled ∷ NotSupplied ∷ Returned ∷ []) x.state ≡ true → r.state ≡ x.state) x new wish (λ row there how. how.final)
+acts_final x new wish = of_acts (λ r. is_among (Cancelled ∷ NotSupplied ∷ Returned ∷ []) x.state ≡ true → r.state ≡ x.state) x new
+    wish (λ row there how. how.final)
 
 -- A wish in SHIPPED or later leads to SHIPPED or later.
 pub acts_later : (x new : RequesterRecord) (wish : Wish) → acts x wish ≡ Ok new → is_among later x.state ≡ true
     → is_among later new.state ≡ true
-acts_later x new wish = of_acts (λ r. is_among later x.state ≡ true → is_among later r.state ≡ true) x new wish (λ row there how. how.stays)
+acts_later x new wish = of_acts (λ r. is_among later x.state ≡ true → is_among later r.state ≡ true) x new wish
+    (λ row there how. how.stays)
 
 -- A wish keeps the due date.
 pub acts_due : (x new : RequesterRecord) (wish : Wish) → acts x wish ≡ Ok new → new.due ≡ x.due
@@ -58,12 +61,14 @@ acts_shows x new wish fact = of_acts (λ r. Claims r fact → Claims x fact) x n
 -- A Conditional-Reply that a wish issues answers the conditions held, none of which was declined.
 pub acts_reply : (x new : RequesterRecord) (wish : Wish) → acts x wish ≡ Ok new → Replies x new
 acts_reply x new wish =
-    of_acts (Replies x) x new wish (λ row there how a n is_yes same is. how.replies n is_yes (issued_body x.txn x.issued row.body a same ∙ is))
+    of_acts (Replies x) x new wish (λ row there how a n is_yes same is.
+    how.replies n is_yes (issued_body x.txn x.issued row.body a same ∙ is))
 
 -- A wish keeps conditions answered once, if conditions are held exactly in CONDITIONAL.
 pub acts_once : (x new : RequesterRecord) (wish : Wish) → acts x wish ≡ Ok new
     → is_some x.held ≡ is_among (Conditional ∷ []) x.state → AnswersOnce x → AnswersOnce new
-acts_once x new wish = of_acts (λ r. is_some x.held ≡ is_among (Conditional ∷ []) x.state → AnswersOnce x → AnswersOnce r) x new wish (λ row there how. how.once)
+acts_once x new wish = of_acts (λ r. is_some x.held ≡ is_among (Conditional ∷ []) x.state → AnswersOnce x → AnswersOnce r) x new
+    wish (λ row there how. how.once)
 
 -- ---- deliveries
 
@@ -106,7 +111,8 @@ pub takes_holds : (x : RequesterRecord) (a : Apdu) → Holds x a.number (takes x
 takes_holds x a = (delivery_row x a).holds
 
 -- Each fact that a record shows after a message was shown before, or the message tells it.
-pub takes_shows : (x : RequesterRecord) (a : Apdu) (fact : Fact) → Claims (takes x a).1 fact → Claims x fact ⊎ IsEvidence a.body fact
+pub takes_shows : (x : RequesterRecord) (a : Apdu) (fact : Fact) → Claims (takes x a).1 fact
+    → Claims x fact ⊎ IsEvidence a.body fact
 takes_shows x a evidence.Cancelled = (delivery_row x a).cancelled
 takes_shows x a evidence.Ended = (delivery_row x a).ended
 takes_shows x a (evidence.Granted due) = (delivery_row x a).granted due

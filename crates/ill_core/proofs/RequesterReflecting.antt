@@ -1,12 +1,14 @@
 -- A requester's record reflects what it reflected before, or what the last message attests.
-use Rattle.std.proofs.Common.{rules, arith, ◌≡◌, ◌⊎◌, inl, inr, ℕ, ◌+◌, ◌<◌, ◌≤◌, true, false, ◌&&◌, ◌==◌, [], ◌∷◌, length, Option, Some, None, is_some, Ok, if◌then◌else◌, length-append, refl, subst, sym, ap, ◌∙◌}
+use Rattle.std.proofs.Common.{rules, arith, ◌≡◌, ◌⊎◌, inl, inr, ℕ, ◌+◌, ◌<◌, ◌≤◌, true, false, ◌&&◌, ◌==◌, [], ◌∷◌, length}
+use Rattle.std.proofs.Common.{Option, Some, None, is_some, Ok, if◌then◌else◌, length-append, refl, subst, sym, ap, ◌∙◌}
 use Rattle.std.specs.Option.{option_or}
 use Rattle.std.proofs.lemmas.Bool.{and_parts, and_from, eq-eqb, eqb-true}
 use Rattle.std.proofs.lemmas.Option.{same_Some}
 use Rattle.ill_values.specs.Day.{Date}
 use Rattle.ill_values.specs.declared.apdu.Apdu.{Apdu}
 use Rattle.ill_values.specs.declared.apdu.Body.{Body}
-use Rattle.ill_core.specs.declared.state.State.TheVariants.{Conditional, RenewPending, Overdue, RenewOverdue, NotReceivedOverdue, Recall, Returned}
+use Rattle.ill_core.specs.declared.state.State.TheVariants.{Conditional, RenewPending, Overdue, RenewOverdue, NotReceivedOverdue}
+use Rattle.ill_core.specs.declared.state.State.TheVariants.{Recall, Returned}
 use Rattle.ill_core.specs.declared.requester.Wish.{Wish}
 use Rattle.ill_core.specs.State.{is_among}
 use Rattle.ill_core.specs.Dates.{is_same_day, is_due_on}
@@ -21,7 +23,8 @@ use Rattle.ill_core.proofs.IssuedLemmas.{was_more, last_of_more, last_of_next, l
 use Rattle.ill_core.proofs.Rules.{requester_rules}
 use Rattle.ill_core.proofs.RequesterTransitions as transitions
 use Rattle.ill_core.proofs.RequesterTransitions.{IsTransition, is_transition}
-use Rattle.ill_core.proofs.RequesterMoves.{Leads, nowhere, holds_conditions, ends, cancels, keeps_request, ships, misses, reminds, reminds_renewing, renews, refuses_renewal, recalls, checks_in, delivery_leads}
+use Rattle.ill_core.proofs.RequesterMoves.{Leads, nowhere, holds_conditions, ends, cancels, keeps_request, ships, misses, reminds}
+use Rattle.ill_core.proofs.RequesterMoves.{reminds_renewing, renews, refuses_renewal, recalls, checks_in, delivery_leads}
 use Rattle.ill_core.proofs.RequesterRows.{of_acts}
 
 -- ---- due dates
@@ -47,16 +50,26 @@ due_on day due (Some other) on is = same_day day other on ∙ same_Some other du
 -- Each notice that `new` reflects was reflected by x before, or the message attests it.
 record Keeps (x : RequesterRecord) (number : ℕ) (body : Body) (new : RequesterRecord) : Type 0 where
   recalled : Reflects new Recalled → Reflects x Recalled ⊎ Attests number body Recalled
-  named : (conditions : ℕ) → Reflects new (Named conditions) → Reflects x (Named conditions) ⊎ Attests number body (Named conditions)
-  answered : (renew : ℕ) (day : Date) → Reflects new (Answered renew day) → Reflects x (Answered renew day) ⊎ Attests number body (Answered renew day)
-  granted_before : (renew : ℕ) (due : Date) → Reflects new (GrantedBefore renew due) → Reflects x (GrantedBefore renew due) ⊎ Attests number body (GrantedBefore renew due)
+  named : (conditions : ℕ) → Reflects new (Named conditions)
+      → Reflects x (Named conditions) ⊎ Attests number body (Named conditions)
+  answered : (renew : ℕ) (day : Date) → Reflects new (Answered renew day)
+      → Reflects x (Answered renew day) ⊎ Attests number body (Answered renew day)
+  granted_before : (renew : ℕ) (due : Date) → Reflects new (GrantedBefore renew due)
+      → Reflects x (GrantedBefore renew due) ⊎ Attests number body (GrantedBefore renew due)
   past_due : (due : Date) → Reflects new (PastDue due) → Reflects x (PastDue due) ⊎ Attests number body (PastDue due)
 
 -- After each row the record reflects what it reflected before, or what the message attests.
 keeps : (x : RequesterRecord) (number : ℕ) (body : Body) (new : RequesterRecord) → Leads x number body new
     → is_some x.due ≡ is_among later x.state
     → ((n : ℕ) → last_renew x ≡ Some n → n ≤ length x.issued) → Keeps x number body new
-keeps x number _ _ (nowhere body) fits within = record { recalled = λ h. inl h; named = λ c h. inl h; answered = λ n d h. inl h; granted_before = λ n d h. inl h; past_due = λ d h. inl h }
+keeps x number _ _ (nowhere body) fits within =
+    record {
+      recalled = λ h. inl h;
+      named = λ c h. inl h;
+      answered = λ n d h. inl h;
+      granted_before = λ n d h. inl h;
+      past_due = λ d h. inl h;
+    }
 keeps x number _ _ (holds_conditions is) fits within = search rules
 keeps x number _ _ (ends body is_end is) fits within = search rules
 keeps x number _ _ (cancels cancel is) fits within = search rules
@@ -85,7 +98,8 @@ pub takes_reflects : (x : RequesterRecord) (a : Apdu) (notice : Notice) → IsRe
 takes_reflects x a notice h =
     let rules_kept = requester_rules x h in
     kept x a.number a.body (takes x a).1 notice
-    (keeps x a.number a.body (takes x a).1 (delivery_leads x a) rules_kept.parts.due (λ n. last_renew_within x.txn x.issued n rules_kept.numbered))
+    (keeps x a.number a.body (takes x a).1 (delivery_leads x a) rules_kept.parts.due
+    (λ n. last_renew_within x.txn x.issued n rules_kept.numbered))
 
 -- ---- actions
 
@@ -95,13 +109,16 @@ record Leaves (x : RequesterRecord) (transition : Transition) : Type 0 where
   held : (c : ℕ) → transition.held ≡ Some c → x.held ≡ Some c
   accepted : (c : ℕ) → accepts transition.body ≡ Some c → x.held ≡ Some c
   open_still : is_among (Recall ∷ Returned ∷ []) transition.next ≡ false → is_among (Recall ∷ Returned ∷ []) x.state ≡ false
-  answered : is_among (Recall ∷ Returned ∷ []) transition.next ≡ false → is_among (RenewPending ∷ RenewOverdue ∷ []) x.state ≡ false
+  answered : is_among (Recall ∷ Returned ∷ []) transition.next ≡ false
+      → is_among (RenewPending ∷ RenewOverdue ∷ []) x.state ≡ false
   renew : is_renew transition.body ≡ true → is_among (RenewPending ∷ RenewOverdue ∷ []) transition.next ≡ true
   waits : is_among (RenewPending ∷ RenewOverdue ∷ []) transition.next ≡ true → is_renew transition.body ≡ true
-  past_due : is_among (NotReceivedOverdue ∷ Overdue ∷ RenewOverdue ∷ []) transition.next ≡ true → is_among (NotReceivedOverdue ∷ Overdue ∷ RenewOverdue ∷ []) x.state ≡ true
+  past_due : is_among (NotReceivedOverdue ∷ Overdue ∷ RenewOverdue ∷ []) transition.next ≡ true
+      → is_among (NotReceivedOverdue ∷ Overdue ∷ RenewOverdue ∷ []) x.state ≡ true
 
 -- Each transition of a wish leaves nothing new to reflect.
-leaves : (x : RequesterRecord) (transition : Transition) → IsTransition x transition → is_some x.held ≡ is_among (Conditional ∷ []) x.state
+leaves : (x : RequesterRecord) (transition : Transition) → IsTransition x transition
+    → is_some x.held ≡ is_among (Conditional ∷ []) x.state
     → Leaves x transition
 leaves x _ (transitions.requests expiry item is) fits = search rules
 leaves x _ (transitions.cancels is) fits = search rules
@@ -126,34 +143,41 @@ accepts_named x transition c (Some n) how is found = inl (how.accepted c (is ∙
 renew_next : (x : RequesterRecord) (transition : Transition) → is_renew transition.body ≡ true
     → last_renew (record_after x transition) ≡ Some (length x.issued + 1)
 renew_next x transition is =
-    last_of_more number_of_renew x.issued (next_apdu x.txn x.issued transition.body) (length x.issued + 1) (ap (λ b. if b then Some (length x.issued + 1) else None) is)
+    last_of_more number_of_renew x.issued (next_apdu x.txn x.issued transition.body) (length x.issued + 1)
+    (ap (λ b. if b then Some (length x.issued + 1) else None) is)
 
 -- A Renew that does not wait after a transition, and was issued by then, was issued before the transition.
-was_before : (x : RequesterRecord) (transition : Transition) (renew : ℕ) → Leaves x transition → awaits (record_after x transition) renew ≡ false
+was_before : (x : RequesterRecord) (transition : Transition) (renew : ℕ) → Leaves x transition
+    → awaits (record_after x transition) renew ≡ false
     → (was is_renew x.issued renew ≡ true) ⊎ ((renew ≡ length x.issued + 1) × (is_renew transition.body ≡ true))
     → was is_renew x.issued renew ≡ true
 was_before x transition renew how waits_not (inl was_one) = was_one
 was_before x transition renew how waits_not (inr (at, is)) =
     let waits : awaits (record_after x transition) renew ≡ true =
-    and_from _ _ (how.renew is) (subst (λ o. is_the renew o ≡ true) (sym (renew_next x transition is)) (eq-eqb renew (length x.issued + 1) at)) in
+    and_from _ _ (how.renew is) (subst (λ o. is_the renew o ≡ true) (sym (renew_next x transition is))
+    (eq-eqb renew (length x.issued + 1) at)) in
     search rules
 
 -- A Renew that waits after a transition has a number above those issued before it.
 waits_last : (x : RequesterRecord) (transition : Transition) (renew : ℕ) → Leaves x transition
     → awaits (record_after x transition) renew ≡ true → length x.issued < renew
 waits_last x transition renew how waits =
-    let parts = and_parts (is_among (RenewPending ∷ RenewOverdue ∷ []) transition.next) (is_the renew (last_renew (record_after x transition))) waits in
+    let parts = and_parts (is_among (RenewPending ∷ RenewOverdue ∷ []) transition.next)
+    (is_the renew (last_renew (record_after x transition))) waits in
     let same : renew ≡ length x.issued + 1 =
-    eqb-true renew (length x.issued + 1) (subst (λ o. is_the renew o ≡ true) (renew_next x transition (how.waits parts.0)) parts.1) in
+    eqb-true renew (length x.issued + 1)
+    (subst (λ o. is_the renew o ≡ true) (renew_next x transition (how.waits parts.0)) parts.1) in
     omega (arith, same)
 
 -- A notice that is reflected after a transition was reflected before it.
-left : (x : RequesterRecord) (transition : Transition) (notice : Notice) → Leaves x transition → Reflects (record_after x transition) notice
+left : (x : RequesterRecord) (transition : Transition) (notice : Notice) → Leaves x transition
+    → Reflects (record_after x transition) notice
     → Reflects x notice
 left x transition Recalled how h = how.recalled h
 left x transition (Named c) how (inl held) = inl (how.held c held)
 left x transition (Named c) how (inr accepted) =
-    accepts_named x transition c (accepts transition.body) how refl (sym (last_of_next accepted_in x.issued (next_apdu x.txn x.issued transition.body)) ∙ accepted)
+    accepts_named x transition c (accepts transition.body) how refl
+    (sym (last_of_next accepted_in x.issued (next_apdu x.txn x.issued transition.body)) ∙ accepted)
 left x transition (Answered renew day) how h = (
   was_before x transition renew how h.2 (was_more is_renew x.issued (next_apdu x.txn x.issued transition.body) renew h.0),
   how.open_still h.1,
@@ -161,11 +185,13 @@ left x transition (Answered renew day) how h = (
   h.3,
 )
 left x transition (GrantedBefore renew due) how (same, inl waits) = (same, inr (waits_last x transition renew how waits))
-left x transition (GrantedBefore renew due) how (same, inr above) = (same, inr (omega (arith, above, length-append x.issued (next_apdu x.txn x.issued transition.body ∷ []))))
+left x transition (GrantedBefore renew due) how (same, inr above) =
+    (same, inr (omega (arith, above, length-append x.issued (next_apdu x.txn x.issued transition.body ∷ []))))
 left x transition (PastDue due) how (same, past) = (same, how.past_due past)
 
 -- A notice that a record reflects after a wish was reflected before it.
 pub acts_reflects : (x new : RequesterRecord) (wish : Wish) (notice : Notice) → acts x wish ≡ Ok new → IsRequester x
     → Reflects new notice → Reflects x notice
-acts_reflects x new wish notice = of_acts (λ r. IsRequester x → Reflects r notice → Reflects x notice) x new wish (λ transition there how h.
+acts_reflects x new wish notice =
+    of_acts (λ r. IsRequester x → Reflects r notice → Reflects x notice) x new wish (λ transition there how h.
     left x transition notice (leaves x transition (is_transition x wish transition there) (requester_rules x h).parts.held))

@@ -1,5 +1,6 @@
 -- The changes that each row of a requester's two tables makes.
-use Rattle.std.proofs.Common.{rules, ◌≡◌, ◌⊎◌, ℕ, ◌+◌, ◌≤◌, Bool, true, false, not, ◌&&◌, [], ◌∷◌, ◌++◌, length, Option, Some, None, is_some, Result, Ok, Err, if◌then◌else◌, refl, subst, ◌∙◌}
+use Rattle.std.proofs.Common.{rules, ◌≡◌, ◌⊎◌, ℕ, ◌+◌, ◌≤◌, Bool, true, false, not, ◌&&◌, [], ◌∷◌, ◌++◌, length, Option, Some}
+use Rattle.std.proofs.Common.{None, is_some, Result, Ok, Err, if◌then◌else◌, refl, subst, ◌∙◌}
 use Rattle.std.specs.Option.{unwrap_or}
 use Rattle.std.proofs.lemmas.Bool.{and_parts, cond_both}
 use Rattle.ill_values.specs.Day.{Date}
@@ -10,7 +11,9 @@ use Rattle.ill_values.specs.declared.apdu.AnswerResult.TheVariants as results
 use Rattle.ill_core.specs.declared.state.State.{State}
 use Rattle.ill_core.specs.declared.requester.Wish.{Wish}
 use Rattle.ill_core.specs.declared.requester.Wish.TheVariants as wishes
-use Rattle.ill_core.specs.declared.state.State.TheVariants.{Idle, Pending, Conditional, CancelPending, Cancelled, NotSupplied, Shipped, Received, RenewPending, Overdue, RenewOverdue, NotReceivedOverdue, Recall, Returned}
+use Rattle.ill_core.specs.declared.state.State.TheVariants.{Idle, Pending, Conditional, CancelPending, Cancelled, NotSupplied}
+use Rattle.ill_core.specs.declared.state.State.TheVariants.{Shipped, Received, RenewPending, Overdue, RenewOverdue}
+use Rattle.ill_core.specs.declared.state.State.TheVariants.{NotReceivedOverdue, Recall, Returned}
 use Rattle.ill_core.specs.declared.taking.Taking.{Taking}
 use Rattle.ill_core.specs.declared.taking.Taking.TheVariants as takings
 use Rattle.ill_core.specs.State.{is_among}
@@ -18,13 +21,15 @@ use Rattle.ill_core.specs.Numbers.{is_at_most, is_the}
 use Rattle.ill_core.specs.Bodies.{is_requesters, is_cancel, is_renew, declines, accepts}
 use Rattle.ill_core.specs.Issued.{first_refusal, was, has, next_number, next_apdu, number_of_cancel, last_of}
 use Rattle.ill_core.specs.RequesterRules.{RequesterRules}
-use Rattle.ill_core.specs.Requester.{RequesterRecord, later, accepted_number, is_declined, is_received_by, last_cancel, last_renew}
+use Rattle.ill_core.specs.Requester.{RequesterRecord, later, accepted_number, is_declined, is_received_by, last_cancel}
+use Rattle.ill_core.specs.Requester.{last_renew}
 use Rattle.ill_core.specs.RequesterActions.{Transition, acts, acts_by, transition_of, record_after, answer_held}
 use Rattle.ill_core.specs.Answers.{taken, unless_refused}
 use Rattle.ill_core.specs.RequesterDeliveries.{take_message, takes, take_end, take_cancel_reply, take_renew_answer, take_renewal}
 use Rattle.ill_core.specs.Dates.{is_after_due, is_due_on}
 use Rattle.ill_core.specs.declared.refusal.Refusal.{Refusal}
-use Rattle.ill_core.specs.RequesterEvidence.{Fact, Claims, IsEvidence, KeepsDue, Holds, ClaimsRefusal, AnswersOnce, replied_number}
+use Rattle.ill_core.specs.RequesterEvidence.{Fact, Claims, IsEvidence, KeepsDue, Holds, ClaimsRefusal, AnswersOnce}
+use Rattle.ill_core.specs.RequesterEvidence.{replied_number}
 use Rattle.ill_core.specs.RequesterEvidence as evidence
 use Rattle.ill_core.proofs.IssuedLemmas.{was_more, still_cancel, last_cancel_more, older_cancel}
 use Rattle.ill_core.proofs.TransitionLemmas.{at_transition, few_with_next, is_this, no_more}
@@ -135,11 +140,13 @@ transition x k body fits here others = cond_both fits here others (Moves x k bod
 end_row : (x : RequesterRecord) (k : ℕ) (body : Body) → IsEvidence body evidence.Ended → Moves x k body (take_end x)
 end_row x k body is_end =
     transition x k _ (is_among (NotSupplied ∷ []) x.state) _ _ (λ _. left x k _ _) (λ _.
-    transition x k _ (is_among (Pending ∷ Conditional ∷ CancelPending ∷ []) x.state) _ _ (ended x k body is_end) (λ _. left x k _ _))
+    transition x k _ (is_among (Pending ∷ Conditional ∷ CancelPending ∷ []) x.state) _ _ (ended x k body is_end)
+    (λ _. left x k _ _))
 
 -- The answer to a Cancel-Reply is a move, if it is one when the last Cancel waits.
 cancel_reply_row : (x : RequesterRecord) (k c : ℕ) (is_yes : Bool)
-    → (is_among (CancelPending ∷ []) x.state && is_the c (last_cancel x) ≡ true → Moves x k (types.CancelReply c is_yes) (taken (record x { state = (if is_yes then Cancelled else Pending) })))
+    → (is_among (CancelPending ∷ []) x.state && is_the c (last_cancel x) ≡ true
+    → Moves x k (types.CancelReply c is_yes) (taken (record x { state = (if is_yes then Cancelled else Pending) })))
     → Moves x k (types.CancelReply c is_yes) (take_cancel_reply x c is_yes)
 cancel_reply_row x k c is_yes decided =
     transition x k _ (is_among (CancelPending ∷ []) x.state && is_the c (last_cancel x)) _ _ decided (λ _.
@@ -148,10 +155,12 @@ cancel_reply_row x k c is_yes decided =
 
 -- The answer to a Renew-Answer is a move, if it is one when a Renew waits.
 renew_answer_row : (x : RequesterRecord) (k c : ℕ) (granted : Option Date)
-    → (is_among (RenewPending ∷ RenewOverdue ∷ []) x.state ≡ true → Moves x k (types.RenewAnswer c granted) (take_renewal x granted))
+    → (is_among (RenewPending ∷ RenewOverdue ∷ []) x.state ≡ true
+    → Moves x k (types.RenewAnswer c granted) (take_renewal x granted))
     → Moves x k (types.RenewAnswer c granted) (take_renew_answer x c granted)
 renew_answer_row x k c granted decided =
-    transition x k _ (is_among (RenewPending ∷ RenewOverdue ∷ []) x.state && is_the c (last_renew x)) _ _ (λ is. decided (and_parts _ _ is).0) (λ _.
+    transition x k _ (is_among (RenewPending ∷ RenewOverdue ∷ []) x.state && is_the c (last_renew x)) _ _
+    (λ is. decided (and_parts _ _ is).0) (λ _.
     transition x k _ (was is_renew x.issued c) _ _ (λ _. left x k _ _) (λ _. left x k _ _))
 
 -- The answer to an APDU that is not refused is a move.
@@ -159,9 +168,12 @@ pub message_row : (x : RequesterRecord) (a : Apdu) (body : Body) → Moves x a.n
 message_row x a (types.IllAnswer results.Conditional) =
     transition x a.number _ (is_at_most a.number (accepted_number x)) _ _ (λ _. left x a.number _ _) (λ above.
     transition x a.number _ (is_among (Conditional ∷ []) x.state && is_the a.number x.held) _ _ (λ _. left x a.number _ _) (λ _.
-    transition x a.number _ (is_among (Pending ∷ []) x.state) _ _ (λ is. conditions_held x a.number _ is above) (λ _. left x a.number _ _)))
-message_row x a (types.IllAnswer results.WillSupply) = transition x a.number _ (is_among (Pending ∷ []) x.state) _ _ (λ _. left x a.number _ _) (λ _. left x a.number _ _)
-message_row x a (types.IllAnswer results.HoldPlaced) = transition x a.number _ (is_among (Pending ∷ []) x.state) _ _ (λ _. left x a.number _ _) (λ _. left x a.number _ _)
+    transition x a.number _ (is_among (Pending ∷ []) x.state) _ _ (λ is. conditions_held x a.number _ is above)
+    (λ _. left x a.number _ _)))
+message_row x a (types.IllAnswer results.WillSupply) =
+    transition x a.number _ (is_among (Pending ∷ []) x.state) _ _ (λ _. left x a.number _ _) (λ _. left x a.number _ _)
+message_row x a (types.IllAnswer results.HoldPlaced) =
+    transition x a.number _ (is_among (Pending ∷ []) x.state) _ _ (λ _. left x a.number _ _) (λ _. left x a.number _ _)
 message_row x a (types.IllAnswer other) = end_row x a.number _ refl
 message_row x a types.Expired = end_row x a.number _ tt
 message_row x a (types.CancelReply c true) = cancel_reply_row x a.number c true (cancelled x a.number c)
@@ -174,27 +186,33 @@ message_row x a (types.Overdue d) =
     transition x a.number _ (is_among (Shipped ∷ []) x.state) _ _ (not_received x a.number _) (λ _.
     transition x a.number _ (is_among (Received ∷ []) x.state) _ _ (overdue x a.number _) (λ _.
     transition x a.number _ (is_among (RenewPending ∷ []) x.state) _ _ (renewal_overdue x a.number _) (λ _.
-    transition x a.number _ (is_among (NotReceivedOverdue ∷ Overdue ∷ RenewOverdue ∷ []) x.state) _ _ (λ _. left x a.number _ _) (λ _. left x a.number _ _)))))
+    transition x a.number _ (is_among (NotReceivedOverdue ∷ Overdue ∷ RenewOverdue ∷ []) x.state) _ _ (λ _. left x a.number _ _)
+    (λ _. left x a.number _ _)))))
 message_row x a (types.RenewAnswer c (Some d)) =
-    renew_answer_row x a.number c (Some d) (λ is. transition x a.number _ (is_after_due d x.due) _ _ (renewed x a.number c d is) (λ _. left x a.number _ _))
+    renew_answer_row x a.number c (Some d)
+    (λ is. transition x a.number _ (is_after_due d x.due) _ _ (renewed x a.number c d is) (λ _. left x a.number _ _))
 message_row x a (types.RenewAnswer c None) = renew_answer_row x a.number c None (not_renewed x a.number _)
 message_row x a types.Recall =
-    transition x a.number _ (is_among (Shipped ∷ NotReceivedOverdue ∷ Received ∷ Overdue ∷ RenewPending ∷ RenewOverdue ∷ []) x.state) _ _ (recalled x a.number _) (λ _.
+    transition x a.number _ (is_among (Shipped ∷ NotReceivedOverdue ∷ Received ∷ Overdue ∷ RenewPending ∷ RenewOverdue ∷ [])
+    x.state) _ _ (recalled x a.number _) (λ _.
     transition x a.number _ (is_among (Recall ∷ []) x.state) _ _ (λ _. left x a.number _ _) (λ _. left x a.number _ _))
 message_row x a types.CheckedIn =
-    transition x a.number _ (is_among (Returned ∷ []) x.state && not x.checked_in) _ _ (λ is. given_back x a.number (and_parts _ _ is).0) (λ _.
+    transition x a.number _ (is_among (Returned ∷ []) x.state && not x.checked_in) _ _
+    (λ is. given_back x a.number (and_parts _ _ is).0) (λ _.
     transition x a.number _ (is_among (Returned ∷ []) x.state) _ _ (λ _. left x a.number _ _) (λ _. left x a.number _ _))
 message_row x a other = left x a.number _ _
 
 -- If the answer to an admitted APDU is a move, so is a refusal before it, which leaves the record.
-admitted : (x : RequesterRecord) (k : ℕ) (body : Body) (refused : Option Refusal) (answer : Result Taking Refusal × RequesterRecord)
+admitted : (x : RequesterRecord) (k : ℕ) (body : Body) (refused : Option Refusal)
+    (answer : Result Taking Refusal × RequesterRecord)
     → Moves x k body answer → Moves x k body (unless_refused refused x answer)
 admitted x k body None answer row = row
 admitted x k body (Some refusal) answer row = left x k body (Err refusal)
 
 -- The answer to each APDU is a move.
 pub delivery_row : (x : RequesterRecord) (a : Apdu) → Moves x a.number a.body (takes x a)
-delivery_row x a = admitted x a.number a.body (first_refusal x.txn (is_requesters a.body) a) (take_message x a a.body) (message_row x a a.body)
+delivery_row x a = admitted x a.number a.body (first_refusal x.txn (is_requesters a.body) a) (take_message x a a.body)
+    (message_row x a a.body)
 
 -- ---- actions
 
@@ -254,14 +272,16 @@ loan_row : (x : RequesterRecord) (next : State) (body : Body) → replied_number
     → is_among later next ≡ true
     → Issues x (record { next = next; body = body; held = x.held })
 loan_row x next body silent accepts_none declines_not here there =
-    silent_row x next body silent accepts_none declines_not (search rules) (search rules) (search rules) (λ _. there) (λ c shown. search rules)
+    silent_row x next body silent accepts_none declines_not (search rules) (search rules) (search rules) (λ _. there)
+    (λ c shown. search rules)
 
 -- If Cancel c shows refused after a wish Cancel in PENDING, it showed so before.
 cancel_refused_before : (x : RequesterRecord) (c : ℕ) → is_among (Pending ∷ []) x.state ≡ true
     → ClaimsRefusal (record_after x (record { next = CancelPending; body = types.Cancel; held = x.held })) c → ClaimsRefusal x c
 cancel_refused_before x c is shown =
     let a : Apdu = next_apdu x.txn x.issued types.Cancel in (
-      older_cancel c (length x.issued + 1) (last_of number_of_cancel (x.issued ++ a ∷ [])) (was is_cancel x.issued c) (last_cancel_more x.issued a refl) shown.2
+      older_cancel c (length x.issued + 1) (last_of number_of_cancel (x.issued ++ a ∷ [])) (was is_cancel x.issued c)
+          (last_cancel_more x.issued a refl) shown.2
           (was_more is_cancel x.issued a c shown.0),
       search (rules, is),
       search (rules, is),
@@ -281,7 +301,8 @@ answers_held x is_yes here undeclined =
       begun = no_more_idle (answer_held x is_yes).next (answer_goes_on is_yes);
       final = λ is. search rules;
       stays = λ is. search rules;
-      shows = goes_on x (answer_held x is_yes) (answer_goes_on is_yes) (λ c shown. (still_cancel x.issued _ c refl shown.0, search (rules, here), search (rules, here)));
+      shows = goes_on x (answer_held x is_yes) (answer_goes_on is_yes)
+          (λ c shown. (still_cancel x.issued _ c refl shown.0, search (rules, here), search (rules, here)));
       replies = λ n is_yes is. (here, undeclined, search rules);
       once = λ held once. reply_once x is_yes (unwrap_or x.held 0) (held_number x.held (held ∙ here)) here undeclined once;
     }
@@ -300,25 +321,34 @@ wish_row x (wishes.Request expiry item) row =
     (λ c shown. (still_cancel x.issued _ c refl shown.0, search (rules, is), search (rules, is))))) (no_more (Issues x) _ row)
 wish_row x wishes.Cancel row =
     at_transition (Issues x) (is_among (Pending ∷ []) x.state) _ _ row (λ is. is_this (Issues x) _ row
-    (silent_row x CancelPending types.Cancel refl refl refl refl refl (search (rules, is)) (search (rules, is)) (λ c. cancel_refused_before x c is))) (no_more (Issues x) _ row)
+    (silent_row x CancelPending types.Cancel refl refl refl refl refl (search (rules, is)) (search (rules, is))
+    (λ c. cancel_refused_before x c is))) (no_more (Issues x) _ row)
 wish_row x (wishes.Reply is_yes) row =
     at_transition (Issues x) (is_among (Conditional ∷ []) x.state && not (is_declined x)) _ _ row (λ is.
     let there = undeclined_there (is_among (Conditional ∷ []) x.state) (has declines x.issued) is in
     is_this (Issues x) _ row (answers_held x is_yes there.0 there.1)) (no_more (Issues x) _ row)
 wish_row x wishes.Receive row =
-    at_transition (Issues x) (is_among (Shipped ∷ []) x.state) _ _ row (λ is. is_this (Issues x) _ row (loan_row x Received types.Received refl refl refl (search (rules, is)) refl)) (
-    at_transition (Issues x) (is_among (NotReceivedOverdue ∷ []) x.state) _ _ row (λ is. is_this (Issues x) _ row (loan_row x Overdue types.Received refl refl refl (search (rules, is)) refl)) (
+    at_transition (Issues x) (is_among (Shipped ∷ []) x.state) _ _ row
+    (λ is. is_this (Issues x) _ row (loan_row x Received types.Received refl refl refl (search (rules, is)) refl)) (
+    at_transition (Issues x) (is_among (NotReceivedOverdue ∷ []) x.state) _ _ row
+    (λ is. is_this (Issues x) _ row (loan_row x Overdue types.Received refl refl refl (search (rules, is)) refl)) (
     at_transition (Issues x) (is_among (Recall ∷ []) x.state && not (is_received_by x)) _ _ row (λ is. is_this (Issues x) _ row
-    (loan_row x Recall types.Received refl refl refl (search (rules, (and_parts (is_among (Recall ∷ []) x.state) (not (is_received_by x)) is).0)) refl)) (no_more (Issues x) _ row)))
+    (loan_row x Recall types.Received refl refl refl
+    (search (rules, (and_parts (is_among (Recall ∷ []) x.state) (not (is_received_by x)) is).0)) refl))
+    (no_more (Issues x) _ row)))
 wish_row x (wishes.Renew wished) row =
-    at_transition (Issues x) (is_among (Received ∷ []) x.state) _ _ row (λ is. is_this (Issues x) _ row (loan_row x RenewPending (types.Renew wished) refl refl refl (search (rules, is)) refl)) (
-    at_transition (Issues x) (is_among (Overdue ∷ []) x.state) _ _ row (λ is. is_this (Issues x) _ row (loan_row x RenewOverdue (types.Renew wished) refl refl refl (search (rules, is)) refl))
+    at_transition (Issues x) (is_among (Received ∷ []) x.state) _ _ row
+    (λ is. is_this (Issues x) _ row (loan_row x RenewPending (types.Renew wished) refl refl refl (search (rules, is)) refl)) (
+    at_transition (Issues x) (is_among (Overdue ∷ []) x.state) _ _ row
+    (λ is. is_this (Issues x) _ row (loan_row x RenewOverdue (types.Renew wished) refl refl refl (search (rules, is)) refl))
     (no_more (Issues x) _ row))
 wish_row x wishes.Return row =
-    at_transition (Issues x) (is_among (Received ∷ RenewPending ∷ Overdue ∷ RenewOverdue ∷ []) x.state) _ _ row (λ is. is_this (Issues x) _ row
+    at_transition (Issues x) (is_among (Received ∷ RenewPending ∷ Overdue ∷ RenewOverdue ∷ []) x.state) _ _ row
+    (λ is. is_this (Issues x) _ row
     (loan_row x Returned types.Returned refl refl refl (search (rules, is)) refl)) (
     at_transition (Issues x) (is_among (Recall ∷ []) x.state && is_received_by x) _ _ row (λ is. is_this (Issues x) _ row
-    (loan_row x Returned types.Returned refl refl refl (search (rules, (and_parts (is_among (Recall ∷ []) x.state) (is_received_by x) is).0)) refl)) (no_more (Issues x) _ row))
+    (loan_row x Returned types.Returned refl refl refl
+    (search (rules, (and_parts (is_among (Recall ∷ []) x.state) (is_received_by x) is).0)) refl)) (no_more (Issues x) _ row))
 
 -- If two records are equal as results, they are equal.
 ok_is : (x y : RequesterRecord) → ◌≡◌ {A = Result RequesterRecord Refusal} (Ok x) (Ok y) → x ≡ y
@@ -334,14 +364,17 @@ by_row P x new (Ok row) (Ok n) leads acted = subst P (ok_is (record_after x row)
 -- If P holds after each transition that keeps to `Issues`, it holds after a wish.
 pub of_acts : (P : RequesterRecord → Type 0) (x new : RequesterRecord) (wish : Wish)
     → ((row : Transition) → transition_of x wish ≡ Ok row → Issues x row → P (record_after x row)) → acts x wish ≡ Ok new → P new
-of_acts P x new wish leads acted = by_row P x new (transition_of x wish) (next_number x.issued) (λ row there. leads row there (wish_row x wish row there)) acted
+of_acts P x new wish leads acted =
+    by_row P x new (transition_of x wish) (next_number x.issued) (λ row there. leads row there (wish_row x wish row there)) acted
 
 -- After a wish a record has at most 255 messages, since a number was left.
 by_few : (x new : RequesterRecord) (found : Result Transition Refusal) (number : Result ℕ Refusal)
     → next_number x.issued ≡ number → acts_by x found number ≡ Ok new → length new.issued ≤ 255
 by_few x new (Err refusal) number next acted = search rules
 by_few x new (Ok row) (Err refusal) next acted = search rules
-by_few x new (Ok row) (Ok n) next acted = subst (λ (r : RequesterRecord). length r.issued ≤ 255) (ok_is (record_after x row) new acted) (few_with_next x.txn x.issued row.body n next)
+by_few x new (Ok row) (Ok n) next acted =
+    subst (λ (r : RequesterRecord). length r.issued ≤ 255) (ok_is (record_after x row) new acted)
+    (few_with_next x.txn x.issued row.body n next)
 
 -- A wish leaves at most 255 messages.
 pub acts_few : (x new : RequesterRecord) (wish : Wish) → acts x wish ≡ Ok new → length new.issued ≤ 255

@@ -1,5 +1,6 @@
 -- The rows of a requester's two tables give what its definitions give.
-use Rattle.std.proofs.Common.{rules, ◌≡◌, ℕ, ◌+◌, nat_lt, length, ◌||◌, Bool, true, false, not, List, Option, Some, None, Result, Ok, Err, IsOk, if◌then◌else◌, refl, ap, subst, sym, ◌∙◌}
+use Rattle.std.proofs.Common.{rules, ◌≡◌, ℕ, ◌+◌, nat_lt, length, ◌||◌, Bool, true, false, not, List, Option, Some, None, Result}
+use Rattle.std.proofs.Common.{Ok, Err, IsOk, if◌then◌else◌, refl, ap, subst, sym, ◌∙◌}
 use Rattle.ill_values.specs.Day.{Date}
 use Rattle.ill_values.specs.TxnId.{Qualifiers}
 use Rattle.ill_values.specs.declared.apdu.Apdu.{Apdu}
@@ -26,7 +27,8 @@ use Rattle.ill_core.specs.Kinds.{wish_kind, responder_kind, number_in, date_in}
 use Rattle.ill_core.specs.Tables as tables
 use Rattle.ill_core.specs.Tables.{taking_of, next_state, fits}
 use Rattle.ill_core.specs.Requester.{RequesterRecord, requester_of, IsRequester, last_renew}
-use Rattle.ill_core.specs.RequesterTables.{held_after, due_after, after, delivery_guards, delivery_rows, delivery_row, delivery_row_of, wish_guards, wish_rows, wish_row, wish_body}
+use Rattle.ill_core.specs.RequesterTables.{held_after, due_after, after, delivery_guards, delivery_rows, delivery_row}
+use Rattle.ill_core.specs.RequesterTables.{delivery_row_of, wish_guards, wish_rows, wish_row, wish_body}
 use Rattle.ill_core.specs.RequesterDeliveries.{take_message}
 use Rattle.ill_core.specs.RequesterActions.{Transition, transition_of, record_after, acts_by, acts, Acts}
 use Rattle.ill_core.proofs.TableLemmas.{answer_of, by_tests, found_by_tests}
@@ -42,7 +44,8 @@ hit x a body row = (Ok (taking_of row.3 x.state), after x row (number_in a body)
 abbrev pub tests_of : RequesterRecord → Apdu → Body → Option ResponderKind → Result Taking Refusal × RequesterRecord
 tests_of x a body None = conflict x.state x
 tests_of x a body (Some kind) =
-    by_tests x.state (delivery_guards x (number_in a body) (date_in body)) (hit x a body) (conflict x.state x) (delivery_rows kind)
+    by_tests x.state (delivery_guards x (number_in a body) (date_in body)) (hit x a body) (conflict x.state x)
+    (delivery_rows kind)
 
 -- A guard that a definition tests once, and two rows ask for, gives one answer both ways.
 asked_twice : {A : Type 0} (last later : Bool) (taken none others : A)
@@ -52,8 +55,10 @@ asked_twice true later taken none others = refl
 asked_twice false later taken none others = refl
 
 -- The rows of deliveries give what `take_message` gives, for each APDU and each state.
-pub tabled : (body : Body) (state : State) (txn : Qualifiers) (held : Option ℕ) (checked_in : Bool) (due : Option Date) (issued : List Apdu) (a : Apdu)
-    → tests_of (requester_of txn state held checked_in due issued) a body (responder_kind body) ≡ take_message (requester_of txn state held checked_in due issued) a body
+pub tabled : (body : Body) (state : State) (txn : Qualifiers) (held : Option ℕ) (checked_in : Bool) (due : Option Date)
+    (issued : List Apdu) (a : Apdu)
+    → tests_of (requester_of txn state held checked_in due issued) a body (responder_kind body)
+    ≡ take_message (requester_of txn state held checked_in due issued) a body
 tabled (types.IllAnswer results.Conditional) Idle txn held checked_in due issued a = refl
 tabled (types.IllAnswer results.Conditional) state txn held checked_in due issued a = refl
 tabled (types.IllAnswer answer) Idle txn held checked_in due issued a = refl
@@ -65,11 +70,13 @@ tabled (types.CancelReply c false) state txn held checked_in due issued a = refl
 tabled (types.RenewAnswer c (Some d)) Idle txn held checked_in due issued a = refl
 tabled (types.RenewAnswer c (Some d)) RenewPending txn held checked_in due issued a =
     let x : RequesterRecord = requester_of txn RenewPending held checked_in due issued in
-    asked_twice (is_the c (last_renew x)) (is_after_due d due) (taken (record x { state = Received; due = Some d })) (conflict RenewPending x)
+    asked_twice (is_the c (last_renew x)) (is_after_due d due) (taken (record x { state = Received; due = Some d }))
+    (conflict RenewPending x)
     (if was is_renew issued c then stale x else conflict RenewPending x)
 tabled (types.RenewAnswer c (Some d)) RenewOverdue txn held checked_in due issued a =
     let x : RequesterRecord = requester_of txn RenewOverdue held checked_in due issued in
-    asked_twice (is_the c (last_renew x)) (is_after_due d due) (taken (record x { state = Received; due = Some d })) (conflict RenewOverdue x)
+    asked_twice (is_the c (last_renew x)) (is_after_due d due) (taken (record x { state = Received; due = Some d }))
+    (conflict RenewOverdue x)
     (if was is_renew issued c then stale x else conflict RenewOverdue x)
 tabled (types.RenewAnswer c (Some d)) state txn held checked_in due issued a = refl
 tabled (types.RenewAnswer c None) Idle txn held checked_in due issued a = refl
@@ -82,7 +89,8 @@ tabled body state txn held checked_in due issued a = refl
 found : (x : RequesterRecord) (a : Apdu) (body : Body) (kind : Option ResponderKind)
     → answer_of (hit x a body) (conflict x.state x) (delivery_row_of x a body kind) ≡ tests_of x a body kind
 found x a body None = refl
-found x a body (Some kind) = found_by_tests x.state (delivery_guards x (number_in a body) (date_in body)) (hit x a body) (conflict x.state x) (delivery_rows kind)
+found x a body (Some kind) = found_by_tests x.state (delivery_guards x (number_in a body) (date_in body)) (hit x a body)
+    (conflict x.state x) (delivery_rows kind)
 
 -- The first row that fits an APDU gives its answer. If none fits, it is a conflict.
 pub takes_row : (x : RequesterRecord) (a : Apdu)
@@ -101,10 +109,12 @@ takes_none x a is = ap (answer_of (hit x a a.body) (conflict x.state x)) (sym is
 -- The first row that fits an APDU leads from a requester's record to a requester's record.
 pub takes_kept : (x : RequesterRecord) (a : Apdu) (row : Row ResponderKind) → IsRequester x → delivery_row x a ≡ Some row
     → IsRequester (after x row (number_in a a.body) (date_in a.body))
-takes_kept x a row h is = subst (λ answer. IsRequester answer.1) (sym (takes_this x a row is)) (is_requester _ ((message_row x a a.body).kept (requester_rules x h)))
+takes_kept x a row h is = subst (λ answer. IsRequester answer.1) (sym (takes_this x a row is))
+    (is_requester _ ((message_row x a a.body).kept (requester_rules x h)))
 
 -- Parts that are those after a row make the record after it.
-pub after_is : (x : RequesterRecord) (row : Row ResponderKind) (k : ℕ) (date : Option Date) (state : State) (held : Option ℕ) (checked_in : Bool) (due : Option Date)
+pub after_is : (x : RequesterRecord) (row : Row ResponderKind) (k : ℕ) (date : Option Date) (state : State) (held : Option ℕ)
+    (checked_in : Bool) (due : Option Date)
     → state ≡ next_state row.3 x.state → held ≡ held_after row.4 x.held k
     → checked_in ≡ (tables.has row.4 MARK || x.checked_in) → due ≡ due_after row.4 x.due date
     → requester_of x.txn state held checked_in due x.issued ≡ after x row k date
@@ -115,7 +125,8 @@ after_is x row k date state held checked_in due s h m d = cc
 -- Returns the record after a row is followed for a wish, which issues message k.
 abbrev pub wished : RequesterRecord → Wish → ℕ → Row RequesterKind → RequesterRecord
 wished x wish k row =
-    requester_of x.txn (next_state row.3 x.state) (held_after row.4 x.held k) (tables.has row.4 MARK || x.checked_in) (due_after row.4 x.due None)
+    requester_of x.txn (next_state row.3 x.state) (held_after row.4 x.held k) (tables.has row.4 MARK || x.checked_in)
+    (due_after row.4 x.due None)
     (with_next x.txn x.issued (wish_body x wish))
 
 -- Returns the record after a transition, or the refusal if there is none.
@@ -130,31 +141,40 @@ by_test x true here others = refl
 by_test x false here others = refl
 
 -- The rows of a wish give what its transition gives, in each state.
-wish_tests : (wish : Wish) (state : State) (txn : Qualifiers) (held : Option ℕ) (checked_in : Bool) (due : Option Date) (issued : List Apdu) (k : ℕ)
+wish_tests : (wish : Wish) (state : State) (txn : Qualifiers) (held : Option ℕ) (checked_in : Bool) (due : Option Date)
+    (issued : List Apdu) (k : ℕ)
     → (let x : RequesterRecord = requester_of txn state held checked_in due issued in
-    by_tests state (wish_guards x) (λ row. Ok (wished x wish k row)) (Err (refusals.NotNow state)) (wish_rows (wish_kind wish)) ≡ by_transition x (transition_of x wish))
-wish_tests (wishes.Reply true) Conditional txn held checked_in due issued k = by_test (requester_of txn Conditional held checked_in due issued) (not (has declines issued)) _ _
+    by_tests state (wish_guards x) (λ row. Ok (wished x wish k row)) (Err (refusals.NotNow state)) (wish_rows (wish_kind wish))
+    ≡ by_transition x (transition_of x wish))
+wish_tests (wishes.Reply true) Conditional txn held checked_in due issued k =
+    by_test (requester_of txn Conditional held checked_in due issued) (not (has declines issued)) _ _
 wish_tests (wishes.Reply true) state txn held checked_in due issued k = refl
-wish_tests (wishes.Reply false) Conditional txn held checked_in due issued k = by_test (requester_of txn Conditional held checked_in due issued) (not (has declines issued)) _ _
+wish_tests (wishes.Reply false) Conditional txn held checked_in due issued k =
+    by_test (requester_of txn Conditional held checked_in due issued) (not (has declines issued)) _ _
 wish_tests (wishes.Reply false) state txn held checked_in due issued k = refl
-wish_tests wishes.Receive Recall txn held checked_in due issued k = by_test (requester_of txn Recall held checked_in due issued) (not (has is_received issued)) _ _
+wish_tests wishes.Receive Recall txn held checked_in due issued k =
+    by_test (requester_of txn Recall held checked_in due issued) (not (has is_received issued)) _ _
 wish_tests wishes.Receive state txn held checked_in due issued k = refl
-wish_tests wishes.Return Recall txn held checked_in due issued k = by_test (requester_of txn Recall held checked_in due issued) (has is_received issued) _ _
+wish_tests wishes.Return Recall txn held checked_in due issued k =
+    by_test (requester_of txn Recall held checked_in due issued) (has is_received issued) _ _
 wish_tests wishes.Return state txn held checked_in due issued k = refl
 wish_tests wish Idle txn held checked_in due issued k = refl
 wish_tests wish state txn held checked_in due issued k = refl
 
 -- The first row that fits a wish gives the record after its transition, or `NotNow` if none fits.
 wish_rows_say : (x : RequesterRecord) (wish : Wish) (k : ℕ)
-    → answer_of (λ row. Ok (wished x wish k row)) (Err (refusals.NotNow x.state)) (wish_row x wish) ≡ by_transition x (transition_of x wish)
+    → answer_of (λ row. Ok (wished x wish k row)) (Err (refusals.NotNow x.state)) (wish_row x wish)
+    ≡ by_transition x (transition_of x wish)
 wish_rows_say x wish k =
-    found_by_tests x.state (wish_guards x) (λ row. Ok (wished x wish k row)) (Err (refusals.NotNow x.state)) (wish_rows (wish_kind wish))
+    found_by_tests x.state (wish_guards x) (λ row. Ok (wished x wish k row)) (Err (refusals.NotNow x.state))
+    (wish_rows (wish_kind wish))
     ∙ wish_tests wish x.state x.txn x.held x.checked_in x.due x.issued k
 
 -- A row that is the first to fit a wish gives the record after its transition.
 by_this : (x : RequesterRecord) (wish : Wish) (k : ℕ) (row : Row RequesterKind) → wish_row x wish ≡ Some row
     → Ok (wished x wish k row) ≡ by_transition x (transition_of x wish)
-by_this x wish k row is = ap (answer_of (λ r. Ok (wished x wish k r)) (Err (refusals.NotNow x.state))) (sym is) ∙ wish_rows_say x wish k
+by_this x wish k row is = ap (answer_of (λ r. Ok (wished x wish k r)) (Err (refusals.NotNow x.state))) (sym is)
+    ∙ wish_rows_say x wish k
 
 -- If no row fits a wish, it has no transition now.
 by_none : (x : RequesterRecord) (wish : Wish) → wish_row x wish ≡ None
@@ -183,13 +203,17 @@ not_now x (Ok transition) refusal number is = search rules
 pub acts_this : (x : RequesterRecord) (wish : Wish) (row : Row RequesterKind) (k n : ℕ) → wish_row x wish ≡ Some row
     → next_number x.issued ≡ Ok n
     → acts x wish ≡ Ok (wished x wish k row)
-acts_this x wish row k n is next = ap (acts_by x (transition_of x wish)) next ∙ numbered x (wished x wish k row) (transition_of x wish) n (by_this x wish k row is)
+acts_this x wish row k n is next =
+    ap (acts_by x (transition_of x wish)) next
+    ∙ numbered x (wished x wish k row) (transition_of x wish) n (by_this x wish k row is)
 
 -- If a row fits a wish and no number is left, the wish is refused with that refusal.
 pub acts_used : (x : RequesterRecord) (wish : Wish) (row : Row RequesterKind) (refusal : Refusal)
     → wish_row x wish ≡ Some row → next_number x.issued ≡ Err refusal
     → acts x wish ≡ Err refusal
-acts_used x wish row refusal is next = ap (acts_by x (transition_of x wish)) next ∙ used x (wished x wish 0 row) (transition_of x wish) refusal (by_this x wish 0 row is)
+acts_used x wish row refusal is next =
+    ap (acts_by x (transition_of x wish)) next
+    ∙ used x (wished x wish 0 row) (transition_of x wish) refusal (by_this x wish 0 row is)
 
 -- If no row fits a wish, it is refused with `NotNow`.
 pub acts_none : (x : RequesterRecord) (wish : Wish) → wish_row x wish ≡ None → acts x wish ≡ Err (refusals.NotNow x.state)
@@ -212,7 +236,8 @@ pub wished_kept : (x : RequesterRecord) (wish : Wish) (row : Row RequesterKind) 
 wished_kept x wish row k n h is next = acts_kept x (wished x wish k row) wish (acts_this x wish row k n is next) h
 
 -- Parts that are those after a row make the record after it.
-pub wished_is : (x : RequesterRecord) (wish : Wish) (row : Row RequesterKind) (k : ℕ) (txn : Qualifiers) (state : State) (held : Option ℕ) (checked_in : Bool) (due : Option Date) (issued : List Apdu)
+pub wished_is : (x : RequesterRecord) (wish : Wish) (row : Row RequesterKind) (k : ℕ) (txn : Qualifiers) (state : State)
+    (held : Option ℕ) (checked_in : Bool) (due : Option Date) (issued : List Apdu)
     → (txn ≡ x.txn) → state ≡ next_state row.3 x.state → held ≡ held_after row.4 x.held k
     → checked_in ≡ (tables.has row.4 MARK || x.checked_in) → due ≡ due_after row.4 x.due None
     → issued ≡ with_next x.txn x.issued (wish_body x wish)
@@ -231,11 +256,13 @@ refused_used x wish false refusal acted is = search rules
 pub act_used : (x : RequesterRecord) (wish : Wish) (row : Row RequesterKind) (refusal : Refusal)
     → wish_row x wish ≡ Some row → next_number x.issued ≡ Err refusal
     → Acts x wish (Err refusal) x
-act_used x wish row refusal is next = refused_used x wish (nat_lt (length x.issued) 255) refusal (acts_used x wish row refusal is next) next
+act_used x wish row refusal is next =
+    refused_used x wish (nat_lt (length x.issued) 255) refusal (acts_used x wish row refusal is next) next
 
 -- If a row fits a wish and a number is left, the requester may answer `OutOfMemory`, and its record stays.
 pub act_memory : (x : RequesterRecord) (wish : Wish) (row : Row RequesterKind) (n : ℕ) (refusal : Refusal)
     → wish_row x wish ≡ Some row → next_number x.issued ≡ Ok n
     → refusal ≡ refusals.OutOfMemory → Acts x wish (Err refusal) x
 act_memory x wish row n refusal is next memory =
-    subst (λ r. Acts x wish (Err r) x) (sym memory) (subst (λ found. IsOk found) (sym (acts_this x wish row n n is next)) (search rules), refl)
+    subst (λ r. Acts x wish (Err r) x) (sym memory)
+    (subst (λ found. IsOk found) (sym (acts_this x wish row n n is next)) (search rules), refl)

@@ -1,5 +1,6 @@
 -- Of two dates that a responder granted, the one that answers the later Renew is the later one.
-use Rattle.std.proofs.Common.{rules, arith, ◌≡◌, ◌⊎◌, inl, inr, ℕ, zero, suc, ◌+◌, ◌≤◌, Bool, true, false, List, [], ◌∷◌, ◌++◌, length, Option, Some, None, Ok, if◌then◌else◌, refl, ap, sym, subst, ◌∙◌}
+use Rattle.std.proofs.Common.{rules, arith, ◌≡◌, ◌⊎◌, inl, inr, ℕ, zero, suc, ◌+◌, ◌≤◌, Bool, true, false, List, [], ◌∷◌, ◌++◌}
+use Rattle.std.proofs.Common.{length, Option, Some, None, Ok, if◌then◌else◌, refl, ap, sym, subst, ◌∙◌}
 use Rattle.std.specs.Prelude.{slice_get}
 use Rattle.std.specs.List.{list_all, filter_map, cons_option, last_or}
 use Rattle.std.specs.Option.{unwrap_or}
@@ -27,7 +28,9 @@ use Rattle.ill_core.proofs.MessageLemmas.{message_more}
 use Rattle.ill_core.proofs.GrantLemmas.{before_later, granted_not_later}
 use Rattle.ill_core.proofs.Rules.{responder_rules}
 use Rattle.ill_core.proofs.ResponderLists.{no_grants}
-use Rattle.ill_core.proofs.ResponderTransitions.{IsTransition, answers, allows_cancel, refuses_cancel, ships, renews, refuses_renewal, refuses_late, reminds, reminds_renewing, recalls, checks_in, expires}
+use Rattle.ill_core.proofs.ResponderTransitions.{IsTransition, answers, allows_cancel, refuses_cancel, ships, renews}
+use Rattle.ill_core.proofs.ResponderTransitions.{refuses_renewal, refuses_late, reminds, reminds_renewing, recalls, checks_in}
+use Rattle.ill_core.proofs.ResponderTransitions.{expires}
 use Rattle.ill_core.proofs.ResponderRows.{of_acts}
 use Rattle.ill_core.proofs.ResponderLaws.{takes_issue}
 
@@ -57,11 +60,13 @@ grant_number body m d is = search rules
 -- The APDU grants no date, or answers at least the number of each older grant, with a later date.
 abbrev GrantsLater : List Apdu → Body → Type 0
 GrantsLater apdus body =
-    (i m n : ℕ) (b : Apdu) (d e : Date) → message apdus i ≡ Some b → grant_of b.body ≡ Some (grant m d) → grant_of body ≡ Some (grant n e) → (m ≤ n) × (is_before d e ≡ true)
+    (i m n : ℕ) (b : Apdu) (d e : Date) → message apdus i ≡ Some b → grant_of b.body ≡ Some (grant m d)
+    → grant_of body ≡ Some (grant n e) → (m ≤ n) × (is_before d e ≡ true)
 
 -- The grants of a list that has one more rise, if the new one is later.
 grants_more : (apdus : List Apdu) (a : Apdu) → GrantsRise apdus → GrantsLater apdus a.body → GrantsRise (apdus ++ a ∷ [])
-grants_more apdus a h newest i j m n b c d e at_i at_j one other below = go (message_more apdus a b i at_i) (message_more apdus a c j at_j)
+grants_more apdus a h newest i j m n b c d e at_i at_j one other below =
+    go (message_more apdus a b i at_i) (message_more apdus a c j at_j)
   where
     go : ((message apdus i ≡ Some b) × (i ≤ length apdus)) ⊎ ((i ≡ length apdus + 1) × (a ≡ b))
         → ((message apdus j ≡ Some c) × (j ≤ length apdus)) ⊎ ((j ≡ length apdus + 1) × (a ≡ c)) → is_before d e ≡ true
@@ -71,7 +76,8 @@ grants_more apdus a h newest i j m n b c d e at_i at_j one other below = go (mes
         let most = (newest j n m c e d older.0 other (ap (λ (x : Apdu). grant_of x.body) new.1 ∙ one)).0 in
         absurd (omega (arith, most, below))
     go (inr new) (inr also) =
-        let same = grant_parts m n d e (sym (ap (λ (x : Apdu). grant_of x.body) new.1 ∙ one) ∙ (ap (λ (x : Apdu). grant_of x.body) also.1 ∙ other)) in
+        let same = grant_parts m n d e (sym (ap (λ (x : Apdu). grant_of x.body) new.1 ∙ one)
+        ∙ (ap (λ (x : Apdu). grant_of x.body) also.1 ∙ other)) in
         absurd (omega (arith, same.0, below))
 
 -- An APDU that grants no date keeps to `GrantsLater`.
@@ -116,14 +122,16 @@ found_passes f p [] i m b all at is = search rules
 found_passes f p (c ∷ apdus) zero m b all at is =
     let same : c ≡ b = search rules in
     passes_first p (f c) m (filter_map f apdus) (ap f same ∙ is) all
-found_passes f p (c ∷ apdus) (suc i) m b all at is = found_passes f p apdus i m b (passes_rest p (f c) (filter_map f apdus) all) at is
+found_passes f p (c ∷ apdus) (suc i) m b all at is =
+    found_passes f p apdus i m b (passes_rest p (f c) (filter_map f apdus) all) at is
 
 -- The answers to the Renews are at most the last one.
 most_answered : (apdus : List Apdu) (last : Option ℕ) (i m : ℕ) (b : Apdu)
     → list_all (λ n. is_at_most n last) (answers_to MayRenew apdus) ≡ true → message apdus i ≡ Some b
     → answered_number MayRenew b.body ≡ Some m → is_at_most m last ≡ true
 most_answered apdus last zero m b most at is = search rules
-most_answered apdus last (suc i) m b most at is = found_passes (λ a. answered_number MayRenew a.body) (λ n. is_at_most n last) apdus i m b most at is
+most_answered apdus last (suc i) m b most at is =
+    found_passes (λ a. answered_number MayRenew a.body) (λ n. is_at_most n last) apdus i m b most at is
 
 -- A number that is at most the last one is at most its value.
 at_most_last : (m : ℕ) (last : Option ℕ) → is_at_most m last ≡ true → m ≤ unwrap_or last 0
@@ -149,19 +157,24 @@ renewal_later : (y : ResponderRecord) (due : Date) → ResponderRules y → Answ
 renewal_later y due h once after i m n b d e at old new =
     let same = grant_parts (unwrap_or y.last_renew 0) n due e new in
     let most = grant_most y.issued y.last_renew i m b once.most at (grant_number b.body m d old) in
-    let last = granted_not_later y.issued i b d h.rising at (grant_date b.body m d old) in
-    (omega (arith, most, same.0), subst (λ x. is_before d x ≡ true) same.1 (after_granted due (due_of y) last.0 d last.1 last.2 after))
+    let last = granted_not_later y.issued i b d h.rising at (grant_date b.body m d old) in (
+      omega (arith, most, same.0),
+      subst (λ x. is_before d x ≡ true) same.1
+          (after_granted due (due_of y) last.0 d last.1 last.2 after),
+    )
 
 -- ---- deeds and messages
 
 -- A transition grants no date, or one that is later than each older grant.
-transition_later : (y : ResponderRecord) (transition : Transition) → IsTransition y transition → ResponderRules y → AnswersOnce MayRenew y
+transition_later : (y : ResponderRecord) (transition : Transition) → IsTransition y transition → ResponderRules y
+    → AnswersOnce MayRenew y
     → GrantsLater y.issued transition.body
 transition_later y _ (answers answer is) h once = none_later y.issued (types.IllAnswer answer) refl
 transition_later y _ (allows_cancel is) h once = none_later y.issued (types.CancelReply (unwrap_or y.last_cancel 0) true) refl
 transition_later y _ (refuses_cancel is) h once = none_later y.issued (types.CancelReply (unwrap_or y.last_cancel 0) false) refl
 transition_later y _ (ships due is) h once =
-    first_later y.issued (types.Shipped due) h.rising (no_grants y.issued h.ships_first (not_shipped y.state _ is h.issued.shipped))
+    first_later y.issued (types.Shipped due) h.rising
+    (no_grants y.issued h.ships_first (not_shipped y.state _ is h.issued.shipped))
 transition_later y _ (renews due is after) h once = renewal_later y due h once after
 transition_later y _ (refuses_renewal is) h once = none_later y.issued (types.RenewAnswer (unwrap_or y.last_renew 0) None) refl
 transition_later y _ (refuses_late is) h once = none_later y.issued (types.RenewAnswer (unwrap_or y.last_renew 0) None) refl
@@ -176,7 +189,8 @@ pub acts_rise : (y new : ResponderRecord) (deed : Deed) (today : Date) → acts 
     → AnswersOnce MayRenew y → GrantsRise y.issued → GrantsRise new.issued
 acts_rise y new deed today done h once rise =
     of_acts (λ r. GrantsRise r.issued) y new deed today
-    (λ transition is how. grants_more y.issued (next_apdu y.txn y.issued transition.body) rise (transition_later y transition is (responder_rules y h) once)) done
+    (λ transition is how. grants_more y.issued (next_apdu y.txn y.issued transition.body) rise
+    (transition_later y transition is (responder_rules y h) once)) done
 
 -- A message that issues an ILL-Answer or nothing keeps the order of the grants.
 issued_rise : (y new : ResponderRecord) (body : Body) → IssuesUnfilled y body new → GrantsRise y.issued → GrantsRise new.issued

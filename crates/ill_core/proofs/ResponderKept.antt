@@ -1,5 +1,6 @@
 -- A responder's record keeps its rules.
-use Rattle.std.proofs.Common.{rules, arith, ◌≡◌, ℕ, ◌+◌, Bool, true, false, not, ◌&&◌, ◌||◌, List, [], ◌∷◌, ◌++◌, length, Option, Some, None, is_some, Result, Ok, Err, if◌then◌else◌, refl, ap, sym, subst, ◌∙◌}
+use Rattle.std.proofs.Common.{rules, arith, ◌≡◌, ℕ, ◌+◌, Bool, true, false, not, ◌&&◌, ◌||◌, List, [], ◌∷◌, ◌++◌, length, Option}
+use Rattle.std.proofs.Common.{Some, None, is_some, Result, Ok, Err, if◌then◌else◌, refl, ap, sym, subst, ◌∙◌}
 use Rattle.std.specs.List.{filter_map, last_or}
 use Rattle.std.proofs.lemmas.Bool.{and_from, eqb-true, cond_both}
 use Rattle.ill_values.specs.Day.{Date}
@@ -9,16 +10,19 @@ use Rattle.ill_values.specs.declared.apdu.Body.{Body}
 use Rattle.ill_values.specs.declared.apdu.Body.TheVariants as types
 use Rattle.ill_values.specs.declared.apdu.AnswerResult.TheVariants as results
 use Rattle.ill_core.specs.declared.state.State.{State}
-use Rattle.ill_core.specs.declared.state.State.TheVariants.{Idle, InProcess, Conditional, CancelPending, NotSupplied, Shipped, RenewPending, Overdue, RenewOverdue, Recall, Returned, CheckedIn}
+use Rattle.ill_core.specs.declared.state.State.TheVariants.{Idle, InProcess, Conditional, CancelPending, NotSupplied, Shipped}
+use Rattle.ill_core.specs.declared.state.State.TheVariants.{RenewPending, Overdue, RenewOverdue, Recall, Returned, CheckedIn}
 use Rattle.ill_core.specs.State.{is_among}
 use Rattle.ill_core.specs.Dates.{is_after_due}
 use Rattle.ill_core.specs.Rules.{implies}
 use Rattle.ill_core.specs.Numbers.{is_the, is_at_most}
-use Rattle.ill_core.specs.Bodies.{is_ill_request, is_requesters, is_shipped, is_checked_in, names_conditions, is_renewal, grant_in}
+use Rattle.ill_core.specs.Bodies.{is_ill_request, is_requesters, is_shipped, is_checked_in, names_conditions, is_renewal}
+use Rattle.ill_core.specs.Bodies.{grant_in}
 use Rattle.ill_core.specs.Issued.{next_number, was, is_same_txn, next_apdu, granted_day}
 use Rattle.ill_core.specs.ResponderRules.{ResponderRules, IssuedFits, PartsFit}
 use Rattle.ill_core.proofs.Rules.{responder_rules, is_responder}
-use Rattle.ill_core.specs.Responder.{ResponderRecord, IsResponder, responder_of, outstanding_number, is_named, later, are_rising, ships_first, due_of}
+use Rattle.ill_core.specs.Responder.{ResponderRecord, IsResponder, responder_of, outstanding_number, is_named, later, are_rising}
+use Rattle.ill_core.specs.Responder.{ships_first, due_of}
 use Rattle.ill_core.specs.ResponderActions.{Transition, issues_to, record_after}
 use Rattle.ill_core.specs.declared.refusal.Refusal.{Refusal}
 use Rattle.ill_core.specs.declared.refusal.Refusal.TheVariants.{OtherTransaction, WrongRole}
@@ -26,7 +30,9 @@ use Rattle.ill_core.specs.declared.taking.Taking.{Taking}
 use Rattle.ill_core.specs.Issued.{Admits, first_refusal}
 use Rattle.ill_core.specs.ResponderDeliveries.{MayWantMemory, answers_no, Takes, take_message, takes_memory, takes}
 use Rattle.ill_core.specs.Answers.{unless_refused}
-use Rattle.ill_core.proofs.ResponderTransitions.{IsTransition, answers, allows_cancel, refuses_cancel, ships, renews, refuses_renewal, refuses_late, reminds, reminds_renewing, recalls, checks_in, expires}
+use Rattle.ill_core.proofs.ResponderTransitions.{IsTransition, answers, allows_cancel, refuses_cancel, ships, renews}
+use Rattle.ill_core.proofs.ResponderTransitions.{refuses_renewal, refuses_late, reminds, reminds_renewing, recalls, checks_in}
+use Rattle.ill_core.proofs.ResponderTransitions.{expires}
 use Rattle.ill_core.proofs.IssuedLemmas.{numbered_next, same_txn, has_more, all_more, none_more, found_none, found_more}
 use Rattle.ill_core.proofs.ResponderLists.{count_more, ends_more, named_more, rise_more, ships_more, ships_renewed, no_grants}
 
@@ -36,7 +42,8 @@ shipped_in state = if is_among later state then 1 else 0
 
 -- The state fits the record of y after it issues one more APDU of this body.
 pub record FitsNext (y : ResponderRecord) (body : Body) (state : State) : Type 0 where
-  pub parts : PartsFit state (is_some y.request) (is_some y.accepted) (is_some y.last_cancel) (is_some y.last_renew) y.received false
+  pub parts : PartsFit state (is_some y.request) (is_some y.accepted) (is_some y.last_cancel) (is_some y.last_renew) y.received
+      false
   pub role : not (is_requesters body) ≡ true
   pub shipped : shipped_in y.state + (if is_shipped body then 1 else 0) ≡ shipped_in state
   pub checked_in : (is_among (CheckedIn ∷ []) y.state || is_checked_in body) ≡ is_among (CheckedIn ∷ []) state
@@ -46,7 +53,8 @@ pub record FitsNext (y : ResponderRecord) (body : Body) (state : State) : Type 0
 pub data Grants (y : ResponderRecord) (body : Body) : Type 0 where
   no_grant : grant_in body ≡ None → is_renewal body ≡ false → Grants y body
   first_grant : (d : Date) → body ≡ types.Shipped d → is_among later y.state ≡ false → Grants y body
-  later_grant : (d : Date) → grant_in body ≡ Some d → is_among later y.state ≡ true → is_after_due d (due_of y) ≡ true → Grants y body
+  later_grant : (d : Date) → grant_in body ≡ Some d → is_among later y.state ≡ true → is_after_due d (due_of y) ≡ true
+      → Grants y body
 
 -- If the second test is true, one of the two is.
 or_right : (a b : Bool) → b ≡ true → a || b ≡ true
@@ -60,9 +68,11 @@ rising_next y a h (no_grant silent _) = ap are_rising (found_none granted_day y.
 rising_next y a h (first_grant d is away) =
     let nothing = no_grants y.issued h.ships_first (h.issued.shipped ∙ ap (λ b. if b then 1 else 0) away) in
     ap are_rising (found_more granted_day y.issued a d (ap grant_in is))
-    ∙ rise_more None (filter_map granted_day y.issued) d h.rising (ap (λ ds. not (is_some (last_or None ds)) || is_after_due d (last_or None ds)) nothing)
+    ∙ rise_more None (filter_map granted_day y.issued) d h.rising
+    (ap (λ ds. not (is_some (last_or None ds)) || is_after_due d (last_or None ds)) nothing)
 rising_next y a h (later_grant d is here after) =
-    ap are_rising (found_more granted_day y.issued a d is) ∙ rise_more None (filter_map granted_day y.issued) d h.rising (or_right _ _ after)
+    ap are_rising (found_more granted_day y.issued a d is)
+    ∙ rise_more None (filter_map granted_day y.issued) d h.rising (or_right _ _ after)
 
 -- A list still ships first after such an APDU.
 ships_next : (y : ResponderRecord) (a : Apdu) → ResponderRules y → Grants y a.body → ships_first (y.issued ++ a ∷ []) ≡ true
@@ -80,10 +90,13 @@ next_kept y body state h fits grants =
       numbered = numbered_next y.txn 1 y.issued a h.numbered (same_txn y.txn) (omega arith);
       role = all_more (λ b. not (is_requesters b)) y.issued a h.role fits.role;
       request = h.request;
-      parts = subst (PartsFit state (is_some y.request) (is_some y.accepted) (is_some y.last_cancel) (is_some y.last_renew) y.received) (sym (none_more y.issued a)) fits.parts;
+      parts = subst (PartsFit state (is_some y.request) (is_some y.accepted) (is_some y.last_cancel) (is_some y.last_renew)
+          y.received) (sym (none_more y.issued a)) fits.parts;
       issued = record {
-        shipped = count_more is_shipped y.issued a ∙ (ap (λ n. n + (if is_shipped body then 1 else 0)) h.issued.shipped ∙ fits.shipped);
-        checked_in = has_more is_checked_in y.issued a ∙ (ap (λ b. b || is_checked_in body) h.issued.checked_in ∙ fits.checked_in);
+        shipped = count_more is_shipped y.issued a
+            ∙ (ap (λ n. n + (if is_shipped body then 1 else 0)) h.issued.shipped ∙ fits.shipped);
+        checked_in = has_more is_checked_in y.issued a
+            ∙ (ap (λ b. b || is_checked_in body) h.issued.checked_in ∙ fits.checked_in);
         conditions = ap (implies (is_among (Conditional ∷ []) state)) (ends_more y.issued a) ∙ fits.conditions;
       };
       accepted = named_more y.accepted y.issued a h.accepted;
@@ -92,11 +105,13 @@ next_kept y body state h fits grants =
     }
 
 -- The state and the APDU of each transition fit.
-transition_fits : (txn : Qualifiers) (state : State) (accepted last_cancel last_renew : Option ℕ) (received : Bool) (request : Option Apdu) (issued : List Apdu) (transition : Transition)
+transition_fits : (txn : Qualifiers) (state : State) (accepted last_cancel last_renew : Option ℕ) (received : Bool)
+    (request : Option Apdu) (issued : List Apdu) (transition : Transition)
     → ResponderRules (responder_of txn state accepted last_cancel last_renew received request issued)
     → IsTransition (responder_of txn state accepted last_cancel last_renew received request issued) transition
     → FitsNext (responder_of txn state accepted last_cancel last_renew received request issued) transition.body transition.next
-transition_fits txn InProcess accepted last_cancel last_renew received request issued _ h (answers results.Conditional is) = search rules
+transition_fits txn InProcess accepted last_cancel last_renew received request issued _ h (answers results.Conditional is) =
+    search rules
 transition_fits txn InProcess accepted last_cancel last_renew received request issued _ h (answers answer is) = search rules
 transition_fits txn state accepted last_cancel last_renew received request issued _ h (answers answer is) = search rules
 transition_fits txn CancelPending accepted last_cancel last_renew received request issued _ h (allows_cancel is) = search rules
@@ -141,15 +156,20 @@ transition_grants y _ (checks_in is) = no_grant refl refl
 transition_grants y _ (expires is) = no_grant refl refl
 
 -- A transition leads from a record that keeps the rules to one that keeps them.
-pub transition_kept : (y : ResponderRecord) (transition : Transition) → ResponderRules y → IsTransition y transition → ResponderRules (record_after y transition)
+pub transition_kept : (y : ResponderRecord) (transition : Transition) → ResponderRules y → IsTransition y transition
+    → ResponderRules (record_after y transition)
 transition_kept y transition h is =
-    next_kept y transition.body transition.next h (transition_fits y.txn y.state y.accepted y.last_cancel y.last_renew y.received y.request y.issued transition h is) (transition_grants y transition is)
+    next_kept y transition.body transition.next h
+    (transition_fits y.txn y.state y.accepted y.last_cancel y.last_renew y.received y.request y.issued transition h is)
+    (transition_grants y transition is)
 
 -- In IN-PROCESS and CONDITIONAL, an ILL-Answer unfilled with NOT-SUPPLIED fits.
-no_fits : (txn : Qualifiers) (state : State) (accepted last_cancel last_renew : Option ℕ) (received : Bool) (request : Option Apdu) (issued : List Apdu)
+no_fits : (txn : Qualifiers) (state : State) (accepted last_cancel last_renew : Option ℕ) (received : Bool)
+    (request : Option Apdu) (issued : List Apdu)
     → ResponderRules (responder_of txn state accepted last_cancel last_renew received request issued)
     → is_among (InProcess ∷ Conditional ∷ []) state ≡ true
-    → FitsNext (responder_of txn state accepted last_cancel last_renew received request issued) (types.IllAnswer results.Unfilled) NotSupplied
+    → FitsNext (responder_of txn state accepted last_cancel last_renew received request issued) (types.IllAnswer results.Unfilled)
+    NotSupplied
 no_fits txn InProcess accepted last_cancel last_renew received request issued h waits = search rules
 no_fits txn state accepted last_cancel last_renew received request issued h waits = search rules
 
@@ -161,13 +181,17 @@ no_kept y h waits =
     (no_fits y.txn y.state y.accepted y.last_cancel y.last_renew y.received y.request y.issued h waits) (no_grant refl refl)
 
 -- If c is outstanding, the state is CONDITIONAL, and the list has conditions with number c.
-outstanding_named : (txn : Qualifiers) (state : State) (accepted last_cancel last_renew : Option ℕ) (received : Bool) (request : Option Apdu) (issued : List Apdu) (c : ℕ)
+outstanding_named : (txn : Qualifiers) (state : State) (accepted last_cancel last_renew : Option ℕ) (received : Bool)
+    (request : Option Apdu) (issued : List Apdu) (c : ℕ)
     → ResponderRules (responder_of txn state accepted last_cancel last_renew received request issued)
     → is_the c (outstanding_number (responder_of txn state accepted last_cancel last_renew received request issued)) ≡ true
     → (is_among (Conditional ∷ []) state ≡ true) × (is_named (Some c) issued ≡ true)
 outstanding_named txn Conditional accepted last_cancel last_renew received request [] c h is = search rules
-outstanding_named txn Conditional accepted last_cancel last_renew received request (a ∷ issued) c h is =
-    (refl, subst (λ n. was names_conditions (a ∷ issued) n ≡ true) (sym (eqb-true c (length (a ∷ issued)) is)) h.issued.conditions)
+outstanding_named txn Conditional accepted last_cancel last_renew received request (a ∷ issued) c h is = (
+  refl,
+  subst (λ n. was names_conditions (a ∷ issued) n ≡ true) (sym (eqb-true c (length (a ∷ issued)) is))
+      h.issued.conditions,
+)
 outstanding_named txn state accepted last_cancel last_renew received request issued c h is = search rules
 
 -- After CONDITIONAL, with a number accepted, IN-PROCESS has the parts that it wants.
@@ -245,7 +269,8 @@ takes_admitted y new a answer admitted comes =
 -- ---- a delivery keeps the rules
 
 -- To take a Cancel in IN-PROCESS or CONDITIONAL keeps the rules.
-cancel_asked_kept : (txn : Qualifiers) (state : State) (accepted last_cancel last_renew : Option ℕ) (received : Bool) (request : Option Apdu) (issued : List Apdu) (number : ℕ)
+cancel_asked_kept : (txn : Qualifiers) (state : State) (accepted last_cancel last_renew : Option ℕ) (received : Bool)
+    (request : Option Apdu) (issued : List Apdu) (number : ℕ)
     → ResponderRules (responder_of txn state accepted last_cancel last_renew received request issued)
     → is_among (InProcess ∷ Conditional ∷ []) state ≡ true
     → ResponderRules (responder_of txn CancelPending accepted (Some number) last_renew received request issued)
@@ -258,7 +283,8 @@ arrived_kept : (y : ResponderRecord) → ResponderRules y → is_among later y.s
 arrived_kept y h is = search rules
 
 -- To take a Renew in SHIPPED or OVERDUE keeps the rules.
-renew_asked_kept : (txn : Qualifiers) (state next : State) (accepted last_cancel last_renew : Option ℕ) (received : Bool) (request : Option Apdu) (issued : List Apdu) (number : ℕ)
+renew_asked_kept : (txn : Qualifiers) (state next : State) (accepted last_cancel last_renew : Option ℕ) (received : Bool)
+    (request : Option Apdu) (issued : List Apdu) (number : ℕ)
     → ResponderRules (responder_of txn state accepted last_cancel last_renew received request issued)
     → is_among (Shipped ∷ Overdue ∷ []) state ≡ true
     → is_among (RenewPending ∷ RenewOverdue ∷ []) next ≡ true
@@ -267,7 +293,8 @@ renew_asked_kept txn Shipped RenewPending accepted last_cancel last_renew receiv
 renew_asked_kept txn state next accepted last_cancel last_renew received request issued number h is there = search rules
 
 -- To take a Returned while the item is out keeps the rules.
-sent_back_kept : (txn : Qualifiers) (state : State) (accepted last_cancel last_renew : Option ℕ) (received : Bool) (request : Option Apdu) (issued : List Apdu)
+sent_back_kept : (txn : Qualifiers) (state : State) (accepted last_cancel last_renew : Option ℕ) (received : Bool)
+    (request : Option Apdu) (issued : List Apdu)
     → ResponderRules (responder_of txn state accepted last_cancel last_renew received request issued)
     → is_among (Shipped ∷ RenewPending ∷ Overdue ∷ RenewOverdue ∷ Recall ∷ []) state ≡ true
     → ResponderRules (responder_of txn Returned accepted last_cancel last_renew received request issued)
@@ -309,9 +336,11 @@ message_kept y a (types.Renew wished) h same is =
     let asked = renew_asked_kept y.txn y.state in
     transition (is_at_most a.number y.last_renew) _ _ (λ _. h) (λ _.
     transition (is_among (Shipped ∷ []) y.state) _ _
-    (λ here. asked RenewPending y.accepted y.last_cancel y.last_renew y.received y.request y.issued a.number h (search (rules, here)) refl) (λ _.
+    (λ here. asked RenewPending y.accepted y.last_cancel y.last_renew y.received y.request y.issued a.number h
+    (search (rules, here)) refl) (λ _.
     transition (is_among (Overdue ∷ []) y.state) _ _
-    (λ here. asked RenewOverdue y.accepted y.last_cancel y.last_renew y.received y.request y.issued a.number h (search (rules, here)) refl) (λ _. h)))
+    (λ here. asked RenewOverdue y.accepted y.last_cancel y.last_renew y.received y.request y.issued a.number h
+    (search (rules, here)) refl) (λ _. h)))
 message_kept y a types.Returned h same is =
     transition (is_among (Shipped ∷ RenewPending ∷ Overdue ∷ RenewOverdue ∷ Recall ∷ []) y.state) _ _
     (sent_back_kept y.txn y.state y.accepted y.last_cancel y.last_renew y.received y.request y.issued h) (λ _.
@@ -336,4 +365,5 @@ pub takes_kept : (y : ResponderRecord) (a : Apdu) → IsResponder y → IsRespon
 takes_kept y a h =
     let rules = responder_rules y h in
     is_responder _ (unless_kept (first_refusal y.txn (not (is_requesters a.body)) a) y (take_message y a a.body) rules
-    (λ admitted. message_kept y a a.body rules (admitted_same (is_same_txn a.txn y.txn) (not (is_requesters a.body)) admitted) refl))
+    (λ admitted. message_kept y a a.body rules (admitted_same (is_same_txn a.txn y.txn) (not (is_requesters a.body)) admitted)
+    refl))

@@ -1,5 +1,6 @@
 -- The laws of a responder's single rows.
-use Rattle.std.proofs.Common.{rules, ◌≡◌, ◌⊎◌, inl, inr, ℕ, ◌+◌, Bool, true, false, not, ◌||◌, List, [], ◌∷◌, ◌++◌, Option, Some, None, is_some, Result, Ok, if◌then◌else◌, refl, ap, sym, subst, ◌∙◌}
+use Rattle.std.proofs.Common.{rules, ◌≡◌, ◌⊎◌, inl, inr, ℕ, ◌+◌, Bool, true, false, not, ◌||◌, List, [], ◌∷◌, ◌++◌, Option, Some}
+use Rattle.std.proofs.Common.{None, is_some, Result, Ok, if◌then◌else◌, refl, ap, sym, subst, ◌∙◌}
 use Rattle.std.specs.List.{count_by}
 use Rattle.std.specs.Option.{unwrap_or}
 use Rattle.std.proofs.lemmas.Bool.{and_from, eqb-true}
@@ -10,7 +11,8 @@ use Rattle.ill_values.specs.declared.apdu.Body.{Body}
 use Rattle.ill_values.specs.declared.apdu.Body.TheVariants as types
 use Rattle.ill_values.specs.declared.apdu.AnswerResult.TheVariants as results
 use Rattle.ill_core.specs.declared.state.State.{State}
-use Rattle.ill_core.specs.declared.state.State.TheVariants.{Idle, InProcess, Conditional, CancelPending, Cancelled, NotSupplied, Returned, CheckedIn}
+use Rattle.ill_core.specs.declared.state.State.TheVariants.{Idle, InProcess, Conditional, CancelPending, Cancelled, NotSupplied}
+use Rattle.ill_core.specs.declared.state.State.TheVariants.{Returned, CheckedIn}
 use Rattle.ill_core.specs.declared.responder.Deed.{Deed}
 use Rattle.ill_core.specs.State.{is_among}
 use Rattle.ill_core.specs.Rules.{implies}
@@ -24,7 +26,11 @@ use Rattle.ill_core.specs.Answers.{taken, repeat, unless_refused}
 use Rattle.ill_core.specs.declared.refusal.Refusal.{Refusal}
 use Rattle.ill_core.specs.declared.taking.Taking.{Taking}
 use Rattle.ill_core.specs.declared.taking.Taking.TheVariants.{Taken}
-use Rattle.ill_core.specs.ResponderEvidence.{Fact, Claims, IsEvidence, Requested, Accepted, CancelAsked, Arrived, SentBack, cancels, KeepsRequest, IssuesUnfilled, StaysLater, Ends, EntersByEnd, EndsOnce, is_unsupplied, is_cancelled, is_end, ended, ends_in, Question, MayCancel, MayRenew, answered_number, last_asked, waits, answers_to, AnswersLast, KeepsLast, TakesNew, AnsweredOnce, AnswersOnce}
+use Rattle.ill_core.specs.ResponderEvidence.{Fact, Claims, IsEvidence, Requested, Accepted, CancelAsked, Arrived, SentBack}
+use Rattle.ill_core.specs.ResponderEvidence.{cancels, KeepsRequest, IssuesUnfilled, StaysLater, Ends, EntersByEnd, EndsOnce}
+use Rattle.ill_core.specs.ResponderEvidence.{is_unsupplied, is_cancelled, is_end, ended, ends_in, Question, MayCancel, MayRenew}
+use Rattle.ill_core.specs.ResponderEvidence.{answered_number, last_asked, waits, answers_to, AnswersLast, KeepsLast, TakesNew}
+use Rattle.ill_core.specs.ResponderEvidence.{AnsweredOnce, AnswersOnce}
 use Rattle.ill_core.proofs.IssuedLemmas.{issued_body, not_longer, has_more, found_none, found_more}
 use Rattle.ill_core.proofs.ResponderLists.{count_more}
 use Rattle.ill_core.proofs.Rules.{responder_rules, is_responder}
@@ -35,7 +41,8 @@ use Rattle.ill_core.proofs.NumberLemmas.{all_weaker, below_new, at_most_below, d
 -- A deed that is done issues one APDU, with the next number.
 pub acts_issue : (y new : ResponderRecord) (deed : Deed) (today : Date) → acts y deed today ≡ Ok new
     → IssuesNext y.txn y.issued new.issued
-acts_issue y new deed today = of_acts (λ r. IssuesNext y.txn y.issued r.issued) y new deed today (λ transition there how. (transition.body, refl))
+acts_issue y new deed today = of_acts (λ r. IssuesNext y.txn y.issued r.issued) y new deed today
+    (λ transition there how. (transition.body, refl))
 
 -- A message issues nothing, or, if it is a Conditional-Reply no, one ILL-Answer unfilled.
 pub takes_issue : (y : ResponderRecord) (a : Apdu) → IssuesUnfilled y a.body (takes y a).1
@@ -52,7 +59,8 @@ takes_txn y a = of_takes (λ r. r.txn ≡ y.txn) y a (λ how. how.txn) (λ said 
 -- After a deed a responder is not in IDLE.
 pub acts_begun : (y new : ResponderRecord) (deed : Deed) (today : Date) → acts y deed today ≡ Ok new
     → is_among (Idle ∷ []) new.state ≡ false
-acts_begun y new deed today = of_acts (λ r. is_among (Idle ∷ []) r.state ≡ false) y new deed today (λ transition there how. how.on)
+acts_begun y new deed today = of_acts (λ r. is_among (Idle ∷ []) r.state ≡ false) y new deed today
+    (λ transition there how. how.on)
 
 -- An ILL-Request that is taken leads outside IDLE.
 asked_begins : (y : ResponderRecord) (a : Apdu) (here : Bool)
@@ -78,7 +86,8 @@ unless_begins None y answer begins is = begins is
 pub request_begins : (y : ResponderRecord) (a : Apdu) → is_ill_request a.body ≡ true → (takes y a).0 ≡ Ok Taken
     → is_among (Idle ∷ []) (takes y a).1.state ≡ false
 request_begins y a asks is =
-    unless_begins (first_refusal y.txn (not (is_requesters a.body)) a) y (take_message y a a.body) (message_begins y a a.body asks) is
+    unless_begins (first_refusal y.txn (not (is_requesters a.body)) a) y (take_message y a a.body)
+    (message_begins y a a.body asks) is
 
 -- Past IDLE a deed keeps the request.
 pub acts_request : (y new : ResponderRecord) (deed : Deed) (today : Date) → acts y deed today ≡ Ok new → KeepsRequest y new
@@ -91,7 +100,8 @@ takes_request y a = of_takes (KeepsRequest y) y a (λ how. how.request) (λ said
 -- A deed leads from a responder's record to a responder's record.
 pub acts_kept : (y new : ResponderRecord) (deed : Deed) (today : Date) → acts y deed today ≡ Ok new → IsResponder y
     → IsResponder new
-acts_kept y new deed today = of_acts (λ r. IsResponder y → IsResponder r) y new deed today (λ transition is how h. is_responder _ (transition_kept y transition (responder_rules y h) is))
+acts_kept y new deed today = of_acts (λ r. IsResponder y → IsResponder r) y new deed today
+    (λ transition is how h. is_responder _ (transition_kept y transition (responder_rules y h) is))
 
 -- No test is both false and true.
 pub not_both : {P : Type 0} (b : Bool) → b ≡ false → b ≡ true → P
@@ -104,11 +114,13 @@ final = NotSupplied ∷ Cancelled ∷ CheckedIn ∷ []
 -- A deed in a final state keeps the state.
 pub acts_final : (y new : ResponderRecord) (deed : Deed) (today : Date) → acts y deed today ≡ Ok new
     → is_among final y.state ≡ true → new.state ≡ y.state
-acts_final y new deed today = of_acts (λ r. is_among final y.state ≡ true → r.state ≡ y.state) y new deed today (λ transition there how. not_both _ how.final)
+acts_final y new deed today = of_acts (λ r. is_among final y.state ≡ true → r.state ≡ y.state) y new deed today
+    (λ transition there how. not_both _ how.final)
 
 -- A message in a final state keeps the state.
 pub takes_final : (y : ResponderRecord) (a : Apdu) → is_among final y.state ≡ true → (takes y a).1.state ≡ y.state
-takes_final y a = of_takes (λ r. is_among final y.state ≡ true → r.state ≡ y.state) y a (λ how. how.final) (λ said how. not_both _ how.final)
+takes_final y a = of_takes (λ r. is_among final y.state ≡ true → r.state ≡ y.state) y a (λ how. how.final)
+    (λ said how. not_both _ how.final)
 
 -- RETURNED is one of RETURNED and CHECKED-IN.
 returned_or_later : (state : State) → is_among (Returned ∷ []) state ≡ true → is_among (Returned ∷ CheckedIn ∷ []) state ≡ true
@@ -123,7 +135,8 @@ issues_stays y body next how = (
 
 -- After a deed, SHIPPED or later stays so, and RETURNED leads to CHECKED-IN at most.
 pub acts_later : (y new : ResponderRecord) (deed : Deed) (today : Date) → acts y deed today ≡ Ok new → StaysLater y new
-acts_later y new deed today = of_acts (StaysLater y) y new deed today (λ transition there. issues_stays y transition.body transition.next)
+acts_later y new deed today = of_acts (StaysLater y) y new deed today
+    (λ transition there. issues_stays y transition.body transition.next)
 
 -- After a message, SHIPPED or later stays so, and RETURNED leads to CHECKED-IN at most.
 pub takes_later : (y : ResponderRecord) (a : Apdu) → StaysLater y (takes y a).1
@@ -136,7 +149,8 @@ takes_later y a =
 issues_ends : (y : ResponderRecord) (body : Body) (next : State) → Issues y body next → Ends y (issues_to y body next)
 issues_ends y body next how a same is =
     let said = issued_body y.txn y.issued body a same in
-    subst (λ b. (is_among (InProcess ∷ Conditional ∷ CancelPending ∷ []) y.state ≡ true) × (ends_in b next ≡ true)) said (how.ends (ap is_end said ∙ is))
+    subst (λ b. (is_among (InProcess ∷ Conditional ∷ CancelPending ∷ []) y.state ≡ true) × (ends_in b next ≡ true)) said
+    (how.ends (ap is_end said ∙ is))
 
 -- A deed issues an end only while the request is open, and leads to the state of that end.
 pub acts_end : (y new : ResponderRecord) (deed : Deed) (today : Date) → acts y deed today ≡ Ok new → Ends y new
@@ -144,7 +158,8 @@ acts_end y new deed today = of_acts (Ends y) y new deed today (λ transition the
 
 -- A message issues an end only while the request is open, and leads to the state of that end.
 pub takes_end : (y : ResponderRecord) (a : Apdu) → Ends y (takes y a).1
-takes_end y a = of_takes (Ends y) y a (λ how b same is. not_longer y.issued _ b how.issued same) (λ said how. issues_ends y _ _ how)
+takes_end y a = of_takes (Ends y) y a (λ how b same is. not_longer y.issued _ b how.issued same)
+    (λ said how. issues_ends y _ _ how)
 
 -- If the new APDU is an end that leads to the new state, some new APDU is.
 by_end : (y new : ResponderRecord) (a : Apdu) → new.issued ≡ y.issued ++ a ∷ []
@@ -159,7 +174,8 @@ issues_enters y body next how is = by_end y (issues_to y body next) (next_apdu y
 
 -- A deed enters the state of an end only by issuing that end.
 pub acts_enter : (y new : ResponderRecord) (deed : Deed) (today : Date) → acts y deed today ≡ Ok new → EntersByEnd y new
-acts_enter y new deed today = of_acts (EntersByEnd y) y new deed today (λ transition there. issues_enters y transition.body transition.next)
+acts_enter y new deed today = of_acts (EntersByEnd y) y new deed today
+    (λ transition there. issues_enters y transition.body transition.next)
 
 -- A message enters the state of an end only by issuing that end.
 pub takes_enter : (y : ResponderRecord) (a : Apdu) → EntersByEnd y (takes y a).1
@@ -190,11 +206,13 @@ moves_once y new number body how h =
 -- A deed keeps the request ended once.
 pub acts_end_once : (y new : ResponderRecord) (deed : Deed) (today : Date) → acts y deed today ≡ Ok new → EndsOnce y
     → EndsOnce new
-acts_end_once y new deed today = of_acts (λ r. EndsOnce y → EndsOnce r) y new deed today (λ transition there. issues_once y transition.body transition.next)
+acts_end_once y new deed today =
+    of_acts (λ r. EndsOnce y → EndsOnce r) y new deed today (λ transition there. issues_once y transition.body transition.next)
 
 -- A message keeps the request ended once.
 pub takes_end_once : (y : ResponderRecord) (a : Apdu) → EndsOnce y → EndsOnce (takes y a).1
-takes_end_once y a = of_takes (λ r. EndsOnce y → EndsOnce r) y a (moves_once y (takes y a).1 a.number a.body) (λ said how. issues_once y _ _ how)
+takes_end_once y a = of_takes (λ r. EndsOnce y → EndsOnce r) y a (moves_once y (takes y a).1 a.number a.body)
+    (λ said how. issues_once y _ _ how)
 
 -- A transition answers a question only while it waits, and answers the last one taken.
 issues_answer : (question : Question) (y : ResponderRecord) (body : Body) (next : State) → Issues y body next
@@ -205,12 +223,15 @@ issues_answer question y body next how a n same is =
 -- A deed answers a question only while it waits, and answers the last one taken.
 pub acts_answer_last : (question : Question) (y new : ResponderRecord) (deed : Deed) (today : Date)
     → acts y deed today ≡ Ok new → AnswersLast question y new
-acts_answer_last question y new deed today = of_acts (AnswersLast question y) y new deed today (λ transition there. issues_answer question y transition.body transition.next)
+acts_answer_last question y new deed today =
+    of_acts (AnswersLast question y) y new deed today
+    (λ transition there. issues_answer question y transition.body transition.next)
 
 -- A message issues an answer to a question only while it waits, and that names the last one taken.
 pub takes_answer_last : (question : Question) (y : ResponderRecord) (a : Apdu) → AnswersLast question y (takes y a).1
 takes_answer_last question y a =
-    of_takes (AnswersLast question y) y a (λ how b n same is. not_longer y.issued _ b how.issued same) (λ said how. issues_answer question y _ _ how)
+    of_takes (AnswersLast question y) y a (λ how b n same is. not_longer y.issued _ b how.issued same)
+    (λ said how. issues_answer question y _ _ how)
 
 -- A transition keeps the last question.
 pub last_same : (question : Question) (y : ResponderRecord) (body : Body) (next : State)
@@ -226,13 +247,15 @@ issues_keeps question y body next how = (last_same question y body next, how.ask
 -- A deed keeps the last question, and lets none wait that did not wait before.
 pub acts_keep_last : (question : Question) (y new : ResponderRecord) (deed : Deed) (today : Date)
     → acts y deed today ≡ Ok new → KeepsLast question y new
-acts_keep_last question y new deed today = of_acts (KeepsLast question y) y new deed today (λ transition there. issues_keeps question y transition.body transition.next)
+acts_keep_last question y new deed today =
+    of_acts (KeepsLast question y) y new deed today (λ transition there. issues_keeps question y transition.body transition.next)
 
 -- A message keeps the last question, or asks a new one with a higher number.
 pub takes_keep_last : (question : Question) (y : ResponderRecord) (a : Apdu)
     → KeepsLast question y (takes y a).1 ⊎ TakesNew question a.number a.body y (takes y a).1
 takes_keep_last question y a =
-    of_takes (λ r. KeepsLast question y r ⊎ TakesNew question a.number a.body y r) y a (λ how. how.asked question) (λ said how. inl (issues_keeps question y _ _ how))
+    of_takes (λ r. KeepsLast question y r ⊎ TakesNew question a.number a.body y r) y a (λ how. how.asked question)
+    (λ said how. inl (issues_keeps question y _ _ how))
 
 -- If a question waits only when it waited before, those answered stay answered once.
 each_kept : (ns : List ℕ) (last : Option ℕ) (waited waiting : Bool) → (waiting ≡ true → waited ≡ true)
@@ -275,24 +298,28 @@ answer_issued : (question : Question) (y : ResponderRecord) (body : Body) (next 
     → implies (waits question y.state) (is_some (last_asked question y)) ≡ true → AnswersOnce question y
     → AnsweredOnce (answers_to question (with_next y.txn y.issued body)) (last_asked question y) (waits question next)
 answer_issued question y body next None none how there h =
-    subst (λ ns. AnsweredOnce ns (last_asked question y) (waits question next)) (sym (found_none (λ a. answered_number question a.body) y.issued (next_apdu y.txn y.issued body) none))
+    subst (λ ns. AnsweredOnce ns (last_asked question y) (waits question next))
+    (sym (found_none (λ a. answered_number question a.body) y.issued (next_apdu y.txn y.issued body) none))
     (each_kept _ _ _ _ (how.asked question) h)
 answer_issued question y body next (Some n) some how there h =
     let row = how.replies question n some in
     let last = known (last_asked question y) n (waits question y.state) there row.0 row.2 in
-    let before : AnsweredOnce (answers_to question y.issued) (Some n) true = subst (λ o. AnsweredOnce (answers_to question y.issued) o true) last
+    let before : AnsweredOnce (answers_to question y.issued) (Some n) true =
+    subst (λ o. AnsweredOnce (answers_to question y.issued) o true) last
     (subst (λ b. AnsweredOnce (answers_to question y.issued) (last_asked question y) b) row.0 h) in
     let after : AnsweredOnce (answers_to question y.issued ++ n ∷ []) (last_asked question y) (waits question next) =
     subst (λ o. AnsweredOnce (answers_to question y.issued ++ n ∷ []) o (waits question next)) (sym last)
     (subst (λ b. AnsweredOnce (answers_to question y.issued ++ n ∷ []) (Some n) b) (sym row.1) (each_answered _ n before)) in
-    subst (λ ns. AnsweredOnce ns (last_asked question y) (waits question next)) (sym (found_more (λ a. answered_number question a.body) y.issued (next_apdu y.txn y.issued body) n some)) after
+    subst (λ ns. AnsweredOnce ns (last_asked question y) (waits question next))
+    (sym (found_more (λ a. answered_number question a.body) y.issued (next_apdu y.txn y.issued body) n some)) after
 
 -- A transition keeps all questions answered once, if the last one is there while it waits.
 issues_each : (question : Question) (y : ResponderRecord) (body : Body) (next : State) → Issues y body next
     → implies (waits question y.state) (is_some (last_asked question y)) ≡ true → AnswersOnce question y
     → AnswersOnce question (issues_to y body next)
 issues_each question y body next how there h =
-    subst (λ o. AnsweredOnce (answers_to question (with_next y.txn y.issued body)) o (waits question next)) (sym (last_same question y body next))
+    subst (λ o. AnsweredOnce (answers_to question (with_next y.txn y.issued body)) o (waits question next))
+    (sym (last_same question y body next))
     (answer_issued question y body next (answered_number question body) refl how there h)
 
 -- A deed keeps all questions answered once, if the last one is there while it waits.
@@ -300,7 +327,8 @@ pub acts_once : (question : Question) (y new : ResponderRecord) (deed : Deed) (t
     → implies (waits question y.state) (is_some (last_asked question y)) ≡ true → AnswersOnce question y
     → AnswersOnce question new
 acts_once question y new deed today done there =
-    of_acts (λ r. AnswersOnce question y → AnswersOnce question r) y new deed today (λ transition leads how. issues_each question y transition.body transition.next how there) done
+    of_acts (λ r. AnswersOnce question y → AnswersOnce question r) y new deed today
+    (λ transition leads how. issues_each question y transition.body transition.next how there) done
 
 -- A move keeps all questions answered once.
 moves_each : (question : Question) (y new : ResponderRecord) (number : ℕ) (body : Body) → new.issued ≡ y.issued
@@ -308,10 +336,12 @@ moves_each : (question : Question) (y new : ResponderRecord) (number : ℕ) (bod
     → AnswersOnce question y → AnswersOnce question new
 moves_each question y new number body same (inl keeps) h =
     subst (λ apdus. AnsweredOnce (answers_to question apdus) (last_asked question new) (waits question new.state)) (sym same)
-    (subst (λ o. AnsweredOnce (answers_to question y.issued) o (waits question new.state)) (sym keeps.0) (each_kept _ _ _ _ keeps.1 h))
+    (subst (λ o. AnsweredOnce (answers_to question y.issued) o (waits question new.state)) (sym keeps.0)
+    (each_kept _ _ _ _ keeps.1 h))
 moves_each question y new number body same (inr asked) h =
     subst (λ apdus. AnsweredOnce (answers_to question apdus) (last_asked question new) (waits question new.state)) (sym same)
-    (subst (λ o. AnsweredOnce (answers_to question y.issued) o (waits question new.state)) (sym asked.2) (each_asked _ _ _ _ number asked.1 h))
+    (subst (λ o. AnsweredOnce (answers_to question y.issued) o (waits question new.state)) (sym asked.2)
+    (each_asked _ _ _ _ number asked.1 h))
 
 -- An ILL-Answer unfilled answers no question.
 pub no_answer : (question : Question) → answered_number question (types.IllAnswer results.Unfilled) ≡ None
@@ -323,9 +353,12 @@ unfilled_each : (question : Question) (y : ResponderRecord) → Issues y (types.
     → AnswersOnce question y
     → AnswersOnce question (issues_to y (types.IllAnswer results.Unfilled) NotSupplied)
 unfilled_each question y how h =
-    subst (λ ns. AnsweredOnce ns (last_asked question (issues_to y (types.IllAnswer results.Unfilled) NotSupplied)) (waits question NotSupplied))
-    (sym (found_none (λ a. answered_number question a.body) y.issued (next_apdu y.txn y.issued (types.IllAnswer results.Unfilled)) (no_answer question)))
-    (subst (λ o. AnsweredOnce (answers_to question y.issued) o (waits question NotSupplied)) (sym (last_same question y _ _)) (each_kept _ _ _ _ (how.asked question) h))
+    subst (λ ns. AnsweredOnce ns (last_asked question (issues_to y (types.IllAnswer results.Unfilled) NotSupplied))
+    (waits question NotSupplied))
+    (sym (found_none (λ a. answered_number question a.body) y.issued (next_apdu y.txn y.issued (types.IllAnswer results.Unfilled))
+    (no_answer question)))
+    (subst (λ o. AnsweredOnce (answers_to question y.issued) o (waits question NotSupplied)) (sym (last_same question y _ _))
+    (each_kept _ _ _ _ (how.asked question) h))
 
 -- A message keeps all questions answered once.
 pub takes_once : (question : Question) (y : ResponderRecord) (a : Apdu) → AnswersOnce question y
@@ -376,7 +409,8 @@ pub acts_shows : (y new : ResponderRecord) (deed : Deed) (today : Date) (fact : 
     → implies (waits MayCancel y.state) (is_some y.last_cancel) ≡ true → Claims new fact → Claims y fact
 acts_shows y new deed today fact done there =
     of_acts (λ r. Claims r fact → Claims y fact) y new deed today
-    (λ transition leads how. issues_shows y transition.body transition.next fact how (yes_answers_last y transition.body transition.next how there)) done
+    (λ transition leads how. issues_shows y transition.body transition.next fact how
+    (yes_answers_last y transition.body transition.next how there)) done
 
 -- Each fact that a record shows after a move was shown before, or the message tells it.
 moves_shows : (y new : ResponderRecord) (number : ℕ) (body : Body) (fact : Fact) → Moves y number body new → Claims new fact

@@ -1,5 +1,7 @@
 -- The effect of one more APDU on the tests of a list that a responder has issued.
-use Rattle.std.proofs.Common.{rules, arith, ◌≡◌, ◌⊎◌, inl, inr, ℕ, zero, suc, ◌+◌, ◌<◌, ◌≤◌, Bool, true, false, not, ◌&&◌, ◌||◌, List, [], ◌∷◌, ◌++◌, length, Option, Some, None, is_some, if◌then◌else◌, cond, drop, refl, ap, length-append, sym, subst, ◌∙◌}
+use Rattle.std.proofs.Common.{rules, arith, ◌≡◌, ◌⊎◌, inl, inr, ℕ, zero, suc, ◌+◌, ◌<◌, ◌≤◌, Bool, true, false, not, ◌&&◌, ◌||◌}
+use Rattle.std.proofs.Common.{List, [], ◌∷◌, ◌++◌, length, Option, Some, None, is_some, if◌then◌else◌, cond, drop, refl, ap}
+use Rattle.std.proofs.Common.{length-append, sym, subst, ◌∙◌}
 use Rattle.std.specs.List.{filter_map, cons_option, last_or, count_by}
 use Rattle.std.proofs.lemmas.Bool.{and_parts, and_from}
 use Rattle.std.proofs.lemmas.List.Sums.{sum_by-append, sum_by-cons}
@@ -80,13 +82,21 @@ grant_rises last (Some d) dates = rise_first last d dates
 pub rise_at : (last found next : Option Date) (follows : Bool) (apdus : List Apdu) (i : ℕ) (a : Apdu)
     → i < length apdus → a ≡ get_or apdus i a
     → found ≡ granted_day a → follows ≡ rises last found → next ≡ option_or found last
-    → rise_from last (filter_map granted_day (drop i apdus)) ≡ (follows && rise_from next (filter_map granted_day (drop (i + 1) apdus)))
+    → rise_from last (filter_map granted_day (drop i apdus))
+    ≡ (follows && rise_from next (filter_map granted_day (drop (i + 1) apdus)))
 rise_at last found next follows apdus i a within there is may then_last =
     let others = filter_map granted_day (drop (i + 1) apdus) in
-    let prefix : rise_from last (filter_map granted_day (drop i apdus)) ≡ rise_from last (filter_map granted_day (get_or apdus i a ∷ drop (i + 1) apdus)) = ap (λ xs. rise_from last (filter_map granted_day xs)) (drop_more apdus i a within) in
-    let same : rise_from last (filter_map granted_day (get_or apdus i a ∷ drop (i + 1) apdus)) ≡ rise_from last (filter_map granted_day (a ∷ drop (i + 1) apdus)) = ap (λ b. rise_from last (filter_map granted_day (b ∷ drop (i + 1) apdus))) (sym there) in
-    let known : rise_from last (filter_map granted_day (a ∷ drop (i + 1) apdus)) ≡ rise_from last (cons_option found others) = ap (λ o. rise_from last (cons_option o others)) (sym is) in
-    prefix ∙ (same ∙ (known ∙ (grant_rises last found others ∙ (ap (λ b. b && rise_from (option_or found last) others) (sym may) ∙ ap (λ o. follows && rise_from o others) (sym then_last)))))
+    let prefix : rise_from last (filter_map granted_day (drop i apdus))
+    ≡ rise_from last (filter_map granted_day (get_or apdus i a ∷ drop (i + 1) apdus)) =
+    ap (λ xs. rise_from last (filter_map granted_day xs)) (drop_more apdus i a within) in
+    let same : rise_from last (filter_map granted_day (get_or apdus i a ∷ drop (i + 1) apdus))
+    ≡ rise_from last (filter_map granted_day (a ∷ drop (i + 1) apdus)) =
+    ap (λ b. rise_from last (filter_map granted_day (b ∷ drop (i + 1) apdus))) (sym there) in
+    let known : rise_from last (filter_map granted_day (a ∷ drop (i + 1) apdus)) ≡ rise_from last (cons_option found others) =
+    ap (λ o. rise_from last (cons_option o others)) (sym is) in
+    prefix ∙ (same ∙ (known ∙ (grant_rises last found others
+    ∙ (ap (λ b. b && rise_from (option_or found last) others) (sym may)
+    ∙ ap (λ o. follows && rise_from o others) (sym then_last)))))
 
 -- After the last APDU, no date is left to rise.
 pub rise_end : (last : Option Date) (apdus : List Apdu) (i : ℕ) → length apdus ≤ i
@@ -110,9 +120,12 @@ pub ships_at : (shipped renewal : Bool) (apdus : List Apdu) (i : ℕ) (a : Apdu)
     → ships_first (drop i apdus) ≡ (shipped || (not renewal && ships_first (drop (i + 1) apdus)))
 ships_at shipped renewal apdus i a within there is_s is_r =
     let others = ships_first (drop (i + 1) apdus) in
-    let prefix : ships_first (drop i apdus) ≡ ships_first (get_or apdus i a ∷ drop (i + 1) apdus) = ap ships_first (drop_more apdus i a within) in
-    let same : ships_first (get_or apdus i a ∷ drop (i + 1) apdus) ≡ ships_first (a ∷ drop (i + 1) apdus) = ap (λ b. ships_first (b ∷ drop (i + 1) apdus)) (sym there) in
-    prefix ∙ (same ∙ (ships_cons a (drop (i + 1) apdus) ∙ (ap (λ b. b || (not (is_renewal a.body) && others)) (sym is_s) ∙ ap (λ b. shipped || (not b && others)) (sym is_r))))
+    let prefix : ships_first (drop i apdus) ≡ ships_first (get_or apdus i a ∷ drop (i + 1) apdus) =
+    ap ships_first (drop_more apdus i a within) in
+    let same : ships_first (get_or apdus i a ∷ drop (i + 1) apdus) ≡ ships_first (a ∷ drop (i + 1) apdus) =
+    ap (λ b. ships_first (b ∷ drop (i + 1) apdus)) (sym there) in
+    prefix ∙ (same ∙ (ships_cons a (drop (i + 1) apdus)
+    ∙ (ap (λ b. b || (not (is_renewal a.body) && others)) (sym is_s) ∙ ap (λ b. shipped || (not b && others)) (sym is_r))))
 
 -- After the last APDU, the list ships first.
 pub ships_end : (apdus : List Apdu) (i : ℕ) → length apdus ≤ i → ships_first (drop i apdus) ≡ true
@@ -179,9 +192,11 @@ unfolding ships_first
 no_grants [] first none = refl
 no_grants (b ∷ apdus) first none =
     let counted = none_counted (is_shipped b.body) (count_by (λ c. is_shipped c.body) apdus) (sym (count_first b apdus) ∙ none) in
-    let others : not (is_renewal b.body) && ships_first apdus ≡ true = ap (λ c. c || (not (is_renewal b.body) && ships_first apdus)) (sym counted.0) ∙ first in
+    let others : not (is_renewal b.body) && ships_first apdus ≡ true =
+    ap (λ c. c || (not (is_renewal b.body) && ships_first apdus)) (sym counted.0) ∙ first in
     let parts = and_parts _ _ others in
-    ap (λ o. cons_option o (filter_map granted_day apdus)) (grants_none b.body counted.0 (not_true _ parts.0)) ∙ no_grants apdus parts.1 counted.1
+    ap (λ o. cons_option o (filter_map granted_day apdus)) (grants_none b.body counted.0 (not_true _ parts.0))
+    ∙ no_grants apdus parts.1 counted.1
 
 -- If one Shipped is counted, the first APDU is one, or one is among the others.
 one_there : (shipped : Bool) (others : ℕ) {A B : Type 0} → 1 ≤ cond shipped 1 0 + others → (shipped ≡ true → A)
@@ -194,7 +209,8 @@ pub due_there : (apdus : List Apdu) → 1 ≤ count_by (λ b. is_shipped b.body)
 due_there [] there = search rules
 due_there (b ∷ apdus) there =
     last_first (granted_day b) (filter_map granted_day apdus)
-    (one_there (is_shipped b.body) (count_by (λ c. is_shipped c.body) apdus) (subst (λ n. 1 ≤ n) (count_first b apdus) there) (grants_some b.body) (due_there apdus))
+    (one_there (is_shipped b.body) (count_by (λ c. is_shipped c.body) apdus) (subst (λ n. 1 ≤ n) (count_first b apdus) there)
+    (grants_some b.body) (due_there apdus))
 
 -- A request that is of `txn`, or none in IDLE, is of `txn`.
 unless_idle : (txn : Qualifiers) (is_idle : Bool) (request : Option Apdu) → is_request_of txn request ≡ true

@@ -1,5 +1,6 @@
 -- The ways in which a message changes a responder's record, and the messages that the record has heard after it.
-use Rattle.std.proofs.Common.{rules, arith, ◌≡◌, ℕ, suc, ◌+◌, ◌≤◌, nat_lt, length, length-append, Bool, true, false, not, ◌&&◌, ◌||◌, List, [], ◌∷◌, Option, Some, None, Result, Ok, Err, if◌then◌else◌, refl, sym, subst}
+use Rattle.std.proofs.Common.{rules, arith, ◌≡◌, ℕ, suc, ◌+◌, ◌≤◌, nat_lt, length, length-append, Bool, true, false, not, ◌&&◌}
+use Rattle.std.proofs.Common.{◌||◌, List, [], ◌∷◌, Option, Some, None, Result, Ok, Err, if◌then◌else◌, refl, sym, subst}
 use Rattle.std.proofs.lemmas.Bool.{cond_both, leb-true, or_left, or_right, not_from_false, not_from_true}
 use Rattle.ill_values.specs.Day.{Date}
 use Rattle.ill_values.specs.declared.apdu.Apdu.{Apdu}
@@ -7,7 +8,8 @@ use Rattle.ill_values.specs.declared.apdu.Body.{Body}
 use Rattle.ill_values.specs.declared.apdu.Body.TheVariants as types
 use Rattle.ill_values.specs.declared.apdu.AnswerResult.TheVariants as results
 use Rattle.ill_core.specs.declared.state.State.{State}
-use Rattle.ill_core.specs.declared.state.State.TheVariants.{Idle, InProcess, Conditional, CancelPending, NotSupplied, Shipped, RenewPending, Overdue, RenewOverdue, Returned, CheckedIn}
+use Rattle.ill_core.specs.declared.state.State.TheVariants.{Idle, InProcess, Conditional, CancelPending, NotSupplied, Shipped}
+use Rattle.ill_core.specs.declared.state.State.TheVariants.{RenewPending, Overdue, RenewOverdue, Returned, CheckedIn}
 use Rattle.ill_core.specs.declared.refusal.Refusal.{Refusal}
 use Rattle.ill_core.specs.declared.refusal.Refusal.TheVariants.{NumbersUsed, OtherTransaction, WrongRole}
 use Rattle.ill_core.specs.declared.taking.Taking.{Taking}
@@ -41,7 +43,8 @@ pub data Change (y : ResponderRecord) (number : ℕ) : Body → ResponderRecord 
   returns : is_among lent y.state ≡ true → Change y number types.Returned (record y { state = Returned })
 
 -- If each transition that may be the first to fit changes the record so, the answer does.
-transition : (y : ResponderRecord) (number : ℕ) (body : Body) (fits : Bool) (here others : Result Taking Refusal × ResponderRecord)
+transition : (y : ResponderRecord) (number : ℕ) (body : Body) (fits : Bool)
+    (here others : Result Taking Refusal × ResponderRecord)
     → (fits ≡ true → Change y number body here.1) → (fits ≡ false → Change y number body others.1)
     → Change y number body (if fits then here else others).1
 transition y number body fits here others = cond_both fits here others (λ r. Change y number body r.1)
@@ -55,7 +58,8 @@ waits_conditional c state size is = search rules
 -- A no is answered, or leaves the record if no number is left.
 no_changes : (y : ResponderRecord) (number c : ℕ) (left : Bool) → nat_lt (length y.issued) 255 ≡ left
     → is_among undecided y.state ≡ true
-    → Change y number (types.ConditionalReply c false) (answers_no y (if left then Ok (length y.issued + 1) else Err NumbersUsed)).1
+    → Change y number (types.ConditionalReply c false)
+    (answers_no y (if left then Ok (length y.issued + 1) else Err NumbersUsed)).1
 no_changes y number c true few waiting = declines c waiting few
 no_changes y number c false few waiting = leaves _
 
@@ -86,14 +90,16 @@ message_changes y a types.Returned =
 message_changes y a other = leaves _
 
 -- A message that is refused leaves the record.
-unless_changes : (y : ResponderRecord) (number : ℕ) (body : Body) (refused : Option Refusal) (answer : Result Taking Refusal × ResponderRecord)
+unless_changes : (y : ResponderRecord) (number : ℕ) (body : Body) (refused : Option Refusal)
+    (answer : Result Taking Refusal × ResponderRecord)
     → Change y number body answer.1 → Change y number body (unless_refused refused y answer).1
 unless_changes y number body None answer change = change
 unless_changes y number body (Some refusal) answer change = leaves body
 
 -- A message changes a record in one of these ways, or leaves it.
 pub takes_changes : (y : ResponderRecord) (a : Apdu) → Change y a.number a.body (takes y a).1
-takes_changes y a = unless_changes y a.number a.body (first_refusal y.txn (not (is_requesters a.body)) a) (take_message y a a.body) (message_changes y a a.body)
+takes_changes y a = unless_changes y a.number a.body (first_refusal y.txn (not (is_requesters a.body)) a)
+    (take_message y a a.body) (message_changes y a a.body)
 
 -- ---- numbers
 
@@ -104,7 +110,11 @@ change_few y new number body (leaves _) few = few
 change_few y new number body (requests expiry item a idle) few = few
 change_few y new number body (accepts c waits) few = few
 change_few y new number body (declines c waits left) few =
-    omega (arith, leb-true (suc (length y.issued)) 255 left, length-append y.issued (next_apdu y.txn y.issued (types.IllAnswer results.Unfilled) ∷ []))
+    omega (
+      arith,
+      leb-true (suc (length y.issued)) 255 left,
+      length-append y.issued (next_apdu y.txn y.issued (types.IllAnswer results.Unfilled) ∷ []),
+    )
 change_few y new number body (cancels above waits) few = few
 change_few y new number body arrives few = few
 change_few y new number body (renews wished above here) few = few
@@ -129,7 +139,8 @@ heard_transition number body fits here others = cond_both fits here others (Hear
 
 -- After a no the record has heard it, with a number left for the answer or without.
 no_heard : (y : ResponderRecord) (number c : ℕ) (left : Bool) → nat_lt (length y.issued) 255 ≡ left
-    → has_heard (answers_no y (if left then Ok (length y.issued + 1) else Err NumbersUsed)).1 number (types.ConditionalReply c false) ≡ true
+    → has_heard (answers_no y (if left then Ok (length y.issued + 1) else Err NumbersUsed)).1 number
+    (types.ConditionalReply c false) ≡ true
 no_heard y number c true few = refl
 no_heard y number c false few = or_right (not (is_among undecided y.state)) _ (not_from_false _ few)
 
@@ -149,23 +160,32 @@ message_heard y a (types.IllRequest expiry item) =
 message_heard y a (types.ConditionalReply c true) =
     heard_transition _ _ (is_the c (outstanding_number y)) _ _ (λ _. hears refl) (λ other.
     heard_transition _ _ (is_the c y.accepted) _ _ (λ _. hears (not_from_false _ other)) (λ _.
-    heard_transition _ _ (was names_conditions y.issued c) _ _ (λ _. hears (not_from_false _ other)) (λ _. hears (not_from_false _ other))))
+    heard_transition _ _ (was names_conditions y.issued c) _ _ (λ _. hears (not_from_false _ other))
+    (λ _. hears (not_from_false _ other))))
 message_heard y a (types.ConditionalReply c false) =
     heard_transition _ _ (is_among undecided y.state) _ _ (λ _. hears (no_heard y a.number c _ refl)) (λ decided.
-    heard_transition _ _ (is_among (NotSupplied ∷ []) y.state) _ _ (λ _. hears (or_left _ _ (not_from_false _ decided))) (λ _. hears (or_left _ _ (not_from_false _ decided))))
+    heard_transition _ _ (is_among (NotSupplied ∷ []) y.state) _ _ (λ _. hears (or_left _ _ (not_from_false _ decided)))
+    (λ _. hears (or_left _ _ (not_from_false _ decided))))
 message_heard y a types.Cancel =
-    heard_transition _ _ (is_at_most a.number y.last_cancel) _ _ (λ most. hears (or_right (not (is_among undecided y.state)) _ most)) (λ _.
-    heard_transition _ _ (is_among undecided y.state) _ _ (λ _. hears refl) (λ decided. hears (or_left _ _ (not_from_false _ decided))))
+    heard_transition _ _ (is_at_most a.number y.last_cancel) _ _
+    (λ most. hears (or_right (not (is_among undecided y.state)) _ most)) (λ _.
+    heard_transition _ _ (is_among undecided y.state) _ _ (λ _. hears refl)
+    (λ decided. hears (or_left _ _ (not_from_false _ decided))))
 message_heard y a types.Received =
-    heard_transition _ _ (is_among later y.state && not y.received) _ _ (λ _. hears (or_right (not (is_among later y.state)) _ refl)) (λ none.
-    heard_transition _ _ (is_among later y.state) _ _ (λ _. hears (received_heard _ _ none)) (λ _. hears (received_heard _ _ none)))
+    heard_transition _ _ (is_among later y.state && not y.received) _ _
+    (λ _. hears (or_right (not (is_among later y.state)) _ refl)) (λ none.
+    heard_transition _ _ (is_among later y.state) _ _ (λ _. hears (received_heard _ _ none))
+    (λ _. hears (received_heard _ _ none)))
 message_heard y a (types.Renew wished) =
-    heard_transition _ _ (is_at_most a.number y.last_renew) _ _ (λ most. hears (or_right (not (is_among (Shipped ∷ Overdue ∷ []) y.state)) _ most)) (λ _.
+    heard_transition _ _ (is_at_most a.number y.last_renew) _ _
+    (λ most. hears (or_right (not (is_among (Shipped ∷ Overdue ∷ []) y.state)) _ most)) (λ _.
     heard_transition _ _ (is_among (Shipped ∷ []) y.state) _ _ (λ _. hears refl) (λ one.
-    heard_transition _ _ (is_among (Overdue ∷ []) y.state) _ _ (λ _. hears refl) (λ other. hears (renew_heard y.state _ one other))))
+    heard_transition _ _ (is_among (Overdue ∷ []) y.state) _ _ (λ _. hears refl)
+    (λ other. hears (renew_heard y.state _ one other))))
 message_heard y a types.Returned =
     heard_transition _ _ (is_among lent y.state) _ _ (λ _. hears refl) (λ home.
-    heard_transition _ _ (is_among (Returned ∷ CheckedIn ∷ []) y.state) _ _ (λ _. hears (not_from_false _ home)) (λ _. hears (not_from_false _ home)))
+    heard_transition _ _ (is_among (Returned ∷ CheckedIn ∷ []) y.state) _ _ (λ _. hears (not_from_false _ home))
+    (λ _. hears (not_from_false _ home)))
 message_heard y a other = hears refl
 
 -- The record after such an answer has heard the message.
@@ -276,12 +296,15 @@ change_stays : (y new : ResponderRecord) (first : ℕ) (by : Body) (number : ℕ
     → has_heard new number body ≡ true
 change_stays y _ first _ number body (leaves by) none h = h
 change_stays y _ first _ number body (requests expiry item a idle) none h = requests_stays y a expiry item number body none
-change_stays y _ first _ number body (accepts c there) none h = accepts_stays y c number body (undecided_conditional y.state there) h
+change_stays y _ first _ number body (accepts c there) none h =
+    accepts_stays y c number body (undecided_conditional y.state there) h
 change_stays y _ first _ number body (declines c waiting left) none h = declines_stays y number body
 change_stays y _ first _ number body (cancels above waiting) none h = cancels_stays y (Some first) number body
 change_stays y _ first _ number body arrives none h = arrives_stays y number body h
-change_stays y _ first _ number body (renews wished above here) none h = renews_stays y RenewPending (Some first) number body (lent_shipped y.state here) refl h
-change_stays y _ first _ number body (renews_late wished above here) none h = renews_stays y RenewOverdue (Some first) number body (lent_overdue y.state here) refl h
+change_stays y _ first _ number body (renews wished above here) none h =
+    renews_stays y RenewPending (Some first) number body (lent_shipped y.state here) refl h
+change_stays y _ first _ number body (renews_late wished above here) none h =
+    renews_stays y RenewOverdue (Some first) number body (lent_overdue y.state here) refl h
 change_stays y _ first _ number body (returns out) none h = returns_stays y number body out h
 
 -- A message that was heard stays heard after the next APDU, unless that reopens it.

@@ -1,5 +1,6 @@
 -- A responder issues an Overdue for the due date, after the grant of it, and the state shows it.
-use Rattle.std.proofs.Common.{rules, arith, ◌≡◌, ◌⊎◌, inl, inr, ℕ, ◌+◌, ◌<◌, ◌≤◌, Bool, true, false, ◌||◌, List, [], ◌∷◌, ◌++◌, length, Option, Some, None, is_some, Ok, if◌then◌else◌, refl, ap, sym, subst, ◌∙◌}
+use Rattle.std.proofs.Common.{rules, arith, ◌≡◌, ◌⊎◌, inl, inr, ℕ, ◌+◌, ◌<◌, ◌≤◌, Bool, true, false, ◌||◌, List, [], ◌∷◌, ◌++◌}
+use Rattle.std.proofs.Common.{length, Option, Some, None, is_some, Ok, if◌then◌else◌, refl, ap, sym, subst, ◌∙◌}
 use Rattle.std.specs.List.{last_or, filter_map}
 use Rattle.std.specs.Option.{unwrap_or}
 use Rattle.std.proofs.lemmas.Bool.{or_right, false_from_ne_true}
@@ -10,7 +11,8 @@ use Rattle.ill_values.specs.declared.apdu.Body.{Body}
 use Rattle.ill_values.specs.declared.apdu.Body.TheVariants as types
 use Rattle.ill_values.specs.declared.apdu.AnswerResult.TheVariants as results
 use Rattle.ill_core.specs.declared.state.State.{State}
-use Rattle.ill_core.specs.declared.state.State.TheVariants.{NotSupplied, Shipped, RenewPending, Overdue, RenewOverdue, Recall, Returned, CheckedIn}
+use Rattle.ill_core.specs.declared.state.State.TheVariants.{NotSupplied, Shipped, RenewPending, Overdue, RenewOverdue, Recall}
+use Rattle.ill_core.specs.declared.state.State.TheVariants.{Returned, CheckedIn}
 use Rattle.ill_core.specs.declared.responder.Deed.{Deed}
 use Rattle.ill_core.specs.State.{is_among}
 use Rattle.ill_core.specs.Dates.{is_same_day, is_before, is_after_due}
@@ -27,7 +29,9 @@ use Rattle.ill_core.proofs.GrantLemmas.{before_on, not_before_itself, not_before
 use Rattle.ill_core.proofs.ResponderGrants.{grant_date, last_none, not_shipped, after_granted}
 use Rattle.ill_core.proofs.Rules.{responder_rules}
 use Rattle.ill_core.proofs.ResponderLists.{no_grants, due_there}
-use Rattle.ill_core.proofs.ResponderTransitions.{IsTransition, answers, allows_cancel, refuses_cancel, ships, renews, refuses_renewal, refuses_late, reminds, reminds_renewing, recalls, checks_in, expires}
+use Rattle.ill_core.proofs.ResponderTransitions.{IsTransition, answers, allows_cancel, refuses_cancel, ships, renews}
+use Rattle.ill_core.proofs.ResponderTransitions.{refuses_renewal, refuses_late, reminds, reminds_renewing, recalls, checks_in}
+use Rattle.ill_core.proofs.ResponderTransitions.{expires}
 use Rattle.ill_core.proofs.ResponderRows.{of_acts}
 use Rattle.ill_core.proofs.ResponderLaws.{not_both}
 use Rattle.ill_core.proofs.ResponderMoves.{Change, takes_changes, leaves, requests, accepts, declines, cancels, arrives, returns}
@@ -108,7 +112,8 @@ not_before_back a b before = false_from_ne_true (is_before b a) (λ back. not_be
 -- With one more APDU each Overdue still follows the grant of its date, if new grants are for later dates.
 order_more : (apdus : List Apdu) (a : Apdu) → GrantsBeforeOverdue apdus
     → ((due : Date) → grant_in a.body ≡ Some due → IsAfterOverdues apdus due) → GrantsBeforeOverdue (apdus ++ a ∷ [])
-order_more apdus a h newest m n c b e due day at_m at_n grants is same = go (message_more apdus a b m at_m) (message_more apdus a e n at_n)
+order_more apdus a h newest m n c b e due day at_m at_n grants is same =
+    go (message_more apdus a b m at_m) (message_more apdus a e n at_n)
   where
     go : ((message apdus m ≡ Some b) × (m ≤ length apdus)) ⊎ ((m ≡ length apdus + 1) × (a ≡ b))
         → ((message apdus n ≡ Some e) × (n ≤ length apdus)) ⊎ ((n ≡ length apdus + 1) × (a ≡ e)) → m < n
@@ -117,7 +122,8 @@ order_more apdus a h newest m n c b e due day at_m at_n grants is same = go (mes
     go (inr new) (inl older) =
         let granted = grant_date a.body c due (ap (λ (x : Apdu). grant_of x.body) new.1 ∙ grants) in
         absurd (not_before_same day due same (newest due granted n e day older.0 is))
-    go (inr new) (inr also) = one_type a.body c due day (ap (λ (x : Apdu). grant_of x.body) new.1 ∙ grants) (ap (λ (x : Apdu). x.body) also.1 ∙ is)
+    go (inr new) (inr also) = one_type a.body c due day (ap (λ (x : Apdu). grant_of x.body) new.1 ∙ grants)
+        (ap (λ (x : Apdu). x.body) also.1 ∙ is)
 
 -- P holds of each Overdue with one more APDU, if it holds of the old ones and the new one.
 overdue_more : (P : Date → Type 0) (apdus : List Apdu) (a : Apdu) → AllOverdues P apdus
@@ -131,7 +137,8 @@ overdue_more P apdus a old newest n b day at is = go (message_more apdus a b n a
 -- One more APDU that is no Overdue leaves those for a day.
 overdue_stays : (apdus : List Apdu) (a : Apdu) (due : Date) → is_overdue_of due a.body ≡ false
     → has_overdue due (apdus ++ a ∷ []) ≡ has_overdue due apdus
-overdue_stays apdus a due other = has_more (is_overdue_of due) apdus a ∙ (ap (λ b. has_overdue due apdus || b) other ∙ or-false (has_overdue due apdus))
+overdue_stays apdus a due other =
+    has_more (is_overdue_of due) apdus a ∙ (ap (λ b. has_overdue due apdus || b) other ∙ or-false (has_overdue due apdus))
 
 -- One more APDU that grants no date leaves the due date.
 due_stays : (apdus : List Apdu) (a : Apdu) → grant_in a.body ≡ None
@@ -149,7 +156,8 @@ dated_stays apdus a none h n b day at is =
 -- Overdue for the due date.
 data Notice (y : ResponderRecord) : Body → State → Type 0 where
   says_neither : (body : Body) (next : State) → grant_in body ≡ None → ((due : Date) → is_overdue_of due body ≡ false)
-      → (is_among overdue next ≡ true → is_among overdue y.state ≡ true) → (is_among reminded y.state ≡ true → is_among reminded next ≡ true) → Notice y body next
+      → (is_among overdue next ≡ true → is_among overdue y.state ≡ true)
+      → (is_among reminded y.state ≡ true → is_among reminded next ≡ true) → Notice y body next
   grants : (body : Body) (next : State) (due : Date) → grant_in body ≡ Some due → ((day : Date) → is_overdue_of day body ≡ false)
       → IsAfterOverdues y.issued due → is_among overdue next ≡ false → Notice y body next
   warns : (next : State) (due : Date) → due_of y ≡ Some due → is_among reminded next ≡ true → Notice y (types.Overdue due) next
@@ -164,7 +172,8 @@ neither_place y body next none other leads stays h order =
     let a : Apdu = next_apdu y.txn y.issued body in
     let same = due_stays y.issued a none in (
       record {
-        dated = overdue_more (IsDated (y.issued ++ a ∷ [])) y.issued a (dated_stays y.issued a none h.dated) (λ day is. never_overdue body day other is);
+        dated = overdue_more (IsDated (y.issued ++ a ∷ [])) y.issued a (dated_stays y.issued a none h.dated)
+            (λ day is. never_overdue body day other is);
         issued = λ due is there. overdue_stays y.issued a due (other due) ∙ h.issued due (sym same ∙ is) (leads there);
         after = λ due is there. stays (h.after due (sym same ∙ is) (sym (overdue_stays y.issued a due (other due)) ∙ there));
       },
@@ -181,11 +190,14 @@ grants_place y body next due granted other later_day leaves_off h order =
     let new_due = last_of_more granted_day y.issued a due granted in (
       record {
         dated = overdue_more (IsDated (y.issued ++ a ∷ [])) y.issued a
-            (λ n b day at is. (due, new_due, not_before_back day due (later_day n b day at is))) (λ day is. never_overdue body day other is);
+            (λ n b day at is. (due, new_due, not_before_back day due (later_day n b day at is)))
+            (λ day is. never_overdue body day other is);
         issued = λ d is there. not_both _ leaves_off there;
-        after = λ d is there. none_for y.issued d (subst (IsAfterOverdues y.issued) (day_same _ due d new_due is) later_day) (sym (overdue_stays y.issued a d (other d)) ∙ there);
+        after = λ d is there. none_for y.issued d (subst (IsAfterOverdues y.issued) (day_same _ due d new_due is) later_day)
+            (sym (overdue_stays y.issued a d (other d)) ∙ there);
       },
-      order_more y.issued a order (λ d is. subst (IsAfterOverdues y.issued) (day_same (grant_in body) due d granted is) later_day),
+      order_more y.issued a order (λ d is.
+          subst (IsAfterOverdues y.issued) (day_same (grant_in body) due d granted is) later_day),
     )
 
 -- An Overdue for the due date has its place.
@@ -196,9 +208,15 @@ warns_place y next due there leads h order =
     let same = due_stays y.issued a refl in (
       record {
         dated = overdue_more (IsDated (y.issued ++ a ∷ [])) y.issued a (dated_stays y.issued a refl h.dated)
-            (λ day is. (due, same ∙ there, subst (λ d. is_before due d ≡ false) (overdue_same due day is) (itself_not_before due)));
+            (λ day is. (
+              due,
+              same ∙ there,
+              subst (λ d. is_before due d ≡ false) (overdue_same due day is)
+                  (itself_not_before due),
+            ));
         issued = λ d is among. has_more (is_overdue_of d) y.issued a
-            ∙ or_right (has_overdue d y.issued) _ (subst (λ e. is_same_day due e ≡ true) (day_same (due_of y) due d there (sym same ∙ is)) (same_itself due));
+            ∙ or_right (has_overdue d y.issued) _
+            (subst (λ e. is_same_day due e ≡ true) (day_same (due_of y) due d there (sym same ∙ is)) (same_itself due));
         after = λ d is issued. leads;
       },
       order_more y.issued a order (λ d is. none_there None d refl is),
@@ -249,14 +267,20 @@ later_renewing state is = search rules
 -- A transition issues an APDU of `Notice`, and leads to a state of it.
 transition_notice : (y : ResponderRecord) (transition : Transition) → IsTransition y transition → ResponderRules y → OverdueFits y
     → Notice y transition.body transition.next
-transition_notice y _ (answers answer is) h fits = says_neither _ _ refl (λ due. refl) (λ there. search rules) (λ there. search rules)
-transition_notice y _ (allows_cancel is) h fits = says_neither _ _ refl (λ due. refl) (λ there. search rules) (λ there. search rules)
-transition_notice y _ (refuses_cancel is) h fits = says_neither _ _ refl (λ due. refl) (λ there. search rules) (λ there. search rules)
+transition_notice y _ (answers answer is) h fits =
+    says_neither _ _ refl (λ due. refl) (λ there. search rules) (λ there. search rules)
+transition_notice y _ (allows_cancel is) h fits =
+    says_neither _ _ refl (λ due. refl) (λ there. search rules) (λ there. search rules)
+transition_notice y _ (refuses_cancel is) h fits =
+    says_neither _ _ refl (λ due. refl) (λ there. search rules) (λ there. search rules)
 transition_notice y _ (ships due is) h fits =
-    grants _ _ due refl (λ day. refl) (first_after y due fits (no_grants y.issued h.ships_first (not_shipped y.state _ is h.issued.shipped))) refl
+    grants _ _ due refl (λ day. refl)
+    (first_after y due fits (no_grants y.issued h.ships_first (not_shipped y.state _ is h.issued.shipped))) refl
 transition_notice y _ (renews due is after) h fits = grants _ _ due refl (λ day. refl) (renewal_after y due fits after) refl
-transition_notice y _ (refuses_renewal is) h fits = says_neither _ _ refl (λ due. refl) (λ there. search rules) (λ there. search rules)
-transition_notice y _ (refuses_late is) h fits = says_neither _ _ refl (λ due. refl) (λ there. search rules) (λ there. search rules)
+transition_notice y _ (refuses_renewal is) h fits =
+    says_neither _ _ refl (λ due. refl) (λ there. search rules) (λ there. search rules)
+transition_notice y _ (refuses_late is) h fits =
+    says_neither _ _ refl (λ due. refl) (λ there. search rules) (λ there. search rules)
 transition_notice y _ (reminds is) h fits = warns _ _ (due_is y h (later_shipped y.state is)) refl
 transition_notice y _ (reminds_renewing is) h fits = warns _ _ (due_is y h (later_renewing y.state is)) refl
 transition_notice y _ (recalls is) h fits = says_neither _ _ refl (λ due. refl) (λ there. search rules) (λ there. refl)
@@ -268,7 +292,8 @@ pub acts_overdue : (y new : ResponderRecord) (deed : Deed) (today : Date) → ac
     → OverdueFits y → GrantsBeforeOverdue y.issued → OverdueFits new × GrantsBeforeOverdue new.issued
 acts_overdue y new deed today done kept h order =
     of_acts OverduesAreInPlace y new deed today
-    (λ transition is how. notice_place y transition.body transition.next (transition_notice y transition is (responder_rules y kept) h) h order) done
+    (λ transition is how. notice_place y transition.body transition.next
+    (transition_notice y transition is (responder_rules y kept) h) h order) done
 
 -- ---- messages
 
@@ -281,7 +306,8 @@ moves_overdue y new same leads stays h order = (
   record {
     dated = subst (λ apdus. AllOverdues (IsDated apdus) apdus) (sym same) h.dated;
     issued = λ due is there. ap (has_overdue due) same ∙ h.issued due (ap (last_of granted_day) (sym same) ∙ is) (leads there);
-    after = λ due is there. stays (h.after due (ap (last_of granted_day) (sym same) ∙ is) (ap (has_overdue due) (sym same) ∙ there));
+    after = λ due is there. stays (h.after due (ap (last_of granted_day) (sym same) ∙ is)
+        (ap (has_overdue due) (sym same) ∙ there));
   },
   subst GrantsBeforeOverdue (sym same) order,
 )
@@ -297,7 +323,8 @@ change_overdue : (y new : ResponderRecord) (number : ℕ) (body : Body) → Chan
 change_overdue y _ number _ (leaves body) = λ h order. (h, order)
 change_overdue y _ number _ (requests expiry item a idle) = moves_overdue y _ refl (λ is. search rules) (λ is. search rules)
 change_overdue y _ number _ (accepts c there) = moves_overdue y _ refl (λ is. search rules) (λ is. search rules)
-change_overdue y _ number _ (declines c waiting left) = notice_place y (types.IllAnswer results.Unfilled) NotSupplied (declines_notice y waiting)
+change_overdue y _ number _ (declines c waiting left) =
+    notice_place y (types.IllAnswer results.Unfilled) NotSupplied (declines_notice y waiting)
 change_overdue y _ number _ (cancels above waiting) = moves_overdue y _ refl (λ is. search rules) (λ is. search rules)
 change_overdue y _ number _ arrives = moves_overdue y _ refl (λ is. is) (λ is. is)
 change_overdue y _ number _ (changes.renews wished above here) = moves_overdue y _ refl (λ is. search rules) (λ is. search rules)

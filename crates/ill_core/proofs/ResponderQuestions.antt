@@ -1,5 +1,6 @@
 -- The questions that a responder was asked, and the answer to the last one, unless it waits.
-use Rattle.std.proofs.Common.{rules, ◌≡◌, ◌⊎◌, inl, inr, ℕ, Bool, true, false, ◌||◌, ◌==◌, List, [], ◌∷◌, ◌++◌, Option, Some, None, is_some, Ok, refl, ap, sym, eq-eqb, ◌∙◌}
+use Rattle.std.proofs.Common.{rules, ◌≡◌, ◌⊎◌, inl, inr, ℕ, Bool, true, false, ◌||◌, ◌==◌, List, [], ◌∷◌, ◌++◌, Option, Some}
+use Rattle.std.proofs.Common.{None, is_some, Ok, refl, ap, sym, eq-eqb, ◌∙◌}
 use Rattle.std.specs.List.{list_any, cons_option}
 use Rattle.std.specs.Option.{unwrap_or}
 use Rattle.std.proofs.lemmas.Bool.{eqb-true, or_left, or_right}
@@ -20,10 +21,13 @@ use Rattle.ill_core.specs.Issued.{next_apdu}
 use Rattle.ill_core.specs.Responder.{ResponderRecord}
 use Rattle.ill_core.specs.ResponderActions.{Transition, acts, issues_to, record_after}
 use Rattle.ill_core.specs.ResponderDeliveries.{takes}
-use Rattle.ill_core.specs.ResponderEvidence.{IssuesUnfilled, Question, MayCancel, MayRenew, asks, answered_number, last_asked, waits, answers_to, KeepsLast, TakesNew}
+use Rattle.ill_core.specs.ResponderEvidence.{IssuesUnfilled, Question, MayCancel, MayRenew, asks, answered_number, last_asked}
+use Rattle.ill_core.specs.ResponderEvidence.{waits, answers_to, KeepsLast, TakesNew}
 use Rattle.ill_core.specs.ResponderNotices.{WasAsked, HasAnsweredLast, has_answered, unanswered}
 use Rattle.ill_core.proofs.IssuedLemmas.{found_none, found_more}
-use Rattle.ill_core.proofs.ResponderTransitions.{IsTransition, answers, allows_cancel, refuses_cancel, ships, renews, refuses_renewal, refuses_late, reminds, reminds_renewing, recalls, checks_in, expires}
+use Rattle.ill_core.proofs.ResponderTransitions.{IsTransition, answers, allows_cancel, refuses_cancel, ships, renews}
+use Rattle.ill_core.proofs.ResponderTransitions.{refuses_renewal, refuses_late, reminds, reminds_renewing, recalls, checks_in}
+use Rattle.ill_core.proofs.ResponderTransitions.{expires}
 use Rattle.ill_core.proofs.ResponderRows.{Issues, of_takes, of_acts}
 use Rattle.ill_core.proofs.ResponderLaws.{known, last_same, no_answer, not_both, takes_issue}
 use Rattle.ill_core.proofs.ResponderMoves.{Change, takes_changes, leaves, requests, accepts, declines, cancels, arrives, returns}
@@ -67,11 +71,13 @@ answered_asked : (question : Question) (y : ResponderRecord) (body : Body) (next
     → answered_number question body ≡ o → Issues y body next
     → implies (waits question y.state) (is_some (last_asked question y)) ≡ true
     → has_answered question (issues_to y body next) number ≡ true → WasAsked question y number
-answered_asked question y body next number None none how there is = inr (sym (none_answered question y body next number none) ∙ is)
+answered_asked question y body next number None none how there is =
+    inr (sym (none_answered question y body next number none) ∙ is)
 answered_asked question y body next number (Some m) some how there is =
     let row = how.replies question m some in
     let more = found_more (λ a. answered_number question a.body) y.issued (next_apdu y.txn y.issued body) m some in
-    last_or_before (last_asked question y) m number (has_answered question y number) (known (last_asked question y) m (waits question y.state) there row.0 row.2)
+    last_or_before (last_asked question y) m number (has_answered question y number)
+    (known (last_asked question y) m (waits question y.state) there row.0 row.2)
     (in_more (answers_to question y.issued) m number (sym (ap (is_in number) more) ∙ is))
 
 -- A question that was asked after a transition was asked before it.
@@ -79,7 +85,8 @@ issues_asked : (question : Question) (y : ResponderRecord) (body : Body) (next :
     → implies (waits question y.state) (is_some (last_asked question y)) ≡ true
     → WasAsked question (issues_to y body next) number → WasAsked question y number
 issues_asked question y body next number how there (inl last) = inl (sym (last_same question y body next) ∙ last)
-issues_asked question y body next number how there (inr is) = answered_asked question y body next number (answered_number question body) refl how there is
+issues_asked question y body next number how there (inr is) =
+    answered_asked question y body next number (answered_number question body) refl how there is
 
 -- A deed asks nothing.
 pub acts_asked : (question : Question) (y new : ResponderRecord) (deed : Deed) (today : Date) (number : ℕ)
@@ -98,16 +105,20 @@ AskedOrComes question y came body number = WasAsked question y number ⊎ ((asks
 moves_asked : (question : Question) (y new : ResponderRecord) (came : ℕ) (body : Body) (number : ℕ)
     → new.issued ≡ y.issued → KeepsLast question y new ⊎ TakesNew question came body y new
     → WasAsked question new number → AskedOrComes question y came body number
-moves_asked question y new came body number same how (inr is) = inl (inr (sym (ap (λ apdus. is_in number (answers_to question apdus)) same) ∙ is))
+moves_asked question y new came body number same how (inr is) =
+    inl (inr (sym (ap (λ apdus. is_in number (answers_to question apdus)) same) ∙ is))
 moves_asked question y new came body number same (inl keeps) (inl last) = inl (inl (sym keeps.0 ∙ last))
-moves_asked question y new came body number same (inr asked) (inl last) = inr (asked.0, same_Some came number (sym asked.2 ∙ last))
+moves_asked question y new came body number same (inr asked) (inl last) =
+    inr (asked.0, same_Some came number (sym asked.2 ∙ last))
 
 -- An ILL-Answer asks nothing.
 unfilled_asked : (question : Question) (y : ResponderRecord) (number : ℕ)
     → WasAsked question (issues_to y (types.IllAnswer results.Unfilled) NotSupplied) number
     → WasAsked question y number
-unfilled_asked question y number (inl last) = inl (sym (last_same question y (types.IllAnswer results.Unfilled) NotSupplied) ∙ last)
-unfilled_asked question y number (inr is) = inr (sym (none_answered question y (types.IllAnswer results.Unfilled) NotSupplied number (no_answer question)) ∙ is)
+unfilled_asked question y number (inl last) =
+    inl (sym (last_same question y (types.IllAnswer results.Unfilled) NotSupplied) ∙ last)
+unfilled_asked question y number (inr is) =
+    inr (sym (none_answered question y (types.IllAnswer results.Unfilled) NotSupplied number (no_answer question)) ∙ is)
 
 -- A question that was asked after a message was asked before it, or is that message.
 pub takes_asked : (question : Question) (y : ResponderRecord) (a : Apdu) (number : ℕ) → WasAsked question (takes y a).1 number
@@ -124,22 +135,27 @@ answered_more : (question : Question) (apdus : List Apdu) (a : Apdu) (number : �
     → is_in number (answers_to question apdus) ≡ true → is_in number (answers_to question (apdus ++ a ∷ [])) ≡ true
 answered_more question apdus a number is =
     ap (is_in number) (filter_map-append (λ b. answered_number question b.body) apdus (a ∷ []))
-    ∙ (list_any-append (λ n. n == number) (answers_to question apdus) (cons_option (answered_number question a.body) []) ∙ or_left _ _ is)
+    ∙ (list_any-append (λ n. n == number) (answers_to question apdus) (cons_option (answered_number question a.body) [])
+    ∙ or_left _ _ is)
 
 -- The number at the end of a list is in the list.
 in_end : (ns : List ℕ) (m number : ℕ) → m ≡ number → is_in number (ns ++ m ∷ []) ≡ true
-in_end ns m number same = list_any-append (λ n. n == number) ns (m ∷ []) ∙ or_right (is_in number ns) _ (or_left _ _ (eq-eqb m number same))
+in_end ns m number same = list_any-append (λ n. n == number) ns (m ∷ [])
+    ∙ or_right (is_in number ns) _ (or_left _ _ (eq-eqb m number same))
 
 -- A question is answered by one more APDU that names it.
 answered_now : (question : Question) (apdus : List Apdu) (a : Apdu) (m number : ℕ)
     → answered_number question a.body ≡ Some m → m ≡ number
     → is_in number (answers_to question (apdus ++ a ∷ [])) ≡ true
 answered_now question apdus a m number names same =
-    ap (is_in number) (found_more (λ b. answered_number question b.body) apdus a m names) ∙ in_end (answers_to question apdus) m number same
+    ap (is_in number) (found_more (λ b. answered_number question b.body) apdus a m names)
+    ∙ in_end (answers_to question apdus) m number same
 
 -- After a transition the last question may have no answer, or it had one before, or the transition answers it.
 transition_answers : (question : Question) (y : ResponderRecord) (transition : Transition) → IsTransition y transition
-    → (is_among (unanswered question) transition.next ≡ true) ⊎ ((is_among (unanswered question) y.state ≡ false) ⊎ (answered_number question transition.body ≡ Some (unwrap_or (last_asked question y) 0)))
+    → (is_among (unanswered question) transition.next ≡ true) ⊎
+    ((is_among (unanswered question) y.state ≡ false) ⊎
+    (answered_number question transition.body ≡ Some (unwrap_or (last_asked question y) 0)))
 transition_answers MayCancel y _ (answers answer is) = inr (inl (search rules))
 transition_answers MayCancel y _ (allows_cancel is) = inr (inr refl)
 transition_answers MayCancel y _ (refuses_cancel is) = inr (inr refl)
@@ -167,14 +183,18 @@ transition_answers MayRenew y _ (expires is) = inr (inl (search rules))
 
 -- If the last question was answered before such a transition, it was after it.
 transition_has_answered : (question : Question) (y : ResponderRecord) (transition : Transition)
-    → (is_among (unanswered question) transition.next ≡ true) ⊎ ((is_among (unanswered question) y.state ≡ false) ⊎ (answered_number question transition.body ≡ Some (unwrap_or (last_asked question y) 0)))
+    → (is_among (unanswered question) transition.next ≡ true) ⊎
+    ((is_among (unanswered question) y.state ≡ false) ⊎
+    (answered_number question transition.body ≡ Some (unwrap_or (last_asked question y) 0)))
     → HasAnsweredLast question y → HasAnsweredLast question (record_after y transition)
 transition_has_answered question y transition (inl may) h number last decided = not_both _ decided may
 transition_has_answered question y transition (inr (inl before)) h number last decided =
-    answered_more question y.issued (next_apdu y.txn y.issued transition.body) number (h number (sym (last_same question y transition.body transition.next) ∙ last) before)
+    answered_more question y.issued (next_apdu y.txn y.issued transition.body) number
+    (h number (sym (last_same question y transition.body transition.next) ∙ last) before)
 transition_has_answered question y transition (inr (inr now)) h number last decided =
     let named = ap (λ o. unwrap_or o 0) (sym (last_same question y transition.body transition.next) ∙ last) in
-    answered_now question y.issued (next_apdu y.txn y.issued transition.body) (unwrap_or (last_asked question y) 0) number now named
+    answered_now question y.issued (next_apdu y.txn y.issued transition.body) (unwrap_or (last_asked question y) 0) number now
+    named
 
 -- A deed leaves the last question answered, unless it waits or the item came back.
 pub acts_has_answered : (question : Question) (y new : ResponderRecord) (deed : Deed) (today : Date) → acts y deed today ≡ Ok new
@@ -188,7 +208,8 @@ acts_has_answered question y new deed today done there =
 abbrev KeepsAnswer : Question → ResponderRecord → ResponderRecord → Type 0
 KeepsAnswer question y new =
     (is_among (unanswered question) new.state ≡ true)
-    ⊎ ((last_asked question new ≡ last_asked question y) × (is_among (unanswered question) new.state ≡ false → is_among (unanswered question) y.state ≡ false))
+    ⊎ ((last_asked question new ≡ last_asked question y)
+    × (is_among (unanswered question) new.state ≡ false → is_among (unanswered question) y.state ≡ false))
 
 -- A change keeps an answer, or leads to a state in which the last question may have none.
 change_answers : (question : Question) (y new : ResponderRecord) (number : ℕ) (body : Body) → Change y number body new
@@ -232,4 +253,5 @@ change_has_answered question y new body (inr (same, before)) issued h number las
 pub takes_has_answered : (question : Question) (y : ResponderRecord) (a : Apdu) → HasAnsweredLast question y
     → HasAnsweredLast question (takes y a).1
 takes_has_answered question y a =
-    change_has_answered question y (takes y a).1 a.body (change_answers question y (takes y a).1 a.number a.body (takes_changes y a)) (takes_issue y a)
+    change_has_answered question y (takes y a).1 a.body
+    (change_answers question y (takes y a).1 a.number a.body (takes_changes y a)) (takes_issue y a)

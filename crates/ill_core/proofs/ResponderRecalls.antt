@@ -1,5 +1,6 @@
 -- A responder issues its Recall after its Shipped, and a record with a Recall is in RECALL, RETURNED or CHECKED-IN.
-use Rattle.std.proofs.Common.{rules, arith, ◌≡◌, ◌⊎◌, inl, inr, ℕ, ◌+◌, ◌<◌, ◌≤◌, true, false, List, [], ◌∷◌, ◌++◌, length, Some, Ok, refl, ap, sym, subst, ◌∙◌}
+use Rattle.std.proofs.Common.{rules, arith, ◌≡◌, ◌⊎◌, inl, inr, ℕ, ◌+◌, ◌<◌, ◌≤◌, true, false, List, [], ◌∷◌, ◌++◌, length, Some}
+use Rattle.std.proofs.Common.{Ok, refl, ap, sym, subst, ◌∙◌}
 use Rattle.std.proofs.lemmas.Bool.{or_cases, or_right, false_from_ne_true}
 use Rattle.ill_values.specs.Day.{Date}
 use Rattle.ill_values.specs.declared.apdu.Apdu.{Apdu}
@@ -18,7 +19,9 @@ use Rattle.ill_core.specs.ResponderDeliveries.{takes}
 use Rattle.ill_core.specs.ResponderNotices.{undecided, is_recall, RecallFits, ShipsBeforeRecall}
 use Rattle.ill_core.proofs.IssuedLemmas.{has_more}
 use Rattle.ill_core.proofs.MessageLemmas.{message_more, message_says}
-use Rattle.ill_core.proofs.ResponderTransitions.{IsTransition, answers, allows_cancel, refuses_cancel, ships, renews, refuses_renewal, refuses_late, reminds, reminds_renewing, recalls, checks_in, expires}
+use Rattle.ill_core.proofs.ResponderTransitions.{IsTransition, answers, allows_cancel, refuses_cancel, ships, renews}
+use Rattle.ill_core.proofs.ResponderTransitions.{refuses_renewal, refuses_late, reminds, reminds_renewing, recalls, checks_in}
+use Rattle.ill_core.proofs.ResponderTransitions.{expires}
 use Rattle.ill_core.proofs.ResponderRows.{of_acts}
 use Rattle.ill_core.proofs.ResponderLaws.{not_both}
 use Rattle.ill_core.proofs.ResponderMoves.{Change, takes_changes, leaves, requests, accepts, declines, cancels, arrives, returns}
@@ -36,7 +39,8 @@ one_type body shipped recall = search rules
 -- With one more APDU every Recall is after every Shipped, if no Recall was issued before a new Shipped.
 ships_before_more : (apdus : List Apdu) (a : Apdu) → ShipsBeforeRecall apdus
     → (is_shipped a.body ≡ true → has is_recall apdus ≡ false) → ShipsBeforeRecall (apdus ++ a ∷ [])
-ships_before_more apdus a h none m n b c at_m at_n shipped recall = go (message_more apdus a b m at_m) (message_more apdus a c n at_n)
+ships_before_more apdus a h none m n b c at_m at_n shipped recall =
+    go (message_more apdus a b m at_m) (message_more apdus a c n at_n)
   where
     go : ((message apdus m ≡ Some b) × (m ≤ length apdus)) ⊎ ((m ≡ length apdus + 1) × (a ≡ b))
         → ((message apdus n ≡ Some c) × (n ≤ length apdus)) ⊎ ((n ≡ length apdus + 1) × (a ≡ c)) → m < n
@@ -44,7 +48,8 @@ ships_before_more apdus a h none m n b c at_m at_n shipped recall = go (message_
     go (inl old) (inr new) = omega (arith, old.1, new.0)
     go (inr new) (inl older) =
         not_both _ (none (ap (λ (x : Apdu). is_shipped x.body) new.1 ∙ shipped)) (message_says is_recall apdus n c older.0 recall)
-    go (inr new) (inr also) = one_type a.body (ap (λ (x : Apdu). is_shipped x.body) new.1 ∙ shipped) (ap (λ (x : Apdu). is_recall x.body) also.1 ∙ recall)
+    go (inr new) (inr also) = one_type a.body (ap (λ (x : Apdu). is_shipped x.body) new.1 ∙ shipped)
+        (ap (λ (x : Apdu). is_recall x.body) also.1 ∙ recall)
 
 -- The APDU that is issued, and the state to which it leads, fit a Recall.
 record FitsRecall (state : State) (body : Body) (next : State) : Type 0 where
@@ -54,7 +59,8 @@ record FitsRecall (state : State) (body : Body) (next : State) : Type 0 where
   ships : is_shipped body ≡ true → is_among recalled state ≡ false
 
 -- The APDU of each transition, and the state to which it leads, fit a Recall.
-transition_recall : (y : ResponderRecord) (transition : Transition) → IsTransition y transition → FitsRecall y.state transition.body transition.next
+transition_recall : (y : ResponderRecord) (transition : Transition) → IsTransition y transition
+    → FitsRecall y.state transition.body transition.next
 transition_recall y _ (answers answer is) = search rules
 transition_recall y _ (allows_cancel is) = search rules
 transition_recall y _ (refuses_cancel is) = search rules
@@ -77,7 +83,8 @@ issues_recall : (y : ResponderRecord) (body : Body) (next : State) → FitsRecal
     → ShipsBeforeRecall y.issued → HasRecallPlace (issues_to y body next)
 issues_recall y body next fits h order =
     let a : Apdu = next_apdu y.txn y.issued body in
-    let none : is_shipped body ≡ true → has is_recall y.issued ≡ false = λ is. false_from_ne_true _ (λ there. not_both _ (fits.ships is) (h.after there)) in (
+    let none : is_shipped body ≡ true → has is_recall y.issued ≡ false = λ is.
+    false_from_ne_true _ (λ there. not_both _ (fits.ships is) (h.after there)) in (
       record {
         issued = λ is. has_more is_recall y.issued a ∙ or_right (has is_recall y.issued) _ (fits.leads is);
         after = λ there. either_way (or_cases _ _ (sym (has_more is_recall y.issued a) ∙ there));
@@ -120,11 +127,13 @@ change_recall : (y new : ResponderRecord) (number : ℕ) (body : Body) → Chang
 change_recall y _ number _ (leaves body) = λ h order. (h, order)
 change_recall y _ number _ (requests expiry item a idle) = moves_recall y _ refl (λ is. search rules) (λ is. search rules)
 change_recall y _ number _ (accepts c there) = moves_recall y _ refl (λ is. search rules) (λ is. search rules)
-change_recall y _ number _ (declines c waiting left) = issues_recall y (types.IllAnswer results.Unfilled) NotSupplied (declines_fits y waiting)
+change_recall y _ number _ (declines c waiting left) =
+    issues_recall y (types.IllAnswer results.Unfilled) NotSupplied (declines_fits y waiting)
 change_recall y _ number _ (cancels above waiting) = moves_recall y _ refl (λ is. search rules) (λ is. search rules)
 change_recall y _ number _ arrives = moves_recall y _ refl (λ is. is) (λ is. is)
 change_recall y _ number _ (changes.renews wished above here) = moves_recall y _ refl (λ is. search rules) (λ is. search rules)
-change_recall y _ number _ (changes.renews_late wished above here) = moves_recall y _ refl (λ is. search rules) (λ is. search rules)
+change_recall y _ number _ (changes.renews_late wished above here) =
+    moves_recall y _ refl (λ is. search rules) (λ is. search rules)
 change_recall y _ number _ (returns out) = moves_recall y _ refl (λ is. search rules) (λ is. refl)
 
 -- A message keeps the place of a Recall.

@@ -1,5 +1,6 @@
 -- The changes that each transition of a responder's two tables makes.
-use Rattle.std.proofs.Common.{rules, ◌≡◌, ◌⊎◌, inl, inr, ℕ, ◌+◌, ◌≤◌, length, Bool, true, false, not, ◌&&◌, ◌||◌, List, [], ◌∷◌, Option, Some, None, Result, Ok, Err, if◌then◌else◌, refl, ap, sym, subst}
+use Rattle.std.proofs.Common.{rules, ◌≡◌, ◌⊎◌, inl, inr, ℕ, ◌+◌, ◌≤◌, length, Bool, true, false, not, ◌&&◌, ◌||◌, List, [], ◌∷◌}
+use Rattle.std.proofs.Common.{Option, Some, None, Result, Ok, Err, if◌then◌else◌, refl, ap, sym, subst}
 use Rattle.std.specs.Option.{unwrap_or}
 use Rattle.std.proofs.lemmas.Bool.{cond_both}
 use Rattle.ill_values.specs.Day.{Date}
@@ -9,7 +10,9 @@ use Rattle.ill_values.specs.declared.apdu.Body.{Body}
 use Rattle.ill_values.specs.declared.apdu.Body.TheVariants as types
 use Rattle.ill_values.specs.declared.apdu.AnswerResult.TheVariants as results
 use Rattle.ill_core.specs.declared.state.State.{State}
-use Rattle.ill_core.specs.declared.state.State.TheVariants.{Idle, InProcess, Conditional, CancelPending, Cancelled, NotSupplied, Shipped, RenewPending, Overdue, RenewOverdue, Recall, Returned, CheckedIn}
+use Rattle.ill_core.specs.declared.state.State.TheVariants.{Idle, InProcess, Conditional, CancelPending, Cancelled, NotSupplied}
+use Rattle.ill_core.specs.declared.state.State.TheVariants.{Shipped, RenewPending, Overdue, RenewOverdue, Recall, Returned}
+use Rattle.ill_core.specs.declared.state.State.TheVariants.{CheckedIn}
 use Rattle.ill_core.specs.declared.refusal.Refusal.{Refusal}
 use Rattle.ill_core.specs.declared.responder.Deed.{Deed}
 use Rattle.ill_core.specs.declared.taking.Taking.{Taking}
@@ -22,12 +25,16 @@ use Rattle.ill_core.specs.Responder.{ResponderRecord, responder_of, later, outst
 use Rattle.ill_core.specs.Answers.{unless_refused}
 use Rattle.ill_core.specs.ResponderActions.{Transition, transition_of, acts, acts_by, issues_to, record_after}
 use Rattle.ill_core.specs.ResponderDeliveries.{takes, take_message, answers_no}
-use Rattle.ill_core.specs.ResponderEvidence.{IsEvidence, Requested, Accepted, CancelAsked, Arrived, SentBack, Question, KeepsRequest, KeepsLast, TakesNew, answered_number, last_asked, waits, is_unsupplied, is_cancelled, is_end, ended, ends_in}
+use Rattle.ill_core.specs.ResponderEvidence.{IsEvidence, Requested, Accepted, CancelAsked, Arrived, SentBack, Question}
+use Rattle.ill_core.specs.ResponderEvidence.{KeepsRequest, KeepsLast, TakesNew, answered_number, last_asked, waits, is_unsupplied}
+use Rattle.ill_core.specs.ResponderEvidence.{is_cancelled, is_end, ended, ends_in}
 use Rattle.ill_core.proofs.TransitionLemmas.{few_with_next}
-use Rattle.ill_core.proofs.ResponderTransitions.{IsTransition, is_transition, answers, allows_cancel, refuses_cancel, ships, renews, refuses_renewal, refuses_late, reminds, reminds_renewing, recalls, checks_in, expires}
+use Rattle.ill_core.proofs.ResponderTransitions.{IsTransition, is_transition, answers, allows_cancel, refuses_cancel, ships}
+use Rattle.ill_core.proofs.ResponderTransitions.{renews, refuses_renewal, refuses_late, reminds, reminds_renewing, recalls}
+use Rattle.ill_core.proofs.ResponderTransitions.{checks_in, expires}
 
--- A transition issues `body` and leads to `state`, from neither IDLE nor a final state. It enters the state of an end only
--- by that end. It answers only the last question, while that waits.
+-- A transition issues `body` and leads to `state`, from neither IDLE nor a final state. It enters the state of an end
+-- only by that end. It answers only the last question, while that waits.
 pub record Issues (y : ResponderRecord) (body : Body) (state : State) : Type 0 where
   pub begun : is_among (Idle ∷ []) y.state ≡ false
   pub final : is_among (NotSupplied ∷ Cancelled ∷ CheckedIn ∷ []) y.state ≡ false
@@ -35,7 +42,8 @@ pub record Issues (y : ResponderRecord) (body : Body) (state : State) : Type 0 w
   pub cancelled : (is_among (Cancelled ∷ []) y.state || is_cancelled body) ≡ is_among (Cancelled ∷ []) state
   pub shipped : (is_among later y.state || is_shipped body) ≡ is_among later state
   pub once : (if is_among ended y.state then 1 else 0) + (if is_end body then 1 else 0) ≡ (if is_among ended state then 1 else 0)
-  pub ends : is_end body ≡ true → (is_among (InProcess ∷ Conditional ∷ CancelPending ∷ []) y.state ≡ true) × (ends_in body state ≡ true)
+  pub ends : is_end body ≡ true → (is_among (InProcess ∷ Conditional ∷ CancelPending ∷ []) y.state ≡ true)
+      × (ends_in body state ≡ true)
   pub enters : is_among ended state ≡ true → (is_among ended y.state ≡ true) ⊎ (ends_in body state ≡ true)
   pub sent_back : is_among (Returned ∷ CheckedIn ∷ []) state ≡ is_among (Returned ∷ CheckedIn ∷ []) y.state
   pub on : is_among (Idle ∷ []) state ≡ false
@@ -43,8 +51,8 @@ pub record Issues (y : ResponderRecord) (body : Body) (state : State) : Type 0 w
   pub replies : (question : Question) (n : ℕ) → answered_number question body ≡ Some n
       → (waits question y.state ≡ true) × (waits question state ≡ false) × (n ≡ unwrap_or (last_asked question y) 0)
 
--- A transition issues nothing, and leads to `new` for message `number` with `body`. It neither enters nor leaves an end,
--- and keeps a request. It shows only facts that were shown before or that the message tells.
+-- A transition issues nothing, and leads to `new` for message `number` with `body`. It neither enters nor leaves an
+-- end, and keeps a request. It shows only facts that were shown before or that the message tells.
 pub record Moves (y : ResponderRecord) (number : ℕ) (body : Body) (new : ResponderRecord) : Type 0 where
   pub txn : new.txn ≡ y.txn
   pub issued : new.issued ≡ y.issued
@@ -56,14 +64,17 @@ pub record Moves (y : ResponderRecord) (number : ℕ) (body : Body) (new : Respo
   pub ended : is_among ended y.state ≡ is_among ended new.state
   pub returned : is_among (Returned ∷ []) y.state ≡ true → new.state ≡ y.state
   pub asked : (question : Question) → KeepsLast question y new ⊎ TakesNew question number body y new
-  pub requested : is_among (Idle ∷ []) new.state ≡ false → (is_among (Idle ∷ []) y.state ≡ false) ⊎ IsEvidence number body Requested
+  pub requested : is_among (Idle ∷ []) new.state ≡ false
+      → (is_among (Idle ∷ []) y.state ≡ false) ⊎ IsEvidence number body Requested
   pub accepted : (c : ℕ) → new.accepted ≡ Some c → (y.accepted ≡ Some c) ⊎ IsEvidence number body (Accepted c)
   pub cancel_asked : (c : ℕ) → new.last_cancel ≡ Some c → (y.last_cancel ≡ Some c) ⊎ IsEvidence number body (CancelAsked c)
   pub arrived : new.received ≡ true → (y.received ≡ true) ⊎ IsEvidence number body Arrived
-  pub sent_back : is_among (Returned ∷ CheckedIn ∷ []) new.state ≡ true → (is_among (Returned ∷ CheckedIn ∷ []) y.state ≡ true) ⊎ IsEvidence number body SentBack
+  pub sent_back : is_among (Returned ∷ CheckedIn ∷ []) new.state ≡ true
+      → (is_among (Returned ∷ CheckedIn ∷ []) y.state ≡ true) ⊎ IsEvidence number body SentBack
 
 -- Each transition of a deed keeps to `Issues`.
-issues : (txn : Qualifiers) (state : State) (accepted last_cancel last_renew : Option ℕ) (received : Bool) (request : Option Apdu) (issued : List Apdu) (transition : Transition)
+issues : (txn : Qualifiers) (state : State) (accepted last_cancel last_renew : Option ℕ) (received : Bool) (request : Option Apdu)
+    (issued : List Apdu) (transition : Transition)
     → IsTransition (responder_of txn state accepted last_cancel last_renew received request issued) transition
     → Issues (responder_of txn state accepted last_cancel last_renew received request issued) transition.body transition.next
 issues txn InProcess accepted last_cancel last_renew received request issued _ (answers results.Conditional is) = search rules
@@ -96,9 +107,11 @@ issues txn Conditional accepted last_cancel last_renew received request issued _
 issues txn state accepted last_cancel last_renew received request issued _ (expires is) = search rules
 
 -- In IN-PROCESS and CONDITIONAL, the ILL-Answer unfilled to a no keeps to `Issues`.
-issues_no : (txn : Qualifiers) (state : State) (accepted last_cancel last_renew : Option ℕ) (received : Bool) (request : Option Apdu) (issued : List Apdu)
+issues_no : (txn : Qualifiers) (state : State) (accepted last_cancel last_renew : Option ℕ) (received : Bool)
+    (request : Option Apdu) (issued : List Apdu)
     → is_among (InProcess ∷ Conditional ∷ []) state ≡ true
-    → Issues (responder_of txn state accepted last_cancel last_renew received request issued) (types.IllAnswer results.Unfilled) NotSupplied
+    → Issues (responder_of txn state accepted last_cancel last_renew received request issued) (types.IllAnswer results.Unfilled)
+    NotSupplied
 issues_no txn InProcess accepted last_cancel last_renew received request issued waiting = search rules
 issues_no txn state accepted last_cancel last_renew received request issued waiting = search rules
 
@@ -107,23 +120,29 @@ left : (y : ResponderRecord) (number : ℕ) (body : Body) → Moves y number bod
 left y number body = search rules
 
 -- To keep an ILL-Request in IDLE, and go to IN-PROCESS, is a move.
-requested : (txn : Qualifiers) (state : State) (accepted last_cancel last_renew : Option ℕ) (received : Bool) (request kept : Option Apdu) (issued : List Apdu) (number : ℕ) (expiry : Option Date) (item : List ℕ)
+requested : (txn : Qualifiers) (state : State) (accepted last_cancel last_renew : Option ℕ) (received : Bool)
+    (request kept : Option Apdu) (issued : List Apdu) (number : ℕ) (expiry : Option Date) (item : List ℕ)
     → is_among (Idle ∷ []) state ≡ true
-    → Moves (responder_of txn state accepted last_cancel last_renew received request issued) number (types.IllRequest expiry item) (responder_of txn InProcess accepted last_cancel last_renew received kept issued)
+    → Moves (responder_of txn state accepted last_cancel last_renew received request issued) number (types.IllRequest expiry item)
+    (responder_of txn InProcess accepted last_cancel last_renew received kept issued)
 requested txn Idle accepted last_cancel last_renew received request kept issued number expiry item idle = search rules
 requested txn state accepted last_cancel last_renew received request kept issued number expiry item idle = search rules
 
 -- To accept the outstanding conditions, and go to IN-PROCESS, is a move.
-accepts : (txn : Qualifiers) (state : State) (accepted last_cancel last_renew : Option ℕ) (received : Bool) (request : Option Apdu) (issued : List Apdu) (number c : ℕ)
+accepts : (txn : Qualifiers) (state : State) (accepted last_cancel last_renew : Option ℕ) (received : Bool)
+    (request : Option Apdu) (issued : List Apdu) (number c : ℕ)
     → is_the c (outstanding_number (responder_of txn state accepted last_cancel last_renew received request issued)) ≡ true
-    → Moves (responder_of txn state accepted last_cancel last_renew received request issued) number (types.ConditionalReply c true) (responder_of txn InProcess (Some c) last_cancel last_renew received request issued)
+    → Moves (responder_of txn state accepted last_cancel last_renew received request issued) number
+    (types.ConditionalReply c true) (responder_of txn InProcess (Some c) last_cancel last_renew received request issued)
 accepts txn Conditional accepted last_cancel last_renew received request issued number c there = search rules
 accepts txn state accepted last_cancel last_renew received request issued number c there = search rules
 
 -- To take a Cancel above the last one in IN-PROCESS or CONDITIONAL, and go to CANCEL-PENDING, is a move.
-cancel_asked : (txn : Qualifiers) (state : State) (accepted last_cancel last_renew : Option ℕ) (received : Bool) (request : Option Apdu) (issued : List Apdu) (number : ℕ)
+cancel_asked : (txn : Qualifiers) (state : State) (accepted last_cancel last_renew : Option ℕ) (received : Bool)
+    (request : Option Apdu) (issued : List Apdu) (number : ℕ)
     → is_at_most number last_cancel ≡ false → is_among (InProcess ∷ Conditional ∷ []) state ≡ true
-    → Moves (responder_of txn state accepted last_cancel last_renew received request issued) number types.Cancel (responder_of txn CancelPending accepted (Some number) last_renew received request issued)
+    → Moves (responder_of txn state accepted last_cancel last_renew received request issued) number types.Cancel
+    (responder_of txn CancelPending accepted (Some number) last_renew received request issued)
 cancel_asked txn InProcess accepted last_cancel last_renew received request issued number above waiting = search rules
 cancel_asked txn state accepted last_cancel last_renew received request issued number above waiting = search rules
 
@@ -132,25 +151,31 @@ arrived : (y : ResponderRecord) (number : ℕ) → Moves y number types.Received
 arrived y number = search rules
 
 -- To take a Renew above the last one in SHIPPED or OVERDUE, and wait for its answer, is a move.
-renew_asked : (txn : Qualifiers) (state next : State) (accepted last_cancel last_renew : Option ℕ) (received : Bool) (request : Option Apdu) (issued : List Apdu) (number : ℕ) (wished : Option Date)
+renew_asked : (txn : Qualifiers) (state next : State) (accepted last_cancel last_renew : Option ℕ) (received : Bool)
+    (request : Option Apdu) (issued : List Apdu) (number : ℕ) (wished : Option Date)
     → is_at_most number last_renew ≡ false → is_among (Shipped ∷ Overdue ∷ []) state ≡ true
     → is_among (RenewPending ∷ RenewOverdue ∷ []) next ≡ true
-    → Moves (responder_of txn state accepted last_cancel last_renew received request issued) number (types.Renew wished) (responder_of txn next accepted last_cancel (Some number) received request issued)
-renew_asked txn Shipped RenewPending accepted last_cancel last_renew received request issued number wished above here there = search rules
+    → Moves (responder_of txn state accepted last_cancel last_renew received request issued) number (types.Renew wished)
+    (responder_of txn next accepted last_cancel (Some number) received request issued)
+renew_asked txn Shipped RenewPending accepted last_cancel last_renew received request issued number wished above here there =
+    search rules
 renew_asked txn state next accepted last_cancel last_renew received request issued number wished above here there = search rules
 
 -- To take a Returned while the item is out, and go to RETURNED, is a move.
-sent_back : (txn : Qualifiers) (state : State) (accepted last_cancel last_renew : Option ℕ) (received : Bool) (request : Option Apdu) (issued : List Apdu) (number : ℕ)
+sent_back : (txn : Qualifiers) (state : State) (accepted last_cancel last_renew : Option ℕ) (received : Bool)
+    (request : Option Apdu) (issued : List Apdu) (number : ℕ)
     → is_among (Shipped ∷ RenewPending ∷ Overdue ∷ RenewOverdue ∷ Recall ∷ []) state ≡ true
-    → Moves (responder_of txn state accepted last_cancel last_renew received request issued) number types.Returned (responder_of txn Returned accepted last_cancel last_renew received request issued)
+    → Moves (responder_of txn state accepted last_cancel last_renew received request issued) number types.Returned
+    (responder_of txn Returned accepted last_cancel last_renew received request issued)
 sent_back txn Shipped accepted last_cancel last_renew received request issued number out = search rules
 sent_back txn state accepted last_cancel last_renew received request issued number out = search rules
 
 -- A row of deliveries is a move that is taken or leaves the record, or it answers a no.
-data DeliveryRow (y : ResponderRecord) (number : ℕ) (body : Body) (answer : Result Taking Refusal × ResponderRecord) : Type 0 where
-  moves : (answer.0 ≡ Ok Taken) ⊎ (answer.1 ≡ y) → Moves y number body answer.1 → DeliveryRow y number body answer
-  replies_no : declines body ≡ true → answer ≡ (Ok Taken, issues_to y (types.IllAnswer results.Unfilled) NotSupplied)
-      → Issues y (types.IllAnswer results.Unfilled) NotSupplied → DeliveryRow y number body answer
+data DeliveryRow (y : ResponderRecord) (number : ℕ) (body : Body) (answer : Result Taking Refusal × ResponderRecord) : Type 0
+  where
+    moves : (answer.0 ≡ Ok Taken) ⊎ (answer.1 ≡ y) → Moves y number body answer.1 → DeliveryRow y number body answer
+    replies_no : declines body ≡ true → answer ≡ (Ok Taken, issues_to y (types.IllAnswer results.Unfilled) NotSupplied)
+        → Issues y (types.IllAnswer results.Unfilled) NotSupplied → DeliveryRow y number body answer
 
 -- An answer that leaves the record is a row of deliveries.
 left_row : (y : ResponderRecord) (number : ℕ) (body : Body) (answer : Result Taking Refusal)
@@ -158,7 +183,8 @@ left_row : (y : ResponderRecord) (number : ℕ) (body : Body) (answer : Result T
 left_row y number body answer = moves (inr refl) (left y number body)
 
 -- If each transition that may be the first to fit is a row of deliveries, the answer is one.
-transition : (y : ResponderRecord) (number : ℕ) (body : Body) (fits : Bool) (here others : Result Taking Refusal × ResponderRecord)
+transition : (y : ResponderRecord) (number : ℕ) (body : Body) (fits : Bool)
+    (here others : Result Taking Refusal × ResponderRecord)
     → (fits ≡ true → DeliveryRow y number body here) → (fits ≡ false → DeliveryRow y number body others)
     → DeliveryRow y number body (if fits then here else others)
 transition y number body fits here others = cond_both fits here others (DeliveryRow y number body)
@@ -174,10 +200,14 @@ answers_row y number c (Err refusal) waiting = left_row y number _ _
 -- The answer to an APDU that is not refused is a row of deliveries.
 message_row : (y : ResponderRecord) (a : Apdu) (body : Body) → DeliveryRow y a.number body (take_message y a body)
 message_row y a (types.IllRequest expiry item) =
-    transition y _ _ (is_among (Idle ∷ []) y.state) _ _ (λ idle. moves (inl refl) (requested y.txn y.state y.accepted y.last_cancel y.last_renew y.received y.request (Some a) y.issued a.number expiry item idle)) (λ _.
+    transition y _ _ (is_among (Idle ∷ []) y.state) _ _
+    (λ idle. moves (inl refl) (requested y.txn y.state y.accepted y.last_cancel y.last_renew y.received y.request (Some a)
+    y.issued a.number expiry item idle)) (λ _.
     left_row y _ _ _)
 message_row y a (types.ConditionalReply c true) =
-    transition y _ _ (is_the c (outstanding_number y)) _ _ (λ there. moves (inl refl) (accepts y.txn y.state y.accepted y.last_cancel y.last_renew y.received y.request y.issued a.number c there)) (λ _.
+    transition y _ _ (is_the c (outstanding_number y)) _ _
+    (λ there. moves (inl refl) (accepts y.txn y.state y.accepted y.last_cancel y.last_renew y.received y.request y.issued
+    a.number c there)) (λ _.
     transition y _ _ (is_the c y.accepted) _ _ (λ _. left_row y _ _ _) (λ _.
     transition y _ _ (was names_conditions y.issued c) _ _ (λ _. left_row y _ _ _) (λ _. left_row y _ _ _)))
 message_row y a (types.ConditionalReply c false) =
@@ -185,44 +215,58 @@ message_row y a (types.ConditionalReply c false) =
     transition y _ _ (is_among (NotSupplied ∷ []) y.state) _ _ (λ _. left_row y _ _ _) (λ _. left_row y _ _ _))
 message_row y a types.Cancel =
     transition y _ _ (is_at_most a.number y.last_cancel) _ _ (λ _. left_row y _ _ _) (λ above.
-    transition y _ _ (is_among (InProcess ∷ Conditional ∷ []) y.state) _ _ (λ waiting. moves (inl refl) (cancel_asked y.txn y.state y.accepted y.last_cancel y.last_renew y.received y.request y.issued a.number above waiting)) (λ _.
+    transition y _ _ (is_among (InProcess ∷ Conditional ∷ []) y.state) _ _
+    (λ waiting. moves (inl refl) (cancel_asked y.txn y.state y.accepted y.last_cancel y.last_renew y.received y.request
+    y.issued a.number above waiting)) (λ _.
     left_row y _ _ _))
 message_row y a types.Received =
     transition y _ _ (is_among later y.state && not y.received) _ _ (λ _. moves (inl refl) (arrived y a.number)) (λ _.
     transition y _ _ (is_among later y.state) _ _ (λ _. left_row y _ _ _) (λ _. left_row y _ _ _))
 message_row y a (types.Renew wished) =
     transition y _ _ (is_at_most a.number y.last_renew) _ _ (λ _. left_row y _ _ _) (λ above.
-    transition y _ _ (is_among (Shipped ∷ []) y.state) _ _ (λ here. moves (inl refl) (renew_asked y.txn y.state RenewPending y.accepted y.last_cancel y.last_renew y.received y.request y.issued a.number wished above (search (rules, here)) refl)) (λ _.
-    transition y _ _ (is_among (Overdue ∷ []) y.state) _ _ (λ here. moves (inl refl) (renew_asked y.txn y.state RenewOverdue y.accepted y.last_cancel y.last_renew y.received y.request y.issued a.number wished above (search (rules, here)) refl)) (λ _.
+    transition y _ _ (is_among (Shipped ∷ []) y.state) _ _
+    (λ here. moves (inl refl) (renew_asked y.txn y.state RenewPending y.accepted y.last_cancel y.last_renew y.received
+    y.request y.issued a.number wished above (search (rules, here)) refl)) (λ _.
+    transition y _ _ (is_among (Overdue ∷ []) y.state) _ _
+    (λ here. moves (inl refl) (renew_asked y.txn y.state RenewOverdue y.accepted y.last_cancel y.last_renew y.received
+    y.request y.issued a.number wished above (search (rules, here)) refl)) (λ _.
     left_row y _ _ _)))
 message_row y a types.Returned =
-    transition y _ _ (is_among (Shipped ∷ RenewPending ∷ Overdue ∷ RenewOverdue ∷ Recall ∷ []) y.state) _ _ (λ out. moves (inl refl) (sent_back y.txn y.state y.accepted y.last_cancel y.last_renew y.received y.request y.issued a.number out)) (λ _.
+    transition y _ _ (is_among (Shipped ∷ RenewPending ∷ Overdue ∷ RenewOverdue ∷ Recall ∷ []) y.state) _ _
+    (λ out. moves (inl refl) (sent_back y.txn y.state y.accepted y.last_cancel y.last_renew y.received y.request y.issued
+    a.number out)) (λ _.
     transition y _ _ (is_among (Returned ∷ CheckedIn ∷ []) y.state) _ _ (λ _. left_row y _ _ _) (λ _. left_row y _ _ _))
 message_row y a other = left_row y a.number _ _
 
 -- A refusal is a row of deliveries, and the answer to an admitted APDU stays one.
-by_admission : (y : ResponderRecord) (number : ℕ) (body : Body) (refused : Option Refusal) (answer : Result Taking Refusal × ResponderRecord)
+by_admission : (y : ResponderRecord) (number : ℕ) (body : Body) (refused : Option Refusal)
+    (answer : Result Taking Refusal × ResponderRecord)
     → DeliveryRow y number body answer → DeliveryRow y number body (unless_refused refused y answer)
 by_admission y number body None answer row = row
 by_admission y number body (Some refusal) answer row = left_row y number body (Err refusal)
 
 -- The answer to each APDU is a row of deliveries.
 delivery_row : (y : ResponderRecord) (a : Apdu) → DeliveryRow y a.number a.body (takes y a)
-delivery_row y a = by_admission y a.number a.body (first_refusal y.txn (not (is_requesters a.body)) a) (take_message y a a.body) (message_row y a a.body)
+delivery_row y a = by_admission y a.number a.body (first_refusal y.txn (not (is_requesters a.body)) a) (take_message y a a.body)
+    (message_row y a a.body)
 
 -- If P holds after each move, and after an answered no, it holds after a row of deliveries.
-of_row : (P : ResponderRecord → Type 0) (y : ResponderRecord) (number : ℕ) (body : Body) (answer : Result Taking Refusal × ResponderRecord)
+of_row : (P : ResponderRecord → Type 0) (y : ResponderRecord) (number : ℕ) (body : Body)
+    (answer : Result Taking Refusal × ResponderRecord)
     → DeliveryRow y number body answer
     → (Moves y number body answer.1 → P answer.1)
-    → (declines body ≡ true → Issues y (types.IllAnswer results.Unfilled) NotSupplied → P (issues_to y (types.IllAnswer results.Unfilled) NotSupplied))
+    → (declines body ≡ true → Issues y (types.IllAnswer results.Unfilled) NotSupplied
+    → P (issues_to y (types.IllAnswer results.Unfilled) NotSupplied))
     → P answer.1
 of_row P y number body answer (moves quiet how) where_moved where_answered = where_moved how
-of_row P y number body answer (replies_no said same how) where_moved where_answered = subst (λ r. P r.1) (sym same) (where_answered said how)
+of_row P y number body answer (replies_no said same how) where_moved where_answered =
+    subst (λ r. P r.1) (sym same) (where_answered said how)
 
 -- If P holds after each move, and after an answered no, it holds after each message.
 pub of_takes : (P : ResponderRecord → Type 0) (y : ResponderRecord) (a : Apdu)
     → (Moves y a.number a.body (takes y a).1 → P (takes y a).1)
-    → (declines a.body ≡ true → Issues y (types.IllAnswer results.Unfilled) NotSupplied → P (issues_to y (types.IllAnswer results.Unfilled) NotSupplied))
+    → (declines a.body ≡ true → Issues y (types.IllAnswer results.Unfilled) NotSupplied
+    → P (issues_to y (types.IllAnswer results.Unfilled) NotSupplied))
     → P (takes y a).1
 of_takes P y a = of_row P y a.number a.body (takes y a) (delivery_row y a)
 
@@ -241,27 +285,34 @@ ok_is : (x y : ResponderRecord) → ◌≡◌ {A = Result ResponderRecord Refusa
 ok_is x y h = search rules
 
 -- If P holds after each transition that is found, it holds of the record after a deed.
-by_transition : (P : ResponderRecord → Type 0) (y new : ResponderRecord) (found : Result Transition Refusal) (number : Result ℕ Refusal)
-    → ((transition : Transition) → found ≡ Ok transition → P (record_after y transition)) → acts_by y found number ≡ Ok new → P new
+by_transition : (P : ResponderRecord → Type 0) (y new : ResponderRecord) (found : Result Transition Refusal)
+    (number : Result ℕ Refusal)
+    → ((transition : Transition) → found ≡ Ok transition → P (record_after y transition)) → acts_by y found number ≡ Ok new
+    → P new
 by_transition P y new (Err refusal) number leads done = search rules
 by_transition P y new (Ok transition) (Err refusal) leads done = search rules
-by_transition P y new (Ok transition) (Ok n) leads done = subst P (ok_is (record_after y transition) new done) (leads transition refl)
+by_transition P y new (Ok transition) (Ok n) leads done =
+    subst P (ok_is (record_after y transition) new done) (leads transition refl)
 
 -- If P holds after each transition that keeps to `Issues`, it holds after a deed.
 pub of_acts : (P : ResponderRecord → Type 0) (y new : ResponderRecord) (deed : Deed) (today : Date)
-    → ((transition : Transition) → IsTransition y transition → Issues y transition.body transition.next → P (record_after y transition))
+    → ((transition : Transition) → IsTransition y transition → Issues y transition.body transition.next
+    → P (record_after y transition))
     → acts y deed today ≡ Ok new → P new
 of_acts P y new deed today leads done =
     by_transition P y new (transition_of y deed today) (next_number y.issued) (λ transition there.
     let is = is_transition y deed today transition there in
-    leads transition is (issues y.txn y.state y.accepted y.last_cancel y.last_renew y.received y.request y.issued transition is)) done
+    leads transition is (issues y.txn y.state y.accepted y.last_cancel y.last_renew y.received y.request y.issued transition is))
+    done
 
 -- After a deed a record has at most 255 messages, since a number was left.
 by_few : (y new : ResponderRecord) (found : Result Transition Refusal) (number : Result ℕ Refusal)
     → next_number y.issued ≡ number → acts_by y found number ≡ Ok new → length new.issued ≤ 255
 by_few y new (Err refusal) number next done = search rules
 by_few y new (Ok transition) (Err refusal) next done = search rules
-by_few y new (Ok transition) (Ok n) next done = subst (λ (r : ResponderRecord). length r.issued ≤ 255) (ok_is (record_after y transition) new done) (few_with_next y.txn y.issued transition.body n next)
+by_few y new (Ok transition) (Ok n) next done =
+    subst (λ (r : ResponderRecord). length r.issued ≤ 255) (ok_is (record_after y transition) new done)
+    (few_with_next y.txn y.issued transition.body n next)
 
 -- A deed leaves at most 255 messages.
 pub acts_few : (y new : ResponderRecord) (deed : Deed) (today : Date) → acts y deed today ≡ Ok new → length new.issued ≤ 255

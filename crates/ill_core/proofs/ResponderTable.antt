@@ -1,5 +1,6 @@
 -- The rows of a responder's two tables give what its definitions give.
-use Rattle.std.proofs.Common.{rules, ◌≡◌, ℕ, ◌+◌, nat_lt, length, IsOk, ◌&&◌, ◌||◌, not, Bool, true, false, List, Option, Some, None, Result, Ok, Err, if◌then◌else◌, refl, ap, subst, sym, ◌∙◌}
+use Rattle.std.proofs.Common.{rules, ◌≡◌, ℕ, ◌+◌, nat_lt, length, IsOk, ◌&&◌, ◌||◌, not, Bool, true, false, List, Option, Some}
+use Rattle.std.proofs.Common.{None, Result, Ok, Err, if◌then◌else◌, refl, ap, subst, sym, ◌∙◌}
 use Rattle.std.specs.List.{list_all}
 use Rattle.std.specs.Option.{unwrap_or}
 use Rattle.std.proofs.lemmas.Bool.{and_parts}
@@ -19,7 +20,8 @@ use Rattle.ill_core.specs.declared.table.Then.{Then}
 use Rattle.ill_core.specs.declared.table.Then.TheVariants.{To, Stay}
 use Rattle.ill_core.specs.declared.responder.standing.TheConstants.{ACCEPTS, CANCELS, RENEWS, RECEIVES}
 use Rattle.ill_core.specs.declared.state.State.{State}
-use Rattle.ill_core.specs.declared.state.State.TheVariants.{Idle, InProcess, Conditional, NotSupplied, Shipped, RenewPending, Overdue, RenewOverdue}
+use Rattle.ill_core.specs.declared.state.State.TheVariants.{Idle, InProcess, Conditional, NotSupplied, Shipped, RenewPending}
+use Rattle.ill_core.specs.declared.state.State.TheVariants.{Overdue, RenewOverdue}
 use Rattle.ill_core.specs.declared.refusal.Refusal.{Refusal}
 use Rattle.ill_core.specs.declared.refusal.Refusal.TheVariants as refusals
 use Rattle.ill_core.specs.declared.refusal.Refusal.TheVariants.{OutOfMemory}
@@ -32,9 +34,12 @@ use Rattle.ill_core.specs.Kinds.{requester_kind, number_in}
 use Rattle.ill_core.specs.Tables.{has, has_state, taking_of, next_state}
 use Rattle.ill_core.specs.Responder.{ResponderRecord, responder_of, IsResponder, due_of}
 use Rattle.ill_core.specs.Dates.{is_before, is_after_due}
-use Rattle.ill_core.specs.ResponderTables.{deed_row, check, check_date, deed_body, after_deed, number_after, request_after, issued_after, after_delivery, grows, IsRefused, number_refusal, refusal_of, delivery_guards, delivery_rows, delivery_row, delivery_row_of}
+use Rattle.ill_core.specs.ResponderTables.{deed_row, check, check_date, deed_body, after_deed, number_after, request_after}
+use Rattle.ill_core.specs.ResponderTables.{issued_after, after_delivery, grows, IsRefused, number_refusal, refusal_of}
+use Rattle.ill_core.specs.ResponderTables.{delivery_guards, delivery_rows, delivery_row, delivery_row_of}
 use Rattle.ill_core.specs.ResponderDeliveries.{MayWantMemory, answers_no, take_message, takes_memory}
-use Rattle.ill_core.specs.ResponderActions.{Transition, leads_to, issues_to, if_allowed, no_date, expiry_of, transition_of, acts, acts_by, Acts}
+use Rattle.ill_core.specs.ResponderActions.{Transition, leads_to, issues_to, if_allowed, no_date, expiry_of, transition_of, acts}
+use Rattle.ill_core.specs.ResponderActions.{acts_by, Acts}
 use Rattle.ill_core.proofs.Rules.{responder_rules, is_responder}
 use Rattle.ill_core.proofs.ResponderKept.{message_kept, transition_kept}
 use Rattle.ill_core.proofs.ResponderRows.{of_acts}
@@ -42,12 +47,14 @@ use Rattle.ill_core.proofs.TableLemmas.{answer_of, by_tests, found_by_tests, tes
 
 -- Returns the answer of a row to an APDU, and the record after it.
 abbrev pub hit : ResponderRecord → Apdu → Body → Row RequesterKind → Result Taking Refusal × ResponderRecord
-hit y a body row = unless_refused (number_refusal row.4 y.issued) y (Ok (taking_of row.3 y.state), after_delivery y a row (number_in a body))
+hit y a body row = unless_refused (number_refusal row.4 y.issued) y
+    (Ok (taking_of row.3 y.state), after_delivery y a row (number_in a body))
 
 -- Returns the answer of the rows of a kind, as tests one after another.
 abbrev pub tests_of : ResponderRecord → Apdu → Body → Option RequesterKind → Result Taking Refusal × ResponderRecord
 tests_of y a body None = conflict y.state y
-tests_of y a body (Some kind) = by_tests y.state (delivery_guards y (number_in a body)) (hit y a body) (conflict y.state y) (delivery_rows kind)
+tests_of y a body (Some kind) =
+    by_tests y.state (delivery_guards y (number_in a body)) (hit y a body) (conflict y.state y) (delivery_rows kind)
 
 -- The rows of deliveries give what `take_message` gives, for this APDU and this record.
 abbrev pub TestsAre : Body → State → Qualifiers → Option ℕ → Option ℕ → Option ℕ → Bool → Option Apdu → List Apdu → Apdu → Type 0
@@ -62,7 +69,8 @@ answered y (Ok number) = refl
 answered y (Err refusal) = refl
 
 -- The rows of deliveries give what `take_message` gives, for each APDU and each state.
-pub tabled : (body : Body) (state : State) (txn : Qualifiers) (accepted last_cancel last_renew : Option ℕ) (received : Bool) (request : Option Apdu) (issued : List Apdu) (a : Apdu)
+pub tabled : (body : Body) (state : State) (txn : Qualifiers) (accepted last_cancel last_renew : Option ℕ) (received : Bool)
+    (request : Option Apdu) (issued : List Apdu) (a : Apdu)
     → TestsAre body state txn accepted last_cancel last_renew received request issued a
 tabled (types.ConditionalReply c true) Idle txn accepted last_cancel last_renew received request issued a = refl
 tabled (types.ConditionalReply c true) state txn accepted last_cancel last_renew received request issued a = refl
@@ -82,12 +90,14 @@ tabled body state txn accepted last_cancel last_renew received request issued a 
 found : (y : ResponderRecord) (a : Apdu) (body : Body) (kind : Option RequesterKind)
     → answer_of (hit y a body) (conflict y.state y) (delivery_row_of y a body kind) ≡ tests_of y a body kind
 found y a body None = refl
-found y a body (Some kind) = found_by_tests y.state (delivery_guards y (number_in a body)) (hit y a body) (conflict y.state y) (delivery_rows kind)
+found y a body (Some kind) = found_by_tests y.state (delivery_guards y (number_in a body)) (hit y a body) (conflict y.state y)
+    (delivery_rows kind)
 
 -- The first row that fits an APDU gives its answer. If none fits, it is a conflict.
 pub takes_row : (y : ResponderRecord) (a : Apdu)
     → answer_of (hit y a a.body) (conflict y.state y) (delivery_row y a) ≡ take_message y a a.body
-takes_row y a = found y a a.body (requester_kind a.body) ∙ tabled a.body y.state y.txn y.accepted y.last_cancel y.last_renew y.received y.request y.issued a
+takes_row y a = found y a a.body (requester_kind a.body)
+    ∙ tabled a.body y.state y.txn y.accepted y.last_cancel y.last_renew y.received y.request y.issued a
 
 -- A row that is the first to fit an APDU gives its answer.
 pub takes_this : (y : ResponderRecord) (a : Apdu) (row : Row RequesterKind) → delivery_row y a ≡ Some row
@@ -103,16 +113,20 @@ pub takes_numbered : (y : ResponderRecord) (a : Apdu) (row : Row RequesterKind) 
     → number_refusal row.4 y.issued ≡ None
     → (Ok (taking_of row.3 y.state), after_delivery y a row (number_in a a.body)) ≡ take_message y a a.body
 takes_numbered y a row is left =
-    sym (ap (λ o. unless_refused o y (Ok (taking_of row.3 y.state), after_delivery y a row (number_in a a.body))) left) ∙ takes_this y a row is
+    sym (ap (λ o. unless_refused o y (Ok (taking_of row.3 y.state), after_delivery y a row (number_in a a.body))) left)
+    ∙ takes_this y a row is
 
 -- The first row that fits an APDU of the transaction leads to a responder's record, if no number is wanting.
 pub delivery_kept : (y : ResponderRecord) (a : Apdu) (row : Row RequesterKind) → IsResponder y
     → is_same_txn a.txn y.txn ≡ true → delivery_row y a ≡ Some row
     → number_refusal row.4 y.issued ≡ None → IsResponder (after_delivery y a row (number_in a a.body))
-delivery_kept y a row h same is left = subst (λ answer. IsResponder answer.1) (sym (takes_numbered y a row is left)) (is_responder _ (message_kept y a a.body (responder_rules y h) same refl))
+delivery_kept y a row h same is left =
+    subst (λ answer. IsResponder answer.1) (sym (takes_numbered y a row is left))
+    (is_responder _ (message_kept y a a.body (responder_rules y h) same refl))
 
 -- Parts that are those after a row make the record after it.
-pub after_is : (y : ResponderRecord) (a : Apdu) (row : Row RequesterKind) (k : ℕ) (txn : Qualifiers) (state : State) (accepted last_cancel last_renew : Option ℕ) (received : Bool) (request : Option Apdu) (issued : List Apdu)
+pub after_is : (y : ResponderRecord) (a : Apdu) (row : Row RequesterKind) (k : ℕ) (txn : Qualifiers) (state : State)
+    (accepted last_cancel last_renew : Option ℕ) (received : Bool) (request : Option Apdu) (issued : List Apdu)
     → txn ≡ y.txn → state ≡ next_state row.3 y.state → accepted ≡ number_after ACCEPTS row.4 y.accepted k
     → last_cancel ≡ number_after CANCELS row.4 y.last_cancel k
     → last_renew ≡ number_after RENEWS row.4 y.last_renew k → received ≡ (has row.4 RECEIVES || y.received)
@@ -141,11 +155,14 @@ grows_new y body row = implies (grows row.4) (takes_memory y body && is_new row.
 -- Each row of the kind that has the state takes memory only for news that takes it.
 abbrev kind_grows_new : ResponderRecord → Body → Option RequesterKind → Bool
 kind_grows_new y body None = true
-kind_grows_new y body (Some kind) = list_all (λ row. implies (has_state row.1 y.state) (grows_new y body row)) (delivery_rows kind)
+kind_grows_new y body (Some kind) =
+    list_all (λ row. implies (has_state row.1 y.state) (grows_new y body row)) (delivery_rows kind)
 
 -- The rows of each kind take memory only for news that takes it, in each state.
-grown : (body : Body) (state : State) (txn : Qualifiers) (accepted last_cancel last_renew : Option ℕ) (received : Bool) (request : Option Apdu) (issued : List Apdu)
-    → kind_grows_new (responder_of txn state accepted last_cancel last_renew received request issued) body (requester_kind body) ≡ true
+grown : (body : Body) (state : State) (txn : Qualifiers) (accepted last_cancel last_renew : Option ℕ) (received : Bool)
+    (request : Option Apdu) (issued : List Apdu)
+    → kind_grows_new (responder_of txn state accepted last_cancel last_renew received request issued) body (requester_kind body)
+    ≡ true
 grown (types.ConditionalReply c true) Idle txn accepted last_cancel last_renew received request issued = refl
 grown (types.ConditionalReply c true) state txn accepted last_cancel last_renew received request issued = refl
 grown (types.ConditionalReply c false) Idle txn accepted last_cancel last_renew received request issued = refl
@@ -159,14 +176,16 @@ found_grown : (y : ResponderRecord) (a : Apdu) (body : Body) (kind : Option Requ
 found_grown y a body None h = refl
 found_grown y a body (Some kind) h =
     let guards = delivery_guards y (number_in a body) in
-    found_by_tests y.state guards (grows_new y body) true (delivery_rows kind) ∙ tests_true y.state guards (grows_new y body) (delivery_rows kind) h
+    found_by_tests y.state guards (grows_new y body) true (delivery_rows kind)
+    ∙ tests_true y.state guards (grows_new y body) (delivery_rows kind) h
 
 -- A row that is the first to fit an APDU takes memory only for news that takes it.
 row_grown : (y : ResponderRecord) (a : Apdu) (row : Row RequesterKind) → delivery_row y a ≡ Some row
     → grows_new y a.body row ≡ true
 row_grown y a row is =
     ap (answer_of (grows_new y a.body) true) (sym is)
-    ∙ found_grown y a a.body (requester_kind a.body) (grown a.body y.state y.txn y.accepted y.last_cancel y.last_renew y.received y.request y.issued)
+    ∙ found_grown y a a.body (requester_kind a.body)
+    (grown a.body y.state y.txn y.accepted y.last_cancel y.last_renew y.received y.request y.issued)
 
 -- If a implies b, and a holds, then b holds.
 implied : (a b : Bool) → implies a b ≡ true → a ≡ true → b ≡ true
@@ -181,7 +200,8 @@ takes_refused y a row OutOfMemory is refused =
     let both = and_parts _ _ (implied _ _ (row_grown y a row is) refused.0) in
     (sym (ap (λ answer. answer.0) (takes_numbered y a row is refused.1)) ∙ ap Ok (new_taken row.3 y.state both.1), both.0, refl)
 takes_refused y a row refusal is refused =
-    ap (λ o. unless_refused o y (Ok (taking_of row.3 y.state), after_delivery y a row (number_in a a.body))) (sym refused) ∙ takes_this y a row is
+    ap (λ o. unless_refused o y (Ok (taking_of row.3 y.state), after_delivery y a row (number_in a a.body))) (sym refused)
+    ∙ takes_this y a row is
 
 -- ---- deeds
 
@@ -192,7 +212,8 @@ transition_by state (Some row) (Err refusal) body = Err refusal
 transition_by state (Some row) (Ok done) body = leads_to (next_state row.3 state) body
 
 -- If the row gives `transition` with its date allowed, and the refusal without, it gives `if_allowed` of both.
-dated : (state : State) (found : Option (Row ResponderKind)) (is_allowed : Bool) (forbids : Refusal) (transition : Result Transition Refusal) (body : Body)
+dated : (state : State) (found : Option (Row ResponderKind)) (is_allowed : Bool) (forbids : Refusal)
+    (transition : Result Transition Refusal) (body : Body)
     → transition_by state found (Ok tt) body ≡ transition → transition_by state found (Err forbids) body ≡ Err forbids
     → transition_by state found (check is_allowed forbids) body ≡ if_allowed is_allowed forbids transition
 dated state found true forbids transition body here forbidden = here
@@ -200,7 +221,8 @@ dated state found false forbids transition body here forbidden = forbidden
 
 -- The row of a deed and its date give its transition, in each state.
 deeded : (deed : Deed) (state : State) (y : ResponderRecord) (today : Date)
-    → transition_by state (deed_row state deed) (check_date y deed today) (deed_body y deed) ≡ transition_of (record y { state = state }) deed today
+    → transition_by state (deed_row state deed) (check_date y deed today) (deed_body y deed)
+    ≡ transition_of (record y { state = state }) deed today
 deeded (deeds.Answer results.Conditional) Idle y today = refl
 deeded (deeds.Answer results.Conditional) state y today = refl
 deeded (deeds.Answer answer) Idle y today = refl
@@ -210,27 +232,34 @@ deeded (deeds.CancelReply true) state y today = refl
 deeded (deeds.CancelReply false) Idle y today = refl
 deeded (deeds.CancelReply false) state y today = refl
 deeded (deeds.Ship due) InProcess y today =
-    dated InProcess (deed_row InProcess (deeds.Ship due)) (not (is_before due today)) refusals.DateEarlier (leads_to Shipped (types.Shipped due)) (types.Shipped due) refl refl
+    dated InProcess (deed_row InProcess (deeds.Ship due)) (not (is_before due today)) refusals.DateEarlier
+    (leads_to Shipped (types.Shipped due)) (types.Shipped due) refl refl
 deeded (deeds.Ship due) state y today = refl
 deeded (deeds.RenewAnswer (Some d)) RenewPending y today =
     let body = types.RenewAnswer (unwrap_or y.last_renew 0) (Some d) in
-    dated RenewPending (deed_row RenewPending (deeds.RenewAnswer (Some d))) (is_after_due d (due_of y)) refusals.DateNotLater (leads_to Shipped body) body refl refl
+    dated RenewPending (deed_row RenewPending (deeds.RenewAnswer (Some d))) (is_after_due d (due_of y)) refusals.DateNotLater
+    (leads_to Shipped body) body refl refl
 deeded (deeds.RenewAnswer (Some d)) RenewOverdue y today =
     let body = types.RenewAnswer (unwrap_or y.last_renew 0) (Some d) in
-    dated RenewOverdue (deed_row RenewOverdue (deeds.RenewAnswer (Some d))) (is_after_due d (due_of y)) refusals.DateNotLater (leads_to Shipped body) body refl refl
+    dated RenewOverdue (deed_row RenewOverdue (deeds.RenewAnswer (Some d))) (is_after_due d (due_of y)) refusals.DateNotLater
+    (leads_to Shipped body) body refl refl
 deeded (deeds.RenewAnswer (Some d)) state y today = refl
 deeded (deeds.RenewAnswer None) Idle y today = refl
 deeded (deeds.RenewAnswer None) state y today = refl
 deeded deeds.Overdue Shipped y today =
     let body = types.Overdue (unwrap_or (due_of y) no_date) in
-    dated Shipped (deed_row Shipped deeds.Overdue) (is_after_due today (due_of y)) refusals.NotDue (leads_to Overdue body) body refl refl
+    dated Shipped (deed_row Shipped deeds.Overdue) (is_after_due today (due_of y)) refusals.NotDue (leads_to Overdue body) body
+    refl refl
 deeded deeds.Overdue RenewPending y today =
     let body = types.Overdue (unwrap_or (due_of y) no_date) in
-    dated RenewPending (deed_row RenewPending deeds.Overdue) (is_after_due today (due_of y)) refusals.NotDue (leads_to RenewOverdue body) body refl refl
+    dated RenewPending (deed_row RenewPending deeds.Overdue) (is_after_due today (due_of y)) refusals.NotDue
+    (leads_to RenewOverdue body) body refl refl
 deeded deeds.Expire InProcess y today =
-    dated InProcess (deed_row InProcess deeds.Expire) (is_after_due today (expiry_of y.request)) refusals.NotExpired (leads_to NotSupplied types.Expired) types.Expired refl refl
+    dated InProcess (deed_row InProcess deeds.Expire) (is_after_due today (expiry_of y.request)) refusals.NotExpired
+    (leads_to NotSupplied types.Expired) types.Expired refl refl
 deeded deeds.Expire Conditional y today =
-    dated Conditional (deed_row Conditional deeds.Expire) (is_after_due today (expiry_of y.request)) refusals.NotExpired (leads_to NotSupplied types.Expired) types.Expired refl refl
+    dated Conditional (deed_row Conditional deeds.Expire) (is_after_due today (expiry_of y.request)) refusals.NotExpired
+    (leads_to NotSupplied types.Expired) types.Expired refl refl
 deeded deed Idle y today = refl
 deeded deed state y today = refl
 
@@ -258,7 +287,8 @@ acts_none : (y : ResponderRecord) (deed : Deed) (today : Date) → deed_row y.st
     → acts y deed today ≡ Err (refusals.NotNow y.state)
 acts_none y deed today is =
     ap (λ transition. acts_by y transition (next_number y.issued))
-    (sym (deeded deed y.state y today) ∙ ap (λ found. transition_by y.state found (check_date y deed today) (deed_body y deed)) is)
+    (sym (deeded deed y.state y today)
+    ∙ ap (λ found. transition_by y.state found (check_date y deed today) (deed_body y deed)) is)
 
 -- If a row has the state, the transition of the deed is that of the row and the date.
 row_transition : (y : ResponderRecord) (deed : Deed) (today : Date) (row : Row ResponderKind) (allowed : Result Unit Refusal)
@@ -269,7 +299,8 @@ row_transition y deed today row allowed is date =
     ∙ ap (λ found. transition_by y.state (Some row) found (deed_body y deed)) date)
 
 -- If a row has the state, the deed goes by the row, the date and the number.
-acts_by_row : (y : ResponderRecord) (deed : Deed) (today : Date) (row : Row ResponderKind) (allowed : Result Unit Refusal) (number : Result ℕ Refusal)
+acts_by_row : (y : ResponderRecord) (deed : Deed) (today : Date) (row : Row ResponderKind) (allowed : Result Unit Refusal)
+    (number : Result ℕ Refusal)
     → deed_row y.state deed ≡ Some row → check_date y deed today ≡ allowed → next_number y.issued ≡ number
     → acts y deed today ≡ acts_by y (transition_by y.state (Some row) allowed (deed_body y deed)) number
 acts_by_row y deed today row allowed number is date next =
@@ -283,7 +314,8 @@ pub acts_this : (y : ResponderRecord) (deed : Deed) (today : Date) (row : Row Re
 acts_this y deed today row number is date next =
     let body = deed_body y deed in
     let alone : after_deed y row number body ≡ issues_to y body (next_state row.3 y.state) =
-    sym (ap (answer_of (λ r. after_deed y r number body) y) is) ∙ (state_alone deed y.state y number body ∙ ap (answer_of (λ r. issues_to y body (next_state r.3 y.state)) y) is) in
+    sym (ap (answer_of (λ r. after_deed y r number body) y) is)
+    ∙ (state_alone deed y.state y number body ∙ ap (answer_of (λ r. issues_to y body (next_state r.3 y.state)) y) is) in
     acts_by_row y deed today row (Ok tt) (Ok number) is date next ∙ ap Ok (sym alone)
 
 -- Returns true if the result is `OutOfMemory`.
@@ -318,8 +350,10 @@ other_refusal refused other is = search rules
 -- If a row has the state and a date forbids the deed, the responder answers with that refusal.
 pub acts_forbidden : (y : ResponderRecord) (deed : Deed) (today : Date) (row : Row ResponderKind) (refusal : Refusal)
     → deed_row y.state deed ≡ Some row → check_date y deed today ≡ Err refusal → Acts y deed today (Err refusal) y
-acts_forbidden y deed today row OutOfMemory is date = absurd (other_refusal (check_date y deed today) (date_takes_none y deed today) date)
-acts_forbidden y deed today row refusal is date = (acts_by_row y deed today row (Err refusal) (next_number y.issued) is date refl, refl)
+acts_forbidden y deed today row OutOfMemory is date =
+    absurd (other_refusal (check_date y deed today) (date_takes_none y deed today) date)
+acts_forbidden y deed today row refusal is date =
+    (acts_by_row y deed today row (Err refusal) (next_number y.issued) is date refl, refl)
 
 -- If a row and the date allow a deed and no number is left, the responder answers with that refusal.
 pub acts_numberless : (y : ResponderRecord) (deed : Deed) (today : Date) (row : Row ResponderKind) (refusal : Refusal)
@@ -338,10 +372,13 @@ acts_wanting y deed today row number is date next = (subst IsOk (sym (acts_this 
 -- A deed leads from a responder's record to a responder's record.
 pub deed_kept : (y new : ResponderRecord) (deed : Deed) (today : Date) → IsResponder y → acts y deed today ≡ Ok new
     → IsResponder new
-deed_kept y new deed today h done = of_acts IsResponder y new deed today (λ transition is how. is_responder _ (transition_kept y transition (responder_rules y h) is)) done
+deed_kept y new deed today h done =
+    of_acts IsResponder y new deed today
+    (λ transition is how. is_responder _ (transition_kept y transition (responder_rules y h) is)) done
 
 -- Parts that are those after a row make the record after the deed.
-pub deed_is : (y : ResponderRecord) (row : Row ResponderKind) (k : ℕ) (body : Body) (txn : Qualifiers) (state : State) (accepted last_cancel last_renew : Option ℕ) (received : Bool) (issued : List Apdu)
+pub deed_is : (y : ResponderRecord) (row : Row ResponderKind) (k : ℕ) (body : Body) (txn : Qualifiers) (state : State)
+    (accepted last_cancel last_renew : Option ℕ) (received : Bool) (issued : List Apdu)
     → txn ≡ y.txn → state ≡ next_state row.3 y.state → accepted ≡ number_after ACCEPTS row.4 y.accepted k
     → last_cancel ≡ number_after CANCELS row.4 y.last_cancel k
     → last_renew ≡ number_after RENEWS row.4 y.last_renew k → received ≡ (has row.4 RECEIVES || y.received)

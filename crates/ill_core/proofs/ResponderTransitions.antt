@@ -4,7 +4,9 @@ use Rattle.std.specs.Option.{unwrap_or}
 use Rattle.ill_values.specs.Day.{Date}
 use Rattle.ill_values.specs.declared.apdu.Body.TheVariants as types
 use Rattle.ill_values.specs.declared.apdu.AnswerResult.{AnswerResult}
-use Rattle.ill_core.specs.declared.state.State.TheVariants.{InProcess, Conditional, CancelPending, Cancelled, NotSupplied, Shipped, RenewPending, Overdue, RenewOverdue, Recall, Returned, CheckedIn}
+use Rattle.ill_core.specs.declared.state.State.TheVariants.{InProcess, Conditional, CancelPending, Cancelled, NotSupplied}
+use Rattle.ill_core.specs.declared.state.State.TheVariants.{Shipped, RenewPending, Overdue, RenewOverdue, Recall, Returned}
+use Rattle.ill_core.specs.declared.state.State.TheVariants.{CheckedIn}
 use Rattle.ill_core.specs.declared.refusal.Refusal.{Refusal}
 use Rattle.ill_core.specs.declared.responder.Deed.{Deed}
 use Rattle.ill_core.specs.declared.responder.Deed.TheVariants as deeds
@@ -16,19 +18,28 @@ use Rattle.ill_core.proofs.TransitionLemmas.{transition_is, at_transition, is_th
 
 -- The transitions of a responder's deeds. Each has the states before, the state after and the APDU.
 pub data IsTransition (y : ResponderRecord) : Transition → Type 0 where
-  answers : (answer : AnswerResult) → is_among (InProcess ∷ []) y.state ≡ true → IsTransition y (record { next = after_answer answer; body = types.IllAnswer answer })
-  allows_cancel : is_among (CancelPending ∷ []) y.state ≡ true → IsTransition y (record { next = Cancelled; body = types.CancelReply (unwrap_or y.last_cancel 0) true })
-  refuses_cancel : is_among (CancelPending ∷ []) y.state ≡ true → IsTransition y (record { next = InProcess; body = types.CancelReply (unwrap_or y.last_cancel 0) false })
-  ships : (due : Date) → is_among (InProcess ∷ []) y.state ≡ true → IsTransition y (record { next = Shipped; body = types.Shipped due })
+  answers : (answer : AnswerResult) → is_among (InProcess ∷ []) y.state ≡ true
+      → IsTransition y (record { next = after_answer answer; body = types.IllAnswer answer })
+  allows_cancel : is_among (CancelPending ∷ []) y.state ≡ true
+      → IsTransition y (record { next = Cancelled; body = types.CancelReply (unwrap_or y.last_cancel 0) true })
+  refuses_cancel : is_among (CancelPending ∷ []) y.state ≡ true
+      → IsTransition y (record { next = InProcess; body = types.CancelReply (unwrap_or y.last_cancel 0) false })
+  ships : (due : Date) → is_among (InProcess ∷ []) y.state ≡ true
+      → IsTransition y (record { next = Shipped; body = types.Shipped due })
   renews : (due : Date) → is_among (RenewPending ∷ RenewOverdue ∷ []) y.state ≡ true → is_after_due due (due_of y) ≡ true
       → IsTransition y (record { next = Shipped; body = types.RenewAnswer (unwrap_or y.last_renew 0) (Some due) })
-  refuses_renewal : is_among (RenewPending ∷ []) y.state ≡ true → IsTransition y (record { next = Shipped; body = types.RenewAnswer (unwrap_or y.last_renew 0) None })
-  refuses_late : is_among (RenewOverdue ∷ []) y.state ≡ true → IsTransition y (record { next = Overdue; body = types.RenewAnswer (unwrap_or y.last_renew 0) None })
-  reminds : is_among (Shipped ∷ []) y.state ≡ true → IsTransition y (record { next = Overdue; body = types.Overdue (unwrap_or (due_of y) no_date) })
-  reminds_renewing : is_among (RenewPending ∷ []) y.state ≡ true → IsTransition y (record { next = RenewOverdue; body = types.Overdue (unwrap_or (due_of y) no_date) })
+  refuses_renewal : is_among (RenewPending ∷ []) y.state ≡ true
+      → IsTransition y (record { next = Shipped; body = types.RenewAnswer (unwrap_or y.last_renew 0) None })
+  refuses_late : is_among (RenewOverdue ∷ []) y.state ≡ true
+      → IsTransition y (record { next = Overdue; body = types.RenewAnswer (unwrap_or y.last_renew 0) None })
+  reminds : is_among (Shipped ∷ []) y.state ≡ true
+      → IsTransition y (record { next = Overdue; body = types.Overdue (unwrap_or (due_of y) no_date) })
+  reminds_renewing : is_among (RenewPending ∷ []) y.state ≡ true
+      → IsTransition y (record { next = RenewOverdue; body = types.Overdue (unwrap_or (due_of y) no_date) })
   recalls : is_among (Shipped ∷ Overdue ∷ []) y.state ≡ true → IsTransition y (record { next = Recall; body = types.Recall })
   checks_in : is_among (Returned ∷ []) y.state ≡ true → IsTransition y (record { next = CheckedIn; body = types.CheckedIn })
-  expires : is_among (InProcess ∷ Conditional ∷ []) y.state ≡ true → IsTransition y (record { next = NotSupplied; body = types.Expired })
+  expires : is_among (InProcess ∷ Conditional ∷ []) y.state ≡ true
+      → IsTransition y (record { next = NotSupplied; body = types.Expired })
 
 -- P holds of a transition that its date allows, if it holds of it whenever the date does.
 allowed : (P : Transition → Type 0) (is_allowed : Bool) (refusal : Refusal) (here transition : Transition)
@@ -47,27 +58,42 @@ other_renewing : (y : ResponderRecord) → is_among (RenewOverdue ∷ []) y.stat
 other_renewing y is = search rules
 
 -- The transition of a deed is one of these.
-pub is_transition : (y : ResponderRecord) (deed : Deed) (today : Date) (transition : Transition) → transition_of y deed today ≡ Ok transition → IsTransition y transition
+pub is_transition : (y : ResponderRecord) (deed : Deed) (today : Date) (transition : Transition)
+    → transition_of y deed today ≡ Ok transition → IsTransition y transition
 is_transition y (deeds.Answer answer) today transition =
-    at_transition (IsTransition y) (is_among (InProcess ∷ []) y.state) _ _ transition (λ is. is_this (IsTransition y) _ transition (answers answer is)) (no_more (IsTransition y) _ transition)
+    at_transition (IsTransition y) (is_among (InProcess ∷ []) y.state) _ _ transition
+    (λ is. is_this (IsTransition y) _ transition (answers answer is)) (no_more (IsTransition y) _ transition)
 is_transition y (deeds.CancelReply true) today transition =
-    at_transition (IsTransition y) (is_among (CancelPending ∷ []) y.state) _ _ transition (λ is. is_this (IsTransition y) _ transition (allows_cancel is)) (no_more (IsTransition y) _ transition)
+    at_transition (IsTransition y) (is_among (CancelPending ∷ []) y.state) _ _ transition
+    (λ is. is_this (IsTransition y) _ transition (allows_cancel is)) (no_more (IsTransition y) _ transition)
 is_transition y (deeds.CancelReply false) today transition =
-    at_transition (IsTransition y) (is_among (CancelPending ∷ []) y.state) _ _ transition (λ is. is_this (IsTransition y) _ transition (refuses_cancel is)) (no_more (IsTransition y) _ transition)
+    at_transition (IsTransition y) (is_among (CancelPending ∷ []) y.state) _ _ transition
+    (λ is. is_this (IsTransition y) _ transition (refuses_cancel is)) (no_more (IsTransition y) _ transition)
 is_transition y (deeds.Ship due) today transition =
-    at_transition (IsTransition y) (is_among (InProcess ∷ []) y.state) _ _ transition (λ is. allowed (IsTransition y) _ _ _ transition (λ _. ships due is)) (no_more (IsTransition y) _ transition)
+    at_transition (IsTransition y) (is_among (InProcess ∷ []) y.state) _ _ transition
+    (λ is. allowed (IsTransition y) _ _ _ transition (λ _. ships due is)) (no_more (IsTransition y) _ transition)
 is_transition y (deeds.RenewAnswer (Some due)) today transition =
-    at_transition (IsTransition y) (is_among (RenewPending ∷ []) y.state) _ _ transition (λ is. allowed (IsTransition y) _ _ _ transition (renews due (one_of_renewing y is))) (
-    at_transition (IsTransition y) (is_among (RenewOverdue ∷ []) y.state) _ _ transition (λ is. allowed (IsTransition y) _ _ _ transition (renews due (other_renewing y is))) (no_more (IsTransition y) _ transition))
+    at_transition (IsTransition y) (is_among (RenewPending ∷ []) y.state) _ _ transition
+    (λ is. allowed (IsTransition y) _ _ _ transition (renews due (one_of_renewing y is))) (
+    at_transition (IsTransition y) (is_among (RenewOverdue ∷ []) y.state) _ _ transition
+    (λ is. allowed (IsTransition y) _ _ _ transition (renews due (other_renewing y is)))
+    (no_more (IsTransition y) _ transition))
 is_transition y (deeds.RenewAnswer None) today transition =
-    at_transition (IsTransition y) (is_among (RenewPending ∷ []) y.state) _ _ transition (λ is. is_this (IsTransition y) _ transition (refuses_renewal is)) (
-    at_transition (IsTransition y) (is_among (RenewOverdue ∷ []) y.state) _ _ transition (λ is. is_this (IsTransition y) _ transition (refuses_late is)) (no_more (IsTransition y) _ transition))
+    at_transition (IsTransition y) (is_among (RenewPending ∷ []) y.state) _ _ transition
+    (λ is. is_this (IsTransition y) _ transition (refuses_renewal is)) (
+    at_transition (IsTransition y) (is_among (RenewOverdue ∷ []) y.state) _ _ transition
+    (λ is. is_this (IsTransition y) _ transition (refuses_late is)) (no_more (IsTransition y) _ transition))
 is_transition y deeds.Overdue today transition =
-    at_transition (IsTransition y) (is_among (Shipped ∷ []) y.state) _ _ transition (λ is. allowed (IsTransition y) _ _ _ transition (λ _. reminds is)) (
-    at_transition (IsTransition y) (is_among (RenewPending ∷ []) y.state) _ _ transition (λ is. allowed (IsTransition y) _ _ _ transition (λ _. reminds_renewing is)) (no_more (IsTransition y) _ transition))
+    at_transition (IsTransition y) (is_among (Shipped ∷ []) y.state) _ _ transition
+    (λ is. allowed (IsTransition y) _ _ _ transition (λ _. reminds is)) (
+    at_transition (IsTransition y) (is_among (RenewPending ∷ []) y.state) _ _ transition
+    (λ is. allowed (IsTransition y) _ _ _ transition (λ _. reminds_renewing is)) (no_more (IsTransition y) _ transition))
 is_transition y deeds.Recall today transition =
-    at_transition (IsTransition y) (is_among (Shipped ∷ Overdue ∷ []) y.state) _ _ transition (λ is. is_this (IsTransition y) _ transition (recalls is)) (no_more (IsTransition y) _ transition)
+    at_transition (IsTransition y) (is_among (Shipped ∷ Overdue ∷ []) y.state) _ _ transition
+    (λ is. is_this (IsTransition y) _ transition (recalls is)) (no_more (IsTransition y) _ transition)
 is_transition y deeds.CheckIn today transition =
-    at_transition (IsTransition y) (is_among (Returned ∷ []) y.state) _ _ transition (λ is. is_this (IsTransition y) _ transition (checks_in is)) (no_more (IsTransition y) _ transition)
+    at_transition (IsTransition y) (is_among (Returned ∷ []) y.state) _ _ transition
+    (λ is. is_this (IsTransition y) _ transition (checks_in is)) (no_more (IsTransition y) _ transition)
 is_transition y deeds.Expire today transition =
-    at_transition (IsTransition y) (is_among (InProcess ∷ Conditional ∷ []) y.state) _ _ transition (λ is. allowed (IsTransition y) _ _ _ transition (λ _. expires is)) (no_more (IsTransition y) _ transition)
+    at_transition (IsTransition y) (is_among (InProcess ∷ Conditional ∷ []) y.state) _ _ transition
+    (λ is. allowed (IsTransition y) _ _ _ transition (λ _. expires is)) (no_more (IsTransition y) _ transition)

@@ -76,7 +76,8 @@ is_requester x h =
     let p = h.parts in
     let i = h.issued in
     and_from _ _ h.numbered (
-    and_from _ _ (and_from _ _ (not_from _ p.role) (and_from _ _ (alike_from _ _ p.held) (and_from _ _ (alike_from _ _ p.due) p.checked_in))) (
+    and_from _ _ (and_from _ _ (not_from _ p.role)
+    (and_from _ _ (alike_from _ _ p.held) (and_from _ _ (alike_from _ _ p.due) p.checked_in))) (
     and_from _ _ h.role (and_from _ _ h.request (
     and_from _ _ (alike_from _ _ i.idle) (and_from _ _ (and_from _ _ i.received i.not_received) (
     and_from _ _ i.cancel (and_from _ _ i.renew (and_from _ _ (alike_from _ _ i.returned) i.declined))))))))
@@ -136,20 +137,23 @@ is_responder y h =
 
 -- If the parts of standing `s` fit with the first `count` messages, the requester with them keeps its rules.
 pub requester_back : (x : RequesterRecord) (s : requesters.Standing) (count : ℕ) → IsRequester x
-    → (requester.parts_fit s.state (is_some s.held) (is_some s.due) s.checked_in && requester.issued_keeps_rules s.state (take count x.issued)) ≡ true
+    → (requester.parts_fit s.state (is_some s.held) (is_some s.due) s.checked_in
+    && requester.issued_keeps_rules s.state (take count x.issued)) ≡ true
     → IsRequester (requester.back_to s count x)
 unfolding requester.is_consistent
 requester_back x s count h fits = and_from _ _ (numbered_prefix x.txn 1 count x.issued (and_parts _ _ h).0) fits
 
 -- If the requester with the parts of standing `s` and the first `count` messages keeps its rules, these fit together.
 pub requester_back_fits : (x : RequesterRecord) (s : requesters.Standing) (count : ℕ) → IsRequester (requester.back_to s count x)
-    → (requester.parts_fit s.state (is_some s.held) (is_some s.due) s.checked_in && requester.issued_keeps_rules s.state (take count x.issued)) ≡ true
+    → (requester.parts_fit s.state (is_some s.held) (is_some s.due) s.checked_in
+    && requester.issued_keeps_rules s.state (take count x.issued)) ≡ true
 unfolding requester.is_consistent
 requester_back_fits x s count h = (and_parts _ _ h).1
 
 -- If the parts of standing `s` fit with the first `count` messages, the responder with them keeps its rules.
 pub responder_back : (y : ResponderRecord) (s : responders.Standing) (count : ℕ) → IsResponder y
-    → (responder.parts_fit s.state (is_some (responder.request_in s.state y.request)) (is_some s.accepted) (is_some s.last_cancel) (is_some s.last_renew) s.received (is_none (take count y.issued))
+    → (responder.parts_fit s.state (is_some (responder.request_in s.state y.request)) (is_some s.accepted) (is_some s.last_cancel)
+    (is_some s.last_renew) s.received (is_none (take count y.issued))
     && responder.issued_keeps_rules s.state s.accepted (take count y.issued)) ≡ true
     → IsResponder (responder.back_to s count y)
 unfolding responder.is_consistent
@@ -160,7 +164,8 @@ responder_back y s count h fits =
 
 -- If the responder with the parts of standing `s` and the first `count` messages keeps its rules, these fit together.
 pub responder_back_fits : (y : ResponderRecord) (s : responders.Standing) (count : ℕ) → IsResponder (responder.back_to s count y)
-    → (responder.parts_fit s.state (is_some (responder.request_in s.state y.request)) (is_some s.accepted) (is_some s.last_cancel) (is_some s.last_renew) s.received (is_none (take count y.issued))
+    → (responder.parts_fit s.state (is_some (responder.request_in s.state y.request)) (is_some s.accepted) (is_some s.last_cancel)
+    (is_some s.last_renew) s.received (is_none (take count y.issued))
     && responder.issued_keeps_rules s.state s.accepted (take count y.issued)) ≡ true
 unfolding responder.is_consistent
 responder_back_fits y s count h = (and_parts _ _ (and_parts _ _ h).1).1

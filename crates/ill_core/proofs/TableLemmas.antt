@@ -1,6 +1,7 @@
 -- The first row that fits, as a list of tests. Each row that has the state is a test, and within it each guard that it
 -- asks for is one.
-use Rattle.std.proofs.Common.{◌≡◌, ℕ, Bool, true, false, ◌&&◌, ◌||◌, ◌==◌, bit_and, List, [], ◌∷◌, ◌++◌, Option, Some, None, if◌then◌else◌, refl, ap, sym, ◌∙◌}
+use Rattle.std.proofs.Common.{◌≡◌, ℕ, Bool, true, false, ◌&&◌, ◌||◌, ◌==◌, bit_and, List, [], ◌∷◌, ◌++◌, Option, Some, None}
+use Rattle.std.proofs.Common.{if◌then◌else◌, refl, ap, sym, ◌∙◌}
 use Rattle.std.specs.List.{find, list_all}
 use Rattle.std.proofs.lemmas.Bool.{and_parts}
 use Rattle.std.proofs.lemmas.List.Folds.{list_all-append}
@@ -42,11 +43,13 @@ met_asked : {A : Type 0} (asked : ℕ) (guards : List Guard) (hit miss : A)
 met_asked asked [] hit miss = refl
 met_asked asked (f ∷ guards) hit miss =
     guard_met (bit_and asked f.bit == 0) f.holds (are_met asked guards) hit miss
-    ∙ ap (λ others. if bit_and asked f.bit == 0 then others else (if f.holds then others else miss)) (met_asked asked guards hit miss)
+    ∙ ap (λ others. if bit_and asked f.bit == 0 then others else (if f.holds then others else miss))
+    (met_asked asked guards hit miss)
 
 -- The test of a row gives what a test of its state gives, and within it one of its guards.
 row_fits : {K A : Type 0} (is_in is_met : Bool) (hit : Row K → A) (miss : A) (row : Row K) (others : Option (Row K))
-    → answer_of hit miss (if is_in && is_met then Some row else others) ≡ (if is_in then (if is_met then hit row else answer_of hit miss others) else answer_of hit miss others)
+    → answer_of hit miss (if is_in && is_met then Some row else others)
+    ≡ (if is_in then (if is_met then hit row else answer_of hit miss others) else answer_of hit miss others)
 row_fits true true hit miss row others = refl
 row_fits true false hit miss row others = refl
 row_fits false is_met hit miss row others = refl
@@ -59,7 +62,8 @@ found_by_tests state guards hit miss (row ∷ rows) =
     row_fits (has_state row.1 state) (are_met row.2 guards) hit miss row (find (fits state guards) rows)
     ∙ (ap (λ others. if has_state row.1 state then others else answer_of hit miss (find (fits state guards) rows))
     (met_asked row.2 guards (hit row) (answer_of hit miss (find (fits state guards) rows)))
-    ∙ ap (λ others. if has_state row.1 state then where_asked row.2 guards (hit row) others else others) (found_by_tests state guards hit miss rows))
+    ∙ ap (λ others. if has_state row.1 state then where_asked row.2 guards (hit row) others else others)
+    (found_by_tests state guards hit miss rows))
 
 -- If no guard is asked for, all guards that are asked for hold.
 pub none_asked : (guards : List Guard) → are_met 0 guards ≡ true
@@ -70,7 +74,8 @@ none_asked (f ∷ guards) = none_asked guards
 pub both_met : (asked : ℕ) (guards others : List Guard) (a b : Bool) → a ≡ are_met asked guards
     → b ≡ are_met asked others → (a && b) ≡ are_met asked (guards ++ others)
 both_met asked guards others a b met met_too =
-    ap (λ c. c && b) met ∙ (ap (λ c. are_met asked guards && c) met_too ∙ sym (list_all-append (λ f. (bit_and asked f.bit == 0) || f.holds) guards others))
+    ap (λ c. c && b) met ∙ (ap (λ c. are_met asked guards && c) met_too
+    ∙ sym (list_all-append (λ f. (bit_and asked f.bit == 0) || f.holds) guards others))
 
 -- If both sides of a choice are true, the choice is true.
 either : (b here others : Bool) → here ≡ true → others ≡ true → (if b then here else others) ≡ true
@@ -82,7 +87,8 @@ asked_true : (asked : ℕ) (guards : List Guard) (here others : Bool) → here �
     → where_asked asked guards here others ≡ true
 asked_true asked [] here others h o = h
 asked_true asked (f ∷ guards) here others h o =
-    either (bit_and asked f.bit == 0) (where_asked asked guards here others) (if f.holds then where_asked asked guards here others else others) (asked_true asked guards here others h o)
+    either (bit_and asked f.bit == 0) (where_asked asked guards here others)
+    (if f.holds then where_asked asked guards here others else others) (asked_true asked guards here others h o)
     (either f.holds (where_asked asked guards here others) others (asked_true asked guards here others h o) o)
 
 -- If a row that has the state gives true, and the other rows do, then the tests give true.

@@ -33,7 +33,8 @@ led_nowhere x new number body (moves.reminds_renewing due at is) over = search r
 led_nowhere x new number body (moves.renews renew due at is) over = search rules
 led_nowhere x new number body (moves.refuses_renewal renew at) over = search rules
 led_nowhere x new number body (moves.recalls at) over = search rules
-led_nowhere x new number body (moves.checks_in at) over = ap (λ marked. record x { checked_in = marked }) (sym (is_marked x at over))
+led_nowhere x new number body (moves.checks_in at) over =
+    ap (λ marked. record x { checked_in = marked }) (sym (is_marked x at over))
 
 -- A message leaves a requester that says that it is over.
 pub requester_stays : (x : RequesterRecord) (a : Apdu) → requester_turn x ≡ Over → (requester.takes x a).1 ≡ x

@@ -1,13 +1,15 @@
--- The wishes of a requester: its table of actions (this profile's own; the services are those of ISO 10160). A transition
--- has the states before, the state after, the APDU that is issued, and the conditions held then. A wish that no transition
--- has is not done now.
+-- The wishes of a requester: its table of actions (this profile's own; the services are those of ISO 10160). A
+-- transition has the states before, the state after, the APDU that is issued, and the conditions held then. A wish that
+-- no transition has is not done now.
 use Rattle.std.specs.Prelude.{◌≡◌, ℕ, Bool, not, ◌&&◌, [], ◌∷◌, List, Option, None, Result, Ok, Err, IsOk, if◌then◌else◌}
 use Rattle.std.specs.Option.{unwrap_or}
 use Rattle.ill_values.specs.Day.{Date}
 use Rattle.ill_values.specs.declared.apdu.Body.{Body}
 use Rattle.ill_values.specs.declared.apdu.Body.TheVariants as types
 use Rattle.ill_core.specs.declared.state.State.{State}
-use Rattle.ill_core.specs.declared.state.State.TheVariants.{Idle, Pending, Conditional, CancelPending, Shipped, Received, RenewPending, Overdue, RenewOverdue, NotReceivedOverdue, Recall, Returned}
+use Rattle.ill_core.specs.declared.state.State.TheVariants.{Idle, Pending, Conditional, CancelPending, Shipped, Received}
+use Rattle.ill_core.specs.declared.state.State.TheVariants.{RenewPending, Overdue, RenewOverdue, NotReceivedOverdue, Recall}
+use Rattle.ill_core.specs.declared.state.State.TheVariants.{Returned}
 use Rattle.ill_core.specs.declared.refusal.Refusal.{Refusal}
 use Rattle.ill_core.specs.declared.refusal.Refusal.TheVariants as refusals
 use Rattle.ill_core.specs.declared.requester.Wish.{Wish}

@@ -1,11 +1,14 @@
 -- The record of a responder in a transaction (this profile's own).
-use Rattle.std.specs.Prelude.{◌≡◌, ℕ, Bool, true, not, ◌&&◌, ◌||◌, ◌==◌, List, [], ◌∷◌, length, take, Option, Some, None, is_some, if◌then◌else◌}
+use Rattle.std.specs.Prelude.{◌≡◌, ℕ, Bool, true, not, ◌&&◌, ◌||◌, ◌==◌, List, [], ◌∷◌, length, take, Option, Some, None, is_some}
+use Rattle.std.specs.Prelude.{if◌then◌else◌}
 use Rattle.std.specs.List.{list_all, filter_map, count_by}
 use Rattle.ill_values.specs.Day.{Date}
 use Rattle.ill_values.specs.TxnId.{Qualifiers}
 use Rattle.ill_values.specs.declared.apdu.Apdu.{Apdu}
 use Rattle.ill_core.specs.declared.state.State.{State}
-use Rattle.ill_core.specs.declared.state.State.TheVariants.{Idle, Pending, Conditional, CancelPending, Cancelled, Shipped, Received, RenewPending, Overdue, RenewOverdue, NotReceivedOverdue, Recall, Returned, CheckedIn}
+use Rattle.ill_core.specs.declared.state.State.TheVariants.{Idle, Pending, Conditional, CancelPending, Cancelled, Shipped}
+use Rattle.ill_core.specs.declared.state.State.TheVariants.{Received, RenewPending, Overdue, RenewOverdue, NotReceivedOverdue}
+use Rattle.ill_core.specs.declared.state.State.TheVariants.{Recall, Returned, CheckedIn}
 use Rattle.ill_core.specs.declared.responder.standing.Standing.{Standing}
 use Rattle.ill_core.specs.State.{is_among}
 use Rattle.ill_core.specs.Dates.{is_after_due}

@@ -1,6 +1,6 @@
--- The deeds of a responder: its table of actions (this profile's own; the services are those of ISO 10160). A transition
--- has the states before, the state after, the APDU that is issued, and the date that forbids it. A deed that no transition
--- has is not done now.
+-- The deeds of a responder: its table of actions (this profile's own; the services are those of ISO 10160). A
+-- transition has the states before, the state after, the APDU that is issued, and the date that forbids it. A deed that
+-- no transition has is not done now.
 use Rattle.std.specs.Prelude.{◌≡◌, ℕ, Bool, true, false, not, [], ◌∷◌, Option, Some, None, Result, Ok, Err, IsOk, if◌then◌else◌}
 use Rattle.std.specs.Option.{unwrap_or}
 use Rattle.ill_values.specs.Day.{Date}
@@ -10,7 +10,9 @@ use Rattle.ill_values.specs.declared.apdu.Body.TheVariants as types
 use Rattle.ill_values.specs.declared.apdu.AnswerResult.{AnswerResult}
 use Rattle.ill_values.specs.declared.apdu.AnswerResult.TheVariants as results
 use Rattle.ill_core.specs.declared.state.State.{State}
-use Rattle.ill_core.specs.declared.state.State.TheVariants.{InProcess, Conditional, CancelPending, Cancelled, NotSupplied, Shipped, RenewPending, Overdue, RenewOverdue, Recall, Returned, CheckedIn}
+use Rattle.ill_core.specs.declared.state.State.TheVariants.{InProcess, Conditional, CancelPending, Cancelled, NotSupplied}
+use Rattle.ill_core.specs.declared.state.State.TheVariants.{Shipped, RenewPending, Overdue, RenewOverdue, Recall, Returned}
+use Rattle.ill_core.specs.declared.state.State.TheVariants.{CheckedIn}
 use Rattle.ill_core.specs.declared.refusal.Refusal.{Refusal}
 use Rattle.ill_core.specs.declared.refusal.Refusal.TheVariants as refusals
 use Rattle.ill_core.specs.declared.responder.Deed.{Deed}

@@ -1,11 +1,12 @@
--- The messages of a requester to a responder: the table of deliveries (this profile's own). The first transition that fits
--- decides. An APDU that no transition fits is a conflict with the present state.
+-- The messages of a requester to a responder: the table of deliveries (this profile's own). The first transition that
+-- fits decides. An APDU that no transition fits is a conflict with the present state.
 use Rattle.std.specs.Prelude.{◌≡◌, ℕ, Bool, true, false, not, ◌&&◌, [], ◌∷◌, Some, Result, Ok, Err, if◌then◌else◌}
 use Rattle.ill_values.specs.declared.apdu.Apdu.{Apdu}
 use Rattle.ill_values.specs.declared.apdu.Body.{Body}
 use Rattle.ill_values.specs.declared.apdu.Body.TheVariants as types
 use Rattle.ill_values.specs.declared.apdu.AnswerResult.TheVariants.{Unfilled}
-use Rattle.ill_core.specs.declared.state.State.TheVariants.{Idle, InProcess, Conditional, CancelPending, NotSupplied, Shipped, RenewPending, Overdue, RenewOverdue, Recall, Returned, CheckedIn}
+use Rattle.ill_core.specs.declared.state.State.TheVariants.{Idle, InProcess, Conditional, CancelPending, NotSupplied, Shipped}
+use Rattle.ill_core.specs.declared.state.State.TheVariants.{RenewPending, Overdue, RenewOverdue, Recall, Returned, CheckedIn}
 use Rattle.ill_core.specs.declared.refusal.Refusal.{Refusal}
 use Rattle.ill_core.specs.declared.refusal.Refusal.TheVariants as refusals
 use Rattle.ill_core.specs.declared.taking.Taking.{Taking}

@@ -3,12 +3,14 @@ use Rattle.std.specs.Prelude.{◌≡◌, Bool, true, false, not, ◌&&◌, List,
 use Rattle.std.specs.List.{list_all, filter_map, count_by}
 use Rattle.ill_values.specs.declared.apdu.Apdu.{Apdu}
 use Rattle.ill_core.specs.declared.state.State.{State}
-use Rattle.ill_core.specs.declared.state.State.TheVariants.{Idle, Pending, Conditional, CancelPending, Cancelled, Received, RenewPending, RenewOverdue, NotReceivedOverdue, CheckedIn}
+use Rattle.ill_core.specs.declared.state.State.TheVariants.{Idle, Pending, Conditional, CancelPending, Cancelled, Received}
+use Rattle.ill_core.specs.declared.state.State.TheVariants.{RenewPending, RenewOverdue, NotReceivedOverdue, CheckedIn}
 use Rattle.ill_core.specs.State.{is_among}
 use Rattle.ill_core.specs.Rules.{implies}
 use Rattle.ill_core.specs.Bodies.{is_requesters, is_shipped, is_checked_in}
 use Rattle.ill_core.specs.Issued.{are_numbered, has, is_none, granted_day}
-use Rattle.ill_core.specs.Responder.{ResponderRecord, later, are_rising, ships_first, ends_with_conditions, is_named, is_request_of}
+use Rattle.ill_core.specs.Responder.{ResponderRecord, later, are_rising, ships_first, ends_with_conditions, is_named}
+use Rattle.ill_core.specs.Responder.{is_request_of}
 
 -- The state is a responder's, and has the parts that it wants. The tests are of a request, of each number, of the
 -- received mark, and of the empty list.

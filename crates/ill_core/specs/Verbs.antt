@@ -8,7 +8,8 @@ use Rattle.ill_core.specs.declared.state.State.TheVariants as states
 use Rattle.ill_core.specs.declared.refusal.Refusal.{Refusal}
 use Rattle.ill_core.specs.declared.refusal.Refusal.TheVariants as refusals
 use Rattle.ill_core.specs.declared.verb.Verb.{Verb}
-use Rattle.ill_core.specs.declared.verb.Verb.TheVariants.{Request, Cancel, Reply, Receive, Renew, Return, Answer, CancelReply, Ship, RenewAnswer, Overdue, Recall, CheckIn, Expire}
+use Rattle.ill_core.specs.declared.verb.Verb.TheVariants.{Request, Cancel, Reply, Receive, Renew, Return, Answer, CancelReply}
+use Rattle.ill_core.specs.declared.verb.Verb.TheVariants.{Ship, RenewAnswer, Overdue, Recall, CheckIn, Expire}
 use Rattle.ill_core.specs.declared.turn.Turn.{Turn}
 use Rattle.ill_core.specs.declared.turn.Turn.TheVariants.{Over, Mine, Theirs}
 use Rattle.ill_core.specs.declared.requester.Wish.{Wish}

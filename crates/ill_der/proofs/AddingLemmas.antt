@@ -1,12 +1,14 @@
 -- A proper prefix of a text that is appended to bytes, one part after another.
-use Rattle.std.proofs.Common.{◌≡◌, ℕ, List, [], ◌++◌, ◌<◌, length, Result, Ok, Err, OnErr, refl, sym, ap, ◌∙◌, arith, append_assoc, length-append}
+use Rattle.std.proofs.Common.{◌≡◌, ℕ, List, [], ◌++◌, ◌<◌, length, Result, Ok, Err, OnErr, refl, sym, ap, ◌∙◌, arith}
+use Rattle.std.proofs.Common.{append_assoc, length-append}
 use Rattle.std.proofs.lemmas.List.{append-nil}
 use Rattle.std.proofs.lemmas.Result.{on_err_weaker}
 use Rattle.ill_der.specs.Adding.{AddsPrefix}
 
 -- If `new` is `old` and `text` has a byte, `new` is `old` and a proper prefix of `text`: the empty one.
 pub adds_nothing : (old new text : List ℕ) → new ≡ old → 0 < length text → AddsPrefix old new text
-adds_nothing old new text same some = record { prefix = []; rest = text; parts = refl; added = same ∙ sym (append-nil old); lacks = some }
+adds_nothing old new text same some =
+    record { prefix = []; rest = text; parts = refl; added = same ∙ sym (append-nil old); lacks = some }
 
 -- A proper prefix of `first` after `old` is a proper prefix of `first ++ second` after `old`.
 pub adds_first : (old new first second : List ℕ) → AddsPrefix old new first → AddsPrefix old new (first ++ second)

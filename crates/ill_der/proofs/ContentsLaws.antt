@@ -1,5 +1,6 @@
 -- The laws of each kind of contents.
-use Rattle.std.proofs.Common.{◌≡◌, ℕ, ◌<◌, ◌≤◌, Bool, true, false, cond, ◌&&◌, eqb, leb, ltb, List, [], ◌∷◌, length, Some, None, Result, Ok, Err, refl, sym, ap, subst, ◌∙◌, inl, inr, arith, Option}
+use Rattle.std.proofs.Common.{◌≡◌, ℕ, ◌<◌, ◌≤◌, Bool, true, false, cond, ◌&&◌, eqb, leb, ltb, List, [], ◌∷◌, length, Some, None}
+use Rattle.std.proofs.Common.{Result, Ok, Err, refl, sym, ap, subst, ◌∙◌, inl, inr, arith, Option}
 use Rattle.std.specs.Prelude.{is_ok, find, ◌⊎◌}
 use Rattle.std.specs.Str.{bytes_eq}
 use Rattle.std.specs.Result.{result_ok}
@@ -12,9 +13,11 @@ use Rattle.ill_values.specs.Apdu.{IsNumber}
 use Rattle.ill_values.specs.Day.{Date, IsDate, date_text, read_date}
 use Rattle.ill_values.specs.Text.{qualifier_check, IsQualifier, item_check, IsItem}
 use Rattle.ill_values.specs.declared.apdu.AnswerResult.{AnswerResult}
-use Rattle.ill_values.specs.declared.apdu.AnswerResult.TheVariants.{Conditional, Retry, Unfilled, LocationsProvided, WillSupply, HoldPlaced, Estimate}
+use Rattle.ill_values.specs.declared.apdu.AnswerResult.TheVariants.{Conditional, Retry, Unfilled, LocationsProvided, WillSupply}
+use Rattle.ill_values.specs.declared.apdu.AnswerResult.TheVariants.{HoldPlaced, Estimate}
 use Rattle.ill_values.specs.Results.{all_results}
-use Rattle.ill_der.specs.Contents.{code_of, result_from, answer_result, yes_no_from, yes_no, number_octets, number_from, number, version, version_from, qualifier, qualifier_from, item, item_from, date}
+use Rattle.ill_der.specs.Contents.{code_of, result_from, answer_result, yes_no_from, yes_no, number_octets, number_from, number}
+use Rattle.ill_der.specs.Contents.{version, version_from, qualifier, qualifier_from, item, item_from, date}
 use Rattle.ill_der.proofs.Chains.{chosen}
 use Rattle.ill_der.specs.Laws.{IsBytes}
 use Rattle.ill_der.proofs.Formats.{IsContents}
@@ -65,7 +68,8 @@ number_takes (high ∷ n ∷ []) v fits e =
     let none = eqb-true high 0 range.0 in
     let from = leb-true 128 n range.1 in
     let small : n < 256 = fits 1 in
-    subst (λ (x : ℕ). (high ∷ n ∷ [] ≡ number_octets x) × IsNumber x) is.1 (ap (λ (x : ℕ). x ∷ n ∷ []) none ∙ sym (two_octets n from), (omega arith, omega arith))
+    subst (λ (x : ℕ). (high ∷ n ∷ [] ≡ number_octets x) × IsNumber x) is.1
+    (ap (λ (x : ℕ). x ∷ n ∷ []) none ∙ sym (two_octets n from), (omega arith, omega arith))
 number_takes (high ∷ n ∷ more ∷ rest) v fits e = absurd cc
 
 -- `number_from` reads each number from 1 to 255 from its encoding.
@@ -197,10 +201,12 @@ yes_no_takes : (bytes : List ℕ) (v : Bool) → IsBytes bytes → yes_no_from b
 yes_no_takes [] v fits e = absurd cc
 yes_no_takes (octet ∷ []) v fits e =
     elim (chosen (eqb octet 0) (Some false) (cond (eqb octet 0xFF) (Some true) None) (Some v) e) [
-      | inl h ↦ subst (λ (x : Bool). (octet ∷ [] ≡ yes_no.spell x) × IsYesOrNo x) (same_Some false v h.1) (ap (λ (x : ℕ). x ∷ []) (eqb-true octet 0 h.0), tt)
+      | inl h ↦ subst (λ (x : Bool). (octet ∷ [] ≡ yes_no.spell x) × IsYesOrNo x) (same_Some false v h.1)
+          (ap (λ (x : ℕ). x ∷ []) (eqb-true octet 0 h.0), tt)
       | inr h ↦
           let is = cond_some (eqb octet 0xFF) true v h.1 in
-          subst (λ (x : Bool). (octet ∷ [] ≡ yes_no.spell x) × IsYesOrNo x) is.1 (ap (λ (x : ℕ). x ∷ []) (eqb-true octet 0xFF is.0), tt)
+          subst (λ (x : Bool). (octet ∷ [] ≡ yes_no.spell x) × IsYesOrNo x) is.1
+          (ap (λ (x : ℕ). x ∷ []) (eqb-true octet 0xFF is.0), tt)
     ]
 yes_no_takes (octet ∷ more ∷ rest) v fits e = absurd cc
 

@@ -19,7 +19,8 @@ pub two_pushes : (old middle new : Unread) (prefix piece : List ℕ) (first more
     → Feeds middle piece more new → Feeds old (prefix ++ piece) (first ++ more) new
 two_pushes (Ok held) (Ok between) new prefix piece first more a b =
     let bytes : (held ++ prefix) ++ piece ≡ held ++ (prefix ++ piece) = append_assoc held prefix piece in
-    let begun = subst (λ (x : List ℕ). Begins ((held ++ prefix) ++ piece) first (x ++ piece)) (sym a.2.0) (begins_more (held ++ prefix) a.0 piece first a.1) in
+    let begun = subst (λ (x : List ℕ). Begins ((held ++ prefix) ++ piece) first (x ++ piece)) (sym a.2.0)
+    (begins_more (held ++ prefix) a.0 piece first a.1) in
     let begins = begins_join ((held ++ prefix) ++ piece) (between ++ piece) b.0 first more begun b.1 in
     (b.0, subst (λ (x : List ℕ). Begins x (first ++ more) b.0) bytes begins, b.2)
 two_pushes (Ok held) (Err fault) new prefix piece first more a b =
@@ -59,10 +60,12 @@ no_push (Err fault) is = (refl, refl)
 pub all_pushes : (pieces : List (List ℕ)) (old : Unread) (apdus : List Apdu) (new : Unread) → IsFeed old
     → FeedsAll old pieces apdus new → Feeds old (concat pieces) apdus new
 all_pushes [] old apdus new is all =
-    subst (λ (x : List Apdu). Feeds old [] x new) (sym all.0) (subst (λ (h : Unread). Feeds old [] [] h) (sym all.1) (no_push old is))
+    subst (λ (x : List Apdu). Feeds old [] x new) (sym all.0)
+    (subst (λ (h : Unread). Feeds old [] [] h) (sym all.1) (no_push old is))
 all_pushes (piece ∷ pieces) old apdus new is all =
     let later = all_pushes pieces all.2 all.1 new (is_fed old piece all.0 all.2 all.3) all.4 in
-    subst (λ (x : List Apdu). Feeds old (piece ++ concat pieces) x new) (sym all.5) (two_pushes old all.2 new piece (concat pieces) all.0 all.1 all.3 later)
+    subst (λ (x : List Apdu). Feeds old (piece ++ concat pieces) x new) (sym all.5)
+    (two_pushes old all.2 new piece (concat pieces) all.0 all.1 all.3 later)
 
 -- ---- all cuts agree
 
@@ -75,14 +78,16 @@ has_fault rest (Err fault) leaves = (fault, leaves.0)
 first_again : AgainLaw → (bytes rest : List ℕ) (apdu : Apdu) (apdus : List Apdu) → Begins bytes (apdu ∷ apdus) rest
     → apdu_at bytes ≡ Ok (apdu, flat_map spelling apdus ++ rest)
 first_again again bytes rest apdu apdus begins =
-    ap apdu_at (begins.parts ∙ append_assoc (spelling apdu) (flat_map spelling apdus) rest) ∙ again apdu (flat_map spelling apdus ++ rest) begins.spelled.0
+    ap apdu_at (begins.parts ∙ append_assoc (spelling apdu) (flat_map spelling apdus) rest)
+    ∙ again apdu (flat_map spelling apdus ++ rest) begins.spelled.0
 
 -- If `bytes` are all a rest that leaves a feed, no APDU begins them.
 no_first : AgainLaw → (bytes rest after : List ℕ) (new : Unread) (apdu : Apdu) (apdus : List Apdu) → Begins bytes [] rest
     → Leaves rest new → Begins bytes (apdu ∷ apdus) after → ⊥
 no_first again bytes rest after new apdu apdus none leaves some =
     let fault = has_fault rest new leaves in
-    no_value fault.0 (apdu, flat_map spelling apdus ++ after) (sym (first_again again bytes after apdu apdus some) ∙ ap apdu_at none.parts ∙ fault.1)
+    no_value fault.0 (apdu, flat_map spelling apdus ++ after)
+    (sym (first_again again bytes after apdu apdus some) ∙ ap apdu_at none.parts ∙ fault.1)
 
 -- If `rest` leaves the feed `a` and leaves the feed `b`, `a` equals `b`.
 same_left : (rest : List ℕ) (a b : Unread) → Leaves rest a → Leaves rest b → a ≡ b
@@ -106,11 +111,13 @@ one_cut again (apdu ∷ apdus) [] bytes rest after a b x leaves y other =
 one_cut again (apdu ∷ apdus) (one ∷ ones) bytes rest after a b x leaves y other =
     let tail = flat_map spelling apdus ++ rest in
     let last = flat_map spelling ones ++ after in
-    let same = ok_is (apdu, tail) (one, last) (sym (first_again again bytes rest apdu apdus x) ∙ first_again again bytes after one ones y) in
+    let same = ok_is (apdu, tail) (one, last)
+    (sym (first_again again bytes rest apdu apdus x) ∙ first_again again bytes after one ones y) in
     let head : apdu ≡ one = ap (λ (r : Apdu × List ℕ). r.0) same in
     let tails : tail ≡ last = ap (λ (r : Apdu × List ℕ). r.1) same in
     let later =
-    one_cut again apdus ones tail rest after a b (record { spelled = x.spelled.1; parts = refl }) leaves (record { spelled = y.spelled.1; parts = tails }) other in
+    one_cut again apdus ones tail rest after a b (record { spelled = x.spelled.1; parts = refl }) leaves
+    (record { spelled = y.spelled.1; parts = tails }) other in
     (ap (λ (e : Apdu). e ∷ apdus) head ∙ ap (λ (es : List Apdu). one ∷ es) later.0, later.1)
 
 -- No bytes at all are unfinished: they are less than an APDU.
@@ -125,7 +132,8 @@ pub any_cut : AgainLaw → (pieces others : List (List ℕ)) (first second : Lis
 any_cut again pieces others first second a b same one other =
     let x = all_pushes pieces (Ok []) first a nothing_held one in
     let y = all_pushes others (Ok []) second b nothing_held other in
-    one_cut again first second (concat pieces) x.0 y.0 a b x.1 x.2 (subst (λ (bytes : List ℕ). Begins bytes second y.0) (sym same) y.1) y.2
+    one_cut again first second (concat pieces) x.0 y.0 a b x.1 x.2
+    (subst (λ (bytes : List ℕ). Begins bytes second y.0) (sym same) y.1) y.2
 
 -- If a feed was empty, it holds at most 358 bytes after any pushes.
 pub few_are_held : ShortLaw → (pieces : List (List ℕ)) (apdus : List Apdu) (held : List ℕ)

@@ -1,12 +1,15 @@
 -- Elements: bytes that are read are their encoding, and an encoding is read as its element.
-use Rattle.std.proofs.Common.{◌≡◌, ℕ, ◌+◌, ◌<◌, ◌≤◌, true, false, eqb, ltb, List, [], ◌∷◌, ◌++◌, length, take, drop, Ok, Err, refl, sym, ap, subst, ◌∙◌, inl, inr, eq-eqb, append_assoc, arith}
+use Rattle.std.proofs.Common.{◌≡◌, ℕ, ◌+◌, ◌<◌, ◌≤◌, true, false, eqb, ltb, List, [], ◌∷◌, ◌++◌, length, take, drop, Ok, Err}
+use Rattle.std.proofs.Common.{refl, sym, ap, subst, ◌∙◌, inl, inr, eq-eqb, append_assoc, arith}
 use Rattle.std.proofs.lemmas.Bool.{ltb-false, le-ltb, eqb-true}
-use Rattle.std.proofs.lemmas.List.{take_at, drop_at, take-append-drop, length-append, length-take, length-drop, drop-drop, nil_from_length}
+use Rattle.std.proofs.lemmas.List.{take_at, drop_at, take-append-drop, length-append, length-take, length-drop, drop-drop}
+use Rattle.std.proofs.lemmas.List.{nil_from_length}
 use Rattle.ill_der.specs.declared.fault.DerFault.{DerFault}
 use Rattle.ill_der.specs.declared.fault.DerFault.TheVariants.{Tag, Length}
 use Rattle.ill_der.specs.declared.length.LengthForm.{LengthForm}
 use Rattle.ill_der.specs.declared.length.LengthForm.TheVariants.{Truncated, Invalid, Definite}
-use Rattle.ill_der.specs.Format.{length_octets, length_of, element, Cursor, cursor_at, contents_by, begins_with, element_at, ended}
+use Rattle.ill_der.specs.Format.{length_octets, length_of, element, Cursor, cursor_at, contents_by, begins_with, element_at}
+use Rattle.ill_der.specs.Format.{ended}
 use Rattle.ill_der.proofs.Chains.{passed, went_on, chosen, ok_is, no_value, IsInside, tag_inside, length_inside}
 use Rattle.ill_der.specs.Laws.{IsBytes}
 use Rattle.ill_der.proofs.Bytes.{IsBytes-drop, IsBytes-take}
@@ -69,17 +72,21 @@ pub element_takes : (identifier : ℕ) (left inside rest : Cursor) → IsBytes l
 unfolding element_at
 element_takes identifier left inside rest fits e =
     let later = drop 1 left.bytes in
-    let begins = passed (begins_with identifier left.bytes) (contents_by (length_of later) (cursor_at (left.at + 1) later)) (Tag left.at) (inside, rest) e in
+    let begins = passed (begins_with identifier left.bytes) (contents_by (length_of later) (cursor_at (left.at + 1) later))
+    (Tag left.at) (inside, rest) e in
     let fits1 = IsBytes-drop 1 left.bytes fits in
     let found = contents_found (length_of later) (cursor_at (left.at + 1) later) inside rest refl begins.1 in
     let spelled = length_takes later found.n found.octets fits1 found.form in
     let taken = drop found.octets later in
-    let size : length inside.bytes ≡ found.n = ap length (sym found.inside-is) ∙ omega (arith, length-take found.n taken, length-drop found.octets later, found.enough) in
+    let size : length inside.bytes ≡ found.n =
+    ap length (sym found.inside-is)
+    ∙ omega (arith, length-take found.n taken, length-drop found.octets later, found.enough) in
     let split : taken ≡ inside.bytes ++ rest.bytes =
     sym (take-append-drop found.n taken) ∙ ap (λ (x : List ℕ). x ++ drop found.n taken) found.inside-is
     ∙ ap (λ (x : List ℕ). inside.bytes ++ x) (drop-drop found.n found.octets later ∙ found.rest-is) in
     record {
-      parts = assembled identifier found.n found.octets left.bytes later inside.bytes rest.bytes (begins_true identifier left.bytes begins.0) spelled.0 split size;
+      parts = assembled identifier found.n found.octets left.bytes later inside.bytes rest.bytes
+          (begins_true identifier left.bytes begins.0) spelled.0 split size;
       inside_fits = subst IsBytes found.inside-is (IsBytes-take found.n taken (IsBytes-drop found.octets later fits1));
       rest_fits = subst IsBytes found.rest-is (IsBytes-drop (found.octets + found.n) later fits1);
     }
@@ -95,7 +102,8 @@ contents_again at octets contents more =
     let enough : ltb (length all) (length octets + length contents) ≡ false =
     le-ltb _ _ (omega (arith, length-append octets (contents ++ more), length-append contents more)) in
     let inside : take (length contents) (drop (length octets) all) ≡ contents =
-    ap (take (length contents)) (drop_at octets (contents ++ more) (length octets) refl) ∙ take_at contents more (length contents) refl in
+    ap (take (length contents)) (drop_at octets (contents ++ more) (length octets) refl)
+    ∙ take_at contents more (length contents) refl in
     let later : drop (length octets + length contents) all ≡ more =
     ap (drop (length octets + length contents)) (sym (append_assoc octets contents more))
     ∙ drop_at (octets ++ contents) more (length octets + length contents) (length-append octets contents) in
@@ -114,7 +122,11 @@ element_again identifier at contents more small =
     let octets = length_octets (length contents) in (
       at + 1 + length octets,
       at + 1 + (length octets + length contents),
-      rw (eq-eqb identifier identifier refl, append_assoc octets contents more, length_again (length contents) (contents ++ more) small)
+      rw (
+        eq-eqb identifier identifier refl,
+        append_assoc octets contents more,
+        length_again (length contents) (contents ++ more) small,
+      )
           (contents_again (at + 1) octets contents more),
     )
 
@@ -152,7 +164,8 @@ pub element_faults : (identifier : ℕ) (left : Cursor) (d : DerFault) → eleme
 unfolding element_at
 element_faults identifier left d e =
     let later = drop 1 left.bytes in
-    elim (chosen (begins_with identifier left.bytes) (contents_by (length_of later) (cursor_at (left.at + 1) later)) (Err (Tag left.at)) (Err d) e) [
+    elim (chosen (begins_with identifier left.bytes) (contents_by (length_of later) (cursor_at (left.at + 1) later))
+    (Err (Tag left.at)) (Err d) e) [
       | inl h ↦ contents_faults (length_of later) (cursor_at (left.at + 1) later) d h.1
       | inr h ↦ tag_inside left.at d h.1
     ]

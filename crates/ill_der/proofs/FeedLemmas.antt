@@ -1,8 +1,10 @@
 -- APDUs in bytes that come in pieces: handling them, and the bytes that are left.
-use Rattle.std.proofs.Common.{◌≡◌, ℕ, ◌+◌, ◌-◌, ◌<◌, ◌≤◌, List, [], ◌∷◌, ◌++◌, length, take, drop, Option, Some, None, Result, Ok, Err, IsOk, inl, inr, refl, sym, ap, subst, ◌∙◌, arith, append_assoc}
+use Rattle.std.proofs.Common.{◌≡◌, ℕ, ◌+◌, ◌-◌, ◌<◌, ◌≤◌, List, [], ◌∷◌, ◌++◌, length, take, drop, Option, Some, None, Result, Ok}
+use Rattle.std.proofs.Common.{Err, IsOk, inl, inr, refl, sym, ap, subst, ◌∙◌, arith, append_assoc}
 use Rattle.std.specs.List.{flat_map, AllByRecursion}
 use Rattle.std.proofs.lemmas.Bool.{cases_lt}
-use Rattle.std.proofs.lemmas.List.{append-nil, length-append, length-take-le, length-drop, drop-drop, take-append-le, drop-append-le, take-append-drop, take_at, take_rest}
+use Rattle.std.proofs.lemmas.List.{append-nil, length-append, length-take-le, length-drop, drop-drop, take-append-le}
+use Rattle.std.proofs.lemmas.List.{drop-append-le, take-append-drop, take_at, take_rest}
 use Rattle.std.proofs.lemmas.Grind.{flat_map-append}
 use Rattle.std.proofs.Math.Seq.{take-length, drop-append-add}
 use Rattle.ill_values.specs.declared.apdu.Apdu.{Apdu}
@@ -86,18 +88,27 @@ handled_then handles before now after (first ∷ apdus) apdu so_far next =
 
 -- If the APDUs before the offset `at` were handled, and handling the next failed, handling `bytes` failed.
 pub fails_after : {S F : Type 0} (handles : Handles S F) (bytes : List ℕ) (at : ℕ) (before now after : S) (fault : F)
-    → ((apdus : List Apdu) × Begins bytes apdus (drop at bytes) × Handled handles before apdus now) → HandlesFirst handles (take (length bytes - at) (drop at bytes)) now (Err fault) after
+    → ((apdus : List Apdu) × Begins bytes apdus (drop at bytes) × Handled handles before apdus now)
+    → HandlesFirst handles (take (length bytes - at) (drop at bytes)) now (Err fault) after
     → FailsIn handles bytes before fault after
 fails_after handles bytes at before now after fault so_far next =
-    let begins = subst (λ (x : List ℕ). Begins x (next.0 ∷ []) next.1) (take_rest bytes at) next.2 in
-    (so_far.0, next.0, next.1, now, begins_join bytes (drop at bytes) next.1 so_far.0 (next.0 ∷ []) so_far.1 begins, so_far.2, next.3)
+    let begins = subst (λ (x : List ℕ). Begins x (next.0 ∷ []) next.1) (take_rest bytes at) next.2 in (
+      so_far.0,
+      next.0,
+      next.1,
+      now,
+      begins_join bytes (drop at bytes) next.1 so_far.0 (next.0 ∷ []) so_far.1 begins,
+      so_far.2,
+      next.3,
+    )
 
 -- If the APDUs before `at` were handled, and the next, of `size` bytes, then those before `at + size` were.
 pub one_more_handled : {S F : Type 0} (handles : Handles S F) (bytes : List ℕ) (at size : ℕ) (before now after : S)
     → at ≤ length bytes
     → ((apdus : List Apdu) × Begins bytes apdus (drop at bytes) × Handled handles before apdus now)
     → HandlesFirst handles (take (length bytes - at) (drop at bytes)) now (Ok (Ok size)) after
-    → (at + size ≤ length bytes) × ((apdus : List Apdu) × Begins bytes apdus (drop (at + size) bytes) × Handled handles before apdus after)
+    → (at + size ≤ length bytes) × ((apdus : List Apdu) × Begins bytes apdus (drop (at + size) bytes)
+    × Handled handles before apdus after)
 one_more_handled handles bytes at size before now after within so_far next =
     let first = subst (λ (x : List ℕ). HandlesFirst handles x now (Ok (Ok size)) after) (take_rest bytes at) next in
     let later = subst (Begins (drop at bytes) (first.2.0 ∷ [])) (drop-drop size at bytes) first.2.1 in (
@@ -113,8 +124,15 @@ one_more_handled handles bytes at size before now after within so_far next =
 pub fails_later : {S F : Type 0} (handles : Handles S F) (bytes middle : List ℕ) (before now after : S) (apdu : Apdu) (fault : F)
     → Begins bytes (apdu ∷ []) middle → handles before apdu (Ok tt) now
     → FailsIn handles middle now fault after → FailsIn handles bytes before fault after
-fails_later handles bytes middle before now after apdu fault begins first later =
-    (apdu ∷ later.0, later.1, later.2, later.3, begins_join bytes middle later.2 (apdu ∷ []) (later.0 ++ later.1 ∷ []) begins later.4, (now, first, later.5), later.6)
+fails_later handles bytes middle before now after apdu fault begins first later = (
+  apdu ∷ later.0,
+  later.1,
+  later.2,
+  later.3,
+  begins_join bytes middle later.2 (apdu ∷ []) (later.0 ++ later.1 ∷ []) begins later.4,
+  (now, first, later.5),
+  later.6,
+)
 
 -- ---- the buffer
 
@@ -175,7 +193,8 @@ still_held old new piece size filled fills =
     let more = take (filled - size) piece in
     let long : length held ≡ size = length-take-le size old (omega (arith, fills.few, fills.room)) in
     let enough : size ≤ length (take filled new) = omega (arith, long, ap length fills.parts, length-append held more) in
-    ap (take size) (sym (take-append-drop filled new)) ∙ take-append-le size (take filled new) (drop filled new) enough ∙ ap (take size) fills.parts
+    ap (take size) (sym (take-append-drop filled new)) ∙ take-append-le size (take filled new) (drop filled new) enough
+    ∙ ap (take size) fills.parts
     ∙ take_at held more size long
 
 -- If `old` holds its first `size` bytes, `new` holds its first `size` bytes after a fill.
@@ -224,7 +243,8 @@ rest_held law old new rest filled fault fills none e =
 -- If `prefix` is `held` and the first `k` bytes of `piece`, `prefix` and its other bytes are `held ++ piece`.
 pub whole_piece : (k : ℕ) (held piece prefix : List ℕ) → prefix ≡ held ++ take k piece → prefix ++ drop k piece ≡ held ++ piece
 whole_piece k held piece prefix parts =
-    ap (λ (x : List ℕ). x ++ drop k piece) parts ∙ append_assoc held (take k piece) (drop k piece) ∙ ap (λ (x : List ℕ). held ++ x) (take-append-drop k piece)
+    ap (λ (x : List ℕ). x ++ drop k piece) parts ∙ append_assoc held (take k piece) (drop k piece)
+    ∙ ap (λ (x : List ℕ). held ++ x) (take-append-drop k piece)
 
 -- ---- the APDU that begins with the held bytes
 
@@ -241,12 +261,16 @@ ends_after again held more prefix size apdu unfinished parts within begins =
       | inl lt ↦ lt
       | inr le ↦
           let text = spelling apdu in
-          let spelled : prefix ≡ text ++ drop size prefix = begins.parts ∙ ap (λ (x : List ℕ). x ++ drop size prefix) (append-nil text) in
-          let long : length text ≡ size = omega (arith, within, ap length spelled, length-append text (drop size prefix), length-drop size prefix) in
+          let spelled : prefix ≡ text ++ drop size prefix =
+          begins.parts ∙ ap (λ (x : List ℕ). x ++ drop size prefix) (append-nil text) in
+          let long : length text ≡ size =
+          omega (arith, within, ap length spelled, length-append text (drop size prefix), length-drop size prefix) in
           let at_prefix : take size prefix ≡ text = ap (take size) spelled ∙ take_at text (drop size prefix) size long in
           let in_held : take size held ≡ text = sym (take-append-le size held more le) ∙ ap (take size) (sym parts) ∙ at_prefix in
-          let is : held ≡ text ++ drop size held = sym (take-append-drop size held) ∙ ap (λ (x : List ℕ). x ++ drop size held) in_held in
-          absurd (no_value (Short (length held)) (apdu, drop size held) (sym (again apdu (drop size held) begins.spelled.0) ∙ ap apdu_at (sym is) ∙ unfinished))
+          let is : held ≡ text ++ drop size held =
+          sym (take-append-drop size held) ∙ ap (λ (x : List ℕ). x ++ drop size held) in_held in
+          absurd (no_value (Short (length held)) (apdu, drop size held)
+          (sym (again apdu (drop size held) begins.spelled.0) ∙ ap apdu_at (sym is) ∙ unfinished))
     ]
 
 -- If `apdu` begins `prefix`, which is `held` and a prefix of `piece`, it begins `held ++ piece`.
@@ -260,11 +284,14 @@ begins_held held piece prefix k size apdu few parts later within begins =
     let long : length more ≡ k = length-take-le k piece few in
     let there : at ≤ length more = omega (arith, within, ap length parts, length-append held more, later) in
     let place : size ≡ length held + at = omega (arith, later) in
-    let rest : drop size prefix ≡ drop at more = ap (drop size) parts ∙ ap (λ (n : ℕ). drop n (held ++ more)) place ∙ drop-append-add held more at in
+    let rest : drop size prefix ≡ drop at more =
+    ap (drop size) parts ∙ ap (λ (n : ℕ). drop n (held ++ more)) place ∙ drop-append-add held more at in
     let last : drop size prefix ++ drop k piece ≡ drop at piece =
-    ap (λ (x : List ℕ). x ++ drop k piece) rest ∙ sym (drop-append-le at more (drop k piece) there) ∙ ap (drop at) (take-append-drop k piece) in
+    ap (λ (x : List ℕ). x ++ drop k piece) rest ∙ sym (drop-append-le at more (drop k piece) there)
+    ∙ ap (drop at) (take-append-drop k piece) in
     subst (λ (x : List ℕ). Begins x (apdu ∷ []) (drop at piece)) (whole_piece k held piece prefix parts)
-    (subst (Begins (prefix ++ drop k piece) (apdu ∷ [])) last (begins_more prefix (drop size prefix) (drop k piece) (apdu ∷ []) begins))
+    (subst (Begins (prefix ++ drop k piece) (apdu ∷ [])) last
+    (begins_more prefix (drop size prefix) (drop k piece) (apdu ∷ []) begins))
 
 -- ---- the outcome of a push
 
@@ -273,14 +300,17 @@ pub goes_on_from : {S F : Type 0} (handles : Handles S F) → AgainLaw
     → (old new piece : List ℕ) (size filled end : ℕ) (before now : S) → Fills old new size piece filled → Holds size old
     → HandlesFirst handles (take filled new) before (Ok (Ok end)) now → (size ≤ end) × (end - size ≤ length piece)
 goes_on_from handles again old new piece size filled end before now fills is first =
-    let later = ends_after again (take size old) (take (filled - size) piece) (take filled new) end first.2.0 is.unfinished fills.parts first.1 first.2.1 in
+    let later = ends_after again (take size old) (take (filled - size) piece) (take filled new) end first.2.0 is.unfinished
+    fills.parts first.1 first.2.1 in
     let long = length-take-le size old (omega (arith, fills.few, fills.room)) in
     let whole = filled_length old new piece size filled fills in
     (omega (arith, later, long), omega (arith, first.1, whole, fills.count))
 
 -- If the first APDU of `held ++ piece` was handled, going on with the rest has the outcome of a push.
-on_after : {S F : Type 0} (handles : Handles S F) (held piece later : List ℕ) (apdu : Apdu) (before now after : S) (result : Result (Option DerFault) F) (new : Unread)
-    → Begins (held ++ piece) (apdu ∷ []) later → handles before apdu (Ok tt) now → GoesOn handles (Ok held) later now result new after
+on_after : {S F : Type 0} (handles : Handles S F) (held piece later : List ℕ) (apdu : Apdu) (before now after : S)
+    (result : Result (Option DerFault) F) (new : Unread)
+    → Begins (held ++ piece) (apdu ∷ []) later → handles before apdu (Ok tt) now
+    → GoesOn handles (Ok held) later now result new after
     → HandlesEach handles (Ok held) piece before result new after
 on_after handles held piece later apdu before now after (Ok fault) new begins first on = (
   on.0,
@@ -295,7 +325,8 @@ on_after handles held piece later apdu before now after (Err fault) new begins f
 
 -- If the first APDU of the filled bytes was handled, going on with the rest has the outcome of a push.
 pub goes_on_after : {S F : Type 0} (handles : Handles S F) → AgainLaw
-    → (old new piece : List ℕ) (size filled end : ℕ) (before now after : S) (was : Unread) (result : Result (Option DerFault) F) (feed : Unread)
+    → (old new piece : List ℕ) (size filled end : ℕ) (before now after : S) (was : Unread) (result : Result (Option DerFault) F)
+    (feed : Unread)
     → Fills old new size piece filled → Holds size old → was ≡ Ok (take size old)
     → HandlesFirst handles (take filled new) before (Ok (Ok end)) now
     → GoesOn handles (Ok (take size new)) (take (length piece - (end - size)) (drop (end - size) piece)) now result feed after
@@ -308,13 +339,16 @@ goes_on_after handles again old new piece size filled end before now after was r
     let few : filled - size ≤ length piece = omega (arith, fills.count) in
     let begins = begins_held held piece (take filled new) (filled - size) end first.2.0 few fills.parts later first.1 first.2.1 in
     let begun = subst (λ (n : ℕ). Begins (held ++ piece) (first.2.0 ∷ []) (drop (end - n) piece)) long begins in
-    let on_rest = subst (λ (x : List ℕ). GoesOn handles (Ok (take size new)) x now result feed after) (take_rest piece (end - size)) on in
-    let on_held = subst (λ (x : List ℕ). GoesOn handles (Ok x) (drop (end - size) piece) now result feed after) (still_held old new piece size filled fills) on_rest in
+    let on_rest = subst (λ (x : List ℕ). GoesOn handles (Ok (take size new)) x now result feed after)
+    (take_rest piece (end - size)) on in
+    let on_held = subst (λ (x : List ℕ). GoesOn handles (Ok x) (drop (end - size) piece) now result feed after)
+    (still_held old new piece size filled fills) on_rest in
     subst (λ (h : Unread). HandlesEach handles h piece before result feed after) (sym opened)
     (on_after handles held piece (drop (end - size) piece) first.2.0 before now after result feed begun first.2.2 on_held)
 
 -- If nothing was held, going on with `piece` has the outcome of a push.
-on_alone : {S F : Type 0} (handles : Handles S F) (held piece : List ℕ) (before after : S) (result : Result (Option DerFault) F) (new : Unread)
+on_alone : {S F : Type 0} (handles : Handles S F) (held piece : List ℕ) (before after : S) (result : Result (Option DerFault) F)
+    (new : Unread)
     → held ≡ []
     → GoesOn handles (Ok held) piece before result new after → HandlesEach handles (Ok held) piece before result new after
 on_alone handles held piece before after (Ok fault) new none on =
@@ -323,12 +357,14 @@ on_alone handles held piece before after (Err fault) new none on =
     (on.0, subst (λ (x : List ℕ). FailsIn handles (x ++ piece) before fault after) (sym none) on.1)
 
 -- If `was` is open and holds nothing, going on with `piece` has the outcome of a push.
-pub goes_on_alone : {S F : Type 0} (handles : Handles S F) (held piece : List ℕ) (before after : S) (was : Unread) (result : Result (Option DerFault) F) (new : Unread)
+pub goes_on_alone : {S F : Type 0} (handles : Handles S F) (held piece : List ℕ) (before after : S) (was : Unread)
+    (result : Result (Option DerFault) F) (new : Unread)
     → was ≡ Ok held → held ≡ []
     → GoesOn handles was piece before result new after → HandlesEach handles was piece before result new after
 goes_on_alone handles held piece before after was result new opened none on =
     subst (λ (h : Unread). HandlesEach handles h piece before result new after) (sym opened)
-    (on_alone handles held piece before after result new none (subst (λ (h : Unread). GoesOn handles h piece before result new after) opened on))
+    (on_alone handles held piece before after result new none
+    (subst (λ (h : Unread). GoesOn handles h piece before result new after) opened on))
 
 -- If `held ++ piece` is all a rest, which leaves `new`, a push of `piece` handles nothing and keeps the state.
 pub all_left : {S F : Type 0} (handles : Handles S F) (held piece : List ℕ) (before after : S) (was new : Unread)
@@ -343,11 +379,15 @@ pub fault_of_all : (old new piece : List ℕ) (size filled : ℕ) (fault : DerFa
     → IfShort fault ⊥ → apdu_at (take filled new) ≡ Err fault
     → Leaves (take size old ++ piece) (Err fault)
 fault_of_all old new piece size filled fault fills other e =
-    let k = filled - size in
-    (ap apdu_at (sym (whole_piece k (take size old) piece (take filled new) fills.parts)) ∙ fault_stays (take filled new) (drop k piece) fault other e, other)
+    let k = filled - size in (
+      ap apdu_at (sym (whole_piece k (take size old) piece (take filled new) fills.parts))
+          ∙ fault_stays (take filled new) (drop k piece) fault other e,
+      other,
+    )
 
 -- If handling the first APDU of the filled bytes failed, handling failed at an APDU of `was` and `piece`.
-pub fails_first : {S F : Type 0} (handles : Handles S F) (old new piece : List ℕ) (size filled : ℕ) (before after : S) (was : Unread) (fault : F)
+pub fails_first : {S F : Type 0} (handles : Handles S F) (old new piece : List ℕ) (size filled : ℕ) (before after : S)
+    (was : Unread) (fault : F)
     → Fills old new size piece filled
     → was ≡ Ok (take size old) → HandlesFirst handles (take filled new) before (Err fault) after
     → FailsAt handles was piece before fault after
@@ -356,7 +396,8 @@ fails_first handles old new piece size filled before after was fault fills opene
     let held = take size old in
     let rest = first.1 ++ drop k piece in
     let begins =
-    subst (λ (x : List ℕ). Begins x (first.0 ∷ []) rest) (whole_piece k held piece (take filled new) fills.parts) (begins_more (take filled new) first.1 (drop k piece) (first.0 ∷ []) first.2) in
+    subst (λ (x : List ℕ). Begins x (first.0 ∷ []) rest) (whole_piece k held piece (take filled new) fills.parts)
+    (begins_more (take filled new) first.1 (drop k piece) (first.0 ∷ []) first.2) in
     let failed : FailsIn handles (held ++ piece) before fault after = ([], first.0, rest, before, begins, refl, first.3) in
     subst (λ (h : Unread). FailsAt handles h piece before fault after) (sym opened) failed
 
@@ -374,5 +415,6 @@ pub all_kept : {S F : Type 0} (handles : Handles S F) (kept : S → List Apdu)
     → (before after : S) (apdus : List Apdu) → Handled handles before apdus after → kept after ≡ kept before ++ apdus
 all_kept handles kept law before after [] same = ap kept same ∙ sym (append-nil (kept before))
 all_kept handles kept law before after (apdu ∷ apdus) handled =
-    all_kept handles kept law handled.0 after apdus handled.2 ∙ ap (λ (x : List Apdu). x ++ apdus) (law before handled.0 apdu handled.1)
+    all_kept handles kept law handled.0 after apdus handled.2
+    ∙ ap (λ (x : List Apdu). x ++ apdus) (law before handled.0 apdu handled.1)
     ∙ append_assoc (kept before) (apdu ∷ []) apdus

@@ -1,14 +1,17 @@
 -- The laws of a description of fields, which each way to build one from others keeps.
-use Rattle.std.proofs.Common.{Result, ◌≡◌, ℕ, ◌+◌, ◌<◌, ◌≤◌, Bool, false, List, [], ◌++◌, length, Option, Some, None, Ok, Err, refl, sym, ap, subst, ◌∙◌, inl, inr, append_assoc, arith, cond, true}
+use Rattle.std.proofs.Common.{Result, ◌≡◌, ℕ, ◌+◌, ◌<◌, ◌≤◌, Bool, false, List, [], ◌++◌, length, Option, Some, None, Ok, Err}
+use Rattle.std.proofs.Common.{refl, sym, ap, subst, ◌∙◌, inl, inr, append_assoc, arith, cond, true}
 use Rattle.std.specs.Prelude.{IfSome}
 use Rattle.std.proofs.lemmas.List.{append-nil, length-append}
 use Rattle.ill_der.specs.declared.fault.DerFault.{DerFault}
 use Rattle.ill_der.specs.Contents.{Contents}
-use Rattle.ill_der.specs.Format.{◌>>=◌, element, Cursor, cursor_at, element_at, begins_with, ended, Format, value_of, required, optional, followed_by, where_yes, constructed}
+use Rattle.ill_der.specs.Format.{◌>>=◌, element, Cursor, cursor_at, element_at, begins_with, ended, Format, value_of, required}
+use Rattle.ill_der.specs.Format.{optional, followed_by, where_yes, constructed}
 use Rattle.ill_der.proofs.Chains.{bind_ok, bind_err, chosen, ok_is, no_value, IsInside, field_inside}
 use Rattle.ill_der.specs.Laws.{IsBytes}
 use Rattle.ill_der.proofs.Lengths.{overhead}
-use Rattle.ill_der.proofs.Elements.{element_takes, element_again, element_bound, element_begins, element_faults, ended_faults, ended_is}
+use Rattle.ill_der.proofs.Elements.{element_takes, element_again, element_bound, element_begins, element_faults, ended_faults}
+use Rattle.ill_der.proofs.Elements.{ended_is}
 
 -- ---- contents
 
@@ -31,7 +34,8 @@ ReadsAgain f v at more = (after : ℕ) × (f.read (cursor_at at (f.spell v ++ mo
 -- Holds if `f` reads only encodings of values in `P`, and reads each of them if `Follows` holds of what follows.
 -- An encoding has at most `most` bytes, and each fault of reading is Tag, Length or Field.
 pub record IsFormat {V : Type 0} (P : V → Type 0) (Follows : List ℕ → Type 0) (most : ℕ) (f : Format V) : Type 0 where
-  pub takes : (left : Cursor) (v : V) (rest : Cursor) → IsBytes left.bytes → f.read left ≡ Ok (v, rest) → Takes f P left.bytes v rest.bytes
+  pub takes : (left : Cursor) (v : V) (rest : Cursor) → IsBytes left.bytes → f.read left ≡ Ok (v, rest)
+      → Takes f P left.bytes v rest.bytes
   pub again : (v : V) (at : ℕ) (more : List ℕ) → P v → Follows more → ReadsAgain f v at more
   pub bound : (v : V) → P v → length (f.spell v) ≤ most
   pub faults : (left : Cursor) (d : DerFault) → f.read left ≡ Err d → IsInside d
@@ -57,11 +61,13 @@ required_takes : {V : Type 0} (P : V → Type 0) (most : ℕ) (kind : Contents V
     → (left : Cursor) (v : V) (rest : Cursor) → IsBytes left.bytes → (required identifier kind).read left ≡ Ok (v, rest)
     → Takes (required identifier kind) P left.bytes v rest.bytes
 required_takes {V} P most kind identifier is left v rest fits e =
-    let part = bind_ok (element_at identifier left) (λ part. value_of (kind.read part.0.bytes) part.0.at >>= λ value. Ok (value, part.1)) (v, rest) e in
+    let part = bind_ok (element_at identifier left)
+    (λ part. value_of (kind.read part.0.bytes) part.0.at >>= λ value. Ok (value, part.1)) (v, rest) e in
     let found = bind_ok (value_of (kind.read part.0.0.bytes) part.0.0.at) (λ value. Ok (value, part.0.1)) (v, rest) part.2 in
     let both : (found.0, part.0.1) ≡ (v, rest) = ok_is (found.0, part.0.1) (v, rest) found.2 in
     let taken = element_takes identifier left part.0.0 part.0.1 fits part.1 in
-    let value = is.takes part.0.0.bytes found.0 taken.inside_fits (value_found (kind.read part.0.0.bytes) part.0.0.at found.0 found.1) in
+    let value = is.takes part.0.0.bytes found.0 taken.inside_fits
+    (value_found (kind.read part.0.0.bytes) part.0.0.at found.0 found.1) in
     let parts : left.bytes ≡ element identifier (kind.spell found.0) ++ part.0.1.bytes =
     taken.parts ∙ ap (λ (x : List ℕ). element identifier x ++ part.0.1.bytes) value.0 in
     subst (λ (x : V × Cursor). Takes (required identifier kind) P left.bytes x.0 x.1.bytes) both (parts, value.1, taken.rest_fits)
@@ -78,7 +84,8 @@ required_again P most kind identifier small is v at more p =
 required_faults : {V : Type 0} (kind : Contents V) (identifier : ℕ) (left : Cursor) (d : DerFault)
     → (required identifier kind).read left ≡ Err d → IsInside d
 required_faults {V} kind identifier left d e =
-    elim (bind_err (element_at identifier left) (λ part. value_of (kind.read part.0.bytes) part.0.at >>= λ value. Ok (value, part.1)) d e) [
+    elim (bind_err (element_at identifier left)
+    (λ part. value_of (kind.read part.0.bytes) part.0.at >>= λ value. Ok (value, part.1)) d e) [
       | inl h ↦ element_faults identifier left d h
       | inr h ↦ elim (bind_err (value_of (kind.read h.0.0.bytes) h.0.0.at) (λ value. Ok (value, h.0.1)) d h.2) [
         | inl g ↦ value_faults (kind.read h.0.0.bytes) h.0.0.at d g
@@ -108,15 +115,18 @@ optional_takes : {V : Type 0} (P : V → Type 0) (most : ℕ) (kind : Contents V
     → (left : Cursor) (o : Option V) (rest : Cursor) → IsBytes left.bytes → (optional identifier kind).read left ≡ Ok (o, rest)
     → Takes (optional identifier kind) (λ o. IfSome o P) left.bytes o rest.bytes
 optional_takes {V} P most kind identifier is left o rest fits e =
-    elim (chosen (begins_with identifier left.bytes) ((required identifier kind).read left >>= λ field. Ok (Some field.0, field.1)) (Ok (None, left)) (Ok (o, rest)) e) [
+    elim (chosen (begins_with identifier left.bytes)
+    ((required identifier kind).read left >>= λ field. Ok (Some field.0, field.1)) (Ok (None, left)) (Ok (o, rest)) e) [
       | inl h ↦
           let field = bind_ok ((required identifier kind).read left) (λ field. Ok (Some field.0, field.1)) (o, rest) h.1 in
           let both : (Some field.0.0, field.0.1) ≡ (o, rest) = ok_is (Some field.0.0, field.0.1) (o, rest) field.2 in
           let taken = required_takes P most kind identifier is left field.0.0 field.0.1 fits field.1 in
-          subst (λ (x : Option V × Cursor). Takes (optional identifier kind) (λ o. IfSome o P) left.bytes x.0 x.1.bytes) both taken
+          subst (λ (x : Option V × Cursor). Takes (optional identifier kind) (λ o. IfSome o P) left.bytes x.0 x.1.bytes) both
+          taken
       | inr h ↦
           let both : (None, left) ≡ (o, rest) = ok_is (None, left) (o, rest) h.1 in
-          subst (λ (x : Option V × Cursor). Takes (optional identifier kind) (λ o. IfSome o P) left.bytes x.0 x.1.bytes) both (refl, tt, fits)
+          subst (λ (x : Option V × Cursor). Takes (optional identifier kind) (λ o. IfSome o P) left.bytes x.0 x.1.bytes) both
+          (refl, tt, fits)
     ]
 
 -- `optional` reads each `o` from its encoding, if what follows does not begin with `identifier`.
@@ -139,7 +149,8 @@ optional_bound P most kind identifier is (Some v) p = element_bound identifier m
 optional_faults : {V : Type 0} (kind : Contents V) (identifier : ℕ) (left : Cursor) (d : DerFault)
     → (optional identifier kind).read left ≡ Err d → IsInside d
 optional_faults {V} kind identifier left d e =
-    elim (chosen (begins_with identifier left.bytes) ((required identifier kind).read left >>= λ field. Ok (Some field.0, field.1)) (Ok (None, left)) (Err d) e) [
+    elim (chosen (begins_with identifier left.bytes)
+    ((required identifier kind).read left >>= λ field. Ok (Some field.0, field.1)) (Ok (None, left)) (Err d) e) [
       | inl h ↦ elim (bind_err ((required identifier kind).read left) (λ field. Ok (Some field.0, field.1)) d h.1) [
         | inl g ↦ required_faults kind identifier left d g
         | inr g ↦ absurd (no_value d (Some g.0.0, g.0.1) g.2)
@@ -178,7 +189,8 @@ followed_takes {V} {W} P Q F G m n f g fs gs left v rest fits e =
     let second = gs.takes a.0.1 b.0.0 b.0.1 first.2 b.1 in
     let parts : left.bytes ≡ (f.spell a.0.0 ++ g.spell b.0.0) ++ b.0.1.bytes =
     first.0 ∙ ap (λ (x : List ℕ). f.spell a.0.0 ++ x) second.0 ∙ sym (append_assoc (f.spell a.0.0) (g.spell b.0.0) b.0.1.bytes) in
-    subst (λ (x : (V × W) × Cursor). Takes (followed_by f g) (Both P Q) left.bytes x.0 x.1.bytes) both (parts, (first.1, second.1), second.2)
+    subst (λ (x : (V × W) × Cursor). Takes (followed_by f g) (Both P Q) left.bytes x.0 x.1.bytes) both
+    (parts, (first.1, second.1), second.2)
 
 -- `followed_by f g` reads each pair from its encoding, if `g` may follow `f`, and `more` may follow `g`.
 followed_again : {V W : Type 0} (P : V → Type 0) (Q : W → Type 0) (F G : List ℕ → Type 0) (m n : ℕ) (f : Format V) (g : Format W)
@@ -217,32 +229,41 @@ followed_is P Q F G m n f g fs gs joins = record {
 -- ---- a yes or no, and after a yes a further field
 
 -- If `where_yes` reads `o` from `left`, `left` is the encoding of `o` and then `rest`, and a value is in `P`.
-where_takes : {V : Type 0} (Q : Bool → Type 0) (P : V → Type 0) (F G : List ℕ → Type 0) (m n : ℕ) (yes_no : Format Bool) (field : Format V)
+where_takes : {V : Type 0} (Q : Bool → Type 0) (P : V → Type 0) (F G : List ℕ → Type 0) (m n : ℕ) (yes_no : Format Bool)
+    (field : Format V)
     → IsFormat Q F m yes_no → IsFormat P G n field
     → (left : Cursor) (o : Option V) (rest : Cursor) → IsBytes left.bytes
     → (where_yes yes_no field).read left ≡ Ok (o, rest)
     → Takes (where_yes yes_no field) (λ o. IfSome o P) left.bytes o rest.bytes
 where_takes {V} Q P F G m n yes_no field qs fs left o rest fits e =
-    let is_yes = bind_ok (yes_no.read left) (λ is_yes. cond is_yes.0 (field.read is_yes.1 >>= λ found. Ok (Some found.0, found.1)) (Ok (None, is_yes.1))) (o, rest) e in
+    let is_yes = bind_ok (yes_no.read left)
+    (λ is_yes. cond is_yes.0 (field.read is_yes.1 >>= λ found. Ok (Some found.0, found.1)) (Ok (None, is_yes.1))) (o, rest)
+    e in
     let first = qs.takes left is_yes.0.0 is_yes.0.1 fits is_yes.1 in
-    elim (chosen {A = Result (Option V × Cursor) DerFault} is_yes.0.0 (field.read is_yes.0.1 >>= λ found. Ok (Some found.0, found.1)) (Ok (None, is_yes.0.1)) (Ok (o, rest)) is_yes.2) [
+    elim (chosen {A = Result (Option V × Cursor) DerFault} is_yes.0.0
+    (field.read is_yes.0.1 >>= λ found. Ok (Some found.0, found.1)) (Ok (None, is_yes.0.1)) (Ok (o, rest)) is_yes.2) [
       | inl h ↦
           let found = bind_ok (field.read is_yes.0.1) (λ found. Ok (Some found.0, found.1)) (o, rest) h.1 in
           let both : (Some found.0.0, found.0.1) ≡ (o, rest) = ok_is (Some found.0.0, found.0.1) (o, rest) found.2 in
           let second = fs.takes is_yes.0.1 found.0.0 found.0.1 first.2 found.1 in
           let parts : left.bytes ≡ (yes_no.spell true ++ field.spell found.0.0) ++ found.0.1.bytes =
           first.0 ∙ ap (λ (b : Bool). yes_no.spell b ++ is_yes.0.1.bytes) h.0
-          ∙ ap (λ (x : List ℕ). yes_no.spell true ++ x) second.0 ∙ sym (append_assoc (yes_no.spell true) (field.spell found.0.0) found.0.1.bytes) in
-          subst (λ (x : Option V × Cursor). Takes (where_yes yes_no field) (λ o. IfSome o P) left.bytes x.0 x.1.bytes) both (parts, second.1, second.2)
+          ∙ ap (λ (x : List ℕ). yes_no.spell true ++ x) second.0
+          ∙ sym (append_assoc (yes_no.spell true) (field.spell found.0.0) found.0.1.bytes) in
+          subst (λ (x : Option V × Cursor). Takes (where_yes yes_no field) (λ o. IfSome o P) left.bytes x.0 x.1.bytes) both
+          (parts, second.1, second.2)
       | inr h ↦
           let both : (None, is_yes.0.1) ≡ (o, rest) = ok_is (None, is_yes.0.1) (o, rest) h.1 in
           let parts : left.bytes ≡ (yes_no.spell false ++ []) ++ is_yes.0.1.bytes =
-          first.0 ∙ ap (λ (b : Bool). yes_no.spell b ++ is_yes.0.1.bytes) h.0 ∙ ap (λ (x : List ℕ). x ++ is_yes.0.1.bytes) (sym (append-nil (yes_no.spell false))) in
-          subst (λ (x : Option V × Cursor). Takes (where_yes yes_no field) (λ o. IfSome o P) left.bytes x.0 x.1.bytes) both (parts, tt, first.2)
+          first.0 ∙ ap (λ (b : Bool). yes_no.spell b ++ is_yes.0.1.bytes) h.0
+          ∙ ap (λ (x : List ℕ). x ++ is_yes.0.1.bytes) (sym (append-nil (yes_no.spell false))) in
+          subst (λ (x : Option V × Cursor). Takes (where_yes yes_no field) (λ o. IfSome o P) left.bytes x.0 x.1.bytes) both
+          (parts, tt, first.2)
     ]
 
 -- `where_yes` reads each `o` from its encoding, if yes and no are in range, and `more` may follow `field`.
-where_again : {V : Type 0} (Q : Bool → Type 0) (P : V → Type 0) (G : List ℕ → Type 0) (m n : ℕ) (yes_no : Format Bool) (field : Format V)
+where_again : {V : Type 0} (Q : Bool → Type 0) (P : V → Type 0) (G : List ℕ → Type 0) (m n : ℕ) (yes_no : Format Bool)
+    (field : Format V)
     → IsFormat Q Any m yes_no → IsFormat P G n field
     → ((b : Bool) → Q b) → (o : Option V) (at : ℕ) (more : List ℕ) → IfSome o P → G more
     → ReadsAgain (where_yes yes_no field) o at more
@@ -255,7 +276,8 @@ where_again Q P G m n yes_no field qs fs each (Some v) at more p follows =
     (second.0, rw (append_assoc (yes_no.spell true) (field.spell v) more, first.1, second.1) refl)
 
 -- The encoding of `o` by `where_yes` has at most `m + n` bytes.
-where_bound : {V : Type 0} (Q : Bool → Type 0) (P : V → Type 0) (F G : List ℕ → Type 0) (m n : ℕ) (yes_no : Format Bool) (field : Format V)
+where_bound : {V : Type 0} (Q : Bool → Type 0) (P : V → Type 0) (F G : List ℕ → Type 0) (m n : ℕ) (yes_no : Format Bool)
+    (field : Format V)
     → IsFormat Q F m yes_no → IsFormat P G n field
     → ((b : Bool) → Q b) → (o : Option V) → IfSome o P → length ((where_yes yes_no field).spell o) ≤ m + n
 where_bound Q P F G m n yes_no field qs fs each None p =
@@ -264,23 +286,27 @@ where_bound Q P F G m n yes_no field qs fs each (Some v) p =
     omega (arith, length-append (yes_no.spell true) (field.spell v), qs.bound true (each true), fs.bound v p)
 
 -- Each fault of `where_yes` is Tag, Length or Field.
-where_faults : {V : Type 0} (Q : Bool → Type 0) (P : V → Type 0) (F G : List ℕ → Type 0) (m n : ℕ) (yes_no : Format Bool) (field : Format V)
+where_faults : {V : Type 0} (Q : Bool → Type 0) (P : V → Type 0) (F G : List ℕ → Type 0) (m n : ℕ) (yes_no : Format Bool)
+    (field : Format V)
     → IsFormat Q F m yes_no → IsFormat P G n field
     → (left : Cursor) (d : DerFault) → (where_yes yes_no field).read left ≡ Err d → IsInside d
 where_faults {V} Q P F G m n yes_no field qs fs left d e =
-    elim (bind_err (yes_no.read left) (λ is_yes. cond is_yes.0 (field.read is_yes.1 >>= λ found. Ok (Some found.0, found.1)) (Ok (None, is_yes.1))) d e) [
+    elim (bind_err (yes_no.read left)
+    (λ is_yes. cond is_yes.0 (field.read is_yes.1 >>= λ found. Ok (Some found.0, found.1)) (Ok (None, is_yes.1))) d e) [
       | inl h ↦ qs.faults left d h
-      | inr h ↦ elim (chosen {A = Result (Option V × Cursor) DerFault} h.0.0 (field.read h.0.1 >>= λ found. Ok (Some found.0, found.1)) (Ok (None, h.0.1)) (Err d) h.2) [
-        | inl g ↦ elim (bind_err (field.read h.0.1) (λ found. Ok (Some found.0, found.1)) d g.1) [
-          | inl i ↦ fs.faults h.0.1 d i
-          | inr i ↦ absurd (no_value d (Some i.0.0, i.0.1) i.2)
-        ]
-        | inr g ↦ absurd (no_value d (None, h.0.1) g.1)
-      ]
+      | inr h ↦ elim (chosen {A = Result (Option V × Cursor) DerFault} h.0.0
+          (field.read h.0.1 >>= λ found. Ok (Some found.0, found.1)) (Ok (None, h.0.1)) (Err d) h.2) [
+            | inl g ↦ elim (bind_err (field.read h.0.1) (λ found. Ok (Some found.0, found.1)) d g.1) [
+              | inl i ↦ fs.faults h.0.1 d i
+              | inr i ↦ absurd (no_value d (Some i.0.0, i.0.1) i.2)
+            ]
+            | inr g ↦ absurd (no_value d (None, h.0.1) g.1)
+          ]
     ]
 
 -- If `yes_no` and `field` obey the laws of a format, and yes and no are in range, `where_yes` obeys them.
-pub where_is : {V : Type 0} (Q : Bool → Type 0) (P : V → Type 0) (G : List ℕ → Type 0) (m n : ℕ) (yes_no : Format Bool) (field : Format V)
+pub where_is : {V : Type 0} (Q : Bool → Type 0) (P : V → Type 0) (G : List ℕ → Type 0) (m n : ℕ) (yes_no : Format Bool)
+    (field : Format V)
     → IsFormat Q Any m yes_no → IsFormat P G n field
     → ((b : Bool) → Q b) → IsFormat (λ o. IfSome o P) G (m + n) (where_yes yes_no field)
 where_is Q P G m n yes_no field qs fs each = record {
@@ -297,16 +323,20 @@ constructed_takes : {V : Type 0} (P : V → Type 0) (F : List ℕ → Type 0) (m
     → (left : Cursor) (v : V) (rest : Cursor) → IsBytes left.bytes → (constructed identifier f).read left ≡ Ok (v, rest)
     → Takes (constructed identifier f) P left.bytes v rest.bytes
 constructed_takes {V} P F m f identifier fs left v rest fits e =
-    let part = bind_ok (element_at identifier left) (λ part. f.read part.0 >>= λ found. ended found.1 >>= λ _. Ok (found.0, part.1)) (v, rest) e in
+    let part = bind_ok (element_at identifier left)
+    (λ part. f.read part.0 >>= λ found. ended found.1 >>= λ _. Ok (found.0, part.1)) (v, rest) e in
     let found = bind_ok (f.read part.0.0) (λ found. ended found.1 >>= λ _. Ok (found.0, part.0.1)) (v, rest) part.2 in
     let over = bind_ok (ended found.0.1) (λ _. Ok (found.0.0, part.0.1)) (v, rest) found.2 in
     let both : (found.0.0, part.0.1) ≡ (v, rest) = ok_is (found.0.0, part.0.1) (v, rest) over.2 in
     let taken = element_takes identifier left part.0.0 part.0.1 fits part.1 in
     let inside = fs.takes part.0.0 found.0.0 found.0.1 taken.inside_fits found.1 in
-    let whole : part.0.0.bytes ≡ f.spell found.0.0 = inside.0 ∙ ap (λ (x : List ℕ). f.spell found.0.0 ++ x) (ended_is found.0.1 over.0 over.1) ∙ append-nil (f.spell found.0.0) in
+    let whole : part.0.0.bytes ≡ f.spell found.0.0 =
+    inside.0 ∙ ap (λ (x : List ℕ). f.spell found.0.0 ++ x) (ended_is found.0.1 over.0 over.1)
+    ∙ append-nil (f.spell found.0.0) in
     let parts : left.bytes ≡ element identifier (f.spell found.0.0) ++ part.0.1.bytes =
     taken.parts ∙ ap (λ (x : List ℕ). element identifier x ++ part.0.1.bytes) whole in
-    subst (λ (x : V × Cursor). Takes (constructed identifier f) P left.bytes x.0 x.1.bytes) both (parts, inside.1, taken.rest_fits)
+    subst (λ (x : V × Cursor). Takes (constructed identifier f) P left.bytes x.0 x.1.bytes) both
+    (parts, inside.1, taken.rest_fits)
 
 -- `constructed` reads each value in `P` from its encoding, whatever follows, if `f` may stand last.
 constructed_again : {V : Type 0} (P : V → Type 0) (F : List ℕ → Type 0) (m : ℕ) (f : Format V) (identifier : ℕ)
@@ -315,7 +345,8 @@ constructed_again : {V : Type 0} (P : V → Type 0) (F : List ℕ → Type 0) (m
 constructed_again P F m f identifier small fs closes v at more p =
     let read = element_again identifier at (f.spell v) more (omega (arith, fs.bound v p)) in
     let inside = fs.again v read.0 [] p closes in
-    let whole : f.read (cursor_at read.0 (f.spell v)) ≡ Ok (v, cursor_at inside.0 []) = ap (λ (x : List ℕ). f.read (cursor_at read.0 x)) (sym (append-nil (f.spell v))) ∙ inside.1 in
+    let whole : f.read (cursor_at read.0 (f.spell v)) ≡ Ok (v, cursor_at inside.0 []) =
+    ap (λ (x : List ℕ). f.read (cursor_at read.0 x)) (sym (append-nil (f.spell v))) ∙ inside.1 in
     (read.1, rw (read.2, whole) refl)
 
 -- Each fault of `constructed` is Tag, Length or Field.
@@ -323,7 +354,8 @@ constructed_faults : {V : Type 0} (P : V → Type 0) (F : List ℕ → Type 0) (
     → IsFormat P F m f
     → (left : Cursor) (d : DerFault) → (constructed identifier f).read left ≡ Err d → IsInside d
 constructed_faults P F m f identifier fs left d e =
-    elim (bind_err (element_at identifier left) (λ part. f.read part.0 >>= λ found. ended found.1 >>= λ _. Ok (found.0, part.1)) d e) [
+    elim (bind_err (element_at identifier left) (λ part. f.read part.0 >>= λ found. ended found.1 >>= λ _. Ok (found.0, part.1)) d
+    e) [
       | inl h ↦ element_faults identifier left d h
       | inr h ↦ elim (bind_err (f.read h.0.0) (λ found. ended found.1 >>= λ _. Ok (found.0, h.0.1)) d h.2) [
         | inl g ↦ fs.faults h.0.0 d g

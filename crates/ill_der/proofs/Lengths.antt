@@ -1,5 +1,6 @@
 -- Length octets: octets that are read as a length are its encoding, and an encoding is read as its length.
-use Rattle.std.proofs.Common.{◌≡◌, ℕ, zero, suc, ◌+◌, ◌*◌, ◌/◌, ◌%◌, ◌<◌, ◌≤◌, Bool, true, false, cond, eqb, ltb, List, [], ◌∷◌, ◌++◌, length, drop, refl, sym, subst, inl, inr, arith}
+use Rattle.std.proofs.Common.{◌≡◌, ℕ, zero, suc, ◌+◌, ◌*◌, ◌/◌, ◌%◌, ◌<◌, ◌≤◌, Bool, true, false, cond, eqb, ltb, List, [], ◌∷◌}
+use Rattle.std.proofs.Common.{◌++◌, length, drop, refl, sym, subst, inl, inr, arith}
 use Rattle.std.proofs.lemmas.Bool.{cases_lt, lt-ltb, le-ltb, ltb-true, ltb-false, eqb-true}
 use Rattle.std.proofs.Math.Dec.{eqb-suc-zero}
 use Rattle.std.specs.Prelude.{if◌then◌else◌, nat_lt}
@@ -92,7 +93,8 @@ two_takes (high ∷ low ∷ rest) n octets fits e =
           let small : low < 256 = fits 1 in
           let quotient : (256 * high + low) / 256 ≡ high = omega arith in
           let remainder : (256 * high + low) % 256 ≡ low = omega arith in
-          along (0x82 ∷ high ∷ low ∷ rest) (256 * high + low) 3 n octets h.1 (rw (long_form (256 * high + low) (omega arith), quotient, remainder) (refl, refl))
+          along (0x82 ∷ high ∷ low ∷ rest) (256 * high + low) 3 n octets h.1
+          (rw (long_form (256 * high + low) (omega arith), quotient, remainder) (refl, refl))
     ]
 
 -- If `length_of bytes` is `Definite n octets`, `bytes` begins with the length octets of `n`.
@@ -102,15 +104,20 @@ unfolding length_of
 length_takes [] n octets fits e = absurd cc
 length_takes (first ∷ rest) n octets fits e =
     let others = IsBytes-rest (first ∷ rest) (first ∷ []) rest refl fits in
-    elim (chosen (ltb first 128) (Definite first 1) (cond (eqb first 0x81) (one_octet_length rest) (cond (eqb first 0x82) (two_octet_length rest) Invalid)) (Definite n octets) e) [
+    elim (chosen (ltb first 128) (Definite first 1)
+    (cond (eqb first 0x81) (one_octet_length rest) (cond (eqb first 0x82) (two_octet_length rest) Invalid))
+    (Definite n octets) e) [
       | inl h ↦ along (first ∷ rest) first 1 n octets h.1 (rw (short_form first (ltb-true first 128 h.0)) (refl, refl))
-      | inr h ↦ elim (chosen (eqb first 0x81) (one_octet_length rest) (cond (eqb first 0x82) (two_octet_length rest) Invalid) (Definite n octets) h.1) [
-        | inl g ↦ subst (λ (x : ℕ). IsSpelledLength (x ∷ rest) n octets) (sym (eqb-true first 0x81 g.0)) (one_takes rest n octets others g.1)
-        | inr g ↦ elim (chosen (eqb first 0x82) (two_octet_length rest) Invalid (Definite n octets) g.1) [
-          | inl k ↦ subst (λ (x : ℕ). IsSpelledLength (x ∷ rest) n octets) (sym (eqb-true first 0x82 k.0)) (two_takes rest n octets others k.1)
-          | inr k ↦ absurd (let no_form : Invalid ≡ Definite n octets = k.1 in cc)
-        ]
-      ]
+      | inr h ↦ elim (chosen (eqb first 0x81) (one_octet_length rest) (cond (eqb first 0x82) (two_octet_length rest) Invalid)
+          (Definite n octets) h.1) [
+            | inl g ↦ subst (λ (x : ℕ). IsSpelledLength (x ∷ rest) n octets) (sym (eqb-true first 0x81 g.0))
+                (one_takes rest n octets others g.1)
+            | inr g ↦ elim (chosen (eqb first 0x82) (two_octet_length rest) Invalid (Definite n octets) g.1) [
+              | inl k ↦ subst (λ (x : ℕ). IsSpelledLength (x ∷ rest) n octets) (sym (eqb-true first 0x82 k.0))
+                  (two_takes rest n octets others k.1)
+              | inr k ↦ absurd (let no_form : Invalid ≡ Definite n octets = k.1 in cc)
+            ]
+          ]
     ]
 
 -- ---- numbers of octets
@@ -141,7 +148,8 @@ few_octets n most le =
     elim (cases_lt most 128) [
       | inl lt ↦ let short : n < 128 = omega arith in rw (lt-ltb most 128 lt, short_form n short) (omega arith)
       | inr from ↦ elim (cases_lt most 256) [
-        | inl lt ↦ let small : n < 256 = omega arith in rw (le-ltb most 128 from, lt-ltb most 256 lt) (omega (arith, two_at_most n small))
+        | inl lt ↦ let small : n < 256 = omega arith in
+            rw (le-ltb most 128 from, lt-ltb most 256 lt) (omega (arith, two_at_most n small))
         | inr big ↦ rw (le-ltb most 128 from, le-ltb most 256 big) (omega (arith, three_at_most n))
       ]
     ]
@@ -168,6 +176,9 @@ pub length_few : (bytes : List ℕ) → IsFew (length_of bytes) (length bytes)
 unfolding length_of
 length_few [] = omega arith
 length_few (first ∷ rest) =
-    few_chosen (nat_lt first 128) (Definite first 1) (cond (eqb first 0x81) (one_octet_length rest) (cond (eqb first 0x82) (two_octet_length rest) Invalid)) (suc (length rest)) (omega arith)
-    (few_chosen (eqb first 0x81) (one_octet_length rest) (cond (eqb first 0x82) (two_octet_length rest) Invalid) (suc (length rest)) (one_few rest)
+    few_chosen (nat_lt first 128) (Definite first 1)
+    (cond (eqb first 0x81) (one_octet_length rest) (cond (eqb first 0x82) (two_octet_length rest) Invalid))
+    (suc (length rest)) (omega arith)
+    (few_chosen (eqb first 0x81) (one_octet_length rest) (cond (eqb first 0x82) (two_octet_length rest) Invalid)
+    (suc (length rest)) (one_few rest)
     (few_chosen (eqb first 0x82) (two_octet_length rest) Invalid (suc (length rest)) (two_few rest) tt))

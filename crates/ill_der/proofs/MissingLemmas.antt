@@ -1,5 +1,6 @@
 -- The bytes that an APDU lacks at least. Fewer than these leave it short; bytes that lack none are not short.
-use Rattle.std.proofs.Common.{◌≡◌, ℕ, ◌+◌, ◌-◌, ◌<◌, ◌≤◌, Bool, true, false, cond, ltb, List, [], ◌∷◌, ◌++◌, length, take, drop, Option, Some, None, is_some, Result, Ok, Err, inl, inr, refl, sym, ap, subst, ◌∙◌, arith}
+use Rattle.std.proofs.Common.{◌≡◌, ℕ, ◌+◌, ◌-◌, ◌<◌, ◌≤◌, Bool, true, false, cond, ltb, List, [], ◌∷◌, ◌++◌, length, take, drop}
+use Rattle.std.proofs.Common.{Option, Some, None, is_some, Result, Ok, Err, inl, inr, refl, sym, ap, subst, ◌∙◌, arith}
 use Rattle.std.proofs.lemmas.Bool.{cases_lt, ltb-true, ltb-false, lt-ltb}
 use Rattle.std.proofs.lemmas.List.{append-nil, length-append, length-take-le, length-drop, take-append-le, take-append-drop}
 use Rattle.std.proofs.lemmas.Slice.{take-put_mid, drop-put_mid}
@@ -22,7 +23,8 @@ use Rattle.ill_der.proofs.Chains.{bind_err, chosen, no_value, tag_inside, length
 use Rattle.ill_der.proofs.Lengths.{length_few}
 use Rattle.ill_der.proofs.StreamLemmas.{decodes_err, spelled_without_memory}
 use Rattle.ill_der.proofs.ContentsLaws.{Values}
-use Rattle.ill_der.proofs.ShortFormLaws.{IsFinal, length_more, outer_with, outer_after, outer_of, outer_is, outer_none, inside_faults}
+use Rattle.ill_der.proofs.ShortFormLaws.{IsFinal, length_more, outer_with, outer_after, outer_of, outer_is, outer_none}
+use Rattle.ill_der.proofs.ShortFormLaws.{inside_faults}
 
 -- ---- bytes that are missing after an identifier
 
@@ -34,7 +36,9 @@ missing_after (Definite n octets) size = cond (ltb 355 n) 0 (octets + n - size)
 
 -- For a definite length, `missing_by` is the number of bytes up to the end of the contents, or 0 if `large`.
 missing_in : (apdu_type : ApduType) (n octets size : ℕ) (large : Bool)
-    → missing_by (cond large (Err (Length 1)) (Ok (record { apdu_type = apdu_type; start = 1 + octets; size = 1 + (octets + n) }))) (size + 1) ≡ cond large 0 (octets + n - size)
+    → missing_by (cond large (Err (Length 1))
+    (Ok (record { apdu_type = apdu_type; start = 1 + octets; size = 1 + (octets + n) }))) (size + 1)
+    ≡ cond large 0 (octets + n - size)
 missing_in apdu_type n octets size true = refl
 missing_in apdu_type n octets size false = omega arith
 
@@ -56,7 +60,8 @@ missing_is : (first : ℕ) (bytes : List ℕ)
     → missing_of (first ∷ bytes) ≡ cond (is_some (type_with first)) (missing_after (length_of bytes) (length bytes)) 0
 unfolding missing_of header_at
 missing_is first bytes =
-    ap (λ (size : ℕ). missing_by (header_of (type_with first) bytes) size) (let e : length (first ∷ bytes) ≡ length bytes + 1 = omega arith in e) ∙ missing_from (type_with first) bytes
+    ap (λ (size : ℕ). missing_by (header_of (type_with first) bytes) size)
+    (let e : length (first ∷ bytes) ≡ length bytes + 1 = omega arith in e) ∙ missing_from (type_with first) bytes
 
 -- No bytes at all lack one byte at least.
 missing_none : missing_of [] ≡ 1
@@ -98,7 +103,8 @@ wanted_outer : (bytes more : List ℕ) → length more < missing_of bytes
 wanted_outer [] [] lt = outer_none
 wanted_outer [] (x ∷ more) lt = absurd (omega (arith, lt, missing_none))
 wanted_outer (first ∷ bytes) more lt =
-    outer_is first (bytes ++ more) ∙ wanted_of (type_with first) bytes more (subst (λ (k : ℕ). length more < k) (missing_is first bytes) lt) ∙ ap (λ (k : ℕ). Err (Short k)) (omega arith)
+    outer_is first (bytes ++ more) ∙ wanted_of (type_with first) bytes more
+    (subst (λ (k : ℕ). length more < k) (missing_is first bytes) lt) ∙ ap (λ (k : ℕ). Err (Short k)) (omega arith)
 
 -- If `more` has fewer bytes than `bytes` lacks, `bytes ++ more` is unfinished.
 pub wanted : (bytes more : List ℕ) → length more < missing_of bytes → IsUnfinished (bytes ++ more)
@@ -113,14 +119,18 @@ enough_by : (apdu_type : ApduType) (form : LengthForm) (bytes : List ℕ) (n : �
 enough_by apdu_type Truncated bytes n none e = omega (arith, none)
 enough_by apdu_type Invalid bytes n none e = length_inside 1 (Short n) e
 enough_by apdu_type (Definite m octets) bytes n none e =
-    elim (chosen (ltb 355 m) (Err (Length 1)) (cond (ltb (length bytes) (octets + m)) (Err (Short (length bytes + 1))) (Ok (outer_with apdu_type m octets bytes))) (Err (Short n)) e) [
+    elim (chosen (ltb 355 m) (Err (Length 1))
+    (cond (ltb (length bytes) (octets + m)) (Err (Short (length bytes + 1))) (Ok (outer_with apdu_type m octets bytes)))
+    (Err (Short n)) e) [
       | inl h ↦ length_inside 1 (Short n) h.1
-      | inr h ↦ elim (chosen (ltb (length bytes) (octets + m)) (Err (Short (length bytes + 1))) (Ok (outer_with apdu_type m octets bytes)) (Err (Short n)) h.1) [
-        | inl g ↦
-            let left : octets + m - length bytes ≡ 0 = subst (λ (large : Bool). cond large 0 (octets + m - length bytes) ≡ 0) h.0 none in
-            omega (arith, left, ltb-true (length bytes) (octets + m) g.0)
-        | inr g ↦ no_value (Short n) (outer_with apdu_type m octets bytes) g.1
-      ]
+      | inr h ↦ elim (chosen (ltb (length bytes) (octets + m)) (Err (Short (length bytes + 1)))
+          (Ok (outer_with apdu_type m octets bytes)) (Err (Short n)) h.1) [
+            | inl g ↦
+                let left : octets + m - length bytes ≡ 0 =
+                subst (λ (large : Bool). cond large 0 (octets + m - length bytes) ≡ 0) h.0 none in
+                omega (arith, left, ltb-true (length bytes) (octets + m) g.0)
+            | inr g ↦ no_value (Short n) (outer_with apdu_type m octets bytes) g.1
+          ]
     ]
 
 -- If `bytes` lacks no byte after an identifier, `outer_of` is not Short.
@@ -139,7 +149,8 @@ enough_outer (first ∷ bytes) n none e =
 enough : Values → (bytes : List ℕ) (n : ℕ) → missing_of bytes ≡ 0 → apdu_at bytes ≡ Err (Short n) → ⊥
 unfolding apdu_at
 enough values bytes n none e =
-    elim (bind_err (outer_at bytes) (λ outer. inside_of outer.apdu_type outer.inside >>= λ apdu. Ok (apdu, drop outer.size bytes)) (Short n) e) [
+    elim (bind_err (outer_at bytes) (λ outer. inside_of outer.apdu_type outer.inside >>= λ apdu. Ok (apdu, drop outer.size bytes))
+    (Short n) e) [
       | inl h ↦ enough_outer bytes n none h
       | inr h ↦ elim (bind_err (inside_of h.0.apdu_type h.0.inside) (λ apdu. Ok (apdu, drop h.0.size bytes)) (Short n) h.2) [
         | inl g ↦ inside_faults values h.0.apdu_type h.0.inside (Short n) g
@@ -206,7 +217,12 @@ most_of (Some apdu_type) bytes some = most_by (length_of bytes) (length bytes) (
 -- If `bytes` lacks a byte, `bytes` and the missing bytes are at most 359.
 pub most_missing : (bytes : List ℕ) → 0 < missing_of bytes → length bytes + missing_of bytes ≤ 359
 most_missing [] some = omega (arith, missing_none)
-most_missing (first ∷ bytes) some = omega (arith, missing_is first bytes, most_of (type_with first) bytes (subst (λ (k : ℕ). 0 < k) (missing_is first bytes) some))
+most_missing (first ∷ bytes) some =
+    omega (
+      arith,
+      missing_is first bytes,
+      most_of (type_with first) bytes (subst (λ (k : ℕ). 0 < k) (missing_is first bytes) some),
+    )
 
 -- ---- a read of no more bytes than are missing
 
@@ -223,9 +239,11 @@ read_on prefix more prefixes few size lt =
       | inr le ↦
           let k = size - length prefix in
           let is : take size (prefix ++ more) ≡ prefix ++ take k more =
-          ap (λ (m : ℕ). take m (prefix ++ more)) (let e : size ≡ length prefix + k = omega (arith, le) in e) ∙ take-append-add prefix more k in
+          ap (λ (m : ℕ). take m (prefix ++ more)) (let e : size ≡ length prefix + k = omega (arith, le) in e)
+          ∙ take-append-add prefix more k in
           let fewer : k < length more = omega (arith, le, lt, length-append prefix more) in
-          subst IsUnfinished (sym is) (wanted prefix (take k more) (omega (arith, few, fewer, length-take-le k more (omega (arith, fewer)))))
+          subst IsUnfinished (sym is) (wanted prefix (take k more)
+          (omega (arith, few, fewer, length-take-le k more (omega (arith, fewer)))))
     ]
 
 -- The first `size + count` bytes after a put at `size` are `size` old ones and `count` of `buffer`.
@@ -237,8 +255,10 @@ filled size k count bytes buffer fits few =
     let prefix = take size bytes in
     let long : length prefix ≡ size = length-take-le size bytes fits in
     let whole : take n all ≡ prefix ++ buffer = take-put_mid size k bytes buffer n refl fits in
-    let parts : all ≡ (prefix ++ buffer) ++ drop n all = sym (take-append-drop n all) ∙ ap (λ (x : List ℕ). x ++ drop n all) whole in
-    ap (take (size + count)) parts ∙ take-append-le (size + count) (prefix ++ buffer) (drop n all) (omega (arith, long, few, length-append prefix buffer))
+    let parts : all ≡ (prefix ++ buffer) ++ drop n all =
+    sym (take-append-drop n all) ∙ ap (λ (x : List ℕ). x ++ drop n all) whole in
+    ap (take (size + count)) parts ∙ take-append-le (size + count) (prefix ++ buffer) (drop n all)
+    (omega (arith, long, few, length-append prefix buffer))
     ∙ ap (λ (m : ℕ). take (m + count) (prefix ++ buffer)) (sym long) ∙ take-append-add prefix buffer count
 
 -- If `buffer` fits into `bytes` at `size`, putting it there keeps the length of `bytes`.

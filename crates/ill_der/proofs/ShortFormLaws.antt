@@ -1,12 +1,16 @@
 -- The laws of the short form: bytes that are read are an encoding, and an encoding is read as its APDU.
 use Rattle.ill_der.specs.Stream.{IfShort}
-use Rattle.std.proofs.Common.{◌≡◌, ℕ, ◌+◌, ◌-◌, ◌≤◌, false, cond, eqb, ltb, List, [], ◌∷◌, ◌++◌, length, take, drop, Option, Some, None, Result, Ok, Err, refl, sym, ap, subst, ◌∙◌, inl, inr, append_assoc, arith, Bool, true}
+use Rattle.std.proofs.Common.{◌≡◌, ℕ, ◌+◌, ◌-◌, ◌≤◌, false, cond, eqb, ltb, List, [], ◌∷◌, ◌++◌, length, take, drop, Option, Some}
+use Rattle.std.proofs.Common.{None, Result, Ok, Err, refl, sym, ap, subst, ◌∙◌, inl, inr, append_assoc, arith, Bool, true}
 use Rattle.std.specs.Prelude.{IfSome}
 use Rattle.std.proofs.lemmas.Bool.{cases_lt, ltb-true, ltb-false, lt-ltb, le-ltb}
-use Rattle.std.proofs.lemmas.List.{append-nil, take_at, drop_at, length-append, length-take, length-drop, take-append-drop, drop-drop, drop-append-le, take-append-le}
+use Rattle.std.proofs.lemmas.List.{append-nil, take_at, drop_at, length-append, length-take, length-drop, take-append-drop}
+use Rattle.std.proofs.lemmas.List.{drop-drop, drop-append-le, take-append-le}
 use Rattle.ill_values.specs.declared.apdu.Apdu.{Apdu}
 use Rattle.ill_values.specs.declared.apdu.Body.{Body}
-use Rattle.ill_values.specs.declared.apdu.Body.TheVariants.{IllRequest, Cancel, IllAnswer, ConditionalReply, CancelReply, Shipped, Received, Recall, Returned, CheckedIn, Overdue, Renew, RenewAnswer, Expired}
+use Rattle.ill_values.specs.declared.apdu.Body.TheVariants.{IllRequest, Cancel, IllAnswer, ConditionalReply, CancelReply, Shipped}
+use Rattle.ill_values.specs.declared.apdu.Body.TheVariants.{Received, Recall, Returned, CheckedIn, Overdue, Renew, RenewAnswer}
+use Rattle.ill_values.specs.declared.apdu.Body.TheVariants.{Expired}
 use Rattle.ill_values.specs.Apdu.{IsNumber, IsBody, IsApdu}
 use Rattle.ill_values.specs.Day.{Date, IsDate}
 use Rattle.ill_values.specs.Text.{IsQualifier, IsItem}
@@ -17,17 +21,22 @@ use Rattle.ill_values.specs.declared.apdu_type.ApduType.TheVariants as types
 use Rattle.ill_der.specs.declared.length.LengthForm.{LengthForm}
 use Rattle.ill_der.specs.declared.length.LengthForm.TheVariants.{Truncated, Invalid, Definite}
 use Rattle.ill_der.specs.Contents.{version, number, qualifier, date, item, answer_result, yes_no}
-use Rattle.ill_der.specs.Format.{◌>>=◌, length_octets, length_of, IsFew, element, Cursor, cursor_at, begins_with, ended, required, optional, followed_by, where_yes, Format, one_octet_length, two_octet_length}
+use Rattle.ill_der.specs.Format.{◌>>=◌, length_octets, length_of, IsFew, element, Cursor, cursor_at, begins_with, ended, required}
+use Rattle.ill_der.specs.Format.{optional, followed_by, where_yes, Format, one_octet_length, two_octet_length}
 use Rattle.ill_values.specs.Types.{all_types, type_of}
 use Rattle.ill_der.specs.Types.{identifier_of, type_with}
-use Rattle.ill_der.specs.ShortForm.{txn_id, head, request, due_date, answer, reply, wish, grant, spell_body, made_of, read_body, contents_of, spelling, Outer, header_by, header_of, header_at, outer_by, outer_at, body_of, inside_of, apdu_at}
-use Rattle.ill_der.proofs.Chains.{bind_ok, bind_err, went_on, chosen, done, ok_is, no_value, short_is, short_or_memory, IsInside, tag_inside, length_inside, fault_is}
+use Rattle.ill_der.specs.ShortForm.{txn_id, head, request, due_date, answer, reply, wish, grant, spell_body, made_of, read_body}
+use Rattle.ill_der.specs.ShortForm.{contents_of, spelling, Outer, header_by, header_of, header_at, outer_by, outer_at, body_of}
+use Rattle.ill_der.specs.ShortForm.{inside_of, apdu_at}
+use Rattle.ill_der.proofs.Chains.{bind_ok, bind_err, went_on, chosen, done, ok_is, no_value, short_is, short_or_memory, IsInside}
+use Rattle.ill_der.proofs.Chains.{tag_inside, length_inside, fault_is}
 use Rattle.ill_der.specs.Laws.{IsBytes}
 use Rattle.ill_der.proofs.Bytes.{IsBytes-drop, IsBytes-take}
 use Rattle.ill_der.proofs.Lengths.{length_again, length_takes, length_few}
 use Rattle.ill_der.proofs.Elements.{assembled, ended_faults, ended_is}
 use Rattle.ill_der.proofs.Formats.{IsFormat, Any, Begins, Both, required_is, optional_is, followed_is, where_is, constructed_is}
-use Rattle.ill_der.proofs.ContentsLaws.{Values, Always, IsAnyResult, IsYesOrNo, found_with, version_is, number_is, qualifier_is, date_is, item_is, result_is, yes_no_is}
+use Rattle.ill_der.proofs.ContentsLaws.{Values, Always, IsAnyResult, IsYesOrNo, found_with, version_is, number_is, qualifier_is}
+use Rattle.ill_der.proofs.ContentsLaws.{date_is, item_is, result_is, yes_no_is}
 
 -- ---- the fields that each type has
 
@@ -54,7 +63,8 @@ head_is : Values → IsFormat IsHead Any 142 head
 head_is values =
     followed_is Always (Both IsId IsNumber) Any Any 3 139 (required 0x80 version) (followed_by txn_id (required 0x82 number))
     (required_is Always 1 version 0x80 (omega arith) version_is)
-    (followed_is IsId IsNumber Any Any 135 4 txn_id (required 0x82 number) (txn_id_is values) (required_is IsNumber 2 number 0x82 (omega arith) number_is) (λ w more q. tt))
+    (followed_is IsId IsNumber Any Any 135 4 txn_id (required 0x82 number) (txn_id_is values)
+    (required_is IsNumber 2 number 0x82 (omega arith) number_is) (λ w more q. tt))
     (λ w more q. tt)
 
 -- ---- the further fields of each type
@@ -80,7 +90,8 @@ request_is values =
 reply_is : IsFormat (Both IsNumber IsYesOrNo) Any 7 reply
 reply_is =
     followed_is IsNumber IsYesOrNo Any Any 4 3 (required 0x83 number) (required 0x84 yes_no)
-    (required_is IsNumber 2 number 0x83 (omega arith) number_is) (required_is IsYesOrNo 1 yes_no 0x84 (omega arith) yes_no_is) (λ w more q. tt)
+    (required_is IsNumber 2 number 0x83 (omega arith) number_is) (required_is IsYesOrNo 1 yes_no 0x84 (omega arith) yes_no_is)
+    (λ w more q. tt)
 
 -- `due_date` reads exactly the encodings of days in range, of at most 10 bytes, whatever follows.
 due_date_is : Values → IsFormat IsDate Any 10 due_date
@@ -97,9 +108,11 @@ wish_is values = optional_is IsDate 8 date 0x85 (omega arith) (date_is values)
 -- `grant` reads exactly the encodings of fields in range, of at most 17 bytes, whatever follows.
 grant_is : Values → IsFormat (Both IsNumber (λ o. IfSome o IsDate)) Any 17 grant
 grant_is values =
-    followed_is IsNumber (λ o. IfSome o IsDate) Any Any 4 13 (required 0x83 number) (where_yes (required 0x84 yes_no) (required 0x85 date))
+    followed_is IsNumber (λ o. IfSome o IsDate) Any Any 4 13 (required 0x83 number)
+    (where_yes (required 0x84 yes_no) (required 0x85 date))
     (required_is IsNumber 2 number 0x83 (omega arith) number_is)
-    (where_is IsYesOrNo IsDate Any 3 10 (required 0x84 yes_no) (required 0x85 date) (required_is IsYesOrNo 1 yes_no 0x84 (omega arith) yes_no_is) (due_date_is values) (λ b. tt))
+    (where_is IsYesOrNo IsDate Any 3 10 (required 0x84 yes_no) (required 0x85 date)
+    (required_is IsYesOrNo 1 yes_no 0x84 (omega arith) yes_no_is) (due_date_is values) (λ b. tt))
     (λ w more q. tt)
 
 -- Holds if `bytes` is the further fields of `body`, of type `apdu_type` and in range, and then `rest`.
@@ -116,8 +129,10 @@ made_takes P F n f make apdu_type fs spells ranges types left body rest fits e =
     let fields = bind_ok (f.read left) (λ found. Ok (make found.0, found.1)) (body, rest) e in
     let both : (make fields.0.0, fields.0.1) ≡ (body, rest) = ok_is (make fields.0.0, fields.0.1) (body, rest) fields.2 in
     let taken = fs.takes left fields.0.0 fields.0.1 fits fields.1 in
-    let parts : left.bytes ≡ spell_body (make fields.0.0) ++ fields.0.1.bytes = taken.0 ∙ ap (λ (x : List ℕ). x ++ fields.0.1.bytes) (sym (spells fields.0.0)) in
-    subst (λ (x : Body × Cursor). TakesBody apdu_type left.bytes x.0 x.1.bytes) both (parts, ranges fields.0.0 taken.1, types fields.0.0, taken.2)
+    let parts : left.bytes ≡ spell_body (make fields.0.0) ++ fields.0.1.bytes =
+    taken.0 ∙ ap (λ (x : List ℕ). x ++ fields.0.1.bytes) (sym (spells fields.0.0)) in
+    subst (λ (x : Body × Cursor). TakesBody apdu_type left.bytes x.0 x.1.bytes) both
+    (parts, ranges fields.0.0 taken.1, types fields.0.0, taken.2)
 
 -- If `make` is in range and has no further fields, reading it takes no bytes: `left` is its fields and `rest`.
 plain_takes : (make body : Body) (apdu_type : ApduType) (left rest : Cursor) → spell_body make ≡ [] → IsBody make
@@ -126,22 +141,33 @@ plain_takes : (make body : Body) (apdu_type : ApduType) (left rest : Cursor) →
     → TakesBody apdu_type left.bytes body rest.bytes
 plain_takes make body apdu_type left rest spells is k fits e =
     let both : (make, left) ≡ (body, rest) = ok_is (make, left) (body, rest) e in
-    subst (λ (x : Body × Cursor). TakesBody apdu_type left.bytes x.0 x.1.bytes) both (ap (λ (x : List ℕ). x ++ left.bytes) (sym spells), is, k, fits)
+    subst (λ (x : Body × Cursor). TakesBody apdu_type left.bytes x.0 x.1.bytes) both
+    (ap (λ (x : List ℕ). x ++ left.bytes) (sym spells), is, k, fits)
 
 -- If `read_body` reads `body` from `left`, `left` is the fields of `body`, in range and of its type, then `rest`.
 body_takes : Values → (apdu_type : ApduType) (left : Cursor) (body : Body) (rest : Cursor) → IsBytes left.bytes
     → read_body apdu_type left ≡ Ok (body, rest) → TakesBody apdu_type left.bytes body rest.bytes
-body_takes values types.IllRequest = made_takes IsRequest Any 213 request (λ found. IllRequest found.0 found.1) types.IllRequest (request_is values) (λ v. refl) (λ v p. p) (λ v. refl)
+body_takes values types.IllRequest =
+    made_takes IsRequest Any 213 request (λ found. IllRequest found.0 found.1) types.IllRequest (request_is values) (λ v. refl)
+    (λ v p. p) (λ v. refl)
 body_takes values types.Shipped =
     made_takes IsDate Any 10 due_date Shipped types.Shipped (due_date_is values) (λ v. refl) (λ v p. p) (λ v. refl)
 body_takes values types.IllAnswer =
     made_takes IsAnyResult Any 3 answer IllAnswer types.IllAnswer answer_is (λ v. refl) (λ v p. p) (λ v. refl)
-body_takes values types.ConditionalReply = made_takes (Both IsNumber IsYesOrNo) Any 7 reply (λ found. ConditionalReply found.0 found.1) types.ConditionalReply reply_is (λ v. refl) (λ v p. p.0) (λ v. refl)
-body_takes values types.CancelReply = made_takes (Both IsNumber IsYesOrNo) Any 7 reply (λ found. CancelReply found.0 found.1) types.CancelReply reply_is (λ v. refl) (λ v p. p.0) (λ v. refl)
+body_takes values types.ConditionalReply =
+    made_takes (Both IsNumber IsYesOrNo) Any 7 reply (λ found. ConditionalReply found.0 found.1) types.ConditionalReply reply_is
+    (λ v. refl) (λ v p. p.0) (λ v. refl)
+body_takes values types.CancelReply =
+    made_takes (Both IsNumber IsYesOrNo) Any 7 reply (λ found. CancelReply found.0 found.1) types.CancelReply reply_is (λ v. refl)
+    (λ v p. p.0) (λ v. refl)
 body_takes values types.Overdue =
     made_takes IsDate Any 10 due_date Overdue types.Overdue (due_date_is values) (λ v. refl) (λ v p. p) (λ v. refl)
-body_takes values types.Renew = made_takes (λ o. IfSome o IsDate) (Begins false 0x85) 10 wish Renew types.Renew (wish_is values) (λ v. refl) (λ v p. p) (λ v. refl)
-body_takes values types.RenewAnswer = made_takes (Both IsNumber (λ o. IfSome o IsDate)) Any 17 grant (λ found. RenewAnswer found.0 found.1) types.RenewAnswer (grant_is values) (λ v. refl) (λ v p. p) (λ v. refl)
+body_takes values types.Renew =
+    made_takes (λ o. IfSome o IsDate) (Begins false 0x85) 10 wish Renew types.Renew (wish_is values) (λ v. refl) (λ v p. p)
+    (λ v. refl)
+body_takes values types.RenewAnswer =
+    made_takes (Both IsNumber (λ o. IfSome o IsDate)) Any 17 grant (λ found. RenewAnswer found.0 found.1) types.RenewAnswer
+    (grant_is values) (λ v. refl) (λ v p. p) (λ v. refl)
 body_takes values types.Cancel = λ left body rest. plain_takes Cancel body types.Cancel left rest refl tt refl
 body_takes values types.Received = λ left body rest. plain_takes Received body types.Received left rest refl tt refl
 body_takes values types.Recall = λ left body rest. plain_takes Recall body types.Recall left rest refl tt refl
@@ -159,7 +185,8 @@ made_again : {V : Type 0} (P : V → Type 0) (F : List ℕ → Type 0) (n : ℕ)
     → (v : V) (at : ℕ) → P v → (after : ℕ) × (made_of f make (cursor_at at (f.spell v)) ≡ Ok (make v, cursor_at after []))
 made_again P F n f make fs closes v at p =
     let read = fs.again v at [] p closes in
-    let whole : f.read (cursor_at at (f.spell v)) ≡ Ok (v, cursor_at read.0 []) = ap (λ (x : List ℕ). f.read (cursor_at at x)) (sym (append-nil (f.spell v))) ∙ read.1 in
+    let whole : f.read (cursor_at at (f.spell v)) ≡ Ok (v, cursor_at read.0 []) =
+    ap (λ (x : List ℕ). f.read (cursor_at at x)) (sym (append-nil (f.spell v))) ∙ read.1 in
     (read.0, rw whole refl)
 
 -- `read_body` reads each body in range from its further fields, if nothing follows.
@@ -168,12 +195,18 @@ body_again values (IllRequest expiry text) at is =
     made_again IsRequest Any 213 request (λ found. IllRequest found.0 found.1) (request_is values) tt (expiry, text) at is
 body_again values (Shipped due) at is = made_again IsDate Any 10 due_date Shipped (due_date_is values) tt due at is
 body_again values (IllAnswer result) at is = made_again IsAnyResult Any 3 answer IllAnswer answer_is tt result at tt
-body_again values (ConditionalReply answers is_yes) at is = made_again (Both IsNumber IsYesOrNo) Any 7 reply (λ found. ConditionalReply found.0 found.1) reply_is tt (answers, is_yes) at (is, tt)
-body_again values (CancelReply answers is_yes) at is = made_again (Both IsNumber IsYesOrNo) Any 7 reply (λ found. CancelReply found.0 found.1) reply_is tt (answers, is_yes) at (is, tt)
+body_again values (ConditionalReply answers is_yes) at is =
+    made_again (Both IsNumber IsYesOrNo) Any 7 reply (λ found. ConditionalReply found.0 found.1) reply_is tt (answers, is_yes) at
+    (is, tt)
+body_again values (CancelReply answers is_yes) at is =
+    made_again (Both IsNumber IsYesOrNo) Any 7 reply (λ found. CancelReply found.0 found.1) reply_is tt (answers, is_yes) at
+    (is, tt)
 body_again values (Overdue due) at is = made_again IsDate Any 10 due_date Overdue (due_date_is values) tt due at is
 body_again values (Renew wished) at is =
     made_again (λ o. IfSome o IsDate) (Begins false 0x85) 10 wish Renew (wish_is values) refl wished at is
-body_again values (RenewAnswer answers granted) at is = made_again (Both IsNumber (λ o. IfSome o IsDate)) Any 17 grant (λ found. RenewAnswer found.0 found.1) (grant_is values) tt (answers, granted) at is
+body_again values (RenewAnswer answers granted) at is =
+    made_again (Both IsNumber (λ o. IfSome o IsDate)) Any 17 grant (λ found. RenewAnswer found.0 found.1) (grant_is values) tt
+    (answers, granted) at is
 body_again values Cancel at is = (at, refl)
 body_again values Received at is = (at, refl)
 body_again values Recall at is = (at, refl)
@@ -249,7 +282,9 @@ whole_body_takes values apdu_type left body fits e =
     let found = bind_ok (read_body apdu_type left) (λ body. ended body.1 >>= λ _. Ok body.0) body e in
     let over = bind_ok (ended found.0.1) (λ _. Ok found.0.0) body found.2 in
     let taken = body_takes values apdu_type left found.0.0 found.0.1 fits found.1 in
-    let whole : left.bytes ≡ spell_body found.0.0 = taken.0 ∙ ap (λ (x : List ℕ). spell_body found.0.0 ++ x) (ended_is found.0.1 over.0 over.1) ∙ append-nil (spell_body found.0.0) in
+    let whole : left.bytes ≡ spell_body found.0.0 =
+    taken.0 ∙ ap (λ (x : List ℕ). spell_body found.0.0 ++ x) (ended_is found.0.1 over.0 over.1)
+    ∙ append-nil (spell_body found.0.0) in
     subst (IsBodyOf apdu_type left.bytes) (ok_is found.0.0 body over.2) (whole, taken.1, taken.2)
 
 -- `body_of` reads each body in range from its further fields.
@@ -288,7 +323,8 @@ inside_takes values apdu_type left apdu fits e =
     let is : made prefix.0.0 body.0 ≡ apdu = ok_is (made prefix.0.0 body.0) apdu body.2 in
     let first = (head_is values).takes left prefix.0.0 prefix.0.1 fits prefix.1 in
     let second = whole_body_takes values apdu_type prefix.0.1 body.0 first.2 body.1 in
-    let whole : left.bytes ≡ contents_of (made prefix.0.0 body.0) = first.0 ∙ ap (λ (x : List ℕ). head.spell prefix.0.0 ++ x) second.0 in
+    let whole : left.bytes ≡ contents_of (made prefix.0.0 body.0) =
+    first.0 ∙ ap (λ (x : List ℕ). head.spell prefix.0.0 ++ x) second.0 in
     let parts : IsApdu (made prefix.0.0 body.0) = record {
       txn = record { group = first.1.1.0.0; transaction = first.1.1.0.1 };
       number = first.1.1.1;
@@ -302,14 +338,19 @@ inside_again : Values → (apdu : Apdu) (at : ℕ) → IsApdu apdu
 unfolding inside_of
 inside_again values apdu at is =
     let prefix : Unit {0} × ((List ℕ × List ℕ) × ℕ) = (tt, ((apdu.txn.group, apdu.txn.transaction), apdu.number)) in
-    let first = (head_is values).again prefix at (spell_body apdu.body) (tt, ((is.txn.group, is.txn.transaction), is.number)) tt in
+    let first = (head_is values).again prefix at (spell_body apdu.body) (tt, ((is.txn.group, is.txn.transaction), is.number))
+    tt in
     rw (first.1, whole_body_again values apdu.body first.0 is.body) refl
 
 -- The contents of an APDU in range have at most 142 bytes more than its further fields.
 contents_by_body : Values → (apdu : Apdu) → IsApdu apdu → length (contents_of apdu) ≤ 142 + length (spell_body apdu.body)
 contents_by_body values apdu is =
     let prefix : Unit {0} × ((List ℕ × List ℕ) × ℕ) = (tt, ((apdu.txn.group, apdu.txn.transaction), apdu.number)) in
-    omega (arith, length-append (head.spell prefix) (spell_body apdu.body), (head_is values).bound prefix (tt, ((is.txn.group, is.txn.transaction), is.number)))
+    omega (
+      arith,
+      length-append (head.spell prefix) (spell_body apdu.body),
+      (head_is values).bound prefix (tt, ((is.txn.group, is.txn.transaction), is.number)),
+    )
 
 -- The contents of an APDU in range have at most 355 bytes.
 pub contents_bound : Values → (apdu : Apdu) → IsApdu apdu → length (contents_of apdu) ≤ 355
@@ -363,12 +404,14 @@ record IsOuter (bytes : List ℕ) (outer : Outer) : Type 0 where
 
 -- Returns the complete APDU of `apdu_type`, with `n` contents octets after `octets` length octets of `bytes`.
 abbrev pub outer_with : ApduType → ℕ → ℕ → List ℕ → Outer
-outer_with apdu_type n octets bytes = record { apdu_type = apdu_type; inside = cursor_at (1 + octets) (take n (drop octets bytes)); size = 1 + (octets + n) }
+outer_with apdu_type n octets bytes =
+    record { apdu_type = apdu_type; inside = cursor_at (1 + octets) (take n (drop octets bytes)); size = 1 + (octets + n) }
 
 -- Reads the contents of an APDU of a known type, by its length, from the bytes after the identifier.
 abbrev pub outer_after : ApduType → LengthForm → List ℕ → Result Outer DerFault
 outer_after apdu_type (Definite n octets) bytes =
-    cond (ltb 355 n) (Err (Length 1)) (cond (ltb (length bytes) (octets + n)) (Err (Short (length bytes + 1))) (Ok (outer_with apdu_type n octets bytes)))
+    cond (ltb 355 n) (Err (Length 1))
+    (cond (ltb (length bytes) (octets + n)) (Err (Short (length bytes + 1))) (Ok (outer_with apdu_type n octets bytes)))
 outer_after apdu_type Truncated bytes = Err (Short (length bytes + 1))
 outer_after apdu_type Invalid bytes = Err (Length 1)
 
@@ -379,8 +422,10 @@ outer_of (Some apdu_type) bytes = outer_after apdu_type (length_of bytes) bytes
 
 -- For a definite length, reading the header and then the contents agrees with `outer_after`.
 outer_in : (first : ℕ) (apdu_type : ApduType) (n octets : ℕ) (large : Bool) (bytes : List ℕ)
-    → (cond large (Err (Length 1)) (Ok (record { apdu_type = apdu_type; start = 1 + octets; size = 1 + (octets + n) })) >>= λ header. outer_by header (first ∷ bytes))
-    ≡ cond large (Err (Length 1)) (cond (ltb (length bytes) (octets + n)) (Err (Short (length bytes + 1))) (Ok (outer_with apdu_type n octets bytes)))
+    → (cond large (Err (Length 1)) (Ok (record { apdu_type = apdu_type; start = 1 + octets; size = 1 + (octets + n) })) >>=
+    λ header. outer_by header (first ∷ bytes))
+    ≡ cond large (Err (Length 1)) (cond (ltb (length bytes) (octets + n)) (Err (Short (length bytes + 1)))
+    (Ok (outer_with apdu_type n octets bytes)))
 outer_in first apdu_type n octets true bytes = refl
 outer_in first apdu_type n octets false bytes =
     let all = first ∷ bytes in
@@ -396,7 +441,8 @@ outer_in first apdu_type n octets false bytes =
 
 -- For a known type, reading the header and then the contents agrees with `outer_after`.
 outer_cases : (first : ℕ) (apdu_type : ApduType) (form : LengthForm) (bytes : List ℕ)
-    → (header_by apdu_type form (length bytes + 1) >>= λ header. outer_by header (first ∷ bytes)) ≡ outer_after apdu_type form bytes
+    → (header_by apdu_type form (length bytes + 1) >>= λ header. outer_by header (first ∷ bytes))
+    ≡ outer_after apdu_type form bytes
 outer_cases first apdu_type Truncated bytes = refl
 outer_cases first apdu_type Invalid bytes = refl
 outer_cases first apdu_type (Definite n octets) bytes = outer_in first apdu_type n octets (ltb 355 n) bytes
@@ -424,19 +470,26 @@ outer_by_takes : (first : ℕ) (apdu_type : ApduType) (form : LengthForm) (bytes
 outer_by_takes first apdu_type Truncated bytes outer fits k f e = absurd cc
 outer_by_takes first apdu_type Invalid bytes outer fits k f e = absurd cc
 outer_by_takes first apdu_type (Definite n octets) bytes outer fits k f e =
-    let small = went_on (ltb 355 n) (cond (ltb (length bytes) (octets + n)) (Err (Short (length bytes + 1))) (Ok (outer_with apdu_type n octets bytes))) (Length 1) outer e in
-    let whole = went_on (ltb (length bytes) (octets + n)) (Ok (outer_with apdu_type n octets bytes)) (Short (length bytes + 1)) outer small.1 in
+    let small = went_on (ltb 355 n)
+    (cond (ltb (length bytes) (octets + n)) (Err (Short (length bytes + 1))) (Ok (outer_with apdu_type n octets bytes)))
+    (Length 1) outer e in
+    let whole = went_on (ltb (length bytes) (octets + n)) (Ok (outer_with apdu_type n octets bytes)) (Short (length bytes + 1))
+    outer small.1 in
     let is : outer_with apdu_type n octets bytes ≡ outer = ok_is (outer_with apdu_type n octets bytes) outer whole.1 in
     let enough = ltb-false (length bytes) (octets + n) whole.0 in
     let spelled = length_takes bytes n octets fits f in
     let taken = drop octets bytes in
     let size : length (take n taken) ≡ n = omega (arith, length-take n taken, length-drop octets bytes) in
-    let split : taken ≡ take n taken ++ drop (octets + n) bytes = sym (take-append-drop n taken) ∙ ap (λ (x : List ℕ). take n taken ++ x) (drop-drop n octets bytes) in
-    let later : drop (1 + (octets + n)) (first ∷ bytes) ≡ drop (octets + n) bytes = sym (drop-drop (octets + n) 1 (first ∷ bytes)) in
+    let split : taken ≡ take n taken ++ drop (octets + n) bytes =
+    sym (take-append-drop n taken) ∙ ap (λ (x : List ℕ). take n taken ++ x) (drop-drop n octets bytes) in
+    let later : drop (1 + (octets + n)) (first ∷ bytes) ≡ drop (octets + n) bytes =
+    sym (drop-drop (octets + n) 1 (first ∷ bytes)) in
     let parts : first ∷ bytes ≡ element (identifier_of apdu_type) (take n taken) ++ drop (1 + (octets + n)) (first ∷ bytes) =
-    assembled (identifier_of apdu_type) n octets (first ∷ bytes) bytes (take n taken) (drop (octets + n) bytes) (ap (λ (x : ℕ). x ∷ bytes) k) spelled.0 split size
+    assembled (identifier_of apdu_type) n octets (first ∷ bytes) bytes (take n taken) (drop (octets + n) bytes)
+    (ap (λ (x : ℕ). x ∷ bytes) k) spelled.0 split size
     ∙ ap (λ (x : List ℕ). element (identifier_of apdu_type) (take n taken) ++ x) (sym later) in
-    subst (λ (x : Outer). IsOuter (first ∷ bytes) x) is (record { parts = parts; inside_fits = IsBytes-take n taken (IsBytes-drop octets bytes fits) })
+    subst (λ (x : Outer). IsOuter (first ∷ bytes) x) is
+    (record { parts = parts; inside_fits = IsBytes-take n taken (IsBytes-drop octets bytes fits) })
 
 -- If `outer_of` gives `outer`, and `o` is the type with `first`, `first ∷ bytes` begins with its element.
 outer_of_takes : (first : ℕ) (o : Option ApduType) (bytes : List ℕ) (outer : Outer) → IsBytes bytes
@@ -454,19 +507,29 @@ outer_takes (first ∷ bytes) outer fits e =
 -- Holds if `outer_at` reads the element of `apdu_type` and `contents`, with its size, before `more`.
 abbrev OuterAgain : ApduType → List ℕ → List ℕ → Type 0
 OuterAgain apdu_type contents more =
-    (at : ℕ) × (outer_at (element (identifier_of apdu_type) contents ++ more) ≡ Ok (record { apdu_type = apdu_type; inside = cursor_at at contents; size = length (element (identifier_of apdu_type) contents) }))
+    (at : ℕ) × (outer_at (element (identifier_of apdu_type) contents ++ more)
+    ≡ Ok (record {
+      apdu_type = apdu_type;
+      inside = cursor_at at contents;
+      size = length (element (identifier_of apdu_type) contents);
+    }))
 
 -- `outer_after` reads `contents` after the length octets, whatever follows, if they are at most 355.
 outer_by_again : (apdu_type : ApduType) (octets contents more : List ℕ) → length contents ≤ 355
     → outer_after apdu_type (Definite (length contents) (length octets)) (octets ++ (contents ++ more))
-    ≡ Ok (record { apdu_type = apdu_type; inside = cursor_at (1 + length octets) contents; size = 1 + (length octets + length contents) })
+    ≡ Ok (record {
+      apdu_type = apdu_type;
+      inside = cursor_at (1 + length octets) contents;
+      size = 1 + (length octets + length contents);
+    })
 outer_by_again apdu_type octets contents more small =
     let all = octets ++ (contents ++ more) in
     let short : ltb 355 (length contents) ≡ false = le-ltb 355 (length contents) small in
     let enough : ltb (length all) (length octets + length contents) ≡ false =
     le-ltb _ _ (omega (arith, length-append octets (contents ++ more), length-append contents more)) in
     let inside : take (length contents) (drop (length octets) all) ≡ contents =
-    ap (take (length contents)) (drop_at octets (contents ++ more) (length octets) refl) ∙ take_at contents more (length contents) refl in
+    ap (take (length contents)) (drop_at octets (contents ++ more) (length octets) refl)
+    ∙ take_at contents more (length contents) refl in
     rw (short, enough, inside) refl
 
 -- `outer_at` reads an APDU of at most 355 contents octets from its encoding, whatever follows.
@@ -476,9 +539,16 @@ outer_again apdu_type contents more small =
     let octets = length_octets (length contents) in
     let identifier = identifier_of apdu_type in
     let later = (octets ++ contents) ++ more in
-    let size : 1 + (length octets + length contents) ≡ length (identifier ∷ (octets ++ contents)) = omega (arith, length-append octets contents) in
-    let read : outer_of (type_with identifier) later ≡ Ok (record { apdu_type = apdu_type; inside = cursor_at (1 + length octets) contents; size = length (identifier ∷ (octets ++ contents)) }) =
-    rw (type_again apdu_type, append_assoc octets contents more, length_again (length contents) (contents ++ more) (omega arith)) (rw (← size) (outer_by_again apdu_type octets contents more small)) in
+    let size : 1 + (length octets + length contents) ≡ length (identifier ∷ (octets ++ contents)) =
+    omega (arith, length-append octets contents) in
+    let read : outer_of (type_with identifier) later
+    ≡ Ok (record {
+      apdu_type = apdu_type;
+      inside = cursor_at (1 + length octets) contents;
+      size = length (identifier ∷ (octets ++ contents));
+    }) =
+    rw (type_again apdu_type, append_assoc octets contents more, length_again (length contents) (contents ++ more) (omega arith))
+    (rw (← size) (outer_by_again apdu_type octets contents more small)) in
     (1 + length octets, outer_is identifier later ∙ read)
 
 -- If `outer_after` is `Short n`, `n` is the number of `bytes` and the identifier, and `bytes` are at most 357.
@@ -487,12 +557,18 @@ outer_by_short : (apdu_type : ApduType) (form : LengthForm) (bytes : List ℕ) (
 outer_by_short apdu_type Truncated bytes n few e = (sym (short_is (length bytes + 1) n e), omega arith)
 outer_by_short apdu_type Invalid bytes n few e = absurd (length_inside 1 (Short n) e)
 outer_by_short apdu_type (Definite m octets) bytes n few e =
-    elim (chosen (ltb 355 m) (Err (Length 1)) (cond (ltb (length bytes) (octets + m)) (Err (Short (length bytes + 1))) (Ok (outer_with apdu_type m octets bytes))) (Err (Short n)) e) [
+    elim (chosen (ltb 355 m) (Err (Length 1))
+    (cond (ltb (length bytes) (octets + m)) (Err (Short (length bytes + 1))) (Ok (outer_with apdu_type m octets bytes)))
+    (Err (Short n)) e) [
       | inl h ↦ absurd (length_inside 1 (Short n) h.1)
-      | inr h ↦ elim (chosen (ltb (length bytes) (octets + m)) (Err (Short (length bytes + 1))) (Ok (outer_with apdu_type m octets bytes)) (Err (Short n)) h.1) [
-        | inl g ↦ (sym (short_is (length bytes + 1) n g.1), omega (arith, ltb-true (length bytes) (octets + m) g.0, ltb-false 355 m h.0))
-        | inr g ↦ absurd (no_value (Short n) (outer_with apdu_type m octets bytes) g.1)
-      ]
+      | inr h ↦ elim (chosen (ltb (length bytes) (octets + m)) (Err (Short (length bytes + 1)))
+          (Ok (outer_with apdu_type m octets bytes)) (Err (Short n)) h.1) [
+            | inl g ↦ (
+              sym (short_is (length bytes + 1) n g.1),
+              omega (arith, ltb-true (length bytes) (octets + m) g.0, ltb-false 355 m h.0),
+            )
+            | inr g ↦ absurd (no_value (Short n) (outer_with apdu_type m octets bytes) g.1)
+          ]
     ]
 
 -- If `outer_of` is `Short n`, `n` is the number of `bytes` and the identifier, and `bytes` are at most 357.
@@ -519,7 +595,8 @@ pub apdu_takes : Values → (bytes : List ℕ) (apdu : Apdu) (rest : List ℕ) �
     → apdu_at bytes ≡ Ok (apdu, rest) → IsApdu apdu × (bytes ≡ spelling apdu ++ rest)
 unfolding apdu_at spelling
 apdu_takes values bytes apdu rest fits e =
-    let outer = bind_ok (outer_at bytes) (λ outer. inside_of outer.apdu_type outer.inside >>= λ apdu. Ok (apdu, drop outer.size bytes)) (apdu, rest) e in
+    let outer = bind_ok (outer_at bytes)
+    (λ outer. inside_of outer.apdu_type outer.inside >>= λ apdu. Ok (apdu, drop outer.size bytes)) (apdu, rest) e in
     let size = outer.0.size in
     let apdu_type = outer.0.apdu_type in
     let inner = bind_ok (inside_of apdu_type outer.0.inside) (λ apdu. Ok (apdu, drop size bytes)) (apdu, rest) outer.2 in
@@ -545,7 +622,8 @@ apdu_again values apdu rest is =
 pub apdu_short : Values → (bytes : List ℕ) (n : ℕ) → apdu_at bytes ≡ Err (Short n) → (n ≡ length bytes) × (length bytes ≤ 358)
 unfolding apdu_at
 apdu_short values bytes n e =
-    elim (bind_err (outer_at bytes) (λ outer. inside_of outer.apdu_type outer.inside >>= λ apdu. Ok (apdu, drop outer.size bytes)) (Short n) e) [
+    elim (bind_err (outer_at bytes) (λ outer. inside_of outer.apdu_type outer.inside >>= λ apdu. Ok (apdu, drop outer.size bytes))
+    (Short n) e) [
       | inl h ↦ outer_short bytes n h
       | inr h ↦ elim (bind_err (inside_of h.0.apdu_type h.0.inside) (λ apdu. Ok (apdu, drop h.0.size bytes)) (Short n) h.2) [
         | inl g ↦ absurd (inside_faults values h.0.apdu_type h.0.inside (Short n) g)
@@ -559,12 +637,15 @@ outer_by_memory : (apdu_type : ApduType) (form : LengthForm) (bytes : List ℕ)
 outer_by_memory apdu_type Truncated bytes e = short_or_memory (length bytes + 1) e
 outer_by_memory apdu_type Invalid bytes e = length_inside 1 OutOfMemory e
 outer_by_memory apdu_type (Definite m octets) bytes e =
-    elim (chosen (ltb 355 m) (Err (Length 1)) (cond (ltb (length bytes) (octets + m)) (Err (Short (length bytes + 1))) (Ok (outer_with apdu_type m octets bytes))) (Err OutOfMemory) e) [
+    elim (chosen (ltb 355 m) (Err (Length 1))
+    (cond (ltb (length bytes) (octets + m)) (Err (Short (length bytes + 1))) (Ok (outer_with apdu_type m octets bytes)))
+    (Err OutOfMemory) e) [
       | inl h ↦ length_inside 1 OutOfMemory h.1
-      | inr h ↦ elim (chosen (ltb (length bytes) (octets + m)) (Err (Short (length bytes + 1))) (Ok (outer_with apdu_type m octets bytes)) (Err OutOfMemory) h.1) [
-        | inl g ↦ short_or_memory (length bytes + 1) g.1
-        | inr g ↦ no_value OutOfMemory (outer_with apdu_type m octets bytes) g.1
-      ]
+      | inr h ↦ elim (chosen (ltb (length bytes) (octets + m)) (Err (Short (length bytes + 1)))
+          (Ok (outer_with apdu_type m octets bytes)) (Err OutOfMemory) h.1) [
+            | inl g ↦ short_or_memory (length bytes + 1) g.1
+            | inr g ↦ no_value OutOfMemory (outer_with apdu_type m octets bytes) g.1
+          ]
     ]
 
 -- The fault of `outer_of` is never OutOfMemory.
@@ -581,7 +662,8 @@ outer_memory (first ∷ bytes) e = outer_of_memory (type_with first) bytes (sym 
 pub apdu_memory : Values → (bytes : List ℕ) → apdu_at bytes ≡ Err OutOfMemory → ⊥
 unfolding apdu_at
 apdu_memory values bytes e =
-    elim (bind_err (outer_at bytes) (λ outer. inside_of outer.apdu_type outer.inside >>= λ apdu. Ok (apdu, drop outer.size bytes)) OutOfMemory e) [
+    elim (bind_err (outer_at bytes) (λ outer. inside_of outer.apdu_type outer.inside >>= λ apdu. Ok (apdu, drop outer.size bytes))
+    OutOfMemory e) [
       | inl h ↦ outer_memory bytes h
       | inr h ↦ elim (bind_err (inside_of h.0.apdu_type h.0.inside) (λ apdu. Ok (apdu, drop h.0.size bytes)) OutOfMemory h.2) [
         | inl g ↦ inside_faults values h.0.apdu_type h.0.inside OutOfMemory g
@@ -619,16 +701,19 @@ pub length_more : (bytes more : List ℕ) → IsFinal (length_of bytes) → leng
 unfolding length_of
 length_more [] more final = absurd final
 length_more (first ∷ []) more final =
-    form_of_one (ltb first 128) (eqb first 0x81) (eqb first 0x82) (Definite first 1) (one_octet_length more) (two_octet_length more) Invalid final
+    form_of_one (ltb first 128) (eqb first 0x81) (eqb first 0x82) (Definite first 1) (one_octet_length more)
+    (two_octet_length more) Invalid final
 length_more (first ∷ second ∷ []) more final =
-    form_of_two (ltb first 128) (eqb first 0x81) (eqb first 0x82) (Definite first 1) (one_octet_length (second ∷ [])) (two_octet_length (second ∷ more)) Invalid final
+    form_of_two (ltb first 128) (eqb first 0x81) (eqb first 0x82) (Definite first 1) (one_octet_length (second ∷ []))
+    (two_octet_length (second ∷ more)) Invalid final
 length_more (first ∷ second ∷ third ∷ rest) more final = refl
 
 -- If `bytes` has all `n` contents octets after `octets` length octets, they stay, whatever follows.
 same_contents : (n octets : ℕ) (bytes more : List ℕ) → octets + n ≤ length bytes
     → take n (drop octets (bytes ++ more)) ≡ take n (drop octets bytes)
 same_contents n octets bytes more enough =
-    ap (take n) (drop-append-le octets bytes more (omega arith)) ∙ take-append-le n (drop octets bytes) more (omega (arith, length-drop octets bytes))
+    ap (take n) (drop-append-le octets bytes more (omega arith))
+    ∙ take-append-le n (drop octets bytes) more (omega (arith, length-drop octets bytes))
 
 -- If `outer_after` reads `outer` from `bytes`, the length is final, and `outer` is read from `bytes ++ more`.
 outer_by_more : (apdu_type : ApduType) (form : LengthForm) (bytes more : List ℕ) (outer : Outer)
@@ -637,8 +722,11 @@ outer_by_more : (apdu_type : ApduType) (form : LengthForm) (bytes more : List �
 outer_by_more apdu_type Truncated bytes more outer e = absurd cc
 outer_by_more apdu_type Invalid bytes more outer e = absurd cc
 outer_by_more apdu_type (Definite n octets) bytes more outer e =
-    let small = went_on (ltb 355 n) (cond (ltb (length bytes) (octets + n)) (Err (Short (length bytes + 1))) (Ok (outer_with apdu_type n octets bytes))) (Length 1) outer e in
-    let whole = went_on (ltb (length bytes) (octets + n)) (Ok (outer_with apdu_type n octets bytes)) (Short (length bytes + 1)) outer small.1 in
+    let small = went_on (ltb 355 n)
+    (cond (ltb (length bytes) (octets + n)) (Err (Short (length bytes + 1))) (Ok (outer_with apdu_type n octets bytes)))
+    (Length 1) outer e in
+    let whole = went_on (ltb (length bytes) (octets + n)) (Ok (outer_with apdu_type n octets bytes)) (Short (length bytes + 1))
+    outer small.1 in
     let enough = ltb-false (length bytes) (octets + n) whole.0 in
     let longer : ltb (length (bytes ++ more)) (octets + n) ≡ false = le-ltb _ _ (omega (arith, length-append bytes more)) in
     (tt, rw (small.0, longer, same_contents n octets bytes more enough) whole.1)
@@ -664,12 +752,15 @@ outer_by_stays apdu_type Truncated bytes more d other e =
     absurd (subst (λ (f : DerFault). IfShort f ⊥) (sym (fault_is (Short (length bytes + 1)) d e)) other)
 outer_by_stays apdu_type Invalid bytes more d other e = (tt, e)
 outer_by_stays apdu_type (Definite n octets) bytes more d other e =
-    elim (chosen (ltb 355 n) (Err (Length 1)) (cond (ltb (length bytes) (octets + n)) (Err (Short (length bytes + 1))) (Ok (outer_with apdu_type n octets bytes))) (Err d) e) [
+    elim (chosen (ltb 355 n) (Err (Length 1))
+    (cond (ltb (length bytes) (octets + n)) (Err (Short (length bytes + 1))) (Ok (outer_with apdu_type n octets bytes)))
+    (Err d) e) [
       | inl h ↦ (tt, rw h.0 h.1)
-      | inr h ↦ elim (chosen (ltb (length bytes) (octets + n)) (Err (Short (length bytes + 1))) (Ok (outer_with apdu_type n octets bytes)) (Err d) h.1) [
-        | inl g ↦ absurd (subst (λ (f : DerFault). IfShort f ⊥) (sym (fault_is (Short (length bytes + 1)) d g.1)) other)
-        | inr g ↦ absurd (no_value d (outer_with apdu_type n octets bytes) g.1)
-      ]
+      | inr h ↦ elim (chosen (ltb (length bytes) (octets + n)) (Err (Short (length bytes + 1)))
+          (Ok (outer_with apdu_type n octets bytes)) (Err d) h.1) [
+            | inl g ↦ absurd (subst (λ (f : DerFault). IfShort f ⊥) (sym (fault_is (Short (length bytes + 1)) d g.1)) other)
+            | inr g ↦ absurd (no_value d (outer_with apdu_type n octets bytes) g.1)
+          ]
     ]
 
 -- If `outer_of` has a fault of `bytes` other than Short, it has that fault of `bytes ++ more`.
@@ -691,7 +782,8 @@ outer_stays (first ∷ bytes) more d other e =
 pub fault_stays : (bytes more : List ℕ) (d : DerFault) → IfShort d ⊥ → apdu_at bytes ≡ Err d → apdu_at (bytes ++ more) ≡ Err d
 unfolding apdu_at
 fault_stays bytes more d other e =
-    elim (bind_err (outer_at bytes) (λ outer. inside_of outer.apdu_type outer.inside >>= λ apdu. Ok (apdu, drop outer.size bytes)) d e) [
+    elim (bind_err (outer_at bytes) (λ outer. inside_of outer.apdu_type outer.inside >>= λ apdu. Ok (apdu, drop outer.size bytes))
+    d e) [
       | inl h ↦ rw (outer_stays bytes more d other h) refl
       | inr h ↦ elim (bind_err (inside_of h.0.apdu_type h.0.inside) (λ apdu. Ok (apdu, drop h.0.size bytes)) d h.2) [
         | inl g ↦ rw (outer_more bytes more h.0 h.1, g) refl

@@ -34,7 +34,14 @@ sized n = 1 + length (length_octets n) + n
 pub qualifiers_length : (group transaction : List ℕ) (a b : ℕ) → a ≡ sized (length group)
     → b ≡ sized (length transaction) → a + b ≡ length (qualifiers.spell (group, transaction))
 qualifiers_length group transaction a b ea eb =
-    omega (arith, ea, eb, length-append (element 0x81 group) (element 0x82 transaction), element_length 0x81 group, element_length 0x82 transaction)
+    omega (
+      arith,
+      ea,
+      eb,
+      length-append (element 0x81 group) (element 0x82 transaction),
+      element_length 0x81 group,
+      element_length 0x82 transaction,
+    )
 
 -- If the qualifiers take `inside` bytes, the transaction id has the size of an element with `inside` contents octets.
 pub id_length : (group transaction : List ℕ) (inside n : ℕ) → inside ≡ length (qualifiers.spell (group, transaction))
@@ -76,7 +83,12 @@ request_length expiry text a b ea eb =
 pub reply_length : (answers : ℕ) (is_yes : Bool) (n : ℕ) → n ≡ length (element 0 (number_octets answers))
     → n + 3 ≡ length (reply.spell (answers, is_yes))
 reply_length answers is_yes n e =
-    omega (arith, same_size 0x83 (number_octets answers) n e, code_length (cond is_yes 0xFF 0), length-append (element 0x83 (number_octets answers)) (yes_no_element is_yes))
+    omega (
+      arith,
+      same_size 0x83 (number_octets answers) n e,
+      code_length (cond is_yes 0xFF 0),
+      length-append (element 0x83 (number_octets answers)) (yes_no_element is_yes),
+    )
 
 -- If the number has `n` bytes and the date `m`, the fields of a Renew-Answer have `n + 3 + m`.
 pub grant_length : (answers : ℕ) (granted : Option Date) (n m : ℕ) → n ≡ length (element 0 (number_octets answers))

@@ -1,5 +1,6 @@
 -- The laws of encodings, which follow from those of reading.
-use Rattle.std.proofs.Common.{◌≡◌, ℕ, zero, suc, ◌<◌, ◌≤◌, get_or, true, List, [], ◌++◌, length, Some, Result, Ok, Err, refl, sym, ap, ◌∙◌, arith}
+use Rattle.std.proofs.Common.{◌≡◌, ℕ, zero, suc, ◌<◌, ◌≤◌, get_or, true, List, [], ◌++◌, length, Some, Result, Ok, Err, refl, sym}
+use Rattle.std.proofs.Common.{ap, ◌∙◌, arith}
 use Rattle.std.proofs.Math.ListN.{replicate}
 use Rattle.std.proofs.lemmas.List.{append-nil}
 use Rattle.std.proofs.lemmas.Str.{IsUtf8-from_ascii, is_utf8-from_IsUtf8}
@@ -34,13 +35,15 @@ read_alone again apdu is = ap apdu_at (sym (append-nil (spelling apdu))) ∙ aga
 -- If two APDUs in range have equal encodings, they are equal.
 pub one_apdu : ReadsAgain → (a b : Apdu) → IsApdu a → IsApdu b → spelling a ≡ spelling b → a ≡ b
 one_apdu again a b first second e =
-    let both : (a, []) ≡ (b, []) = ok_is (a, []) (b, []) (sym (read_alone again a first) ∙ ap apdu_at e ∙ read_alone again b second) in
+    let both : (a, []) ≡ (b, []) = ok_is (a, []) (b, [])
+    (sym (read_alone again a first) ∙ ap apdu_at e ∙ read_alone again b second) in
     ap (λ (x : Apdu × List ℕ). x.0) both
 
 -- If the encoding of `b` is that of `a` and then `rest`, `rest` is empty.
 pub no_prefix : ReadsAgain → (a b : Apdu) (rest : List ℕ) → IsApdu a → IsApdu b → spelling b ≡ spelling a ++ rest → rest ≡ []
 no_prefix again a b rest first second e =
-    let both : (a, rest) ≡ (b, []) = ok_is (a, rest) (b, []) (sym (again a rest first) ∙ ap apdu_at (sym e) ∙ read_alone again b second) in
+    let both : (a, rest) ≡ (b, []) =
+    ok_is (a, rest) (b, []) (sym (again a rest first) ∙ ap apdu_at (sym e) ∙ read_alone again b second) in
     ap (λ (x : Apdu × List ℕ). x.1) both
 
 -- The encoding of an APDU in range has at most 359 bytes.
@@ -65,8 +68,11 @@ spelled_shorter values apdu is other =
 begins_with_one : Values → (bytes : List ℕ) (read : Result (Apdu × List ℕ) DerFault) → IsBytes bytes
     → apdu_at bytes ≡ read → BeginsWithOne bytes read
 begins_with_one values bytes (Ok found) fits e =
-    let takes = apdu_takes values bytes found.0 found.1 fits e in
-    (takes, λ apdu rest begins. ok_is (apdu, rest) found (sym (apdu_again values apdu rest begins.0) ∙ ap apdu_at (sym begins.1) ∙ e))
+    let takes = apdu_takes values bytes found.0 found.1 fits e in (
+      takes,
+      λ apdu rest begins. ok_is (apdu, rest) found
+          (sym (apdu_again values apdu rest begins.0) ∙ ap apdu_at (sym begins.1) ∙ e),
+    )
 begins_with_one values bytes (Err fault) fits e = (
   λ is. apdu_memory values bytes (e ∙ ap Err is),
   λ apdu rest begins. no_value fault (apdu, rest) (sym (apdu_again values apdu rest begins.0) ∙ ap apdu_at (sym begins.1) ∙ e),
@@ -91,7 +97,8 @@ same_ascii (suc n) (suc i) = same_ascii n i
 -- `longest_item` is an item.
 longest_item_is : IsItem longest_item
 unfolding longest_item
-longest_item_is = let text : is_utf8 (replicate 200 0x4D) ≡ true = is_utf8-from_IsUtf8 (replicate 200 0x4D) (IsUtf8-from_ascii (replicate 200 0x4D) (same_ascii 200)) in rw text refl
+longest_item_is = let text : is_utf8 (replicate 200 0x4D) ≡ true =
+    is_utf8-from_IsUtf8 (replicate 200 0x4D) (IsUtf8-from_ascii (replicate 200 0x4D) (same_ascii 200)) in rw text refl
 
 -- A transaction id with two qualifiers of 64 bytes, the most that one has.
 abbrev longest_txn : Qualifiers
@@ -103,7 +110,14 @@ last_day = record { year = 9999; month = 12; day = 31 }
 
 -- `last_day` is in range.
 last_day_is : IsDate last_day
-last_day_is = record { from_1900 = omega arith; to_9999 = omega arith; from_january = omega arith; to_december = omega arith; from_first = omega arith; to_last = omega arith }
+last_day_is = record {
+  from_1900 = omega arith;
+  to_9999 = omega arith;
+  from_january = omega arith;
+  to_december = omega arith;
+  from_first = omega arith;
+  to_last = omega arith;
+}
 
 -- An ILL-Request whose fields all have their greatest size.
 longest_apdu : Apdu

@@ -1,5 +1,6 @@
 -- Reading one byte after another.
-use Rattle.std.proofs.Common.{◌≡◌, ℕ, ◌<◌, List, [], ◌∷◌, length, take, drop, Option, Result, Ok, Err, ◌⊎◌, inl, inr, refl, sym, ap, subst, ◌∙◌, arith}
+use Rattle.std.proofs.Common.{◌≡◌, ℕ, ◌<◌, List, [], ◌∷◌, length, take, drop, Option, Result, Ok, Err, ◌⊎◌, inl, inr, refl, sym}
+use Rattle.std.proofs.Common.{ap, subst, ◌∙◌, arith}
 use Rattle.std.specs.Io.KnownBytes.{Consumes}
 use Rattle.std.proofs.KnownBytes.{Consumes-trans}
 use Rattle.std.proofs.lemmas.List.{append-nil, take_at, length-append}
@@ -40,7 +41,8 @@ exact values bytes (x ∷ rest) apdu fits prefixes e =
     let longer : length text < length bytes = omega (arith, ap length taken.1, length-append text (x ∷ rest)) in
     let prefix : take (length text) bytes ≡ text = ap (take (length text)) taken.1 ∙ take_at text (x ∷ rest) (length text) refl in
     let again : apdu_at text ≡ Ok (apdu, []) = ap apdu_at (sym (append-nil text)) ∙ apdu_again values apdu [] taken.0 in
-    absurd (no_value (Short (length (take (length text) bytes))) (apdu, []) (sym again ∙ ap apdu_at (sym prefix) ∙ prefixes (length text) longer))
+    absurd (no_value (Short (length (take (length text) bytes))) (apdu, [])
+    (sym again ∙ ap apdu_at (sym prefix) ∙ prefixes (length text) longer))
 
 -- If the proper prefixes of `bytes` are unfinished, and decoding gives an APDU, all of `bytes` is its encoding.
 pub spelled_exactly : Values → (bytes : List ℕ) (found : Apdu × ℕ) → IsBytes bytes → AreUnfinished bytes

@@ -15,4 +15,5 @@ pub appends_from : (before middle after : Option (List ℕ)) (written count : �
     → Appends before middle (take written bytes) → Appends middle after (take count (drop written bytes))
     → Appends before after (take (written + count) bytes)
 appends_from before middle after written count bytes first second =
-    subst (Appends before after) (sym (take-add written count bytes)) (Appends-trans before middle after (take written bytes) (take count (drop written bytes)) first second)
+    subst (Appends before after) (sym (take-add written count bytes))
+    (Appends-trans before middle after (take written bytes) (take count (drop written bytes)) first second)

@@ -1,8 +1,11 @@
 -- The short form of APDUs: the encoding of each, and the reading of bytes with the first fault.
-use Rattle.std.specs.Prelude.{◌≡◌, ℕ, Bool, ◌+◌, ◌-◌, ◌≤◌, nat_lt, if◌then◌else◌, List, [], ◌∷◌, ◌++◌, length, take, drop, Option, Some, None, Result, Ok, Err, MatchResult}
+use Rattle.std.specs.Prelude.{◌≡◌, ℕ, Bool, ◌+◌, ◌-◌, ◌≤◌, nat_lt, if◌then◌else◌, List, [], ◌∷◌, ◌++◌, length, take, drop, Option}
+use Rattle.std.specs.Prelude.{Some, None, Result, Ok, Err, MatchResult}
 use Rattle.ill_values.specs.declared.apdu.Apdu.{Apdu}
 use Rattle.ill_values.specs.declared.apdu.Body.{Body}
-use Rattle.ill_values.specs.declared.apdu.Body.TheVariants.{IllRequest, IllAnswer, ConditionalReply, Cancel, CancelReply, Shipped, Received, Recall, Returned, CheckedIn, Overdue, Renew, RenewAnswer, Expired}
+use Rattle.ill_values.specs.declared.apdu.Body.TheVariants.{IllRequest, IllAnswer, ConditionalReply, Cancel, CancelReply, Shipped}
+use Rattle.ill_values.specs.declared.apdu.Body.TheVariants.{Received, Recall, Returned, CheckedIn, Overdue, Renew, RenewAnswer}
+use Rattle.ill_values.specs.declared.apdu.Body.TheVariants.{Expired}
 use Rattle.ill_values.specs.declared.apdu.AnswerResult.{AnswerResult}
 use Rattle.ill_values.specs.Day.{Date}
 use Rattle.ill_der.specs.declared.fault.DerFault.{DerFault}
@@ -16,7 +19,8 @@ use Rattle.ill_der.specs.declared.decoding.Outer as decoding
 use Rattle.ill_values.specs.Types.{type_of}
 use Rattle.ill_der.specs.Types.{identifier_of, type_with}
 use Rattle.ill_der.specs.Contents.{version, number, qualifier, date, item, answer_result, yes_no}
-use Rattle.ill_der.specs.Format.{◌>>=◌, element, length_of, Cursor, cursor_at, ended, Format, required, optional, followed_by, where_yes, constructed}
+use Rattle.ill_der.specs.Format.{◌>>=◌, element, length_of, Cursor, cursor_at, ended, Format, required, optional, followed_by}
+use Rattle.ill_der.specs.Format.{where_yes, constructed}
 
 -- ---- fields
 

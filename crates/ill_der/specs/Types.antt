@@ -2,7 +2,9 @@
 -- They are application tags of this profile's own, in the constructed form of X.690 8.1.2.
 use Rattle.std.specs.Prelude.{ℕ, ◌==◌, Option, find}
 use Rattle.ill_values.specs.declared.apdu_type.ApduType.{ApduType}
-use Rattle.ill_values.specs.declared.apdu_type.ApduType.TheVariants.{IllRequest, Shipped, IllAnswer, ConditionalReply, Cancel, CancelReply, Received, Recall, Returned, CheckedIn, Overdue, Renew, RenewAnswer, Expired}
+use Rattle.ill_values.specs.declared.apdu_type.ApduType.TheVariants.{IllRequest, Shipped, IllAnswer, ConditionalReply, Cancel}
+use Rattle.ill_values.specs.declared.apdu_type.ApduType.TheVariants.{CancelReply, Received, Recall, Returned, CheckedIn, Overdue}
+use Rattle.ill_values.specs.declared.apdu_type.ApduType.TheVariants.{Renew, RenewAnswer, Expired}
 use Rattle.ill_values.specs.Types.{all_types}
 
 -- Returns the identifier octet of a type.

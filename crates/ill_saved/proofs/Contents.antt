@@ -1,5 +1,7 @@
 -- The content of a desk of many transactions.
-use Rattle.std.proofs.Common.{rules, arith, ◌≡◌, ◌⊎◌, inl, inr, ℕ, zero, suc, ◌+◌, ◌<◌, ◌≤◌, nat_lt, length, map, Bool, true, false, not, cond, List, [], ◌∷◌, ◌++◌, Option, Some, None, is_some, Result, Ok, Err, is_ok, refl, ap, sym, subst, ◌∙◌, true≢false, slice_index_or, drop, append_assoc}
+use Rattle.std.proofs.Common.{rules, arith, ◌≡◌, ◌⊎◌, inl, inr, ℕ, zero, suc, ◌+◌, ◌<◌, ◌≤◌, nat_lt, length, map, Bool, true}
+use Rattle.std.proofs.Common.{false, not, cond, List, [], ◌∷◌, ◌++◌, Option, Some, None, is_some, Result, Ok, Err, is_ok, refl}
+use Rattle.std.proofs.Common.{ap, sym, subst, ◌∙◌, true≢false, slice_index_or, drop, append_assoc}
 use Rattle.std.specs.Prelude.{option_map, IfSome, slice_get, position, find}
 use Rattle.std.specs.List.{position_or_len}
 use Rattle.std.proofs.Math.ListN.{get_or}
@@ -30,19 +32,27 @@ use Rattle.ill_saved.specs.declared.side.Action.{Action}
 use Rattle.ill_saved.specs.declared.fault.DeskFault.{DeskFault}
 use Rattle.ill_saved.specs.declared.fault.DeskFault.TheVariants as faults
 use Rattle.ill_saved.specs.declared.fault.RecordFault.{RecordFault}
-use Rattle.ill_saved.specs.Side.{issued_of, txn_of, role_of, idle_side, is_idle, role_for, begins, IsConsistent, IsStep, acts, takes, takes_memory, Acts, Takes, Follows, same as follows_itself, further as one_further, IsPrefix}
+use Rattle.ill_saved.specs.Side.{issued_of, txn_of, role_of, idle_side, is_idle, role_for, begins, IsConsistent, IsStep, acts}
+use Rattle.ill_saved.specs.Side.{takes, takes_memory, Acts, Takes, Follows, same as follows_itself, further as one_further}
+use Rattle.ill_saved.specs.Side.{IsPrefix}
 use Rattle.ill_saved.specs.Faults.{of_core}
 use Rattle.ill_saved.specs.Ranges.{Each, IsSide}
-use Rattle.ill_saved.specs.Sides.{SidesOf, is_same_role, most_sides, found_by, put_by, side_with, put_refusal, put_last as put_side, OnlyThat}
+use Rattle.ill_saved.specs.Sides.{SidesOf, is_same_role, most_sides, found_by, put_by, side_with, put_refusal}
+use Rattle.ill_saved.specs.Sides.{put_last as put_side, OnlyThat}
 use Rattle.ill_der.specs.Format.{◌>>=◌}
 use Rattle.ill_der.specs.Laws.{IsBytes}
 use Rattle.ill_saved.specs.Records.{record_at, record_spelling}
 use Rattle.ill_saved.specs.RecordsV2.{AreSides, alone, read_alone, is_version_1, unsealed, sides_at, sides_spelling, records_at}
-use Rattle.ill_saved.specs.Holdings.{DeskEntry, DeskActs, DeskTakesApdu, IsBacked, IsBackedBy, IsBackedByRead, IsRecordOf, StaysBacked, landed_live, map_ok, whole}
-use Rattle.ill_saved.specs.ManySides.{DeskContents, held_of, counts, txn_held, idle_held, found_or, held_for, with_held, sides_held, whole_of, no_sides, is_own, held_or_begun, reached, acted as acted_by, acts_reached, desk_acts, took as took_by, takes_reached, desk_takes, many_sides, FirstActs, FirstTakes, side_for, AreBackedBy, AreBackable, ManyBack}
+use Rattle.ill_saved.specs.Holdings.{DeskEntry, DeskActs, DeskTakesApdu, IsBacked, IsBackedBy, IsBackedByRead, IsRecordOf}
+use Rattle.ill_saved.specs.Holdings.{StaysBacked, landed_live, map_ok, whole}
+use Rattle.ill_saved.specs.ManySides.{DeskContents, held_of, counts, txn_held, idle_held, found_or, held_for, with_held}
+use Rattle.ill_saved.specs.ManySides.{sides_held, whole_of, no_sides, is_own, held_or_begun, reached, acted as acted_by}
+use Rattle.ill_saved.specs.ManySides.{acts_reached, desk_acts, took as took_by, takes_reached, desk_takes, many_sides, FirstActs}
+use Rattle.ill_saved.specs.ManySides.{FirstTakes, side_for, AreBackedBy, AreBackable, ManyBack}
 use Rattle.ill_saved.proofs.Desks.{RowsGrow, RefusalsStay, core_answer, itself_backs, no_less, idle_consistent}
 use Rattle.ill_saved.proofs.DeskEntry.{new_to, idle_txn, idle_role, acts_row, takes_row, found_plainly}
-use Rattle.ill_saved.proofs.Finding.{same_is, same_self, found_is, found_put, put_last, put_again, found_mapped, put_length, some_is}
+use Rattle.ill_saved.proofs.Finding.{same_is, same_self, found_is, found_put, put_last, put_again, found_mapped, put_length}
+use Rattle.ill_saved.proofs.Finding.{some_is}
 
 -- ---- sides and their counts
 
@@ -71,14 +81,16 @@ as_seen all counted live as_many view = sym (holds_sides all counted as_many) �
 -- If there is a count for each side, as many are held as there are sides.
 pub as_many_held : (sides : List Side) (counted : List ℕ) → length counted ≡ length sides
     → length (held_of sides counted) ≡ length sides
-as_many_held sides counted as_many = sym (length-map (held_of sides counted) side_of) ∙ ap length (sides_there sides counted as_many)
+as_many_held sides counted as_many =
+    sym (length-map (held_of sides counted) side_of) ∙ ap length (sides_there sides counted as_many)
 
 -- If there is a count for each side, a search of the sides finds the side that is held.
 pub found_side : (txn : Qualifiers) (sides : List Side) (counted : List ℕ) → length counted ≡ length sides
     → side_with txn sides ≡ option_map (λ (held : DeskEntry). held.side) (found_by txn_held txn (held_of sides counted))
 unfolding side_with
 found_side txn sides counted as_many =
-    ap (λ vs. found_by txn_of txn vs) (sym (sides_there sides counted as_many)) ∙ found_mapped txn_held txn_of (λ (held : DeskEntry). held.side) (λ held. refl) txn (held_of sides counted)
+    ap (λ vs. found_by txn_of txn vs) (sym (sides_there sides counted as_many))
+    ∙ found_mapped txn_held txn_of (λ (held : DeskEntry). held.side) (λ held. refl) txn (held_of sides counted)
 
 -- One more side with its count comes after all that are held.
 pub held_last : (sides : List Side) (counted : List ℕ) (side : Side) (n : ℕ) → length counted ≡ length sides
@@ -87,7 +99,8 @@ unfolding held_of
 held_last [] [] side n as_many = refl
 held_last [] (m ∷ counted) side n as_many = absurd (omega (arith, as_many))
 held_last (x ∷ sides) [] side n as_many = absurd (omega (arith, as_many))
-held_last (x ∷ sides) (m ∷ counted) side n as_many = ap (λ hs. record { side = x; released = m } ∷ hs) (held_last sides counted side n (omega (arith, as_many)))
+held_last (x ∷ sides) (m ∷ counted) side n as_many =
+    ap (λ hs. record { side = x; released = m } ∷ hs) (held_last sides counted side n (omega (arith, as_many)))
 
 -- Sides with the counts of all that they have issued are held whole.
 pub held_whole : (sides : List Side) → held_of sides (counts sides) ≡ map whole sides
@@ -98,22 +111,29 @@ held_whole (side ∷ sides) = ap (λ hs. whole side ∷ hs) (held_whole sides)
 -- If `held_put` holds of the other sides, it holds with `x` before them.
 put_among : (after x : Side) (n : ℕ) (held : DeskEntry) (sides : List Side) (counted : List ℕ) (same : Bool)
     → cond same (Some (record { side = x; released = n })) (found_by txn_held (txn_of after) (held_of sides counted)) ≡ Some held
-    → (found_by txn_held (txn_of after) (held_of sides counted) ≡ Some held → held_of (put_by txn_of after sides) counted ≡ put_by txn_held (record { side = after; released = held.released }) (held_of sides counted))
+    → (found_by txn_held (txn_of after) (held_of sides counted) ≡ Some held
+    → held_of (put_by txn_of after sides) counted
+    ≡ put_by txn_held (record { side = after; released = held.released }) (held_of sides counted))
     → held_of (cond same (after ∷ sides) (x ∷ put_by txn_of after sides)) (n ∷ counted)
-    ≡ cond same (record { side = after; released = held.released } ∷ held_of sides counted) (record { side = x; released = n } ∷ put_by txn_held (record { side = after; released = held.released }) (held_of sides counted))
+    ≡ cond same (record { side = after; released = held.released } ∷ held_of sides counted)
+    (record { side = x; released = n }
+    ∷ put_by txn_held (record { side = after; released = held.released }) (held_of sides counted))
 unfolding held_of
-put_among after x n held sides counted true found on = ap (λ (h : DeskEntry). record { side = after; released = h.released } ∷ held_of sides counted) (some_is _ _ found)
+put_among after x n held sides counted true found on =
+    ap (λ (h : DeskEntry). record { side = after; released = h.released } ∷ held_of sides counted) (some_is _ _ found)
 put_among after x n held sides counted false found on = ap (λ hs. record { side = x; released = n } ∷ hs) (on found)
 
 -- Putting a side whose transaction is held changes that side alone, and its count stays.
 pub held_put : (after : Side) (held : DeskEntry) (sides : List Side) (counted : List ℕ) → length counted ≡ length sides
     → found_by txn_held (txn_of after) (held_of sides counted) ≡ Some held
-    → held_of (put_by txn_of after sides) counted ≡ put_by txn_held (record { side = after; released = held.released }) (held_of sides counted)
+    → held_of (put_by txn_of after sides) counted
+    ≡ put_by txn_held (record { side = after; released = held.released }) (held_of sides counted)
 unfolding held_of put_by
 held_put after held [] counted as_many found = absurd (true≢false (sym (ap is_some found)))
 held_put after held (x ∷ sides) [] as_many found = absurd (omega (arith, as_many))
 held_put after held (x ∷ sides) (n ∷ counted) as_many found =
-    put_among after x n held sides counted (is_same_txn (txn_of after) (txn_of x)) found (held_put after held sides counted (omega (arith, as_many)))
+    put_among after x n held sides counted (is_same_txn (txn_of after) (txn_of x)) found
+    (held_put after held sides counted (omega (arith, as_many)))
 
 -- At index `i`, a side is held with the count at `i`.
 at_place : (sides : List Side) (counted : List ℕ) (i n : ℕ) → length counted ≡ length sides → i < length sides
@@ -123,15 +143,18 @@ unfolding held_of
 at_place [] counted i n as_many within at = absurd (omega (arith, within))
 at_place (x ∷ sides) [] i n as_many within at = absurd (omega (arith, as_many))
 at_place (x ∷ sides) (m ∷ counted) zero n as_many within at = (x, ap (λ k. Some (record { side = x; released = k })) (sym at))
-at_place (x ∷ sides) (m ∷ counted) (suc i) n as_many within at = at_place sides counted i n (omega (arith, as_many)) (omega (arith, within)) at
+at_place (x ∷ sides) (m ∷ counted) (suc i) n as_many within at =
+    at_place sides counted i n (omega (arith, as_many)) (omega (arith, within)) at
 
 -- A search by transaction stops at one index, among the sides and among those held.
 same_place : (test : Qualifiers → Bool) (sides : List Side) (counted : List ℕ) → length counted ≡ length sides
-    → position_or_len (λ (held : DeskEntry). test (txn_of held.side)) (held_of sides counted) ≡ position_or_len (λ side. test (txn_of side)) sides
+    → position_or_len (λ (held : DeskEntry). test (txn_of held.side)) (held_of sides counted)
+    ≡ position_or_len (λ side. test (txn_of side)) sides
 unfolding held_of
 same_place test [] counted as_many = refl
 same_place test (side ∷ sides) [] as_many = absurd (omega (arith, as_many))
-same_place test (side ∷ sides) (n ∷ counted) as_many = ap (λ m. cond (not (test (txn_of side))) (1 + m) 0) (same_place test sides counted (omega (arith, as_many)))
+same_place test (side ∷ sides) (n ∷ counted) as_many =
+    ap (λ m. cond (not (test (txn_of side))) (1 + m) 0) (same_place test sides counted (omega (arith, as_many)))
 
 -- If a search among those held gives `side`, it finds a held one, and its side is `side`.
 some_mapped : (found : Option DeskEntry) (side : Side) → Some side ≡ option_map (λ (held : DeskEntry). held.side) found
@@ -175,7 +198,8 @@ count_there role sides counted txn place n as_many at within counted_at =
     let pos : position_or_len test sides ≡ place = is_position (position_or_len test sides) (length sides) place (sym at) in
     let there = at_place sides counted place n as_many within counted_at in
     let found : found_by txn_held txn (held_of sides counted) ≡ Some (record { side = there.0; released = n }) =
-    find_at (λ (held : DeskEntry). is_same_txn txn (txn_of held.side)) (held_of sides counted) ∙ ap (slice_get (held_of sides counted)) (same_place (is_same_txn txn) sides counted as_many ∙ pos) ∙ there.1 in
+    find_at (λ (held : DeskEntry). is_same_txn txn (txn_of held.side)) (held_of sides counted)
+    ∙ ap (slice_get (held_of sides counted)) (same_place (is_same_txn txn) sides counted as_many ∙ pos) ∙ there.1 in
     sym (ap (λ f. (found_or (idle_held role txn) f).released) found)
 
 -- If no side is of `txn`, none of its messages is released.
@@ -187,7 +211,9 @@ no_count role sides counted txn as_many at =
     let past = no_position (position_or_len test sides) (length sides) (sym at) in
     let pos = same_place (is_same_txn txn) sides counted as_many in
     let found : found_by txn_held txn (held_of sides counted) ≡ None =
-    none_there (λ (held : DeskEntry). is_same_txn txn (txn_of held.side)) (held_of sides counted) (ap (λ n. nat_lt n (length (held_of sides counted))) pos ∙ ap (nat_lt (position_or_len test sides)) (as_many_held sides counted as_many) ∙ past) in
+    none_there (λ (held : DeskEntry). is_same_txn txn (txn_of held.side)) (held_of sides counted)
+    (ap (λ n. nat_lt n (length (held_of sides counted))) pos
+    ∙ ap (nat_lt (position_or_len test sides)) (as_many_held sides counted as_many) ∙ past) in
     sym (ap (λ f. (found_or (idle_held role txn) f).released) found)
 
 -- If a search among those held gives `side`, then `side` is held with its released count.
@@ -200,7 +226,9 @@ found_so idle side None e = absurd (true≢false (ap is_some e))
 pub held_there : (live : DeskContents) (txn : Qualifiers) (side : Side) → side_with txn (sides_held live).sides ≡ Some side
     → found_by txn_held txn live.held ≡ Some (record { side = side; released = (held_for txn live).released })
 unfolding side_with
-held_there live txn side there = found_so (idle_held live.role txn) side (found_by txn_held txn live.held) (sym there ∙ found_mapped txn_held txn_of side_of (λ held. refl) txn live.held)
+held_there live txn side there =
+    found_so (idle_held live.role txn) side (found_by txn_held txn live.held)
+    (sym there ∙ found_mapped txn_held txn_of side_of (λ held. refl) txn live.held)
 
 -- If no side is of `txn`, nothing is held of `txn`.
 pub none_held_there : (live : DeskContents) (txn : Qualifiers) → side_with txn (sides_held live).sides ≡ None
@@ -217,7 +245,13 @@ idle_of_txn role txn = search rules
 -- If `landed` backs a side, it backs the side after a row.
 backed_on : (landed old new : Side) (released : ℕ) → IsStep old new → IsBackedBy landed old released
     → IsBackedBy landed new released
-backed_on landed old new released row backed = record { consistent = backed.consistent; follows = one_further old new backed.follows row; has-released = backed.has-released }
+backed_on landed old new released row backed =
+    record {
+      consistent = backed.consistent;
+      follows = one_further old new backed.follows row;
+      has-released =
+          backed.has-released;
+    }
 
 -- If `landed` backs the held side that is found, it still does after a side that it backs is put.
 found_backs : (landed : Side) (idle new old : DeskEntry) (found : Option DeskEntry) (same : Bool)
@@ -239,9 +273,12 @@ row_backs_held landed live held new is row backed = record {
       λ same.
       let of : txn ≡ txn_of new = same_is txn (txn_of new) same in
       let there : held_for txn live ≡ held = ap (λ t. held_for t live) of ∙ is in
-      backed_on (side_for txn landed) held.side new held.released row (subst (λ (h : DeskEntry). IsBackedBy (side_for txn landed) h.side h.released) there (backed.each txn)) in
-      subst (λ found. IsBackedBy (side_for txn landed) (found_or (idle_held live.role txn) found).side (found_or (idle_held live.role txn) found).released) (sym (found_put txn_held txn after live.held))
-      (found_backs (side_for txn landed) (idle_held live.role txn) after held (found_by txn_held txn live.held) (is_same_txn txn (txn_of new)) here (backed.each txn));
+      backed_on (side_for txn landed) held.side new held.released row
+      (subst (λ (h : DeskEntry). IsBackedBy (side_for txn landed) h.side h.released) there (backed.each txn)) in
+      subst (λ found. IsBackedBy (side_for txn landed) (found_or (idle_held live.role txn) found).side
+      (found_or (idle_held live.role txn) found).released) (sym (found_put txn_held txn after live.held))
+      (found_backs (side_for txn landed) (idle_held live.role txn) after held (found_by txn_held txn live.held)
+      (is_same_txn txn (txn_of new)) here (backed.each txn));
 }
 
 -- If the sides that were read back the desk's content, they back it after a row of one side.
@@ -266,7 +303,8 @@ pub unchanged : (live : DeskContents) (held : DeskEntry) (txn : Qualifiers) (new
 unchanged live held txn new found same =
     let of : txn ≡ txn_held held = found_is txn_held txn live.held held found in
     ap (λ side. with_held live (record { side = side; released = held.released })) same
-    ∙ ap (λ hs. record { role = live.role; held = hs }) (put_again txn_held held live.held (ap (λ t. found_by txn_held t live.held) (sym of) ∙ found))
+    ∙ ap (λ hs. record { role = live.role; held = hs })
+    (put_again txn_held held live.held (ap (λ t. found_by txn_held t live.held) (sym of) ∙ found))
 
 -- An action of the desk is done exactly if that of its side is.
 acted_ok : (live : DeskContents) (held : DeskEntry) (r : Result Side Refusal) → is_ok (acted_by live held r) ≡ is_ok r
@@ -279,7 +317,8 @@ took_taken : (live : DeskContents) (held : DeskEntry) (r : Result Taking Refusal
 took_taken live held (Ok taking) new e = search rules
 took_taken live held (Err refusal) new e = search rules
 
-module _ (live : DeskContents) (txn : Qualifiers) (held : DeskEntry) (after : Side) (found : found_by txn_held txn live.held ≡ Some held) where
+module _ (live : DeskContents) (txn : Qualifiers) (held : DeskEntry) (after : Side)
+    (found : found_by txn_held txn live.held ≡ Some held) where
   -- Returns the desk's content with `after` instead of its old side. The released count stays.
   abbrev next : DeskContents
   next = with_held live (record { side = after; released = held.released })
@@ -289,7 +328,8 @@ module _ (live : DeskContents) (txn : Qualifiers) (held : DeskEntry) (after : Si
       → desk_acts live txn action ≡ acted_by live held (acts held.side action)
   acts_there action fits =
       ap (λ b. cond b (acts_reached live action (reached live txn (begins action))) (Err (faults.Core refusals.WrongRole))) fits
-      ∙ ap (λ f. acts_reached live action (held_or_begun (begins action) (nat_lt (length live.held) most_sides) (idle_held live.role txn) f)) found
+      ∙ ap (λ f. acts_reached live action
+      (held_or_begun (begins action) (nat_lt (length live.held) most_sides) (idle_held live.role txn) f)) found
 
   -- If the held side answers an action as `Acts` says, the desk answers as `DeskActs` says.
   pub acts_held : (action : Action) (answer : Result (Unit {0}) Refusal)
@@ -298,29 +338,38 @@ module _ (live : DeskContents) (txn : Qualifiers) (held : DeskEntry) (after : Si
   acts_held action (Ok done) fits acts = acts_there action fits ∙ ap (acted_by live held) acts
   acts_held action (Err refusals.OutOfMemory) fits acts =
       (ap is_ok (acts_there action fits) ∙ acted_ok live held _ ∙ acts.0, unchanged live held txn after found acts.1)
-  acts_held action (Err refusal) fits acts = (acts_there action fits ∙ ap (acted_by live held) acts.0, refl, unchanged live held txn after found acts.1)
+  acts_held action (Err refusal) fits acts =
+      (acts_there action fits ∙ ap (acted_by live held) acts.0, refl, unchanged live held txn after found acts.1)
 
-module _ (live : DeskContents) (a : Apdu) (held : DeskEntry) (after : Side) (found : found_by txn_held a.txn live.held ≡ Some held) (other : is_own live.role a.body ≡ false) where
+module _ (live : DeskContents) (a : Apdu) (held : DeskEntry) (after : Side)
+    (found : found_by txn_held a.txn live.held ≡ Some held) (other : is_own live.role a.body ≡ false) where
   -- If the side of the APDU's transaction is held, and the APDU is not its own, that side takes it.
   takes_there : desk_takes live a ≡ took_by live held (takes held.side a)
   takes_there =
-      ap (λ b. cond b (Err (faults.Core refusals.WrongRole), live) (takes_reached live a (reached live a.txn (is_ill_request a.body)))) other
-      ∙ ap (λ f. takes_reached live a (held_or_begun (is_ill_request a.body) (nat_lt (length live.held) most_sides) (idle_held live.role a.txn) f)) found
+      ap (λ b. cond b (Err (faults.Core refusals.WrongRole), live)
+      (takes_reached live a (reached live a.txn (is_ill_request a.body)))) other
+      ∙ ap (λ f. takes_reached live a
+      (held_or_begun (is_ill_request a.body) (nat_lt (length live.held) most_sides) (idle_held live.role a.txn) f)) found
 
   -- If the held side answers an APDU as `Takes` says, the desk answers as `DeskTakesApdu` says.
   pub takes_held : RefusalsStay → (answer : Result Taking Refusal) → Takes held.side a answer after
       → DeskTakesApdu many_sides live a (core_answer answer) (next live a.txn held after found)
   takes_held stay (Err refusals.OutOfMemory) takes_so = (
     (
-      ap (λ (p : Result Taking DeskFault × DeskContents). p.0) takes_there ∙ took_taken live held (takes held.side a).0 (takes held.side a).1 takes_so.0,
+      ap (λ (p : Result Taking DeskFault × DeskContents). p.0) takes_there
+          ∙ took_taken live held (takes held.side a).0 (takes held.side a).1 takes_so.0,
       ap (λ f. takes_memory (found_or (idle_held live.role a.txn) f).side a) found ∙ takes_so.1,
     ),
     unchanged live held a.txn after found takes_so.2,
   )
   takes_held stay (Ok taking) takes_so = takes_there ∙ ap (took_by live held) takes_so
   takes_held stay (Err refusal) takes_so =
-      let same : after ≡ held.side = sym (ap (λ (p : Result Taking Refusal × Side). p.1) takes_so) ∙ stay held.side a refusal (ap (λ (p : Result Taking Refusal × Side). p.0) takes_so) in
-      (takes_there ∙ ap (took_by live held) takes_so ∙ ap (λ l. (Err (of_core refusal), l)) (sym (unchanged live held a.txn after found same)), refl)
+      let same : after ≡ held.side = sym (ap (λ (p : Result Taking Refusal × Side). p.1) takes_so)
+      ∙ stay held.side a refusal (ap (λ (p : Result Taking Refusal × Side). p.0) takes_so) in (
+        takes_there ∙ ap (took_by live held) takes_so
+            ∙ ap (λ l. (Err (of_core refusal), l)) (sym (unchanged live held a.txn after found same)),
+        refl,
+      )
 
 -- ---- the first of a transaction
 
@@ -337,7 +386,8 @@ first_act_fails role txn action refusal new may fits acts = search rules
 abbrev takes_of_txn : Bool → Qualifiers → Apdu → Result Taking Refusal × ResponderRecord
 takes_of_txn same txn a =
     let y = responder_of txn Idle None None None false None [] in
-    unless_refused (cond same (cond (not (is_requesters a.body)) (Some refusals.WrongRole) None) (Some refusals.OtherTransaction)) y (take_message y a a.body)
+    unless_refused (cond same (cond (not (is_requesters a.body)) (Some refusals.WrongRole) None) (Some refusals.OtherTransaction))
+    y (take_message y a a.body)
 
 -- An idle side takes an ILL-Request that is not its own.
 first_taken : (role : Role) (txn : Qualifiers) (number : ℕ) (body : Body) → is_ill_request body ≡ true
@@ -376,7 +426,9 @@ role_idle roles.Responder txn = refl
 
 -- A side of the role that is not idle and new is not refused if there is room.
 may_put_so : (fits idle there room : Bool) → fits ≡ true → idle ≡ false → there ≡ false → room ≡ true
-    → cond (not fits) (Some sides_faults.OtherRole) (cond idle (Some sides_faults.Idle) (cond there (Some sides_faults.Twice) (cond room None (Some sides_faults.Full)))) ≡ None
+    → cond (not fits) (Some sides_faults.OtherRole)
+    (cond idle (Some sides_faults.Idle) (cond there (Some sides_faults.Twice) (cond room None (Some sides_faults.Full))))
+    ≡ None
 may_put_so true false false true fits begun none has_room = refl
 may_put_so fits idle there room f b n r = search rules
 
@@ -384,7 +436,9 @@ may_put_so fits idle there room f b n r = search rules
 may_put : (held : SidesOf) (side : Side) → is_same_role held.role (role_of side) ≡ true → is_idle side ≡ false
     → side_with (txn_of side) held.sides ≡ None → nat_lt (length held.sides) most_sides ≡ true
     → put_refusal held side ≡ None
-may_put held side fits begun none room = may_put_so (is_same_role held.role (role_of side)) (is_idle side) (is_some (side_with (txn_of side) held.sides)) (nat_lt (length held.sides) most_sides) fits begun (ap is_some none) room
+may_put held side fits begun none room =
+    may_put_so (is_same_role held.role (role_of side)) (is_idle side) (is_some (side_with (txn_of side) held.sides))
+    (nat_lt (length held.sides) most_sides) fits begun (ap is_some none) room
 
 -- The side of `txn` among the sides is the one that is held for `txn`.
 pub side_of_found : (live : DeskContents) (txn : Qualifiers)
@@ -399,28 +453,33 @@ unfolding side_with
 none_with live txn none = found_mapped txn_held txn_of side_of (λ held. refl) txn live.held ∙ ap (option_map side_of) none
 
 -- A side that has begun in a transaction that is not held.
-module _ (grows : RowsGrow) (live : DeskContents) (txn : Qualifiers) (none : found_by txn_held txn live.held ≡ None) (room : nat_lt (length live.held) most_sides ≡ true) (side : Side) (row : IsStep (idle_side live.role txn) side)
+module _ (grows : RowsGrow) (live : DeskContents) (txn : Qualifiers) (none : found_by txn_held txn live.held ≡ None)
+    (room : nat_lt (length live.held) most_sides ≡ true) (side : Side) (row : IsStep (idle_side live.role txn) side)
     (begun : is_idle side ≡ false) where
   -- The new side is of `txn`.
   first_txn : txn_of side ≡ txn
-  first_txn = sym (idle_txn side) ∙ ap txn_of (grows (idle_side live.role txn) side row).0 ∙ idle_txn (idle_side live.role txn) ∙ idle_of_txn live.role txn
+  first_txn = sym (idle_txn side) ∙ ap txn_of (grows (idle_side live.role txn) side row).0 ∙ idle_txn (idle_side live.role txn)
+      ∙ idle_of_txn live.role txn
 
   -- The new side is of the desk's role.
   first_role : role_of side ≡ live.role
-  first_role = sym (idle_role side) ∙ ap role_of (grows (idle_side live.role txn) side row).0 ∙ idle_role (idle_side live.role txn) ∙ role_idle live.role txn
+  first_role = sym (idle_role side) ∙ ap role_of (grows (idle_side live.role txn) side row).0
+      ∙ idle_role (idle_side live.role txn) ∙ role_idle live.role txn
 
   -- The new side may be put.
   first_put : put_refusal (sides_held live) side ≡ None
   first_put =
       may_put (sides_held live) side (ap (is_same_role live.role) first_role ∙ same_role live.role) begun
-      (ap (λ t. side_with t (sides_held live).sides) first_txn ∙ none_with live txn none) (ap (λ n. nat_lt n most_sides) (length-map live.held side_of) ∙ room)
+      (ap (λ t. side_with t (sides_held live).sides) first_txn ∙ none_with live txn none)
+      (ap (λ n. nat_lt n most_sides) (length-map live.held side_of) ∙ room)
 
   -- The new side may be put, and a row led to it from the idle side of its transaction.
   pub first_may : (put_refusal (sides_held live) side ≡ None) × IsStep (idle_side live.role (txn_of side)) side
   first_may = (first_put, subst (λ t. IsStep (idle_side live.role t) side) (sym first_txn) row)
 
 -- If an idle side takes an ILL-Request, it is not idle after it.
-pub first_begins : ((y : ResponderRecord) (a : Apdu) → is_ill_request a.body ≡ true → (responder_takes y a).0 ≡ Ok Taken → is_among (Idle ∷ []) (responder_takes y a).1.state ≡ false)
+pub first_begins : ((y : ResponderRecord) (a : Apdu) → is_ill_request a.body ≡ true → (responder_takes y a).0 ≡ Ok Taken
+    → is_among (Idle ∷ []) (responder_takes y a).1.state ≡ false)
     → (role : Role) (a : Apdu) (side : Side) → is_ill_request a.body ≡ true → is_own role a.body ≡ false
     → takes (idle_side role a.txn) a ≡ (Ok Taken, side) → is_idle side ≡ false
 first_begins law roles.Responder a side request other taken =
@@ -444,7 +503,8 @@ module _ (role : Role) (sides : List Side) (counted : List ℕ) (as_many : lengt
       → (held : DeskEntry) × (found_by txn_held txn (held_of sides counted) ≡ Some held) × (held.side ≡ side)
   side_held txn side there = some_mapped _ side (sym there ∙ found_side txn sides counted as_many)
 
-  module _ (grows : RowsGrow) (txn : Qualifiers) {A : Type 0} (Does : Side → A → Side → Type 0) (rows : (old new : Side) (answer : A) → Does old answer new → IsStep old new ⊎ (new ≡ old)) where
+  module _ (grows : RowsGrow) (txn : Qualifiers) {A : Type 0} (Does : Side → A → Side → Type 0)
+      (rows : (old new : Side) (answer : A) → Does old answer new → IsStep old new ⊎ (new ≡ old)) where
     -- A side that does something keeps its transaction.
     same_txn : (side after : Side) (answer : A) → Does side answer after → txn ≡ txn_of side → txn ≡ txn_of after
     same_txn side after answer does of = by (rows side after answer does)
@@ -455,17 +515,31 @@ module _ (role : Role) (sides : List Side) (counted : List ℕ) (as_many : lengt
 
     -- If the side of `txn` alone does something, the desk holds the side after it instead, and its count stays.
     pub changed_held : (answer : A) (new : SidesOf) → OnlyThat Does txn (record { role = role; sides = sides }) (Some answer) new
-        → (held : DeskEntry) × (after : Side) × (found_by txn_held txn (held_of sides counted) ≡ Some held) × Does held.side answer after × (txn ≡ txn_of after)
-        × (record { role = new.role; held = held_of new.sides counted } ≡ with_held held_so (record { side = after; released = held.released })) × (length counted ≡ length new.sides)
+        → (held : DeskEntry) × (after : Side) × (found_by txn_held txn (held_of sides counted) ≡ Some held)
+        × Does held.side answer after × (txn ≡ txn_of after)
+        × (record { role = new.role; held = held_of new.sides counted }
+        ≡ with_held held_so (record { side = after; released = held.released })) × (length counted ≡ length new.sides)
     changed_held answer new (side, after, there, does, changed) =
         let held = side_held txn side there in
         let of_side : txn ≡ txn_of side = found_is txn_held txn (held_of sides counted) held.0 held.1 ∙ ap txn_of held.2 in
         let of : txn ≡ txn_of after = same_txn side after answer does of_side in
-        let put = held_put after held.0 sides counted as_many (ap (λ t. found_by txn_held t (held_of sides counted)) (sym of) ∙ held.1) in
-        let holding : record { role = new.role; held = held_of new.sides counted } ≡ with_held held_so (record { side = after; released = held.0.released }) =
-        ap (λ (all : SidesOf). record { role = all.role; held = held_of all.sides counted }) changed ∙ ap (λ hs. record { role = role; held = hs }) put in
-        let few : length (put_by txn_of after sides) ≡ length sides = put_length txn_of after side sides (ap (λ t. found_by txn_of t sides) (sym of) ∙ found_plainly txn sides side there) in
-        (held.0, after, held.1, subst (λ s. Does s answer after) (sym held.2) does, of, holding, as_many ∙ sym (ap (λ (all : SidesOf). length all.sides) changed ∙ few))
+        let put = held_put after held.0 sides counted as_many
+        (ap (λ t. found_by txn_held t (held_of sides counted)) (sym of) ∙ held.1) in
+        let holding : record { role = new.role; held = held_of new.sides counted }
+        ≡ with_held held_so (record { side = after; released = held.0.released }) =
+        ap (λ (all : SidesOf). record { role = all.role; held = held_of all.sides counted }) changed
+        ∙ ap (λ hs. record { role = role; held = hs }) put in
+        let few : length (put_by txn_of after sides) ≡ length sides =
+        put_length txn_of after side sides
+        (ap (λ t. found_by txn_of t sides) (sym of) ∙ found_plainly txn sides side there) in (
+          held.0,
+          after,
+          held.1,
+          subst (λ s. Does s answer after) (sym held.2) does,
+          of,
+          holding,
+          as_many ∙ sym (ap (λ (all : SidesOf). length all.sides) changed ∙ few),
+        )
 
     -- If landed sides back the desk's content, they back it after a held side does something.
     changed_backs : (landed : Result DeskContents RecordFault) (held : DeskEntry) (after : Side) (answer : A)
@@ -474,8 +548,10 @@ module _ (role : Role) (sides : List Side) (counted : List ℕ) (as_many : lengt
         → IsBackedByRead ManyBack landed (with_held held_so (record { side = after; released = held.released }))
     changed_backs landed held after answer found does of backed = by (rows held.side after answer does)
       where
-        by : IsStep held.side after ⊎ (after ≡ held.side) → IsBackedByRead ManyBack landed (with_held held_so (record { side = after; released = held.released }))
-        by (inl row) = row_backs_all landed held_so held after (ap (λ t. held_for t held_so) (sym of) ∙ ap (found_or (idle_held role txn)) found) row backed
+        by : IsStep held.side after ⊎ (after ≡ held.side)
+            → IsBackedByRead ManyBack landed (with_held held_so (record { side = after; released = held.released }))
+        by (inl row) = row_backs_all landed held_so held after
+            (ap (λ t. held_for t held_so) (sym of) ∙ ap (found_or (idle_held role txn)) found) row backed
         by (inr same) = subst (IsBackedByRead ManyBack landed) (sym (unchanged held_so held txn after found same)) backed
 
     -- If sides back the desk's content, they back it after a held side does something.
@@ -485,8 +561,10 @@ module _ (role : Role) (sides : List Side) (counted : List ℕ) (as_many : lengt
         → AreBackedBy landed (with_held held_so (record { side = after; released = held.released }))
     changed_backs_by landed held after answer found does of backed = by (rows held.side after answer does)
       where
-        by : IsStep held.side after ⊎ (after ≡ held.side) → AreBackedBy landed (with_held held_so (record { side = after; released = held.released }))
-        by (inl row) = row_backs_held landed held_so held after (ap (λ t. held_for t held_so) (sym of) ∙ ap (found_or (idle_held role txn)) found) row backed
+        by : IsStep held.side after ⊎ (after ≡ held.side)
+            → AreBackedBy landed (with_held held_so (record { side = after; released = held.released }))
+        by (inl row) = row_backs_held landed held_so held after
+            (ap (λ t. held_for t held_so) (sym of) ∙ ap (found_or (idle_held role txn)) found) row backed
         by (inr same) = subst (AreBackedBy landed) (sym (unchanged held_so held txn after found same)) backed
 
     -- All bytes that back the desk's content back it after one side does something.
@@ -497,7 +575,8 @@ module _ (role : Role) (sides : List Side) (counted : List ℕ) (as_many : lengt
         let to = changed_held answer new only in
         let next = with_held held_so (record { side = to.1; released = to.0.released }) in
         subst (IsBacked many_sides ManyBack landed) (sym to.5)
-        (subst (λ read. IsBackedByRead ManyBack read next) (same_landed landed held_so next refl) (changed_backs (landed_live many_sides landed held_so) to.0 to.1 answer to.2 to.3 to.4 backed))
+        (subst (λ read. IsBackedByRead ManyBack read next) (same_landed landed held_so next refl)
+        (changed_backs (landed_live many_sides landed held_so) to.0 to.1 answer to.2 to.3 to.4 backed))
 
     -- If some sides back the desk's content, they back it after one side does something.
     pub still_backable : (answer : A) (new : SidesOf)
@@ -513,8 +592,10 @@ module _ (role : Role) (sides : List Side) (counted : List ℕ) (as_many : lengt
       → OnlyThat (λ old answer new. Acts old action answer new) txn (record { role = role; sides = sides }) (Some answer) new
       → DeskActs many_sides held_so txn action (core_answer answer) (record { role = new.role; held = held_of new.sides counted })
   desk_acts_so grows txn action answer new fits only =
-      let to = changed_held grows txn (λ old answer new. Acts old action answer new) (λ old new answer does. acts_row old new action answer does) answer new only in
-      subst (λ l. DeskActs many_sides held_so txn action (core_answer answer) l) (sym to.5) (acts_held held_so txn to.0 to.1 to.2 action answer fits to.3)
+      let to = changed_held grows txn (λ old answer new. Acts old action answer new)
+      (λ old new answer does. acts_row old new action answer does) answer new only in
+      subst (λ l. DeskActs many_sides held_so txn action (core_answer answer) l) (sym to.5)
+      (acts_held held_so txn to.0 to.1 to.2 action answer fits to.3)
 
   -- If the side of an APDU alone answers it as `Takes` says, the desk answers as `DeskTakesApdu` says.
   pub desk_takes_so : (grows : RowsGrow) → RefusalsStay → (a : Apdu) (answer : Result Taking Refusal) (new : SidesOf)
@@ -522,33 +603,41 @@ module _ (role : Role) (sides : List Side) (counted : List ℕ) (as_many : lengt
       → OnlyThat (λ old answer new. Takes old a answer new) a.txn (record { role = role; sides = sides }) (Some answer) new
       → DeskTakesApdu many_sides held_so a (core_answer answer) (record { role = new.role; held = held_of new.sides counted })
   desk_takes_so grows stay a answer new other only =
-      let to = changed_held grows a.txn (λ old answer new. Takes old a answer new) (λ old new answer does. takes_row old new a answer does) answer new only in
-      subst (λ l. DeskTakesApdu many_sides held_so a (core_answer answer) l) (sym to.5) (takes_held held_so a to.0 to.1 to.2 other stay answer to.3)
+      let to = changed_held grows a.txn (λ old answer new. Takes old a answer new)
+      (λ old new answer does. takes_row old new a answer does) answer new only in
+      subst (λ l. DeskTakesApdu many_sides held_so a (core_answer answer) l) (sym to.5)
+      (takes_held held_so a to.0 to.1 to.2 other stay answer to.3)
 
 -- ---- one more is held
 
-module _ (role : Role) (sides : List Side) (counted : List ℕ) (as_many : length counted ≡ length sides) (side : Side) (may : put_refusal (record { role = role; sides = sides }) side ≡ None) where
+module _ (role : Role) (sides : List Side) (counted : List ℕ) (as_many : length counted ≡ length sides) (side : Side)
+    (may : put_refusal (record { role = role; sides = sides }) side ≡ None) where
   -- Nothing is held of the transaction of `side`.
   none_before : found_by txn_held (txn_of side) (held_of sides counted) ≡ None
   none_before = none_held role sides counted as_many (txn_of side) (new_to (record { role = role; sides = sides }) side may)
 
   -- If `side` is put with a count of 0, the desk holds it with nothing released.
   pub held_more : (new : SidesOf) → new ≡ put_side (record { role = role; sides = sides }) side
-      → record { role = new.role; held = held_of new.sides (counted ++ 0 ∷ []) } ≡ with_held (held_so role sides counted as_many) (record { side = side; released = 0 })
+      → record { role = new.role; held = held_of new.sides (counted ++ 0 ∷ []) }
+      ≡ with_held (held_so role sides counted as_many) (record { side = side; released = 0 })
   held_more new put =
       ap (λ (all : SidesOf). record { role = all.role; held = held_of all.sides (counted ++ 0 ∷ []) }) put
-      ∙ ap (λ hs. record { role = role; held = hs }) (held_last sides counted side 0 as_many ∙ sym (put_last txn_held (record { side = side; released = 0 }) (held_of sides counted) none_before))
+      ∙ ap (λ hs. record { role = role; held = hs })
+      (held_last sides counted side 0 as_many
+      ∙ sym (put_last txn_held (record { side = side; released = 0 }) (held_of sides counted) none_before))
 
   -- All bytes that back the desk's content back it with a side that began by a row.
   pub more_backed : RowsGrow → (new : SidesOf)
       → new ≡ put_side (record { role = role; sides = sides }) side → IsStep (idle_side role (txn_of side)) side
-      → StaysBacked many_sides ManyBack (held_so role sides counted as_many) (record { role = new.role; held = held_of new.sides (counted ++ 0 ∷ []) })
+      → StaysBacked many_sides ManyBack (held_so role sides counted as_many)
+      (record { role = new.role; held = held_of new.sides (counted ++ 0 ∷ []) })
   more_backed grows new put row landed backed =
       let old = held_so role sides counted as_many in
       let next = with_held old (record { side = side; released = 0 }) in
       subst (IsBacked many_sides ManyBack landed) (sym (held_more new put))
       (subst (λ read. IsBackedByRead ManyBack read next) (same_landed landed old next refl)
-      (row_backs_all (landed_live many_sides landed old) old (idle_held role (txn_of side)) side (ap (found_or (idle_held role (txn_of side))) none_before) row backed))
+      (row_backs_all (landed_live many_sides landed old) old (idle_held role (txn_of side)) side
+      (ap (found_or (idle_held role (txn_of side))) none_before) row backed))
 
   -- If some sides back the desk's content, they back it with a side that began by a row.
   pub more_backable : RowsGrow → (new : SidesOf) → new ≡ put_side (record { role = role; sides = sides }) side
@@ -558,7 +647,8 @@ module _ (role : Role) (sides : List Side) (counted : List ℕ) (as_many : lengt
   more_backable grows new put row backed = (
     backed.0,
     subst (AreBackedBy backed.0) (sym (held_more new put))
-        (row_backs_held backed.0 (held_so role sides counted as_many) (idle_held role (txn_of side)) side (ap (found_or (idle_held role (txn_of side))) none_before) row backed.1),
+        (row_backs_held backed.0 (held_so role sides counted as_many) (idle_held role (txn_of side)) side
+        (ap (found_or (idle_held role (txn_of side))) none_before) row backed.1),
   )
 
 -- ---- all that is held is whole
@@ -578,11 +668,13 @@ either_is P side found false is others = others
 each_is : (P : Side → Type 0) (txn : Qualifiers) (sides : List Side) → Each P sides → IfSome (found_by txn_of txn sides) P
 unfolding Each
 each_is P txn [] each = tt
-each_is P txn (side ∷ sides) each = either_is P side (found_by txn_of txn sides) (is_same_txn txn (txn_of side)) each.0 (each_is P txn sides each.1)
+each_is P txn (side ∷ sides) each =
+    either_is P side (found_by txn_of txn sides) (is_same_txn txn (txn_of side)) each.0 (each_is P txn sides each.1)
 
 -- A consistent side that is found, or an idle one, backs itself with all messages released.
 found_whole : (role : Role) (txn : Qualifiers) (found : Option Side) → IfSome found IsConsistent
-    → IsBackedBy (found_or (idle_side role txn) found) (found_or (idle_held role txn) (option_map whole found)).side (found_or (idle_held role txn) (option_map whole found)).released
+    → IsBackedBy (found_or (idle_side role txn) found) (found_or (idle_held role txn) (option_map whole found)).side
+    (found_or (idle_held role txn) (option_map whole found)).released
 found_whole role txn (Some side) is = itself_backs side (length (issued_of side)) is (omega arith)
 found_whole role txn None is = itself_backs (idle_side role txn) 0 (idle_keeps role txn) (omega arith)
 
@@ -592,14 +684,17 @@ unfolding side_with
 whole_backed all each = record {
   role = refl;
   each = λ txn.
-      subst (λ found. IsBackedBy (side_for txn all) (found_or (idle_held all.role txn) found).side (found_or (idle_held all.role txn) found).released)
-      (sym (found_mapped txn_of txn_held whole (λ side. refl) txn all.sides)) (found_whole all.role txn (found_by txn_of txn all.sides) (each_is IsConsistent txn all.sides each));
+      subst (λ found. IsBackedBy (side_for txn all) (found_or (idle_held all.role txn) found).side
+      (found_or (idle_held all.role txn) found).released)
+      (sym (found_mapped txn_of txn_held whole (λ side. refl) txn all.sides))
+      (found_whole all.role txn (found_by txn_of txn all.sides) (each_is IsConsistent txn all.sides each));
 }
 
 -- A desk with the counts of all that its sides have issued holds them whole.
 pub whole_held : (all : SidesOf) (counted : List ℕ) → counted ≡ counts all.sides
     → record { role = all.role; held = held_of all.sides counted } ≡ whole_of all
-whole_held all counted whole = ap (λ ns. record { role = all.role; held = held_of all.sides ns }) whole ∙ ap (λ hs. record { role = all.role; held = hs }) (held_whole all.sides)
+whole_held all counted whole = ap (λ ns. record { role = all.role; held = held_of all.sides ns }) whole
+    ∙ ap (λ hs. record { role = all.role; held = hs }) (held_whole all.sides)
 
 -- There are as many counts as sides.
 pub as_many_counted : (sides : List Side) (counted : List ℕ) → counted ≡ counts sides → length counted ≡ length sides
@@ -607,7 +702,8 @@ as_many_counted sides counted whole = ap length whole ∙ length-map sides (λ s
 
 -- Sides that are held whole are those sides.
 pub sides_of_whole : (all : SidesOf) → sides_held (whole_of all) ≡ all
-sides_of_whole all = ap sides_held (sym (whole_held all (counts all.sides) refl)) ∙ holds_sides all (counts all.sides) (length-map all.sides (λ side. length (issued_of side)))
+sides_of_whole all = ap sides_held (sym (whole_held all (counts all.sides) refl))
+    ∙ holds_sides all (counts all.sides) (length-map all.sides (λ side. length (issued_of side)))
 
 -- Consistent sides that are held whole back themselves.
 pub whole_back : (all : SidesOf) → Each IsConsistent all.sides → ManyBack (whole_of all) (whole_of all)
@@ -616,7 +712,8 @@ whole_back all each = subst (λ landed. AreBackedBy landed (whole_of all)) (sym 
 -- Consistent sides with all messages released are backed by some sides.
 pub whole_backable : (all : SidesOf) (counted : List ℕ) → Each IsConsistent all.sides → counted ≡ counts all.sides
     → AreBackable (record { role = all.role; held = held_of all.sides counted })
-whole_backable all counted each whole = (all, subst (AreBackedBy all) (sym (whole_held all counted whole)) (whole_backed all each))
+whole_backable all counted each whole =
+    (all, subst (AreBackedBy all) (sym (whole_held all counted whole)) (whole_backed all each))
 
 -- If some sides back the desk's content, no more messages are released than issued.
 pub few_released : ((old new : Side) → Follows old new → IsPrefix (issued_of old) (issued_of new))
@@ -630,7 +727,8 @@ few_released follows live txn backed =
 pub one_counted : (counted : List ℕ) (sides : List Side) (n : ℕ) (side : Side) → n < length sides → side ≡ get_or sides n side
     → (counted ++ length (issued_of side) ∷ []) ++ counts (drop (n + 1) sides) ≡ counted ++ counts (drop n sides)
 one_counted counted sides n side inside there =
-    append_assoc counted (length (issued_of side) ∷ []) (counts (drop (n + 1) sides)) ∙ ap (λ vs. counted ++ counts vs) (sym (drop_more sides n side inside ∙ ap (λ s. s ∷ drop (n + 1) sides) (sym there)))
+    append_assoc counted (length (issued_of side) ∷ []) (counts (drop (n + 1) sides))
+    ∙ ap (λ vs. counted ++ counts vs) (sym (drop_more sides n side inside ∙ ap (λ s. s ∷ drop (n + 1) sides) (sym there)))
 
 -- `P` holds of each element of an empty list.
 pub none_are : (P : Side → Type 0) → Each P []
@@ -655,7 +753,8 @@ SidesReadAgain = (all : SidesOf) → AreSides all → records_at (sides_spelling
 abbrev FollowsIssues : Type 0
 FollowsIssues = (old new : Side) → Follows old new → IsPrefix (issued_of old) (issued_of new)
 
-module _ (follows : FollowsIssues) (all : SidesOf) (counted : List ℕ) (as_many : length counted ≡ length all.sides) (each : Each IsConsistent all.sides) where
+module _ (follows : FollowsIssues) (all : SidesOf) (counted : List ℕ) (as_many : length counted ≡ length all.sides)
+    (each : Each IsConsistent all.sides) where
   -- If a found side is consistent, so is the side found, or else the idle one.
   keeps_or : (txn : Qualifiers) (found : Option DeskEntry) → IfSome (option_map side_of found) IsConsistent
       → IsConsistent (found_or (idle_held all.role txn) found).side
@@ -679,10 +778,12 @@ module _ (follows : FollowsIssues) (all : SidesOf) (counted : List ℕ) (as_many
         let held = held_for txn live in
         let found = found_by txn_held txn live.held in
         let there = found_side txn all.sides counted as_many in
-        let is : IsConsistent held.side = keeps_or txn found (subst (λ f. IfSome f IsConsistent) there (each_is IsConsistent txn all.sides each)) in
+        let is : IsConsistent held.side =
+        keeps_or txn found (subst (λ f. IfSome f IsConsistent) there (each_is IsConsistent txn all.sides each)) in
         let was = backed.each txn in
         let few = no_less _ _ (follows _ _ was.follows) in
-        subst (λ side. IsBackedBy side held.side held.released) (sym (ap (found_or (idle_side all.role txn)) there ∙ same_or txn found))
+        subst (λ side. IsBackedBy side held.side held.released)
+        (sym (ap (found_or (idle_side all.role txn)) there ∙ same_or txn found))
         (record { consistent = is; follows = follows_itself; has-released = omega (arith, was.has-released, few) });
   }
 
@@ -696,7 +797,9 @@ module _ (follows : FollowsIssues) (all : SidesOf) (counted : List ℕ) (as_many
       record {
         spelled = spelled ∙ ap sides_spelling seen;
         read = ap many_sides.read spelled ∙ ap (map_ok whole_of) (again all are) ∙ ap Ok saved;
-        backed = subst (λ landed. ManyBack landed live) saved (subst (λ landed. AreBackedBy landed live) (sym (sides_of_whole all)) (subst (AreBackedBy all) is (self_backed backable.0 (subst (AreBackedBy backable.0) (sym is) backable.1))));
+        backed = subst (λ landed. ManyBack landed live) saved
+            (subst (λ landed. AreBackedBy landed live) (sym (sides_of_whole all))
+            (subst (AreBackedBy all) is (self_backed backable.0 (subst (AreBackedBy backable.0) (sym is) backable.1))));
         saved = subst (λ landed. ManyBack landed landed) saved (whole_back all each);
       }
 
@@ -714,16 +817,20 @@ each_if false side is = (is, tt)
 
 -- The law of one record: bytes that are read as a side are its encoding, and it is in range.
 abbrev pub OneConsistent : Type 0
-OneConsistent = (bytes : List ℕ) (side : Side) → IsBytes bytes → record_at bytes ≡ Ok side → (bytes ≡ record_spelling side) × IsSide side
+OneConsistent = (bytes : List ℕ) (side : Side) → IsBytes bytes → record_at bytes ≡ Ok side → (bytes ≡ record_spelling side)
+    × IsSide side
 
 -- The law of version 2: bytes that are read as sides are their encoding, and the sides may be saved.
 abbrev pub ManyConsistent : Type 0
-ManyConsistent = (bytes : List ℕ) (held : SidesOf) → IsBytes bytes → is_version_1 bytes ≡ false → records_at bytes ≡ Ok held → (bytes ≡ sides_spelling held) × AreSides held
+ManyConsistent = (bytes : List ℕ) (held : SidesOf) → IsBytes bytes → is_version_1 bytes ≡ false → records_at bytes ≡ Ok held
+    → (bytes ≡ sides_spelling held) × AreSides held
 
 -- If a side that is read is consistent, so is the side that is read alone.
 alone_read : (read : Result Side RecordFault) (all : SidesOf) → ((side : Side) → read ≡ Ok side → IsConsistent side)
     → read_alone read ≡ Ok all → Each IsConsistent all.sides
-alone_read (Ok side) all one is = subst (λ (held : SidesOf). Each IsConsistent held.sides) (ok_is (alone side) all is) (each_if (is_idle side) side (one side refl))
+alone_read (Ok side) all one is =
+    subst (λ (held : SidesOf). Each IsConsistent held.sides) (ok_is (alone side) all is)
+    (each_if (is_idle side) side (one side refl))
 alone_read (Err fault) all one is = search rules
 
 -- If the sides of either version are consistent, so are the sides that are read.
@@ -739,4 +846,5 @@ pub read_consistent : OneConsistent → ManyConsistent → (bytes : List ℕ) (a
     → records_at bytes ≡ Ok all → Each IsConsistent all.sides
 unfolding records_at
 read_consistent one many bytes all is read =
-    either_read (is_version_1 bytes) bytes (unsealed bytes >>= sides_at) all refl read (λ side found. (one bytes side is found).1.0) (λ later. each_consistent all.sides (many bytes all is later read).1.each)
+    either_read (is_version_1 bytes) bytes (unsealed bytes >>= sides_at) all refl read
+    (λ side found. (one bytes side is found).1.0) (λ later. each_consistent all.sides (many bytes all is later read).1.each)

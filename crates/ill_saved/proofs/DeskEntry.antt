@@ -1,5 +1,7 @@
 -- Sides that are filed by their transactions.
-use Rattle.std.proofs.Common.{◌≡◌, ℕ, ◌<◌, nat_lt, length, drop, map, Bool, true, false, cond, if◌then◌else◌, not, ◌&&◌, ◌⊎◌, inl, inr, Ok, List, [], ◌∷◌, ◌++◌, Option, Some, None, Err, is_some, is_none, refl, ap, sym, subst, ◌∙◌, true≢false, rules, arith, length-append}
+use Rattle.std.proofs.Common.{◌≡◌, ℕ, ◌<◌, nat_lt, length, drop, map, Bool, true, false, cond, if◌then◌else◌, not, ◌&&◌, ◌⊎◌, inl}
+use Rattle.std.proofs.Common.{inr, Ok, List, [], ◌∷◌, ◌++◌, Option, Some, None, Err, is_some, is_none, refl, ap, sym, subst, ◌∙◌}
+use Rattle.std.proofs.Common.{true≢false, rules, arith, length-append}
 use Rattle.std.specs.List.{list_all}
 use Rattle.std.specs.Prelude.{option_map, ◌≤◌, Result}
 use Rattle.std.proofs.lemmas.Map.{keys-set_value}
@@ -56,7 +58,8 @@ none_more : (txn : Qualifiers) (side : Side) (sides : List Side) → is_none (si
     → is_none (side_with txn (sides ++ side ∷ [])) ≡ true
 unfolding side_with
 none_more txn side [] none apart = ap (λ same. is_none (cond same (Some side) None)) apart
-none_more txn side (x ∷ sides) none apart = none_after (is_same_txn txn (txn_of x)) x (side_with txn sides) _ none (λ there. none_more txn side sides there apart)
+none_more txn side (x ∷ sides) none apart =
+    none_after (is_same_txn txn (txn_of x)) x (side_with txn sides) _ none (λ there. none_more txn side sides there apart)
 
 -- If sides are apart, and none is of the transaction of `side`, they are apart with `side` after them.
 pub apart_more : (side : Side) (sides : List Side) → side_with (txn_of side) sides ≡ None → are_apart sides ≡ true
@@ -66,11 +69,14 @@ apart_more side [] none apart = refl
 apart_more side (x ∷ sides) none apart =
     let parts = and_parts _ _ apart in
     let new = not_first (is_same_txn (txn_of side) (txn_of x)) x (side_with (txn_of side) sides) none in
-    and_from _ _ (none_more (txn_of x) side sides parts.0 (apart_back (txn_of side) (txn_of x) new.0)) (apart_more side sides new.1 parts.1)
+    and_from _ _ (none_more (txn_of x) side sides parts.0 (apart_back (txn_of side) (txn_of x) new.0))
+    (apart_more side sides new.1 parts.1)
 
 -- If a side is not refused, it is of the role, not idle and new, and there is room.
 pub not_refused : (of_role idle twice room : Bool)
-    → (if not of_role then Some faults.OtherRole else (if idle then Some faults.Idle else (if twice then Some faults.Twice else (if room then None else Some faults.Full)))) ≡ None
+    → (if not of_role then Some faults.OtherRole else
+    (if idle then Some faults.Idle else (if twice then Some faults.Twice else (if room then None else Some faults.Full))))
+    ≡ None
     → (of_role ≡ true) × (idle ≡ false) × (twice ≡ false) × (room ≡ true)
 not_refused true false false true none = (refl, refl, refl, refl)
 not_refused of_role idle twice room none = search rules
@@ -84,7 +90,8 @@ not_some (Some side) none = absurd (true≢false none)
 pub new_to : (held : SidesOf) (side : Side) → put_refusal held side ≡ None → side_with (txn_of side) held.sides ≡ None
 new_to held side none =
     not_some (side_with (txn_of side) held.sides)
-    (not_refused (is_same_role held.role (role_of side)) (is_idle side) (is_some (side_with (txn_of side) held.sides)) (nat_lt (length held.sides) most_sides) none).2
+    (not_refused (is_same_role held.role (role_of side)) (is_idle side) (is_some (side_with (txn_of side) held.sides))
+    (nat_lt (length held.sides) most_sides) none).2
 
 -- If the test of order is true, `a` is less than `b`.
 below : (a b : ℕ) → nat_lt a b ≡ true → a < b
@@ -92,7 +99,9 @@ below a b less = search rules
 
 -- No refusal of a side is a lack of memory.
 no_memory_wanted : (of_role idle twice room : Bool)
-    → (if not of_role then Some faults.OtherRole else (if idle then Some faults.Idle else (if twice then Some faults.Twice else (if room then None else Some faults.Full)))) ≡ Some faults.OutOfMemory
+    → (if not of_role then Some faults.OtherRole else
+    (if idle then Some faults.Idle else (if twice then Some faults.Twice else (if room then None else Some faults.Full))))
+    ≡ Some faults.OutOfMemory
     → ⊥
 no_memory_wanted of_role idle twice room wanted = search rules
 
@@ -100,7 +109,8 @@ no_memory_wanted of_role idle twice room wanted = search rules
 pub handed_back : (held : SidesOf) (side : Side) (fault : SidesFault) → put_refusal held side ≡ Some fault
     → Puts held side (Err (fault, side)) held
 handed_back held side faults.OutOfMemory refused =
-    absurd (no_memory_wanted (is_same_role held.role (role_of side)) (is_idle side) (is_some (side_with (txn_of side) held.sides)) (nat_lt (length held.sides) most_sides) refused)
+    absurd (no_memory_wanted (is_same_role held.role (role_of side)) (is_idle side) (is_some (side_with (txn_of side) held.sides))
+    (nat_lt (length held.sides) most_sides) refused)
 handed_back held side faults.OtherRole refused = (refused, refl, refl)
 handed_back held side faults.Idle refused = (refused, refl, refl)
 handed_back held side faults.Twice refused = (refused, refl, refl)
@@ -116,15 +126,18 @@ pub none_filed : (role : Role) (entries : List (Qualifiers × Side)) → entries
     → AreFiled (keys_of entries) (record { role = role; sides = values_of entries })
 unfolding are_apart
 none_filed role entries empty =
-    subst (λ es. AreFiled (keys_of es) (record { role = role; sides = values_of es })) (sym empty) (record { keys = refl; held = refl; few = omega arith })
+    subst (λ es. AreFiled (keys_of es) (record { role = role; sides = values_of es })) (sym empty)
+    (record { keys = refl; held = refl; few = omega arith })
 
 -- Sides that are filed, and one more that may be put among them.
 module _ (role : Role) (entries : List (Qualifiers × Side)) (side : Side)
     (filed : AreFiled (keys_of entries) (record { role = role; sides = values_of entries }))
     (none : put_refusal (record { role = role; sides = values_of entries }) side ≡ None) where
   -- `side` is of the role, not idle and new, and there is room.
-  may : (is_same_role role (role_of side) ≡ true) × (is_idle side ≡ false) × (is_some (side_with (txn_of side) (values_of entries)) ≡ false) × (nat_lt (length (values_of entries)) most_sides ≡ true)
-  may = not_refused (is_same_role role (role_of side)) (is_idle side) (is_some (side_with (txn_of side) (values_of entries))) (nat_lt (length (values_of entries)) most_sides) none
+  may : (is_same_role role (role_of side) ≡ true) × (is_idle side ≡ false)
+      × (is_some (side_with (txn_of side) (values_of entries)) ≡ false) × (nat_lt (length (values_of entries)) most_sides ≡ true)
+  may = not_refused (is_same_role role (role_of side)) (is_idle side) (is_some (side_with (txn_of side) (values_of entries)))
+      (nat_lt (length (values_of entries)) most_sides) none
 
   -- No side of the transaction of `side` is among the entries.
   new_there : side_with (txn_of side) (values_of entries) ≡ None
@@ -139,11 +152,14 @@ module _ (role : Role) (entries : List (Qualifiers × Side)) (side : Side)
       → AreFiled (keys_of new) (record { role = role; sides = values_of new })
   put_there new put =
       let held = and_parts _ _ filed.held in
-      let values : values_of new ≡ values_of entries ++ side ∷ [] = ap values_of put ∙ map-append (λ e. e.1) entries ((txn_of side, side) ∷ []) in
+      let values : values_of new ≡ values_of entries ++ side ∷ [] =
+      ap values_of put ∙ map-append (λ e. e.1) entries ((txn_of side, side) ∷ []) in
       let keys : keys_of new ≡ map txn_of (values_of entries ++ side ∷ []) =
-      ap keys_of put ∙ map-append (λ e. e.0) entries ((txn_of side, side) ∷ []) ∙ ap (λ ids. ids ++ txn_of side ∷ []) filed.keys ∙ sym (map-append txn_of (values_of entries) (side ∷ [])) in
+      ap keys_of put ∙ map-append (λ e. e.0) entries ((txn_of side, side) ∷ []) ∙ ap (λ ids. ids ++ txn_of side ∷ []) filed.keys
+      ∙ sym (map-append txn_of (values_of entries) (side ∷ [])) in
       let stands : is_begun role side ≡ true = and_from _ _ may.0 (ap not may.1) in
-      let all : list_all (is_begun role) (values_of entries ++ side ∷ []) ≡ true = list_all-append (is_begun role) (values_of entries) (side ∷ []) ∙ and_from _ _ held.0 (and_from _ _ stands refl) in
+      let all : list_all (is_begun role) (values_of entries ++ side ∷ []) ≡ true =
+      list_all-append (is_begun role) (values_of entries) (side ∷ []) ∙ and_from _ _ held.0 (and_from _ _ stands refl) in
       let small = below (length (values_of entries)) most_sides may.3 in
       subst (λ vs. AreFiled (keys_of new) (record { role = role; sides = vs })) (sym values) (record {
         keys = keys;
@@ -188,11 +204,14 @@ apart_by_txns : (sides : List Side) → are_apart sides ≡ are_other (map txn_o
 unfolding side_with are_apart are_other
 apart_by_txns [] = refl
 apart_by_txns (side ∷ sides) =
-    ap (λ b. b && are_apart sides) (sym (ap is_none (found_mapped txn_of (λ t. t) txn_of (λ s. refl) (txn_of side) sides) ∙ mapped_none (txn_of side) (found_by txn_of (txn_of side) sides)))
+    ap (λ b. b && are_apart sides) (sym
+    (ap is_none (found_mapped txn_of (λ t. t) txn_of (λ s. refl) (txn_of side) sides)
+    ∙ mapped_none (txn_of side) (found_by txn_of (txn_of side) sides)))
     ∙ ap (λ b. is_none (found_by (λ t. t) (txn_of side) (map txn_of sides)) && b) (apart_by_txns sides)
 
 -- If `values_set` holds of the other entries, it holds with `e` before them.
-set_first : (test : Bool) (e : Qualifiers × Side) (after side : Side) (found : Option Side) (set_on : List (Qualifiers × Side)) (entries : List (Qualifiers × Side)) (put_on : List Side)
+set_first : (test : Bool) (e : Qualifiers × Side) (after side : Side) (found : Option Side) (set_on : List (Qualifiers × Side))
+    (entries : List (Qualifiers × Side)) (put_on : List Side)
     → cond test (Some e.1) found ≡ Some side
     → (found ≡ Some side → values_of set_on ≡ put_on)
     → values_of (cond test ((e.0, after) ∷ entries) (e ∷ set_on)) ≡ cond test (after ∷ values_of entries) (e.1 ∷ put_on)
@@ -209,8 +228,10 @@ values_set txn after side (e ∷ entries) of_txn keyed there =
     let first : e.0 ≡ txn_of e.1 = ap (λ ids. get_or ids 0 e.0) keyed in
     let others : keys_of entries ≡ map txn_of (values_of entries) = ap (λ ids. drop 1 ids) keyed in
     let put_on = put_by txn_of after (values_of entries) in
-    set_first (is_same_txn txn e.0) e after side (lookup (is_same_txn txn) entries) (set_value (is_same_txn txn) entries after) entries put_on there (values_set txn after side entries of_txn others)
-    ∙ ap (λ t. cond (is_same_txn t e.0) (after ∷ values_of entries) (e.1 ∷ put_on)) of_txn ∙ ap (λ t. cond (is_same_txn (txn_of after) t) (after ∷ values_of entries) (e.1 ∷ put_on)) first
+    set_first (is_same_txn txn e.0) e after side (lookup (is_same_txn txn) entries) (set_value (is_same_txn txn) entries after)
+    entries put_on there (values_set txn after side entries of_txn others)
+    ∙ ap (λ t. cond (is_same_txn t e.0) (after ∷ values_of entries) (e.1 ∷ put_on)) of_txn
+    ∙ ap (λ t. cond (is_same_txn (txn_of after) t) (after ∷ values_of entries) (e.1 ∷ put_on)) first
 
 -- A side that `side_with` finds is the one that `found_by` finds.
 pub found_plainly : (txn : Qualifiers) (sides : List Side) (side : Side) → side_with txn sides ≡ Some side
@@ -223,7 +244,8 @@ record Stays (old new : Side) : Type 0 where
   idle : idle_of new ≡ idle_of old
   begun : is_idle old ≡ false → is_idle new ≡ false
 
-module _ (role : Role) (entries : List (Qualifiers × Side)) (filed : AreFiled (keys_of entries) (record { role = role; sides = values_of entries }))
+module _ (role : Role) (entries : List (Qualifiers × Side))
+    (filed : AreFiled (keys_of entries) (record { role = role; sides = values_of entries }))
     (txn : Qualifiers) (side after : Side) (there : lookup (is_same_txn txn) entries ≡ Some side) (stays : Stays side after) where
   -- `side` is found among the sides of the entries.
   found : found_by txn_of txn (values_of entries) ≡ Some side
@@ -240,7 +262,8 @@ module _ (role : Role) (entries : List (Qualifiers × Side)) (filed : AreFiled (
 
   -- Putting `after` keeps the list of transactions.
   same_txns : map txn_of (put_by txn_of after (values_of entries)) ≡ map txn_of (values_of entries)
-  same_txns = keys_put txn_of after side (values_of entries) (ap (λ t. found_by txn_of t (values_of entries)) (sym of_txn) ∙ found)
+  same_txns = keys_put txn_of after side (values_of entries)
+      (ap (λ t. found_by txn_of t (values_of entries)) (sym of_txn) ∙ found)
 
   -- `after` may stand among sides of the role.
   stands : is_begun role after ≡ true
@@ -256,13 +279,17 @@ module _ (role : Role) (entries : List (Qualifiers × Side)) (filed : AreFiled (
   filed_changed new changed =
       let held = and_parts _ _ filed.held in
       let values : values_of new ≡ put_by txn_of after (values_of entries) = ap values_of changed ∙ values_put in
-      let keys : keys_of new ≡ map txn_of (put_by txn_of after (values_of entries)) = ap keys_of changed ∙ keys-set_value (is_same_txn txn) entries after ∙ filed.keys ∙ sym same_txns in
+      let keys : keys_of new ≡ map txn_of (put_by txn_of after (values_of entries)) =
+      ap keys_of changed ∙ keys-set_value (is_same_txn txn) entries after ∙ filed.keys ∙ sym same_txns in
       let apart : are_apart (put_by txn_of after (values_of entries)) ≡ true =
-      apart_by_txns (put_by txn_of after (values_of entries)) ∙ ap are_other same_txns ∙ sym (apart_by_txns (values_of entries)) ∙ held.1 in
+      apart_by_txns (put_by txn_of after (values_of entries)) ∙ ap are_other same_txns ∙ sym (apart_by_txns (values_of entries))
+      ∙ held.1 in
       subst (λ vs. AreFiled (keys_of new) (record { role = role; sides = vs })) (sym values) (record {
         keys = keys;
         held = and_from _ _ (put_passes txn_of (is_begun role) after (values_of entries) stands held.0) apart;
-        few = subst (λ n. n ≤ most_sides) (sym (length-map (values_of entries) txn_of) ∙ ap length (sym same_txns) ∙ length-map (put_by txn_of after (values_of entries)) txn_of) filed.few;
+        few = subst (λ n. n ≤ most_sides)
+            (sym (length-map (values_of entries) txn_of) ∙ ap length (sym same_txns)
+            ∙ length-map (put_by txn_of after (values_of entries)) txn_of) filed.few;
       })
 
 -- ---- a side is changed, or none is found
@@ -289,23 +316,32 @@ stays_by : RowsGrow → RowsStay → (old new : Side) → IsStep old new ⊎ (ne
 stays_by grows begins old new (inl row) = record { idle = (grows old new row).0; begun = begins old new row }
 stays_by grows begins old new (inr same) = record { idle = ap idle_of same; begun = λ begun. ap is_idle same ∙ begun }
 
-module _ (grows : RowsGrow) (begins : RowsStay) {A : Type 0} (Does : Side → A → Side → Type 0) (rows : (old new : Side) (answer : A) → Does old answer new → IsStep old new ⊎ (new ≡ old))
-    (role : Role) (txn : Qualifiers) (entries : List (Qualifiers × Side)) (filed : AreFiled (keys_of entries) (record { role = role; sides = values_of entries })) where
+module _ (grows : RowsGrow) (begins : RowsStay) {A : Type 0} (Does : Side → A → Side → Type 0)
+    (rows : (old new : Side) (answer : A) → Does old answer new → IsStep old new ⊎ (new ≡ old))
+    (role : Role) (txn : Qualifiers) (entries : List (Qualifiers × Side))
+    (filed : AreFiled (keys_of entries) (record { role = role; sides = values_of entries })) where
   -- If the side of `txn` alone does something, all are filed after it.
   pub filed_on : (answer : Option A) (new : List (Qualifiers × Side)) → OnlyThatEntry Does txn entries answer new
       → AreFiled (keys_of new) (record { role = role; sides = values_of new })
   filed_on None new only = subst (λ es. AreFiled (keys_of es) (record { role = role; sides = values_of es })) (sym only.1) filed
   filed_on (Some answer) new (side, after, there, does, changed) =
-      filed_changed role entries filed txn side after there (stays_by grows begins side after (rows side after answer does)) new changed
+      filed_changed role entries filed txn side after there (stays_by grows begins side after (rows side after answer does)) new
+      changed
 
   -- If one entry alone changes, the side of its transaction alone changes among the sides.
   pub only_that : (answer : Option A) (new : List (Qualifiers × Side)) → OnlyThatEntry Does txn entries answer new
-      → OnlyThat Does txn (record { role = role; sides = values_of entries }) answer (record { role = role; sides = values_of new })
-  only_that None new only = (sym (filed_with txn entries filed.keys) ∙ only.0, ap (λ es. record { role = role; sides = values_of es }) only.1)
+      → OnlyThat Does txn (record { role = role; sides = values_of entries }) answer
+      (record { role = role; sides = values_of new })
+  only_that None new only = (
+    sym (filed_with txn entries filed.keys) ∙ only.0,
+    ap (λ es. record { role = role; sides = values_of es }) only.1,
+  )
   only_that (Some answer) new (side, after, there, does, changed) = (
     side,
     after,
     sym (filed_with txn entries filed.keys) ∙ there,
     does,
-    ap (λ vs. record { role = role; sides = vs }) (ap values_of changed ∙ values_put role entries filed txn side after there (stays_by grows begins side after (rows side after answer does))),
+    ap (λ vs. record { role = role; sides = vs })
+        (ap values_of changed ∙ values_put role entries filed txn side after there
+        (stays_by grows begins side after (rows side after answer does))),
   )

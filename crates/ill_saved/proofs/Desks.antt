@@ -1,6 +1,8 @@
 -- The rules of a desk of one side hold after each of its calls.
-use Rattle.std.proofs.Common.{rules, arith, ◌≡◌, ◌⊎◌, ℕ, ◌+◌, ◌≤◌, Bool, true, List, [], ◌∷◌, ◌++◌, length, Option, Some, None, Result, Ok, Err, refl, ap, sym, subst, ◌∙◌, inl, inr, length-append, append-nil, append_assoc, drop}
-use Rattle.std.specs.Prelude.{IfErr, IfOk, is_ok, nat_le, map, option_map, slice_get, zero, suc, ◌-◌, is_some, if◌then◌else◌, not, false, take}
+use Rattle.std.proofs.Common.{rules, arith, ◌≡◌, ◌⊎◌, ℕ, ◌+◌, ◌≤◌, Bool, true, List, [], ◌∷◌, ◌++◌, length, Option, Some, None}
+use Rattle.std.proofs.Common.{Result, Ok, Err, refl, ap, sym, subst, ◌∙◌, inl, inr, length-append, append-nil, append_assoc, drop}
+use Rattle.std.specs.Prelude.{IfErr, IfOk, is_ok, nat_le, map, option_map, slice_get, zero, suc, ◌-◌, is_some, if◌then◌else◌, not}
+use Rattle.std.specs.Prelude.{false, take}
 use Rattle.std.proofs.lemmas.Bool.{le-leb}
 use Rattle.ill_values.specs.Day.{Date}
 use Rattle.ill_values.specs.declared.apdu.Apdu.{Apdu}
@@ -45,14 +47,18 @@ use Rattle.ill_saved.specs.declared.side.Action.{Action}
 use Rattle.ill_saved.specs.declared.side.Action.TheVariants as actions
 use Rattle.ill_saved.specs.declared.store.NextCall.{NextCall}
 use Rattle.ill_saved.specs.declared.store.NextCall.TheVariants as plans
-use Rattle.ill_saved.specs.Side.{issued_of, txn_of, is_idle, standing_of, back_to, is_asked, KeepsRequest, IsConsistent, idle_of, idle_side, done_by, acts, takes, Acts, Takes, IsStep, IsPrefix, Grows, acted, took, Follows, same, further}
+use Rattle.ill_saved.specs.Side.{issued_of, txn_of, is_idle, standing_of, back_to, is_asked, KeepsRequest, IsConsistent, idle_of}
+use Rattle.ill_saved.specs.Side.{idle_side, done_by, acts, takes, Acts, Takes, IsStep, IsPrefix, Grows, acted, took, Follows}
+use Rattle.ill_saved.specs.Side.{same, further}
 use Rattle.ill_saved.specs.Faults.{of_core, of_record}
 use Rattle.ill_saved.proofs.Records.{no_digest}
 use Rattle.ill_saved.specs.Records.{record_at, record_spelling, Decodes}
 use Rattle.ill_saved.specs.Ranges.{Each, IsSide}
 use Rattle.ill_saved.specs.Store.{Allows, StoreState, StoreLoads}
 use Rattle.ill_saved.specs.LandedBytes.{LandedBytes, IsLandedRecord, HoldsReleased, GoesBackTo}
-use Rattle.ill_saved.specs.Holdings.{DeskEntry, Effects, DeskActs, DeskTakesApdu, GoesBackToLanded, IsBacked, IsBackedBy, IsBackedByRead, IsReadFault, IsRecordOf, ReadsRecord, Sends, StaysBacked, landed_live, map_ok, whole}
+use Rattle.ill_saved.specs.Holdings.{DeskEntry, Effects, DeskActs, DeskTakesApdu, GoesBackToLanded, IsBacked, IsBackedBy}
+use Rattle.ill_saved.specs.Holdings.{IsBackedByRead, IsReadFault, IsRecordOf, ReadsRecord, Sends, StaysBacked, landed_live}
+use Rattle.ill_saved.specs.Holdings.{map_ok, whole}
 use Rattle.ill_saved.specs.OneSide.{OneBacks, alone, one_acts, one_answers, one_side, with_side}
 use Rattle.ill_saved.specs.Desk.{IsOneApdu, Restarts}
 use Rattle.ill_saved.proofs.Rules.{responder_asked}
@@ -60,9 +66,12 @@ use Rattle.ill_saved.proofs.Rules.{responder_asked}
 -- The laws of ill_core on rows: a row keeps the transaction, and issues one APDU or none.
 pub record CoreRows : Type 0 where
   pub wish_txn : (x new : RequesterRecord) (wish : Wish) → requester_actions.acts x wish ≡ Ok new → new.txn ≡ x.txn
-  pub wish_issues : (x new : RequesterRecord) (wish : Wish) → requester_actions.acts x wish ≡ Ok new → IssuesNext x.txn x.issued new.issued
-  pub deed_txn : (y new : ResponderRecord) (deed : Deed) (today : Date) → responder_actions.acts y deed today ≡ Ok new → new.txn ≡ y.txn
-  pub deed_issues : (y new : ResponderRecord) (deed : Deed) (today : Date) → responder_actions.acts y deed today ≡ Ok new → IssuesNext y.txn y.issued new.issued
+  pub wish_issues : (x new : RequesterRecord) (wish : Wish) → requester_actions.acts x wish ≡ Ok new
+      → IssuesNext x.txn x.issued new.issued
+  pub deed_txn : (y new : ResponderRecord) (deed : Deed) (today : Date) → responder_actions.acts y deed today ≡ Ok new
+      → new.txn ≡ y.txn
+  pub deed_issues : (y new : ResponderRecord) (deed : Deed) (today : Date) → responder_actions.acts y deed today ≡ Ok new
+      → IssuesNext y.txn y.issued new.issued
   pub requester_txn : (x : RequesterRecord) (a : Apdu) → (requester_deliveries.takes x a).1.txn ≡ x.txn
   pub requester_issues : (x : RequesterRecord) (a : Apdu) → (requester_deliveries.takes x a).1.issued ≡ x.issued
   pub responder_txn : (y : ResponderRecord) (a : Apdu) → (responder_deliveries.takes y a).1.txn ≡ y.txn
@@ -103,13 +112,15 @@ issues_more txn old new more = subst (IsPrefix old) (sym more.1) (one_more old _
 -- A requester grows by a wish.
 wish_grows : CoreRows → (x made : RequesterRecord) (wish : Wish) → requester_actions.acts x wish ≡ Ok made
     → Grows (sides.Requester x) (sides.Requester made)
-wish_grows rows x made wish e = requester_grows x made (rows.wish_txn x made wish e) (issues_more x.txn x.issued made.issued (rows.wish_issues x made wish e))
+wish_grows rows x made wish e =
+    requester_grows x made (rows.wish_txn x made wish e) (issues_more x.txn x.issued made.issued (rows.wish_issues x made wish e))
 
 -- A responder grows by a deed.
 deed_grows : CoreRows → (y made : ResponderRecord) (deed : Deed) (today : Date)
     → responder_actions.acts y deed today ≡ Ok made → Grows (sides.Responder y) (sides.Responder made)
 deed_grows rows y made deed today e =
-    responder_grows y made (rows.deed_txn y made deed today e) (issues_more y.txn y.issued made.issued (rows.deed_issues y made deed today e))
+    responder_grows y made (rows.deed_txn y made deed today e)
+    (issues_more y.txn y.issued made.issued (rows.deed_issues y made deed today e))
 
 -- A side grows by an action that is done.
 acts_grow : CoreRows → (old new : Side) (action : Action) → acts old action ≡ Ok new → Grows old new
@@ -143,7 +154,8 @@ row_grows rows old new (took a e) = subst (Grows old) e (takes_grow rows old a)
 
 -- The laws of ill_core on a responder's request: each deed and each APDU keeps it.
 pub record RequestRows : Type 0 where
-  pub deed : (y new : ResponderRecord) (deed : Deed) (today : Date) → responder_actions.acts y deed today ≡ Ok new → responder_evidence.KeepsRequest y new
+  pub deed : (y new : ResponderRecord) (deed : Deed) (today : Date) → responder_actions.acts y deed today ≡ Ok new
+      → responder_evidence.KeepsRequest y new
   pub message : (y : ResponderRecord) (a : Apdu) → responder_evidence.KeepsRequest y (responder_deliveries.takes y a).1
 
 -- If `not b` is true, `b` is false.
@@ -189,9 +201,12 @@ RowsKeepRequest = (old new : Side) → IsStep old new → KeepsRequest old new
 
 -- The laws of ill_core on IDLE: no wish or deed leads to it, and no APDU leads a requester back.
 pub record BeginningRows : Type 0 where
-  pub wish : (x new : RequesterRecord) (wish : Wish) → requester_actions.acts x wish ≡ Ok new → is_among (Idle ∷ []) new.state ≡ false
-  pub deed : (y new : ResponderRecord) (deed : Deed) (today : Date) → responder_actions.acts y deed today ≡ Ok new → is_among (Idle ∷ []) new.state ≡ false
-  pub message : (x : RequesterRecord) (a : Apdu) → is_among (Idle ∷ []) x.state ≡ false → is_among (Idle ∷ []) (requester_deliveries.takes x a).1.state ≡ false
+  pub wish : (x new : RequesterRecord) (wish : Wish) → requester_actions.acts x wish ≡ Ok new
+      → is_among (Idle ∷ []) new.state ≡ false
+  pub deed : (y new : ResponderRecord) (deed : Deed) (today : Date) → responder_actions.acts y deed today ≡ Ok new
+      → is_among (Idle ∷ []) new.state ≡ false
+  pub message : (x : RequesterRecord) (a : Apdu) → is_among (Idle ∷ []) x.state ≡ false
+      → is_among (Idle ∷ []) (requester_deliveries.takes x a).1.state ≡ false
 
 -- A side is not idle after an action that is done.
 acts_begin : BeginningRows → (old new : Side) (action : Action) → acts old action ≡ Ok new → is_idle new ≡ false
@@ -224,8 +239,10 @@ abbrev pub RefusalsStay : Type 0
 RefusalsStay = (side : Side) (a : Apdu) (refusal : Refusal) → (takes side a).0 ≡ Err refusal → (takes side a).1 ≡ side
 
 -- If each role takes an APDU or stays unchanged, an APDU that is refused leaves the side unchanged.
-pub refusals_stay : ((x : RequesterRecord) (a : Apdu) → ((requester_deliveries.takes x a).0 ≡ Ok Taken) ⊎ ((requester_deliveries.takes x a).1 ≡ x))
-    → ((y : ResponderRecord) (a : Apdu) → ((responder_deliveries.takes y a).0 ≡ Ok Taken) ⊎ ((responder_deliveries.takes y a).1 ≡ y))
+pub refusals_stay : ((x : RequesterRecord) (a : Apdu)
+    → ((requester_deliveries.takes x a).0 ≡ Ok Taken) ⊎ ((requester_deliveries.takes x a).1 ≡ x))
+    → ((y : ResponderRecord) (a : Apdu)
+    → ((responder_deliveries.takes y a).0 ≡ Ok Taken) ⊎ ((responder_deliveries.takes y a).1 ≡ y))
     → RefusalsStay
 refusals_stay requester responder (sides.Requester x) a refusal e = elim (requester x a) [
   | inl taken ↦ absurd (not_both _ refusal taken e)
@@ -238,13 +255,15 @@ refusals_stay requester responder (sides.Responder y) a refusal e = elim (respon
 
 -- A prefix of a prefix is a prefix.
 prefix_of_prefix : (old between new : List Apdu) → IsPrefix old between → IsPrefix between new → IsPrefix old new
-prefix_of_prefix old between new before after = (before.0 ++ after.0, after.1 ∙ (ap (λ l. l ++ after.0) before.1 ∙ append_assoc old before.0 after.0))
+prefix_of_prefix old between new before after =
+    (before.0 ++ after.0, after.1 ∙ (ap (λ l. l ++ after.0) before.1 ∙ append_assoc old before.0 after.0))
 
 -- If a side follows from another by rows, it has issued all that the other has, as a prefix.
 pub follows_issues : RowsGrow → (old new : Side) → Follows old new → IsPrefix (issued_of old) (issued_of new)
 follows_issues grows old _ same = none_more (issued_of old) (issued_of old) refl
 follows_issues grows old _ (further between new follows row) =
-    prefix_of_prefix (issued_of old) (issued_of between) (issued_of new) (follows_issues grows old between follows) (grows between new row).1
+    prefix_of_prefix (issued_of old) (issued_of between) (issued_of new) (follows_issues grows old between follows)
+    (grows between new row).1
 
 -- ---- the landed side backs the live one after a row
 
@@ -268,7 +287,8 @@ read_backs (Err fault) old new released row backed = backed
 row_backs : RowsGrow → (old new : Side) (released : ℕ) → IsStep old new
     → StaysBacked one_side OneBacks (entry old released) (entry new released)
 row_backs grows old new released row None backed =
-    subst (λ side. OneBacks (whole side) (entry new released)) (sym (grows old new row).0) (step_backed (whole (idle_of old)) old new released row backed)
+    subst (λ side. OneBacks (whole side) (entry new released)) (sym (grows old new row).0)
+    (step_backed (whole (idle_of old)) old new released row backed)
 row_backs grows old new released row (Some bytes) backed = read_backs (one_side.read bytes) old new released row backed
 
 -- If a requester keeps its transaction and its first `count` messages, it goes back to the record of before.
@@ -276,8 +296,10 @@ requester_back : (s : RequesterStanding) (count : ℕ) (x new : RequesterRecord)
     → IsPrefix x.issued new.issued → count ≤ length x.issued
     → requesters.back_to s count new ≡ requesters.back_to s count x
 requester_back s count x new txn more few =
-    let issued : take count new.issued ≡ take count x.issued = ap (take count) more.1 ∙ take-append-le count x.issued more.0 few in
-    ap (λ t. requester_of t s.state s.held s.checked_in s.due (take count new.issued)) txn ∙ ap (requester_of x.txn s.state s.held s.checked_in s.due) issued
+    let issued : take count new.issued ≡ take count x.issued =
+    ap (take count) more.1 ∙ take-append-le count x.issued more.0 few in
+    ap (λ t. requester_of t s.state s.held s.checked_in s.due (take count new.issued)) txn
+    ∙ ap (requester_of x.txn s.state s.held s.checked_in s.due) issued
 
 -- If a request stays unless the standing is IDLE, the request of the standing stays.
 request_stays : (is_idle : Bool) (old new : Option Apdu) → (is_idle ≡ false → new ≡ old)
@@ -291,9 +313,12 @@ responder_back : (s : ResponderStanding) (count : ℕ) (y new : ResponderRecord)
     → (is_among (Idle ∷ []) s.state ≡ false → new.request ≡ y.request)
     → responders.back_to s count new ≡ responders.back_to s count y
 responder_back s count y new txn more few stays =
-    let issued : take count new.issued ≡ take count y.issued = ap (take count) more.1 ∙ take-append-le count y.issued more.0 few in
-    let request : request_in s.state new.request ≡ request_in s.state y.request = request_stays (is_among (Idle ∷ []) s.state) y.request new.request stays in
-    ap (λ t. responder_of t s.state s.accepted s.last_cancel s.last_renew s.received (request_in s.state new.request) (take count new.issued)) txn
+    let issued : take count new.issued ≡ take count y.issued =
+    ap (take count) more.1 ∙ take-append-le count y.issued more.0 few in
+    let request : request_in s.state new.request ≡ request_in s.state y.request =
+    request_stays (is_among (Idle ∷ []) s.state) y.request new.request stays in
+    ap (λ t. responder_of t s.state s.accepted s.last_cancel s.last_renew s.received (request_in s.state new.request)
+    (take count new.issued)) txn
     ∙ (ap (λ r. responder_of y.txn s.state s.accepted s.last_cancel s.last_renew s.received r (take count new.issued)) request
     ∙ ap (responder_of y.txn s.state s.accepted s.last_cancel s.last_renew s.received (request_in s.state y.request)) issued)
 
@@ -345,27 +370,37 @@ StaysRight landed_record old new released =
 row_rules : RowsGrow → RowsKeepRequest → (landed_record : LandedBytes) (old new : Side) (released : ℕ)
     → IsStep old new → Rules landed_record old released → StaysRight landed_record old new released
 row_rules grows keeps landed_record old new released row rules =
-    let more = grows old new row in
-    ((omega (arith, rules.0, no_less _ _ more.1), keeps_on landed_record old new released rules.0 more (keeps old new row) rules.1), row_backs grows old new released row)
+    let more = grows old new row in (
+      (
+        omega (arith, rules.0, no_less _ _ more.1),
+        keeps_on landed_record old new released rules.0 more (keeps old new row) rules.1,
+      ),
+      row_backs grows old new released row,
+    )
 
 -- A held side stays right if it does not change.
 same_rules : (landed_record : LandedBytes) (old new : Side) (released : ℕ) → new ≡ old
     → Rules landed_record old released → StaysRight landed_record old new released
-same_rules landed_record old new released e rules = subst (λ side. StaysRight landed_record old side released) (sym e) (rules, λ landed backed. backed)
+same_rules landed_record old new released e rules =
+    subst (λ side. StaysRight landed_record old side released) (sym e) (rules, λ landed backed. backed)
 
 -- A held side stays right after an action, whatever its answer.
 pub acts_rules : RowsGrow → RowsKeepRequest
     → (landed_record : LandedBytes) (old new : Side) (released : ℕ) (action : Action) (answer : Result (Unit {0}) Refusal)
     → Acts old action answer new → Rules landed_record old released → StaysRight landed_record old new released
-acts_rules grows keeps landed_record old new released action (Ok done) acts rules = row_rules grows keeps landed_record old new released (acted action acts) rules
-acts_rules grows keeps landed_record old new released action (Err refusals.OutOfMemory) acts rules = same_rules landed_record old new released acts.1 rules
-acts_rules grows keeps landed_record old new released action (Err refusal) acts rules = same_rules landed_record old new released acts.1 rules
+acts_rules grows keeps landed_record old new released action (Ok done) acts rules =
+    row_rules grows keeps landed_record old new released (acted action acts) rules
+acts_rules grows keeps landed_record old new released action (Err refusals.OutOfMemory) acts rules =
+    same_rules landed_record old new released acts.1 rules
+acts_rules grows keeps landed_record old new released action (Err refusal) acts rules =
+    same_rules landed_record old new released acts.1 rules
 
 -- A held side stays right after an APDU, whatever the answer.
 pub takes_rules : RowsGrow → RowsKeepRequest
     → (landed_record : LandedBytes) (old new : Side) (released : ℕ) (a : Apdu) (answer : Result Taking Refusal)
     → Takes old a answer new → Rules landed_record old released → StaysRight landed_record old new released
-takes_rules grows keeps landed_record old new released a (Err refusals.OutOfMemory) takes rules = same_rules landed_record old new released takes.2 rules
+takes_rules grows keeps landed_record old new released a (Err refusals.OutOfMemory) takes rules =
+    same_rules landed_record old new released takes.2 rules
 takes_rules grows keeps landed_record old new released a answer takes rules =
     row_rules grows keeps landed_record old new released (took a (ap (λ (r : Result Taking Refusal × Side). r.1) takes)) rules
 
@@ -391,7 +426,8 @@ pub takes_alone : (held : DeskEntry) (new : Side) (a : Apdu) (answer : Result Ta
     → Takes held.side a answer new → DeskTakesApdu one_side held a (core_answer answer) (with_side held new)
 takes_alone held new a (Err refusals.OutOfMemory) takes = ((ap one_answers takes.0, takes.1), ap (with_side held) takes.2)
 takes_alone held new a (Ok taking) takes = ap (λ (r : Result Taking Refusal × Side). (one_answers r.0, with_side held r.1)) takes
-takes_alone held new a (Err refusal) takes = (ap (λ (r : Result Taking Refusal × Side). (one_answers r.0, with_side held r.1)) takes, refl)
+takes_alone held new a (Err refusal) takes =
+    (ap (λ (r : Result Taking Refusal × Side). (one_answers r.0, with_side held r.1)) takes, refl)
 
 -- ---- one APDU
 
@@ -404,7 +440,8 @@ one_after a (byte ∷ rest) more = tt
 pub trailing_alone : (bytes : List ℕ) (read : Result (Apdu × List ℕ) DerFault) (found : Apdu × ℕ)
     → found.1 + 1 ≤ length bytes → short_form.Decodes bytes read (Ok found) → IsOneApdu read (Err faults.Trailing)
 trailing_alone bytes (Ok apdu) found less decodes =
-    subst (λ r. IsOneApdu (Ok r) (Err faults.Trailing)) (sym decodes.1) (one_after found.0 (drop found.1 bytes) (omega (arith, length-drop found.1 bytes, less)))
+    subst (λ r. IsOneApdu (Ok r) (Err faults.Trailing)) (sym decodes.1)
+    (one_after found.0 (drop found.1 bytes) (omega (arith, length-drop found.1 bytes, less)))
 trailing_alone bytes (Err fault) found less decodes = search rules
 
 -- ---- saving
@@ -424,17 +461,31 @@ unless_idle false request is = refl
 back_to_itself : (side : Side) (count : ℕ) → IsConsistent side → count ≡ length (issued_of side)
     → back_to (standing_of side) count side ≡ Some side
 back_to_itself (sides.Requester x) count is all =
-    ap (λ l. Some (sides.Requester (requester_of x.txn x.state x.held x.checked_in x.due l))) (take_all count x.issued (omega (arith, all)))
+    ap (λ l. Some (sides.Requester (requester_of x.txn x.state x.held x.checked_in x.due l)))
+    (take_all count x.issued (omega (arith, all)))
 back_to_itself (sides.Responder y) count is all =
-    let request : request_in y.state y.request ≡ y.request = unless_idle (is_among (Idle ∷ []) y.state) y.request (responder_asked y is) in
-    ap (λ r. Some (sides.Responder (responder_of y.txn y.state y.accepted y.last_cancel y.last_renew y.received r (take count y.issued)))) request
-    ∙ ap (λ l. Some (sides.Responder (responder_of y.txn y.state y.accepted y.last_cancel y.last_renew y.received y.request l))) (take_all count y.issued (omega (arith, all)))
+    let request : request_in y.state y.request ≡ y.request =
+    unless_idle (is_among (Idle ∷ []) y.state) y.request (responder_asked y is) in
+    ap (λ r. Some (sides.Responder (responder_of y.txn y.state y.accepted y.last_cancel y.last_renew y.received r
+    (take count y.issued)))) request
+    ∙ ap (λ l. Some (sides.Responder (responder_of y.txn y.state y.accepted y.last_cancel y.last_renew y.received y.request l)))
+    (take_all count y.issued (omega (arith, all)))
 
 -- If the record of a side is kept and all of its messages are released, its desk keeps the record.
-pub keeps_whole : (landed_record : LandedBytes) (side : Side) (count : ℕ) → IsLandedRecord landed_record side → count ≡ length (issued_of side)
+pub keeps_whole : (landed_record : LandedBytes) (side : Side) (count : ℕ) → IsLandedRecord landed_record side
+    → count ≡ length (issued_of side)
     → HoldsReleased landed_record side count
 keeps_whole landed_record side count is all =
-    inr (side, is, record { prefix = none_more (issued_of side) (issued_of side) refl; all = all; back = back_to_itself side count is.0.0 all; asked = λ asked. asked })
+    inr (
+      side,
+      is,
+      record {
+        prefix = none_more (issued_of side) (issued_of side) refl;
+        all = all;
+        back = back_to_itself side count is.0.0 all;
+        asked = λ asked. asked;
+      },
+    )
 
 -- A consistent side backs itself with all messages released.
 pub itself_backs : (side : Side) (count : ℕ) → IsConsistent side → count ≤ length (issued_of side) → IsBackedBy side side count
@@ -485,12 +536,14 @@ idle_is_idle roles.Responder txn = refl
 -- If nothing has landed, the idle side with nothing released is backed.
 pub idle_backs : (first : Side) → first ≡ idle_of first → OneBacks (one_side.unsaved (alone first)) (alone first)
 idle_backs first idle =
-    subst (λ side. IsBackedBy side first 0) idle (itself_backs first 0 (subst IsConsistent (sym idle) (idle_consistent first)) (omega arith))
+    subst (λ side. IsBackedBy side first 0) idle
+    (itself_backs first 0 (subst IsConsistent (sym idle) (idle_consistent first)) (omega arith))
 
 -- If nothing has landed, the idle side of a side is backed with all of its messages released.
 pub idle_again_backs : (live : Side) → IsBacked one_side OneBacks None (whole (idle_of live))
 idle_again_backs live =
-    subst (λ side. OneBacks (whole side) (whole (idle_of live))) (sym (idle_twice live)) (itself_backs (idle_of live) (length (issued_of (idle_of live))) (idle_consistent live) (omega arith))
+    subst (λ side. OneBacks (whole side) (whole (idle_of live))) (sym (idle_twice live))
+    (itself_backs (idle_of live) (length (issued_of (idle_of live))) (idle_consistent live) (omega arith))
 
 -- An idle side with nothing released is that side with all of its messages released.
 pub alone_whole : (live : Side) → alone (idle_of live) ≡ whole (idle_of live)
@@ -505,7 +558,8 @@ read_is_backed effects backs bytes live read backed = subst (λ r. IsBackedByRea
 pub back_is : ReadsAgain → (landed_record : LandedBytes) (released : ℕ) (bytes : Option (List ℕ)) (old new : Side)
     → GoesBackTo landed_record released bytes true old new → landed_live one_side bytes (entry old released) ≡ Ok (whole new)
 back_is again landed_record released bytes old new (spelled, is, of) =
-    ap (λ o. landed_live one_side o (entry old released)) (spelled ∙ ap (λ (k : LandedBytes). Some k.bytes) is.1) ∙ ap (map_ok whole) (again new is.0)
+    ap (λ o. landed_live one_side o (entry old released)) (spelled ∙ ap (λ (k : LandedBytes). Some k.bytes) is.1)
+    ∙ ap (map_ok whole) (again new is.0)
 
 -- If the live side goes back to the kept record, the loaded bytes back it, and it keeps its rules.
 pub back_rules : ReadsAgain → (landed_record : LandedBytes) (released : ℕ) (bytes : Option (List ℕ)) (old new : Side)
@@ -514,7 +568,9 @@ pub back_rules : ReadsAgain → (landed_record : LandedBytes) (released : ℕ) (
 back_rules again landed_record released bytes old new (spelled, is, of) = (
   (omega (arith, of.all), keeps_whole landed_record new released is of.all),
   subst (λ o. IsBacked one_side OneBacks o (entry new released)) (sym (spelled ∙ ap (λ (k : LandedBytes). Some k.bytes) is.1))
-      (read_is_backed one_side OneBacks (record_spelling new) (entry new released) (ap (map_ok whole) (again new is.0) ∙ ap (λ n. Ok (entry new n)) (sym of.all)) (itself_backs new released is.0.0 (omega (arith, of.all)))),
+      (read_is_backed one_side OneBacks (record_spelling new) (entry new released)
+      (ap (map_ok whole) (again new is.0) ∙ ap (λ n. Ok (entry new n)) (sym of.all))
+      (itself_backs new released is.0.0 (omega (arith, of.all)))),
   ap (entry new) of.all,
 )
 
@@ -561,7 +617,8 @@ allows_done (Some plans.FailsOld) value allows = allows
 allows_done (Some plans.FailsNew) value allows = allows
 
 -- If the landed bytes back the live sides, reading them gives no fault of the record.
-no_fault : {L : Type 0} (backs : L → L → Type 0) (read : Result L RecordFault) (begins : Bool) (live : L) (has_digest : Bool) (fault : RecordFault)
+no_fault : {L : Type 0} (backs : L → L → Type 0) (read : Result L RecordFault) (begins : Bool) (live : L) (has_digest : Bool)
+    (fault : RecordFault)
     → IsBackedByRead backs read live → Decodes read begins (Err fault) → IsReadFault has_digest (faults.Saved fault) → ⊥
 no_fault backs (Ok landed) begins live has_digest records.OutOfMemory backed decodes is = is
 no_fault backs (Ok landed) begins live has_digest records.Short backed decodes is = search rules
@@ -571,7 +628,8 @@ no_fault backs (Ok landed) begins live has_digest records.Digest backed decodes 
 no_fault backs (Err other) begins live has_digest fault backed decodes is = backed
 
 -- If the loaded bytes back the live sides, going back to them is a restart.
-restarts_so : {L K : Type 0} (effects : Effects L K) (backs : L → L → Type 0) (bytes : Option (List ℕ)) (plan : Option NextCall) (old new : L) (answer : Result (Unit {0}) DeskFault)
+restarts_so : {L K : Type 0} (effects : Effects L K) (backs : L → L → Type 0) (bytes : Option (List ℕ)) (plan : Option NextCall)
+    (old new : L) (answer : Result (Unit {0}) DeskFault)
     → Allows {X = Unit {0}} plan (Ok tt) → IsBacked effects backs bytes old → GoesBackToLanded effects bytes old answer new
     → IfErr answer (IsReadFault effects.has_digest) → Restarts (landed_live effects bytes old) plan answer new
 restarts_so effects backs bytes plan old new (Ok done) allows backed goes is = (goes, allows)
@@ -581,14 +639,16 @@ restarts_so effects backs bytes plan old new (Err faults.OutOfMemory) allows bac
 restarts_so effects backs bytes plan old new (Err other) allows backed goes is = absurd goes
 
 -- If an honest store backs the live sides, going back to the bytes that it loads is a restart.
-pub restarts_to : {L K X : Type 0} (effects : Effects L K) (backs : L → L → Type 0) {bytes_of : X → List ℕ} {before after : StoreState} {found : Option X} (old new : L) (answer : Result (Unit {0}) DeskFault)
+pub restarts_to : {L K X : Type 0} (effects : Effects L K) (backs : L → L → Type 0) {bytes_of : X → List ℕ}
+    {before after : StoreState} {found : Option X} (old new : L) (answer : Result (Unit {0}) DeskFault)
     → StoreLoads bytes_of before (Ok found) after
     → (before.is_honest ≡ true → IsBacked effects backs before.landed old)
     → GoesBackToLanded effects (option_map bytes_of found) old answer new → IfErr answer (IsReadFault effects.has_digest)
     → before.is_honest ≡ true → Restarts (landed_live effects before.landed old) before.plan answer new
 restarts_to effects backs {bytes_of} {before} {after} {found} old new answer store backed goes is honest =
     subst (λ o. IsBacked effects backs o old → Restarts (landed_live effects o old) before.plan answer new) (store.loaded honest)
-    (λ backs_old. restarts_so effects backs (option_map bytes_of found) before.plan old new answer (allows_done before.plan found (store.planned honest)) backs_old goes is) (backed honest)
+    (λ backs_old. restarts_so effects backs (option_map bytes_of found) before.plan old new answer
+    (allows_done before.plan found (store.planned honest)) backs_old goes is) (backed honest)
 
 -- ---- sending
 
@@ -606,15 +666,19 @@ pub message_released : (landed_record : LandedBytes) (live : Side) (released num
     → HoldsReleased landed_record live released → 1 ≤ number → slice_get landed_record.pieces (number - 1) ≡ Some bytes
     → (a : Apdu) × (message (issued_of live) number ≡ Some a) × IsApdu a × (bytes ≡ spelling a)
 message_released landed_record live released zero bytes keeps first e = absurd (omega (arith, first))
-message_released landed_record live released (suc n) bytes (inl none) first e = absurd (subst (λ (k : LandedBytes). slice_get k.pieces (suc n - 1) ≡ Some bytes → ⊥) (sym none.0) (λ found. cc) e)
+message_released landed_record live released (suc n) bytes (inl none) first e =
+    absurd (subst (λ (k : LandedBytes). slice_get k.pieces (suc n - 1) ≡ Some bytes → ⊥) (sym none.0) (λ found. cc) e)
 message_released landed_record live released (suc n) bytes (inr (side, is, of)) first e =
     let at : suc n - 1 ≡ n = omega arith in
-    let piece : slice_get (map spelling (issued_of side)) n ≡ Some bytes = ap (slice_get (map spelling (issued_of side))) (sym at) ∙ subst (λ (k : LandedBytes). slice_get k.pieces (suc n - 1) ≡ Some bytes) is.1 e in
+    let piece : slice_get (map spelling (issued_of side)) n ≡ Some bytes =
+    ap (slice_get (map spelling (issued_of side))) (sym at)
+    ∙ subst (λ (k : LandedBytes). slice_get k.pieces (suc n - 1) ≡ Some bytes) is.1 e in
     let found = message_stays (issued_of side) of.prefix.0 n bytes is.0.1.issued piece in
     (found.0, subst (λ apdus. slice_get apdus n ≡ Some found.0) (sym of.prefix.1) found.1, found.2, found.3)
 
 -- If a released message is taken from the kept record, the answer is as `Sends` says.
-pub sends_released : {X : Type 0} (view : X → List ℕ) (value : X) (landed_record : LandedBytes) (live : Side) (released number : ℕ) (bytes : List ℕ)
+pub sends_released : {X : Type 0} (view : X → List ℕ) (value : X) (landed_record : LandedBytes) (live : Side)
+    (released number : ℕ) (bytes : List ℕ)
     → HoldsReleased landed_record live released → 1 ≤ number → number ≤ released
     → slice_get landed_record.pieces (number - 1) ≡ Some bytes → view value ≡ bytes
     → Sends view (message (issued_of live) number) (nat_le number released) (Ok value)

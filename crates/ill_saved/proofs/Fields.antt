@@ -1,6 +1,8 @@
 -- The laws of a field: the bytes that it reads are the encoding of the value, and an encoded value is read again.
 -- Each way to make a field from others keeps them.
-use Rattle.std.proofs.Common.{◌≡◌, ℕ, zero, suc, ◌+◌, ◌<◌, ◌≤◌, Bool, true, false, cond, ◌&&◌, eqb, leb, ltb, List, [], ◌∷◌, ◌++◌, length, take, drop, Option, Some, None, Result, Ok, Err, refl, sym, ap, subst, ◌∙◌, inl, inr, append_assoc, length-append, arith, rules}
+use Rattle.std.proofs.Common.{◌≡◌, ℕ, zero, suc, ◌+◌, ◌<◌, ◌≤◌, Bool, true, false, cond, ◌&&◌, eqb, leb, ltb, List, [], ◌∷◌, ◌++◌}
+use Rattle.std.proofs.Common.{length, take, drop, Option, Some, None, Result, Ok, Err, refl, sym, ap, subst, ◌∙◌, inl, inr}
+use Rattle.std.proofs.Common.{append_assoc, length-append, arith, rules}
 use Rattle.std.specs.Prelude.{IfSome, is_ok}
 use Rattle.std.proofs.lemmas.Bool.{eqb-true, eq-eqb, leb-true, le-leb, and_parts, ltb-false, le-ltb}
 use Rattle.std.proofs.lemmas.List.{take_at, drop_at, take-append-drop, length-take-le}
@@ -22,7 +24,9 @@ use Rattle.ill_saved.specs.declared.fault.LayoutFault.{LayoutFault}
 use Rattle.ill_saved.specs.declared.fault.LayoutFault.TheVariants.{Short, Bad}
 use Rattle.ill_saved.specs.declared.role.Role.{Role}
 use Rattle.ill_saved.specs.declared.role.Role.TheVariants as roles
-use Rattle.ill_saved.specs.Layout.{Field, bytes_at, value_at, sized, one_octet, octet, followed_by, constant, count, number_octet, optional_number, mark, text_size, counted_text, apdu_by, apdu, ill_request, marked, spell_all, read_all, counted_by, counted}
+use Rattle.ill_saved.specs.Layout.{Field, bytes_at, value_at, sized, one_octet, octet, followed_by, constant, count, number_octet}
+use Rattle.ill_saved.specs.Layout.{optional_number, mark, text_size, counted_text, apdu_by, apdu, ill_request, marked, spell_all}
+use Rattle.ill_saved.specs.Layout.{read_all, counted_by, counted}
 use Rattle.ill_saved.specs.Records.{state_code, state_with, state_in, role_octet, role_with, role}
 use Rattle.ill_saved.specs.Ranges.{Each}
 use Rattle.ill_saved.proofs.Steps.{bind_ok, passed, went_on, chosen, ok_is, found_with, IsBytes-take, IsBytes-rest}
@@ -47,7 +51,8 @@ Takes f P bytes v rest = (bytes ≡ f.spell v ++ rest) × P v
 -- The two laws of a field. If it reads a value, the bytes read are its encoding, and `P` holds of it.
 -- Each value of which `P` holds is read again from its encoding.
 pub record IsField {V : Type 0} (P : V → Type 0) (f : Field V) : Type 0 where
-  pub takes : (left : Cursor) (v : V) (rest : Cursor) → IsBytes left.bytes → f.read left ≡ Ok (v, rest) → Takes f P left.bytes v rest.bytes
+  pub takes : (left : Cursor) (v : V) (rest : Cursor) → IsBytes left.bytes → f.read left ≡ Ok (v, rest)
+      → Takes f P left.bytes v rest.bytes
   pub again : (v : V) (at : ℕ) (more : List ℕ) → P v → ReadsAgain f v at more
 
 -- If a field is read from bytes, the rest after it is bytes.
@@ -65,7 +70,8 @@ value_found at None v e = absurd cc
 -- The laws of contents of `n` bytes. If they are read as a value, they are its encoding, and `P` holds of it.
 -- Each value of which `P` holds has an encoding of `n` bytes, from which it is read again.
 pub record IsSized {V : Type 0} (P : V → Type 0) (n : ℕ) (contents : Contents V) : Type 0 where
-  pub takes : (bytes : List ℕ) (v : V) → IsBytes bytes → length bytes ≡ n → contents.read bytes ≡ Some v → (bytes ≡ contents.spell v) × P v
+  pub takes : (bytes : List ℕ) (v : V) → IsBytes bytes → length bytes ≡ n → contents.read bytes ≡ Some v
+      → (bytes ≡ contents.spell v) × P v
   pub again : (v : V) → P v → (contents.read (contents.spell v) ≡ Some v) × (length (contents.spell v) ≡ n)
 
 -- If a field of `n` bytes reads a value, the bytes read are its encoding.
@@ -74,13 +80,16 @@ sized_takes : {V : Type 0} (P : V → Type 0) (n : ℕ) (contents : Contents V) 
     → Takes (sized n contents) P left.bytes v rest.bytes
 sized_takes {V} P n contents is left v rest fits e =
     let whole : List ℕ × Cursor = (take n left.bytes, cursor_at (left.at + n) (drop n left.bytes)) in
-    let part = bind_ok (bytes_at n left) (λ part. value_at left.at (contents.read part.0) >>= λ value. Ok (value, part.1)) (v, rest) e in
+    let part = bind_ok (bytes_at n left) (λ part. value_at left.at (contents.read part.0) >>= λ value. Ok (value, part.1))
+    (v, rest) e in
     let found = bind_ok (value_at left.at (contents.read part.0.0)) (λ value. Ok (value, part.0.1)) (v, rest) part.2 in
     let both : (found.0, part.0.1) ≡ (v, rest) = ok_is (found.0, part.0.1) (v, rest) found.2 in
     let there = went_on (ltb (length left.bytes) n) (Ok whole) Short part.0 part.1 in
     let taken : whole ≡ part.0 = ok_is whole part.0 there.1 in
-    let read = ap (λ (p : List ℕ × Cursor). contents.read p.0) taken ∙ value_found left.at (contents.read part.0.0) found.0 found.1 in
-    let value = is.takes (take n left.bytes) found.0 (IsBytes-take n left.bytes fits) (length-take-le n left.bytes (ltb-false (length left.bytes) n there.0)) read in
+    let read = ap (λ (p : List ℕ × Cursor). contents.read p.0) taken
+    ∙ value_found left.at (contents.read part.0.0) found.0 found.1 in
+    let value = is.takes (take n left.bytes) found.0 (IsBytes-take n left.bytes fits)
+    (length-take-le n left.bytes (ltb-false (length left.bytes) n there.0)) read in
     let parts : left.bytes ≡ contents.spell found.0 ++ part.0.1.bytes =
     sym (take-append-drop n left.bytes) ∙ ap (λ (x : List ℕ). x ++ drop n left.bytes) value.0
     ∙ ap (λ (p : List ℕ × Cursor). contents.spell found.0 ++ p.1.bytes) taken in
@@ -92,7 +101,8 @@ sized_again : {V : Type 0} (P : V → Type 0) (n : ℕ) (contents : Contents V) 
 sized_again P n contents is v at more p =
     let text = contents.spell v in
     let read = is.again v p in
-    let enough : ltb (length (text ++ more)) n ≡ false = le-ltb (length (text ++ more)) n (omega (arith, length-append text more, read.1)) in
+    let enough : ltb (length (text ++ more)) n ≡ false =
+    le-ltb (length (text ++ more)) n (omega (arith, length-append text more, read.1)) in
     (at + n, rw (enough, take_at text more n read.1, drop_at text more n read.1, read.0) refl)
 
 -- If the contents keep the laws, so does the field of `n` bytes.
@@ -116,7 +126,11 @@ pub octet_is : {V : Type 0} (P : V → Type 0) (code : V → ℕ) (value_of : �
     → ((n : ℕ) (v : V) → n < 256 → value_of n ≡ Some v → (n ≡ code v) × P v)
     → ((v : V) → P v → value_of (code v) ≡ Some v) → IsField P (octet code value_of)
 octet_is P code value_of takes again =
-    sized_is P 1 _ (record { takes = λ bytes v fits one e. one_takes P code value_of takes bytes v fits e; again = λ v p. (again v p, refl) })
+    sized_is P 1 _ (record {
+      takes = λ bytes v fits one e. one_takes P code value_of takes bytes v fits e;
+      again = λ v p.
+          (again v p, refl);
+    })
 
 -- No condition on the value.
 abbrev pub Any : {V : Type 0} → V → Type 0
@@ -132,7 +146,8 @@ constant_is n = octet_is Any (λ _. n) (λ m. cond (eqb m n) (Some tt) None) (co
 
 -- The field of a count keeps the laws for counts below 256.
 pub count_is : IsField (λ n. n < 256) count
-count_is = octet_is (λ n. n < 256) (λ n. n) Some (λ n v small e. (same_Some n v e, subst (λ m. m < 256) (same_Some n v e) small)) (λ v p. refl)
+count_is = octet_is (λ n. n < 256) (λ n. n) Some (λ n v small e. (same_Some n v e, subst (λ m. m < 256) (same_Some n v e) small))
+    (λ v p. refl)
 
 -- If an octet is read as a number or as none, it is the octet of that.
 number_takes : (n : ℕ) (o : Option ℕ) → n < 256 → Some (cond (eqb n 0) None (Some n)) ≡ Some o
@@ -146,7 +161,8 @@ number_again (Some n) p = search rules
 
 -- The field of an optional number keeps the laws for numbers in range.
 pub optional_number_is : IsField (λ o. IfSome o IsNumber) optional_number
-optional_number_is = octet_is (λ o. IfSome o IsNumber) number_octet (λ n. Some (cond (eqb n 0) None (Some n))) number_takes number_again
+optional_number_is = octet_is (λ o. IfSome o IsNumber) number_octet (λ n. Some (cond (eqb n 0) None (Some n))) number_takes
+    number_again
 
 -- If an octet is read as a mark, it is the octet of that mark.
 mark_takes : (n : ℕ) (b : Bool) → n < 256 → cond (eqb n 0) (Some false) (cond (eqb n 1) (Some true) None) ≡ Some b
@@ -166,7 +182,8 @@ mark_again false p = refl
 
 -- The field of a mark keeps the laws.
 pub mark_is : IsField Any mark
-mark_is = octet_is Any (λ b. cond b 1 0) (λ n. cond (eqb n 0) (Some false) (cond (eqb n 1) (Some true) None)) mark_takes mark_again
+mark_is = octet_is Any (λ b. cond b 1 0) (λ n. cond (eqb n 0) (Some false) (cond (eqb n 1) (Some true) None)) mark_takes
+    mark_again
 
 -- If an octet is read as a role, it is the octet of that role.
 role_takes : (n : ℕ) (r : Role) → n < 256 → role_with n ≡ Some r → (n ≡ role_octet r) × Any r
@@ -200,7 +217,8 @@ text_size_takes n v small e =
 
 -- The field of a length keeps the laws for lengths from 1 to 64.
 text_size_is : IsField IsTextSize text_size
-text_size_is = octet_is IsTextSize (λ n. n) (λ n. cond (leb 1 n && leb n 64) (Some n) None) text_size_takes (λ v p. rw (le-leb 1 v p.0, le-leb v 64 p.1) refl)
+text_size_is = octet_is IsTextSize (λ n. n) (λ n. cond (leb 1 n && leb n 64) (Some n) None) text_size_takes
+    (λ v p. rw (le-leb 1 v p.0, le-leb v 64 p.1) refl)
 
 -- The state is read from its octet among `states`.
 abbrev pub IsAmong : List State → State → Type 0
@@ -235,7 +253,8 @@ followed_takes {V} {W} P Q f g fs gs left v rest fits e =
     let second = gs.takes a.0.1 b.0.0 b.0.1 (rest_fits P f fs left a.0.0 a.0.1 fits a.1) b.1 in
     let parts : left.bytes ≡ (f.spell a.0.0 ++ g.spell b.0.0) ++ b.0.1.bytes =
     first.0 ∙ ap (λ (x : List ℕ). f.spell a.0.0 ++ x) second.0 ∙ sym (append_assoc (f.spell a.0.0) (g.spell b.0.0) b.0.1.bytes) in
-    subst (λ (x : (V × W) × Cursor). Takes (followed_by f g) (Both P Q) left.bytes x.0 x.1.bytes) both (parts, (first.1, second.1))
+    subst (λ (x : (V × W) × Cursor). Takes (followed_by f g) (Both P Q) left.bytes x.0 x.1.bytes) both
+    (parts, (first.1, second.1))
 
 -- If both fields keep the laws, two values are read again from their encodings.
 followed_again : {V W : Type 0} (P : V → Type 0) (Q : W → Type 0) (f : Field V) (g : Field W) → IsField P f → IsField Q g
@@ -272,7 +291,8 @@ text_takes : (left : Cursor) (v : List ℕ) (rest : Cursor) → IsBytes left.byt
 text_takes left v rest fits e =
     let size = bind_ok (text_size.read left) (λ size. (sized size.0 qualifier).read size.1) (v, rest) e in
     let first = text_size_is.takes left size.0.0 size.0.1 fits size.1 in
-    let second = (sized_is _ size.0.0 qualifier (qualifier_sized size.0.0)).takes size.0.1 v rest (rest_fits IsTextSize text_size text_size_is left size.0.0 size.0.1 fits size.1) size.2 in
+    let second = (sized_is _ size.0.0 qualifier (qualifier_sized size.0.0)).takes size.0.1 v rest
+    (rest_fits IsTextSize text_size text_size_is left size.0.0 size.0.1 fits size.1) size.2 in
     (first.0 ∙ ap (λ (x : List ℕ). size.0.0 ∷ x) second.0 ∙ ap (λ (n : ℕ). n ∷ (v ++ rest.bytes)) (sym second.1.1), second.1.0)
 
 -- A qualifier is read again from its length and its bytes.
@@ -304,12 +324,17 @@ apdu_found left (Err der.OutOfMemory) v rest e = absurd cc
 one_taken : Below → (left : Cursor) (v : Apdu) (rest : Cursor) → IsBytes left.bytes → apdu.read left ≡ Ok (v, rest)
     → Takes apdu IsApdu left.bytes v rest.bytes
 one_taken below left v rest fits e =
-    let is = subst (BeginsWithOne left.bytes) (apdu_found left (apdu_at left.bytes) v rest e) (below.apdu_or_fault left.bytes fits) in
+    let is = subst (BeginsWithOne left.bytes) (apdu_found left (apdu_at left.bytes) v rest e)
+    (below.apdu_or_fault left.bytes fits) in
     (is.0.1, is.0.0)
 
 -- The field of an APDU keeps the laws.
 pub apdu_is : Below → IsField IsApdu apdu
-apdu_is below = record { takes = one_taken below; again = λ v at more p. (_, ap (apdu_by (cursor_at at (spelling v ++ more))) (below.apdu_again v more p)) }
+apdu_is below = record {
+  takes = one_taken below;
+  again = λ v at more p.
+      (_, ap (apdu_by (cursor_at at (spelling v ++ more))) (below.apdu_again v more p));
+}
 
 -- The APDU is an ILL-Request in range.
 abbrev pub IsRequest : Apdu → Type 0
@@ -319,7 +344,8 @@ IsRequest a = IsApdu a × (is_ill_request a.body ≡ true)
 request_takes : Below → (left : Cursor) (v : Apdu) (rest : Cursor) → IsBytes left.bytes
     → ill_request.read left ≡ Ok (v, rest) → Takes ill_request IsRequest left.bytes v rest.bytes
 request_takes below left v rest fits e =
-    let found = bind_ok (apdu.read left) (λ found. cond (is_ill_request found.0.body) (Ok found) (Err (Bad left.at))) (v, rest) e in
+    let found = bind_ok (apdu.read left) (λ found. cond (is_ill_request found.0.body) (Ok found) (Err (Bad left.at))) (v, rest)
+    e in
     let is = passed (is_ill_request found.0.0.body) (Ok found.0) (Bad left.at) (v, rest) found.2 in
     let both : found.0 ≡ (v, rest) = ok_is found.0 (v, rest) is.1 in
     let taken = (apdu_is below).takes left v rest fits (found.1 ∙ ap Ok both) in
@@ -342,10 +368,12 @@ marked_takes : {V : Type 0} (P : V → Type 0) (f : Field V) → IsField P f
     → (left : Cursor) (o : Option V) (rest : Cursor) → IsBytes left.bytes → (marked f).read left ≡ Ok (o, rest)
     → Takes (marked f) (λ o. IfSome o P) left.bytes o rest.bytes
 marked_takes {V} P f fs left o rest fits e =
-    let is = bind_ok (mark.read left) (λ is. cond is.0 (f.read is.1 >>= λ found. Ok (Some found.0, found.1)) (Ok (None, is.1))) (o, rest) e in
+    let is = bind_ok (mark.read left) (λ is. cond is.0 (f.read is.1 >>= λ found. Ok (Some found.0, found.1)) (Ok (None, is.1)))
+    (o, rest) e in
     let first = mark_is.takes left is.0.0 is.0.1 fits is.1 in
     let after_fits = rest_fits Any mark mark_is left is.0.0 is.0.1 fits is.1 in
-    elim (chosen {A = Result (Option V × Cursor) LayoutFault} is.0.0 (f.read is.0.1 >>= λ found. Ok (Some found.0, found.1)) (Ok (None, is.0.1)) (Ok (o, rest)) is.2) [
+    elim (chosen {A = Result (Option V × Cursor) LayoutFault} is.0.0 (f.read is.0.1 >>= λ found. Ok (Some found.0, found.1))
+    (Ok (None, is.0.1)) (Ok (o, rest)) is.2) [
       | inl h ↦
           let found = bind_ok (f.read is.0.1) (λ found. Ok (Some found.0, found.1)) (o, rest) h.1 in
           let both : (Some found.0.0, found.0.1) ≡ (o, rest) = ok_is (Some found.0.0, found.0.1) (o, rest) found.2 in
@@ -355,7 +383,8 @@ marked_takes {V} P f fs left o rest fits e =
           subst (λ (x : Option V × Cursor). Takes (marked f) (λ o. IfSome o P) left.bytes x.0 x.1.bytes) both (parts, second.1)
       | inr h ↦
           let both : (None, is.0.1) ≡ (o, rest) = ok_is (None, is.0.1) (o, rest) h.1 in
-          let parts : left.bytes ≡ mark.spell false ++ is.0.1.bytes = first.0 ∙ ap (λ (b : Bool). mark.spell b ++ is.0.1.bytes) h.0 in
+          let parts : left.bytes ≡ mark.spell false ++ is.0.1.bytes =
+          first.0 ∙ ap (λ (b : Bool). mark.spell b ++ is.0.1.bytes) h.0 in
           subst (λ (x : Option V × Cursor). Takes (marked f) (λ o. IfSome o P) left.bytes x.0 x.1.bytes) both (parts, tt)
     ]
 
@@ -383,16 +412,22 @@ all_takes : {V : Type 0} (P : V → Type 0) (f : Field V) → IsField P f
 unfolding read_all spell_all Each
 all_takes {V} P f fs zero left vs rest fits e =
     let both : ([], left) ≡ (vs, rest) = ok_is ([], left) (vs, rest) e in
-    subst (λ (x : List V × Cursor). (left.bytes ≡ spell_all f.spell x.0 ++ x.1.bytes) × Each P x.0 × (length x.0 ≡ zero)) both (refl, tt, refl)
+    subst (λ (x : List V × Cursor). (left.bytes ≡ spell_all f.spell x.0 ++ x.1.bytes) × Each P x.0 × (length x.0 ≡ zero)) both
+    (refl, tt, refl)
 all_takes {V} P f fs (suc n) left vs rest fits e =
-    let first = bind_ok (f.read left) (λ first. read_all f n first.1 >>= λ others. Ok (first.0 ∷ others.0, others.1)) (vs, rest) e in
+    let first = bind_ok (f.read left) (λ first. read_all f n first.1 >>= λ others. Ok (first.0 ∷ others.0, others.1)) (vs, rest)
+    e in
     let others = bind_ok (read_all f n first.0.1) (λ others. Ok (first.0.0 ∷ others.0, others.1)) (vs, rest) first.2 in
-    let both : (first.0.0 ∷ others.0.0, others.0.1) ≡ (vs, rest) = ok_is (first.0.0 ∷ others.0.0, others.0.1) (vs, rest) others.2 in
+    let both : (first.0.0 ∷ others.0.0, others.0.1) ≡ (vs, rest) =
+    ok_is (first.0.0 ∷ others.0.0, others.0.1) (vs, rest) others.2 in
     let one = fs.takes left first.0.0 first.0.1 fits first.1 in
-    let more = all_takes P f fs n first.0.1 others.0.0 others.0.1 (rest_fits P f fs left first.0.0 first.0.1 fits first.1) others.1 in
+    let more = all_takes P f fs n first.0.1 others.0.0 others.0.1 (rest_fits P f fs left first.0.0 first.0.1 fits first.1)
+    others.1 in
     let parts : left.bytes ≡ (f.spell first.0.0 ++ spell_all f.spell others.0.0) ++ others.0.1.bytes =
-    one.0 ∙ ap (λ (x : List ℕ). f.spell first.0.0 ++ x) more.0 ∙ sym (append_assoc (f.spell first.0.0) (spell_all f.spell others.0.0) others.0.1.bytes) in
-    subst (λ (x : List V × Cursor). (left.bytes ≡ spell_all f.spell x.0 ++ x.1.bytes) × Each P x.0 × (length x.0 ≡ suc n)) both (parts, (one.1, more.1), ap suc more.2)
+    one.0 ∙ ap (λ (x : List ℕ). f.spell first.0.0 ++ x) more.0
+    ∙ sym (append_assoc (f.spell first.0.0) (spell_all f.spell others.0.0) others.0.1.bytes) in
+    subst (λ (x : List V × Cursor). (left.bytes ≡ spell_all f.spell x.0 ++ x.1.bytes) × Each P x.0 × (length x.0 ≡ suc n)) both
+    (parts, (one.1, more.1), ap suc more.2)
 
 -- If `P` holds of each value, the list is read again from its encodings.
 all_again : {V : Type 0} (P : V → Type 0) (f : Field V) → IsField P f → (vs : List V) (at : ℕ) (more : List ℕ) → Each P vs
@@ -417,7 +452,8 @@ counted_takes Q P size f sizes fs left vs rest fits e =
     let first = sizes.takes left n.0.0 n.0.1 fits n.1 in
     let others = all_takes P f fs n.0.0 n.0.1 vs rest (rest_fits Q size sizes left n.0.0 n.0.1 fits n.1) n.2 in
     let parts : left.bytes ≡ (size.spell (length vs) ++ spell_all f.spell vs) ++ rest.bytes =
-    first.0 ∙ ap (λ (x : List ℕ). size.spell n.0.0 ++ x) others.0 ∙ ap (λ (m : ℕ). size.spell m ++ (spell_all f.spell vs ++ rest.bytes)) (sym others.2)
+    first.0 ∙ ap (λ (x : List ℕ). size.spell n.0.0 ++ x) others.0
+    ∙ ap (λ (m : ℕ). size.spell m ++ (spell_all f.spell vs ++ rest.bytes)) (sym others.2)
     ∙ sym (append_assoc (size.spell (length vs)) (spell_all f.spell vs) rest.bytes) in
     (parts, (others.1, subst Q (sym others.2) first.1))
 
@@ -433,7 +469,8 @@ counted_again Q P size f sizes fs vs at more p =
 -- If the fields of the length and of a value keep the laws, so does the field of the list.
 pub counted_by_is : {V : Type 0} (Q : ℕ → Type 0) (P : V → Type 0) (size : Field ℕ) (f : Field V) → IsField Q size
     → IsField P f → IsField (CountedBy Q P) (counted_by size f)
-counted_by_is Q P size f sizes fs = record { takes = counted_takes Q P size f sizes fs; again = counted_again Q P size f sizes fs }
+counted_by_is Q P size f sizes fs =
+    record { takes = counted_takes Q P size f sizes fs; again = counted_again Q P size f sizes fs }
 
 -- `P` holds of each value, and there are fewer than 256.
 abbrev pub Counted : {V : Type 0} → (V → Type 0) → List V → Type 0

@@ -2,7 +2,8 @@
 use Rattle.std.proofs.Common.{arith, ◌≡◌, ℕ, ◌≤◌, List, Option, Some, None, Result, Ok, Err, ap}
 use Rattle.ill_saved.specs.declared.store.StoreFault.{StoreFault}
 use Rattle.ill_saved.specs.declared.store.StoreFault.TheVariants.{Failed, TooLarge, OutOfMemory}
-use Rattle.ill_saved.specs.Store.{HasRisen, CountsFailure, IsNotTooLarge, FileStoreState, failed_file, one_more, FileLoads, FileSaves}
+use Rattle.ill_saved.specs.Store.{HasRisen, CountsFailure, IsNotTooLarge, FileStoreState, failed_file, one_more, FileLoads}
+use Rattle.ill_saved.specs.Store.{FileSaves}
 
 -- After one more failure, the count has not fallen, and has risen or is at its maximum.
 counted : (old new : ℕ) → new ≡ one_more old → (old ≤ new) × HasRisen old new

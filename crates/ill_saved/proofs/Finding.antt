@@ -1,5 +1,6 @@
 -- Items that name a transaction each: they are found by it, and put in its place.
-use Rattle.std.proofs.Common.{rules, ◌≡◌, ◌+◌, nat_lt, length, map, Bool, true, false, not, cond, List, [], ◌∷◌, ◌++◌, Option, Some, None, is_some, refl, ap, sym, subst, ◌∙◌, true≢false}
+use Rattle.std.proofs.Common.{rules, ◌≡◌, ◌+◌, nat_lt, length, map, Bool, true, false, not, cond, List, [], ◌∷◌, ◌++◌, Option}
+use Rattle.std.proofs.Common.{Some, None, is_some, refl, ap, sym, subst, ◌∙◌, true≢false}
 use Rattle.std.specs.Prelude.{option_map, position}
 use Rattle.std.specs.List.{list_all, position_or_len}
 use Rattle.std.proofs.lemmas.List.{length-map}
@@ -27,7 +28,8 @@ apart_back a b apart = by (is_same_txn b a) refl
     by : (same : Bool) → is_same_txn b a ≡ same → same ≡ false
     by true same =
         let is : b ≡ a = same_is b a same in
-        absurd (true≢false (sym (subst (λ t. is_same_txn a t ≡ true) (sym is) (subst (λ t. is_same_txn t a ≡ true) is same)) ∙ apart))
+        absurd (true≢false (sym (subst (λ t. is_same_txn a t ≡ true) (sym is) (subst (λ t. is_same_txn t a ≡ true) is same))
+        ∙ apart))
     by false same = refl
 
 -- Each transaction passes the test with itself.
@@ -65,15 +67,18 @@ module _ {X : Type 0} (key : X → Qualifiers) where
   -- An item that is found for `txn` is of `txn`.
   pub found_is : (txn : Qualifiers) (items : List X) (x : X) → found_by key txn items ≡ Some x → txn ≡ key x
   found_is txn [] x found = absurd (true≢false (sym (ap is_some found)))
-  found_is txn (item ∷ items) x found = first_is txn item x (found_by key txn items) (is_same_txn txn (key item)) refl found (found_is txn items x)
+  found_is txn (item ∷ items) x found =
+      first_is txn item x (found_by key txn items) (is_same_txn txn (key item)) refl found (found_is txn items x)
 
   -- If `found_put` holds of the other items, it holds with `item` before them.
   put_here : (txn : Qualifiers) (new item : X) (items : List X) (same : Bool) → is_same_txn (key new) (key item) ≡ same
       → found_by key txn (put_by key new items) ≡ cond (is_same_txn txn (key new)) (Some new) (found_by key txn items)
-      → found_by key txn (cond same (new ∷ items) (item ∷ put_by key new items)) ≡ cond (is_same_txn txn (key new)) (Some new) (cond (is_same_txn txn (key item)) (Some item) (found_by key txn items))
+      → found_by key txn (cond same (new ∷ items) (item ∷ put_by key new items))
+      ≡ cond (is_same_txn txn (key new)) (Some new) (cond (is_same_txn txn (key item)) (Some item) (found_by key txn items))
   put_here txn new item items true same further =
       hidden (is_same_txn txn (key new)) item new (found_by key txn items)
-      ∙ ap (λ k. cond (is_same_txn txn (key new)) (Some new) (cond (is_same_txn txn k) (Some item) (found_by key txn items))) (same_is (key new) (key item) same)
+      ∙ ap (λ k. cond (is_same_txn txn (key new)) (Some new) (cond (is_same_txn txn k) (Some item) (found_by key txn items)))
+      (same_is (key new) (key item) same)
   put_here txn new item items false same further =
       ap (λ o. cond (is_same_txn txn (key item)) (Some item) o) further
       ∙ each_found (is_same_txn txn (key item)) (is_same_txn txn (key new)) item new (found_by key txn items)
@@ -98,7 +103,8 @@ module _ {X : Type 0} (key : X → Qualifiers) where
   found_passes test txn [] x all found = absurd (true≢false (sym (ap is_some found)))
   found_passes test txn (item ∷ items) x all found =
       let parts = and_parts _ _ all in
-      passes_first test item x (found_by key txn items) (is_same_txn txn (key item)) found parts.0 (found_passes test txn items x parts.1)
+      passes_first test item x (found_by key txn items) (is_same_txn txn (key item)) found parts.0
+      (found_passes test txn items x parts.1)
 
   -- If `put_last` holds of the other items, it holds with `item` before them.
   last_put : (new item : X) (items : List X) (same : Bool) → cond same (Some item) (found_by key (key new) items) ≡ None
@@ -139,7 +145,8 @@ module _ {X : Type 0} (key : X → Qualifiers) where
       → list_all test (put_by key new items) ≡ true
   unfolding put_by
   put_passes test new [] passes all = and_from _ _ passes refl
-  put_passes test new (item ∷ items) passes all = all_put test new item items (is_same_txn (key new) (key item)) passes all (put_passes test new items passes)
+  put_passes test new (item ∷ items) passes all =
+      all_put test new item items (is_same_txn (key new) (key item)) passes all (put_passes test new items passes)
 
   -- If `keys_put` holds of the other items, it holds with `item` before them.
   keys_here : (new item x : X) (items : List X) (same : Bool) → is_same_txn (key new) (key item) ≡ same
@@ -154,12 +161,14 @@ module _ {X : Type 0} (key : X → Qualifiers) where
       → map key (put_by key new items) ≡ map key items
   unfolding put_by
   keys_put new x [] found = absurd (true≢false (sym (ap is_some found)))
-  keys_put new x (item ∷ items) found = keys_here new item x items (is_same_txn (key new) (key item)) refl found (keys_put new x items)
+  keys_put new x (item ∷ items) found =
+      keys_here new item x items (is_same_txn (key new) (key item)) refl found (keys_put new x items)
 
   -- If an item of the transaction of `new` is found, putting `new` keeps the length of the list.
   pub put_length : (new x : X) (items : List X) → found_by key (key new) items ≡ Some x
       → length (put_by key new items) ≡ length items
-  put_length new x items found = sym (length-map (put_by key new items) key) ∙ ap length (keys_put new x items found) ∙ length-map items key
+  put_length new x items found = sym (length-map (put_by key new items) key) ∙ ap length (keys_put new x items found)
+      ∙ length-map items key
 
 module _ {X Y : Type 0} (of_x : X → Qualifiers) (of_y : Y → Qualifiers) (f : X → Y) (keeps : (x : X) → of_y (f x) ≡ of_x x) where
   -- Mapping commutes with a search whose first item is `x`.
@@ -178,7 +187,8 @@ module _ {X Y : Type 0} (of_x : X → Qualifiers) (of_y : Y → Qualifiers) (f :
 
   -- If `put_mapped` holds of the other items, it holds with `x` before them.
   put_first : (new x : X) (xs : List X) (same : Bool) → map f (put_by of_x new xs) ≡ put_by of_y (f new) (map f xs)
-      → map f (cond same (new ∷ xs) (x ∷ put_by of_x new xs)) ≡ cond same (f new ∷ map f xs) (f x ∷ put_by of_y (f new) (map f xs))
+      → map f (cond same (new ∷ xs) (x ∷ put_by of_x new xs))
+      ≡ cond same (f new ∷ map f xs) (f x ∷ put_by of_y (f new) (map f xs))
   put_first new x xs true further = refl
   put_first new x xs false further = ap (λ ys. f x ∷ ys) further
 
@@ -202,7 +212,8 @@ pub position_mapped : {X Y : Type 0} (test : Y → Bool) (f : X → Y) (xs : Lis
     → position test (map f xs) ≡ position (λ x. test (f x)) xs
 position_mapped test f xs =
     ap (λ n. cond (nat_lt n (length (map f xs))) (Some n) None) (prefix_mapped test f xs)
-    ∙ ap (λ n. cond (nat_lt (position_or_len (λ x. test (f x)) xs) n) (Some (position_or_len (λ x. test (f x)) xs)) None) (length-map xs f)
+    ∙ ap (λ n. cond (nat_lt (position_or_len (λ x. test (f x)) xs) n) (Some (position_or_len (λ x. test (f x)) xs)) None)
+    (length-map xs f)
 
 -- The side of the held one found, or else of `idle`, is the side found, or else idle.
 side_found : (idle : DeskEntry) (found : Option DeskEntry)
@@ -214,5 +225,6 @@ side_found idle None = refl
 pub side_of_held : (txn : Qualifiers) (live : DeskContents) → side_for txn (sides_held live) ≡ (held_for txn live).side
 unfolding side_with
 side_of_held txn live =
-    ap (found_or (idle_side live.role txn)) (found_mapped txn_held txn_of (λ (held : DeskEntry). held.side) (λ held. refl) txn live.held)
+    ap (found_or (idle_side live.role txn))
+    (found_mapped txn_held txn_of (λ (held : DeskEntry). held.side) (λ held. refl) txn live.held)
     ∙ side_found (idle_held live.role txn) (found_by txn_held txn live.held)

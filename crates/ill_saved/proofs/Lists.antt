@@ -1,5 +1,6 @@
 -- Lists of fields, one after another.
-use Rattle.std.proofs.Common.{◌≡◌, ℕ, zero, suc, ◌+◌, ◌-◌, ◌<◌, ◌≤◌, length, drop, List, [], ◌∷◌, ◌++◌, None, Result, Ok, Err, refl, ap, sym, subst, ◌∙◌, append_assoc, append-nil, arith}
+use Rattle.std.proofs.Common.{◌≡◌, ℕ, zero, suc, ◌+◌, ◌-◌, ◌<◌, ◌≤◌, length, drop, List, [], ◌∷◌, ◌++◌, None, Result, Ok, Err}
+use Rattle.std.proofs.Common.{refl, ap, sym, subst, ◌∙◌, append_assoc, append-nil, arith}
 use Rattle.std.specs.List.{slice_get}
 use Rattle.ill_der.specs.Format.{◌>>=◌, Cursor}
 use Rattle.ill_saved.specs.declared.fault.LayoutFault.{LayoutFault}
@@ -28,7 +29,8 @@ after_more values v (Err fault) = refl
 
 -- To read `n + 1` values is to read one, and then `n` others.
 read_more : {V : Type 0} (field : Field V) (n : ℕ) (left : Cursor)
-    → read_all field (suc n) left ≡ (field.read left >>= λ first. read_all field n first.1 >>= λ others. Ok (first.0 ∷ others.0, others.1))
+    → read_all field (suc n) left ≡ (field.read left >>= λ first. read_all field n first.1 >>= λ others.
+    Ok (first.0 ∷ others.0, others.1))
 unfolding read_all
 read_more field n left = refl
 
@@ -41,7 +43,8 @@ read_none field left = refl
 one_read : {V : Type 0} (field : Field V) (values : List V) (n : ℕ) (left next : Cursor) (v : V) → field.read left ≡ Ok (v, next)
     → after values (read_all field (suc n) left) ≡ after (values ++ v ∷ []) (read_all field n next)
 one_read field values n left next v read =
-    ap (after values) (read_more field n left ∙ ap (λ r. r >>= λ first. read_all field n first.1 >>= λ others. Ok (first.0 ∷ others.0, others.1)) read)
+    ap (after values) (read_more field n left
+    ∙ ap (λ r. r >>= λ first. read_all field n first.1 >>= λ others. Ok (first.0 ∷ others.0, others.1)) read)
     ∙ after_more values v (read_all field n next)
 
 -- If a value cannot be read, the whole reading gives its fault.
@@ -49,7 +52,8 @@ none_read : {V : Type 0} (field : Field V) (values : List V) (n : ℕ) (left : C
     → field.read left ≡ Err fault
     → after values (read_all field (suc n) left) ≡ Err fault
 none_read field values n left fault read =
-    ap (after values) (read_more field n left ∙ ap (λ r. r >>= λ first. read_all field n first.1 >>= λ others. Ok (first.0 ∷ others.0, others.1)) read)
+    ap (after values) (read_more field n left
+    ∙ ap (λ r. r >>= λ first. read_all field n first.1 >>= λ others. Ok (first.0 ∷ others.0, others.1)) read)
 
 -- If no value is left to read, the reading gives `values`.
 all_read : {V : Type 0} (field : Field V) (values : List V) (left : Cursor)
@@ -57,7 +61,8 @@ all_read : {V : Type 0} (field : Field V) (values : List V) (left : Cursor)
 all_read field values left = ap (after values) (read_none field left) ∙ ap (λ vs. Ok (vs, left)) (append-nil values)
 
 -- A loop that reads `count` values: `values`, and those from index `counter` on, make up `whole`.
-module _ {V : Type 0} (field : Field V) (values : List V) (count counter : ℕ) (left : Cursor) (whole : Result (List V × Cursor) LayoutFault)
+module _ {V : Type 0} (field : Field V) (values : List V) (count counter : ℕ) (left : Cursor)
+    (whole : Result (List V × Cursor) LayoutFault)
     (reads : after values (read_all field (count - counter) left) ≡ whole) where
   -- If `counter` is less than `count`, one value is left, and those after it.
   one_less : counter < count → count - counter ≡ suc (count - (counter + 1))
@@ -67,12 +72,14 @@ module _ {V : Type 0} (field : Field V) (values : List V) (count counter : ℕ) 
   pub one_more : counter < count → (v : V) (next : Cursor) → field.read left ≡ Ok (v, next)
       → after (values ++ v ∷ []) (read_all field (count - (counter + 1)) next) ≡ whole
   one_more within v next read =
-      sym (one_read field values (count - (counter + 1)) left next v read) ∙ (ap (λ n. after values (read_all field n left)) (sym (one_less within)) ∙ reads)
+      sym (one_read field values (count - (counter + 1)) left next v read)
+      ∙ (ap (λ n. after values (read_all field n left)) (sym (one_less within)) ∙ reads)
 
   -- If a value cannot be read, the whole reading gives its fault.
   pub none_more : counter < count → (fault : LayoutFault) → field.read left ≡ Err fault → whole ≡ Err fault
   none_more within fault read =
-      sym reads ∙ (ap (λ n. after values (read_all field n left)) (one_less within) ∙ none_read field values (count - (counter + 1)) left fault read)
+      sym reads ∙ (ap (λ n. after values (read_all field n left)) (one_less within)
+      ∙ none_read field values (count - (counter + 1)) left fault read)
 
   -- If `counter` has reached `count`, the whole reading gives `values`.
   pub all_there : count ≤ counter → whole ≡ Ok (values, left)
@@ -81,7 +88,8 @@ module _ {V : Type 0} (field : Field V) (values : List V) (count counter : ℕ) 
       sym reads ∙ (ap (λ n. after values (read_all field n left)) none ∙ all_read field values left)
 
 -- If the second reading keeps each fault of the first, a reader's fault that fits the first fits it too.
-pub fault_stays : {X Y V W : Type 0} (f : X → V) (g : Y → W) (fault : RecordFault) (left next : Cursor) (first : Result (V × Cursor) LayoutFault) (then_read : Result (W × Cursor) LayoutFault)
+pub fault_stays : {X Y V W : Type 0} (f : X → V) (g : Y → W) (fault : RecordFault) (left next : Cursor)
+    (first : Result (V × Cursor) LayoutFault) (then_read : Result (W × Cursor) LayoutFault)
     → ((d : LayoutFault) → first ≡ Err d → then_read ≡ Err d) → ReadsInMemory f (Err fault) left first
     → ReadsInMemory g (Err fault) next then_read
 fault_stays f g faults.Short left next first then_read stays read = stays Short read
@@ -112,7 +120,8 @@ pub one_spelled : {V : Type 0} (spell : V → List ℕ) (bytes : List ℕ) (valu
     → i < length values → v ≡ get_or values i v
     → (bytes ++ spell v) ++ spell_all spell (drop (i + 1) values) ≡ bytes ++ spell_all spell (drop i values)
 one_spelled spell bytes values i v within there =
-    let prefix : drop i values ≡ v ∷ drop (i + 1) values = drop_more values i v within ∙ ap (λ x. x ∷ drop (i + 1) values) (sym there) in
+    let prefix : drop i values ≡ v ∷ drop (i + 1) values =
+    drop_more values i v within ∙ ap (λ x. x ∷ drop (i + 1) values) (sym there) in
     append_assoc bytes (spell v) (spell_all spell (drop (i + 1) values))
     ∙ ap (λ t. bytes ++ t) (sym (spell_more spell v (drop (i + 1) values)) ∙ ap (spell_all spell) (sym prefix))
 
@@ -121,7 +130,8 @@ pub one_each : {V : Type 0} (P : V → Type 0) (values : List V) (i : ℕ) (v : 
     → v ≡ get_or values i v → P v → Each P (drop (i + 1) values) → Each P (drop i values)
 unfolding Each
 one_each P values i v within there is others =
-    let prefix : drop i values ≡ v ∷ drop (i + 1) values = drop_more values i v within ∙ ap (λ x. x ∷ drop (i + 1) values) (sym there) in
+    let prefix : drop i values ≡ v ∷ drop (i + 1) values =
+    drop_more values i v within ∙ ap (λ x. x ∷ drop (i + 1) values) (sym there) in
     subst (Each P) (sym prefix) (is, others)
 
 -- If index `i` is past the last value, `P` holds of each value from `i` on.
@@ -134,7 +144,9 @@ pub spell_both : {V : Type 0} (spell : V → List ℕ) (prefix rest : List V)
     → spell_all spell (prefix ++ rest) ≡ spell_all spell prefix ++ spell_all spell rest
 unfolding spell_all
 spell_both spell [] rest = refl
-spell_both spell (v ∷ prefix) rest = ap (λ t. spell v ++ t) (spell_both spell prefix rest) ∙ sym (append_assoc (spell v) (spell_all spell prefix) (spell_all spell rest))
+spell_both spell (v ∷ prefix) rest =
+    ap (λ t. spell v ++ t) (spell_both spell prefix rest)
+    ∙ sym (append_assoc (spell v) (spell_all spell prefix) (spell_all spell rest))
 
 -- If `P` holds of each value in two lists, it holds of each value in both together.
 pub each_both : {V : Type 0} (P : V → Type 0) (prefix rest : List V) → Each P prefix → Each P rest → Each P (prefix ++ rest)

@@ -1,5 +1,6 @@
 -- The places of messages in a record.
-use Rattle.std.proofs.Common.{arith, ◌≡◌, ℕ, ◌+◌, ◌-◌, ◌≤◌, List, [], ◌∷◌, ◌++◌, length, map, take, drop, Result, Ok, Err, Some, refl, ap, sym, subst, inl, inr, ◌∙◌, length-append, append_assoc, append-nil}
+use Rattle.std.proofs.Common.{arith, ◌≡◌, ℕ, ◌+◌, ◌-◌, ◌≤◌, List, [], ◌∷◌, ◌++◌, length, map, take, drop, Result, Ok, Err, Some}
+use Rattle.std.proofs.Common.{refl, ap, sym, subst, inl, inr, ◌∙◌, length-append, append_assoc, append-nil}
 use Rattle.std.specs.List.{All}
 use Rattle.std.proofs.lemmas.List.{map-append, take_at, drop_at, drop-drop, take-append-le, drop-append-le, length-drop, map_push}
 use Rattle.std.proofs.lemmas.List.Elements.{All-head, All-tail, All-push, All-weaker}
@@ -10,10 +11,12 @@ use Rattle.ill_saved.specs.declared.role.Role.TheVariants as roles
 use Rattle.ill_saved.specs.declared.side.Side.{Side}
 use Rattle.ill_saved.specs.declared.side.Side.TheVariants as sides
 use Rattle.ill_saved.specs.Layout.{spell_all, apdu, ill_request, mark, marked, counted, optional_number}
-use Rattle.ill_saved.specs.Records.{due_octets, heading, requester_states, responder_states, requester_rest, responder_rest, spell_start, record_spelling}
+use Rattle.ill_saved.specs.Records.{due_octets, heading, requester_states, responder_states, requester_rest, responder_rest}
+use Rattle.ill_saved.specs.Records.{spell_start, record_spelling}
 use Rattle.ill_saved.specs.declared.side.Standing.{Standing}
 use Rattle.ill_saved.specs.Side.{issued_of, standing_of}
-use Rattle.ill_saved.specs.LandedBytes.{LandedBytes, no_landed_record, IsLandedRecord, HoldsReleased, piece_at, IsWithin, EndsWith}
+use Rattle.ill_saved.specs.LandedBytes.{LandedBytes, no_landed_record, IsLandedRecord, HoldsReleased, piece_at, IsWithin}
+use Rattle.ill_saved.specs.LandedBytes.{EndsWith}
 use Rattle.std.specs.Prelude.{IfOk}
 use Rattle.ill_saved.specs.Ranges.{Each, IsSide}
 use Rattle.ill_values.specs.Apdu.{IsApdu}
@@ -25,7 +28,8 @@ piece_of_prefix : (prefix more : List ℕ) (place : Place) → IsWithin (length 
 piece_of_prefix prefix more place within =
     let start : place.start ≤ length prefix = omega (arith, within) in
     let size : place.size ≤ length (drop place.start prefix) = omega (arith, within, length-drop place.start prefix) in
-    ap (take place.size) (drop-append-le place.start prefix more start) ∙ take-append-le place.size (drop place.start prefix) more size
+    ap (take place.size) (drop-append-le place.start prefix more start)
+    ∙ take-append-le place.size (drop place.start prefix) more size
 
 -- Places within a prefix have the bytes there that they have in the whole.
 pieces_of_prefix : (prefix more : List ℕ) (places : List Place) → All (IsWithin (length prefix)) places
@@ -49,12 +53,15 @@ pub first_placed : (messages : List ℕ) (pieces : List (List ℕ)) (places : Li
     → map (piece_at messages) places ≡ pieces
     → ArePlaced (messages ++ spell_all spelling apdus) end places apdus (pieces ++ map spelling apdus)
 first_placed messages pieces places apdus end e within are =
-    let longer : length (messages ++ spell_all spelling apdus) ≡ length messages + length (spell_all spelling apdus) = length-append messages (spell_all spelling apdus) in
+    let longer : length (messages ++ spell_all spelling apdus) ≡ length messages + length (spell_all spelling apdus) =
+    length-append messages (spell_all spelling apdus) in
     record {
       rest = drop_at messages (spell_all spelling apdus) end (sym e);
       reached = omega (arith, e, longer);
-      within = All-weaker (IsWithin (length messages)) (IsWithin (length (messages ++ spell_all spelling apdus))) (λ place is. omega (arith, is, longer)) places within;
-      pieces = ap (λ pieces. pieces ++ map spelling apdus) (pieces_of_prefix messages (spell_all spelling apdus) places within ∙ are);
+      within = All-weaker (IsWithin (length messages)) (IsWithin (length (messages ++ spell_all spelling apdus)))
+          (λ place is. omega (arith, is, longer)) places within;
+      pieces = ap (λ pieces. pieces ++ map spelling apdus)
+          (pieces_of_prefix messages (spell_all spelling apdus) places within ∙ are);
     }
 
 -- If the next message gets the place at `end`, all messages up to the end of that place have theirs.
@@ -63,16 +70,21 @@ pub next_placed : (whole : List ℕ) (end : ℕ) (places : List Place) (a : Apdu
     → ArePlaced whole (end + length (spelling a)) (places ++ record { start = end; size = length (spelling a) } ∷ []) left all
 next_placed whole end places a left all placed =
     let rest : drop end whole ≡ spelling a ++ spell_all spelling left = placed.rest ∙ spell_more spelling a left in
-    let long : length whole - end ≡ length (spelling a) + length (spell_all spelling left) = sym (length-drop end whole) ∙ (ap length rest ∙ length-append (spelling a) (spell_all spelling left)) in
+    let long : length whole - end ≡ length (spelling a) + length (spell_all spelling left) =
+    sym (length-drop end whole) ∙ (ap length rest ∙ length-append (spelling a) (spell_all spelling left)) in
     let piece : piece_at whole (record { start = end; size = length (spelling a) }) ≡ spelling a =
     ap (take (length (spelling a))) rest ∙ take_at (spelling a) (spell_all spelling left) (length (spelling a)) refl in
     let reached : end + length (spelling a) ≤ length whole = omega (arith, long, placed.reached) in
     record {
-      rest = sym (drop-drop (length (spelling a)) end whole) ∙ (ap (drop (length (spelling a))) rest ∙ drop_at (spelling a) (spell_all spelling left) (length (spelling a)) refl);
+      rest = sym (drop-drop (length (spelling a)) end whole)
+          ∙ (ap (drop (length (spelling a))) rest ∙ drop_at (spelling a) (spell_all spelling left) (length (spelling a)) refl);
       reached = reached;
-      within = All-push (IsWithin (length whole)) places (record { start = end; size = length (spelling a) }) placed.within reached;
-      pieces = ap (λ pieces. pieces ++ map spelling left) (map_push (piece_at whole) places (record { start = end; size = length (spelling a) }))
-          ∙ (append_assoc (map (piece_at whole) places) (piece_at whole (record { start = end; size = length (spelling a) }) ∷ []) (map spelling left)
+      within = All-push (IsWithin (length whole)) places (record { start = end; size = length (spelling a) }) placed.within
+          reached;
+      pieces = ap (λ pieces. pieces ++ map spelling left)
+          (map_push (piece_at whole) places (record { start = end; size = length (spelling a) }))
+          ∙ (append_assoc (map (piece_at whole) places) (piece_at whole (record { start = end; size = length (spelling a) }) ∷ [])
+          (map spelling left)
           ∙ (ap (λ piece. map (piece_at whole) places ++ piece ∷ map spelling left) piece ∙ placed.pieces));
     }
 
@@ -92,7 +104,9 @@ all_placed bytes whole first end places left all none placed ends e =
     let reached : end ≡ length whole = omega (arith, placed.reached, sym (length-drop end whole) ∙ ap length rest) in
     let after : length ends.0 ≡ first = omega (arith, e, reached, ap length ends.1 ∙ length-append ends.0 whole) in
     let messages : drop first bytes ≡ whole = ap (drop first) ends.1 ∙ drop_at ends.0 whole first after in
-    let pieces : map (piece_at whole) places ≡ all = sym (append-nil (map (piece_at whole) places)) ∙ (ap (λ apdus. map (piece_at whole) places ++ map spelling apdus) (sym none) ∙ placed.pieces) in
+    let pieces : map (piece_at whole) places ≡ all =
+    sym (append-nil (map (piece_at whole) places))
+    ∙ (ap (λ apdus. map (piece_at whole) places ++ map spelling apdus) (sym none) ∙ placed.pieces) in
     record {
       after = omega (arith, e);
       messages = messages;
@@ -118,17 +132,22 @@ ends_with_messages (sides.Requester x) =
     let due = (due_octets x.due) ++ (counted apdu).spell x.issued in
     let rest = requester_rest.spell (x.held, (x.checked_in, (x.due, x.issued))) in
     let head = (heading requester_states).spell (x.state, (x.txn.group, x.txn.transaction)) in
-    let after_due : EndsWith messages due = ends_after (due_octets x.due) messages ((counted apdu).spell x.issued) (ends_counted x.issued) in
-    let after_held : EndsWith messages rest = ends_after (optional_number.spell x.held ++ mark.spell x.checked_in) messages due after_due in
+    let after_due : EndsWith messages due =
+    ends_after (due_octets x.due) messages ((counted apdu).spell x.issued) (ends_counted x.issued) in
+    let after_held : EndsWith messages rest =
+    ends_after (optional_number.spell x.held ++ mark.spell x.checked_in) messages due after_due in
     ends_after (spell_start roles.Requester) messages (head ++ rest) (ends_after head messages rest after_held)
 ends_with_messages (sides.Responder y) =
     let messages = spell_all spelling y.issued in
     let request = (marked ill_request).spell y.request ++ (counted apdu).spell y.issued in
     let rest = responder_rest.spell (y.accepted, (y.last_cancel, (y.last_renew, (y.received, (y.request, y.issued))))) in
     let head = (heading responder_states).spell (y.state, (y.txn.group, y.txn.transaction)) in
-    let after_request : EndsWith messages request = ends_after ((marked ill_request).spell y.request) messages ((counted apdu).spell y.issued) (ends_counted y.issued) in
+    let after_request : EndsWith messages request =
+    ends_after ((marked ill_request).spell y.request) messages ((counted apdu).spell y.issued) (ends_counted y.issued) in
     let after_numbers : EndsWith messages rest =
-    ends_after (optional_number.spell y.accepted ++ (optional_number.spell y.last_cancel ++ (optional_number.spell y.last_renew ++ mark.spell y.received))) messages request after_request in
+    ends_after (optional_number.spell y.accepted
+    ++ (optional_number.spell y.last_cancel ++ (optional_number.spell y.last_renew ++ mark.spell y.received))) messages
+    request after_request in
     ends_after (spell_start roles.Responder) messages (head ++ rest) (ends_after head messages rest after_numbers)
 
 -- ---- a side that begins with the messages kept
@@ -143,13 +162,15 @@ pub record Continues (landed_record : LandedBytes) (issued others : List Apdu) :
 continues_prefix : (landed_record : LandedBytes) (side : Side) (more : List Apdu) → IsLandedRecord landed_record side
     → Continues landed_record (issued_of side ++ more) more
 continues_prefix landed_record side more is = record {
-  messages = ap (λ (k : LandedBytes). k.messages ++ spell_all spelling more) is.1 ∙ sym (spell_both spelling (issued_of side) more);
+  messages = ap (λ (k : LandedBytes). k.messages ++ spell_all spelling more) is.1
+      ∙ sym (spell_both spelling (issued_of side) more);
   pieces = ap (λ (k : LandedBytes). k.pieces ++ map spelling more) is.1 ∙ sym (map-append spelling (issued_of side) more);
   range = λ others. each_both IsApdu (issued_of side) more is.0.1.issued others;
 }
 
 -- If no record is kept, `others` are all messages.
-continues_none : (landed_record : LandedBytes) (issued : List Apdu) → landed_record ≡ no_landed_record → Continues landed_record issued issued
+continues_none : (landed_record : LandedBytes) (issued : List Apdu) → landed_record ≡ no_landed_record
+    → Continues landed_record issued issued
 continues_none landed_record issued none = record {
   messages = ap (λ (k : LandedBytes). k.messages ++ spell_all spelling issued) none;
   pieces = ap (λ (k : LandedBytes). k.pieces ++ map spelling issued) none;
@@ -157,19 +178,30 @@ continues_none landed_record issued none = record {
 }
 
 -- The kept messages, followed by those that are not released, are all that the live side has issued.
-pub landed_continues : (landed_record : LandedBytes) (live : Side) (released : ℕ) (others : List Apdu) → HoldsReleased landed_record live released
+pub landed_continues : (landed_record : LandedBytes) (live : Side) (released : ℕ) (others : List Apdu)
+    → HoldsReleased landed_record live released
     → others ≡ drop released (issued_of live) → Continues landed_record (issued_of live) others
 landed_continues landed_record live released others (inl none) e =
-    subst (λ more. Continues landed_record (issued_of live) more) (sym (e ∙ ap (λ n. drop n (issued_of live)) none.1)) (continues_none landed_record (issued_of live) none.0)
+    subst (λ more. Continues landed_record (issued_of live) more) (sym (e ∙ ap (λ n. drop n (issued_of live)) none.1))
+    (continues_none landed_record (issued_of live) none.0)
 landed_continues landed_record live released others (inr (side, is, of)) e =
-    let same : others ≡ of.prefix.0 = e ∙ (ap (drop released) of.prefix.1 ∙ drop_at (issued_of side) of.prefix.0 released (sym of.all)) in
-    subst (λ more. Continues landed_record (issued_of live) more) (sym same) (subst (λ issued. Continues landed_record issued of.prefix.0) (sym of.prefix.1) (continues_prefix landed_record side of.prefix.0 is))
+    let same : others ≡ of.prefix.0 =
+    e ∙ (ap (drop released) of.prefix.1 ∙ drop_at (issued_of side) of.prefix.0 released (sym of.all)) in
+    subst (λ more. Continues landed_record (issued_of live) more) (sym same)
+    (subst (λ issued. Continues landed_record issued of.prefix.0) (sym of.prefix.1)
+    (continues_prefix landed_record side of.prefix.0 is))
 
 -- Kept bytes that gain the encodings of `others`, and the standing and record of `side`, are those of `side`.
-pub next_landed : {E : Type 0} (result : Result LandedBytes E) (landed_record : LandedBytes) (side : Side) (standing : Standing) (others : List Apdu) (bytes : List ℕ)
+pub next_landed : {E : Type 0} (result : Result LandedBytes E) (landed_record : LandedBytes) (side : Side) (standing : Standing)
+    (others : List Apdu) (bytes : List ℕ)
     → Continues landed_record (issued_of side) others → IsSide side
     → standing ≡ standing_of side → bytes ≡ record_spelling side
-    → IfOk result (λ next. next ≡ record { standing = Some standing; bytes = bytes; messages = landed_record.messages ++ spell_all spelling others; pieces = landed_record.pieces ++ map spelling others })
+    → IfOk result (λ next. next ≡ record {
+      standing = Some standing;
+      bytes = bytes;
+      messages = landed_record.messages ++ spell_all spelling others;
+      pieces = landed_record.pieces ++ map spelling others;
+    })
     → IfOk result (λ next. IsLandedRecord next side)
 next_landed (Ok next) landed_record side standing others bytes more is stands spelled e =
     let messages = more.messages in

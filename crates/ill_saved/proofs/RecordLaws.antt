@@ -1,5 +1,6 @@
 -- The laws of saved records: bytes that are read encode the side, and a side in range is read again.
-use Rattle.std.proofs.Common.{◌≡◌, ℕ, Bool, true, false, List, [], ◌∷◌, ◌++◌, length, Option, Some, None, Result, Ok, Err, refl, sym, ap, subst, ◌∙◌, inl, inr, append-nil, eqb, arith, rules}
+use Rattle.std.proofs.Common.{◌≡◌, ℕ, Bool, true, false, List, [], ◌∷◌, ◌++◌, length, Option, Some, None, Result, Ok, Err, refl}
+use Rattle.std.proofs.Common.{sym, ap, subst, ◌∙◌, inl, inr, append-nil, eqb, arith, rules}
 use Rattle.std.specs.Prelude.{IfSome}
 use Rattle.std.specs.Str.{bytes_eq}
 use Rattle.std.specs.Result.{result_ok}
@@ -27,11 +28,17 @@ use Rattle.ill_saved.specs.declared.role.Role.TheVariants as roles
 use Rattle.ill_saved.specs.declared.side.Side.{Side}
 use Rattle.ill_saved.specs.declared.side.Side.TheVariants as sides
 use Rattle.ill_saved.specs.Side.{role_of}
-use Rattle.ill_saved.specs.Layout.{ended, apdu, ill_request, marked, counted, counted_text, optional_number, mark, constant, followed_by}
-use Rattle.ill_saved.specs.Records.{no_date, due_octets, due_from, found_date, due, heading, requester_states, responder_states, requester_rest, responder_rest, requester_fields, responder_fields, version, role, start, spell_start, spell_fields, record_spelling, read_requester, read_responder, read_fields, side_at, side_spelled, record_at, state_in}
+use Rattle.ill_saved.specs.Layout.{ended, apdu, ill_request, marked, counted, counted_text, optional_number, mark, constant}
+use Rattle.ill_saved.specs.Layout.{followed_by}
+use Rattle.ill_saved.specs.Records.{no_date, due_octets, due_from, found_date, due, heading, requester_states, responder_states}
+use Rattle.ill_saved.specs.Records.{requester_rest, responder_rest, requester_fields, responder_fields, version, role, start}
+use Rattle.ill_saved.specs.Records.{spell_start, spell_fields, record_spelling, read_requester, read_responder, read_fields}
+use Rattle.ill_saved.specs.Records.{side_at, side_spelled, record_at, state_in}
 use Rattle.ill_saved.specs.Ranges.{IsInRange, IsSide}
 use Rattle.ill_saved.proofs.Steps.{bind_ok, chosen, passed, ok_is}
-use Rattle.ill_saved.proofs.Fields.{Below, IsField, Any, Both, Counted, IsAmong, IsRequest, rest_fits, sized_is, constant_is, optional_number_is, mark_is, role_is, state_is, followed_is, counted_text_is, apdu_is, ill_request_is, marked_is, counted_is}
+use Rattle.ill_saved.proofs.Fields.{Below, IsField, Any, Both, Counted, IsAmong, IsRequest, rest_fits, sized_is, constant_is}
+use Rattle.ill_saved.proofs.Fields.{optional_number_is, mark_is, role_is, state_is, followed_is, counted_text_is, apdu_is}
+use Rattle.ill_saved.proofs.Fields.{ill_request_is, marked_is, counted_is}
 use Rattle.ill_saved.proofs.Rules.{requester_state, responder_state, responder_request}
 use Rattle.ill_saved.proofs.Records.{judged_ok, judged_is}
 
@@ -52,7 +59,8 @@ due_takes : Below → (bytes : List ℕ) (o : Option Date) → IsBytes bytes →
     → (bytes ≡ due_octets o) × IfSome o IsDate
 due_takes below bytes o fits size e =
     elim (chosen (bytes_eq bytes no_date) (Some None) (found_date (result_ok (read_date bytes))) (Some o) e) [
-      | inl h ↦ subst (λ (x : Option Date). (bytes ≡ due_octets x) × IfSome x IsDate) (same_Some None o h.1) ((bytes_eq-Decides bytes no_date).0 h.0, tt)
+      | inl h ↦ subst (λ (x : Option Date). (bytes ≡ due_octets x) × IfSome x IsDate) (same_Some None o h.1)
+          ((bytes_eq-Decides bytes no_date).0 h.0, tt)
       | inr h ↦
           let found = found_is (result_ok (read_date bytes)) o h.1 in
           let is = below.day_read bytes found.0 (day_found (read_date bytes) found.0 found.1) in
@@ -88,7 +96,8 @@ HeadingParts states = Both (IsAmong states) (Both IsQualifier IsQualifier)
 -- The field of a state and two qualifiers keeps the laws.
 heading_is : Below → (states : List State) → IsField (HeadingParts states) (heading states)
 heading_is below states =
-    followed_is (IsAmong states) (Both IsQualifier IsQualifier) (state_in states) (followed_by counted_text counted_text) (state_is states)
+    followed_is (IsAmong states) (Both IsQualifier IsQualifier) (state_in states) (followed_by counted_text counted_text)
+    (state_is states)
     (followed_is IsQualifier IsQualifier counted_text counted_text (counted_text_is below) (counted_text_is below))
 
 -- The number, if there is one, is in range.
@@ -102,10 +111,13 @@ RequesterRest = Both IsOptionalNumber (Both Any (Both (λ o. IfSome o IsDate) (C
 -- The fields of a requester keep the laws.
 requester_fields_is : Below → IsField (Both (HeadingParts requester_states) RequesterRest) requester_fields
 requester_fields_is below =
-    followed_is (HeadingParts requester_states) RequesterRest (heading requester_states) requester_rest (heading_is below requester_states)
-    (followed_is IsOptionalNumber (Both Any (Both (λ o. IfSome o IsDate) (Counted IsApdu))) optional_number (followed_by mark (followed_by due (counted apdu))) optional_number_is
+    followed_is (HeadingParts requester_states) RequesterRest (heading requester_states) requester_rest
+    (heading_is below requester_states)
+    (followed_is IsOptionalNumber (Both Any (Both (λ o. IfSome o IsDate) (Counted IsApdu))) optional_number
+    (followed_by mark (followed_by due (counted apdu))) optional_number_is
     (followed_is Any (Both (λ o. IfSome o IsDate) (Counted IsApdu)) mark (followed_by due (counted apdu)) mark_is
-    (followed_is (λ o. IfSome o IsDate) (Counted IsApdu) due (counted apdu) (due_is below) (counted_is IsApdu apdu (apdu_is below)))))
+    (followed_is (λ o. IfSome o IsDate) (Counted IsApdu) due (counted apdu) (due_is below)
+    (counted_is IsApdu apdu (apdu_is below)))))
 
 -- The request, if there is one, is an ILL-Request in range. The issued APDUs are in range, fewer than 256.
 abbrev RequestAndIssued : Option Apdu × List Apdu → Type 0
@@ -118,18 +130,21 @@ ResponderRest = Both IsOptionalNumber (Both IsOptionalNumber (Both IsOptionalNum
 -- The fields of a responder keep the laws.
 responder_fields_is : Below → IsField (Both (HeadingParts responder_states) ResponderRest) responder_fields
 responder_fields_is below =
-    followed_is (HeadingParts responder_states) ResponderRest (heading responder_states) responder_rest (heading_is below responder_states)
+    followed_is (HeadingParts responder_states) ResponderRest (heading responder_states) responder_rest
+    (heading_is below responder_states)
     (followed_is IsOptionalNumber _ optional_number _ optional_number_is
     (followed_is IsOptionalNumber _ optional_number _ optional_number_is
     (followed_is IsOptionalNumber _ optional_number _ optional_number_is
     (followed_is Any _ mark _ mark_is
-    (followed_is (λ o. IfSome o IsRequest) (Counted IsApdu) (marked ill_request) (counted apdu) (marked_is IsRequest ill_request (ill_request_is below)) (counted_is IsApdu apdu (apdu_is below)))))))
+    (followed_is (λ o. IfSome o IsRequest) (Counted IsApdu) (marked ill_request) (counted apdu)
+    (marked_is IsRequest ill_request (ill_request_is below)) (counted_is IsApdu apdu (apdu_is below)))))))
 
 -- The field of the version keeps the laws.
 version_is : IsField (Both Any (Both Any (Both Any Any))) version
 version_is =
     followed_is Any _ (constant 73) _ (constant_is 73)
-    (followed_is Any _ (constant 76) _ (constant_is 76) (followed_is Any Any (constant 76) (constant 49) (constant_is 76) (constant_is 49)))
+    (followed_is Any _ (constant 76) _ (constant_is 76)
+    (followed_is Any Any (constant 76) (constant 49) (constant_is 76) (constant_is 49)))
 
 -- The field of the version and the role keeps the laws.
 start_is : IsField (Both (Both Any (Both Any (Both Any Any))) Any) start
@@ -201,7 +216,8 @@ fields_take below roles.Responder left side rest fits e = responder_takes below 
 
 -- If the check for the end succeeds, no byte is left.
 ends : (left : Cursor) (x : Unit {0}) → ended left ≡ Ok x → left.bytes ≡ []
-ends left x e = nil_from_length left.bytes (eqb-true (length left.bytes) 0 (passed (eqb (length left.bytes) 0) (Ok tt) (Bad left.at) x e).0)
+ends left x e = nil_from_length left.bytes
+    (eqb-true (length left.bytes) 0 (passed (eqb (length left.bytes) 0) (Ok tt) (Bad left.at) x e).0)
 
 -- If all of the bytes are read as a side, they are its encoding, and it is in range.
 pub side_takes : Below → (bytes : List ℕ) (side : Side) → IsBytes bytes → side_spelled bytes ≡ Ok side
@@ -217,7 +233,9 @@ side_takes below bytes side fits e =
     let fields = fields_take below begun.0.0.1 begun.0.1 found.0.0 found.0.1 after_fits found.1 in
     let parts : bytes ≡ spell_start (role_of found.0.0) ++ spell_fields found.0.0 =
     first.0 ∙ ap (λ (r : Role). spell_start r ++ begun.0.1.bytes) (sym fields.0)
-    ∙ ap (λ (x : List ℕ). spell_start (role_of found.0.0) ++ x) (fields.1 ∙ ap (λ (x : List ℕ). spell_fields found.0.0 ++ x) (ends found.0.1 last.0 last.1) ∙ append-nil (spell_fields found.0.0)) in
+    ∙ ap (λ (x : List ℕ). spell_start (role_of found.0.0) ++ x)
+    (fields.1 ∙ ap (λ (x : List ℕ). spell_fields found.0.0 ++ x) (ends found.0.1 last.0 last.1)
+    ∙ append-nil (spell_fields found.0.0)) in
     subst (λ (x : Side). (bytes ≡ spell_start (role_of x) ++ spell_fields x) × IsInRange x) same (parts, fields.2)
 
 -- A state that is not IN-PROCESS or CHECKED-IN is among the states of a requester.
@@ -236,15 +254,35 @@ fields_again : Below → (side : Side) (at : ℕ) (more : List ℕ) → IsSide s
     → (after : ℕ) × (read_fields (role_of side) (cursor_at at (spell_fields side ++ more)) ≡ Ok (side, cursor_at after more))
 fields_again below (sides.Requester x) at more is =
     let range = is.1 in
-    let read = (requester_fields_is below).again ((x.state, (x.txn.group, x.txn.transaction)), (x.held, (x.checked_in, (x.due, x.issued)))) at more
-    ((requester_state_is x.state (requester_state x is.0), (range.parts.txn.group, range.parts.txn.transaction)), (range.parts.held, (tt, (range.parts.due, (range.issued, omega (arith, range.few)))))) in
+    let read = (requester_fields_is below).again
+    ((x.state, (x.txn.group, x.txn.transaction)), (x.held, (x.checked_in, (x.due, x.issued)))) at more (
+      (requester_state_is x.state (requester_state x is.0), (range.parts.txn.group, range.parts.txn.transaction)),
+      (range.parts.held, (tt, (range.parts.due, (range.issued, omega (arith, range.few))))),
+    ) in
     (read.0, rw read.1 refl)
 fields_again below (sides.Responder y) at more is =
     let range = is.1 in
-    let read = (responder_fields_is below).again
-    ((y.state, (y.txn.group, y.txn.transaction)), (y.accepted, (y.last_cancel, (y.last_renew, (y.received, (y.request, y.issued)))))) at more (
+    let read = (responder_fields_is below).again (
+      (y.state, (y.txn.group, y.txn.transaction)),
+      (y.accepted, (y.last_cancel, (y.last_renew, (y.received, (y.request, y.issued))))),
+    ) at more (
       (responder_state_is y.state (responder_state y is.0), (range.parts.txn.group, range.parts.txn.transaction)),
-      (range.parts.accepted, (range.parts.last_cancel, (range.parts.last_renew, (tt, (request_is y.txn y.request (responder_request y is.0) range.parts.request, (range.issued, omega (arith, range.few))))))),
+      (
+        range.parts.accepted,
+        (
+          range.parts.last_cancel,
+          (
+            range.parts.last_renew,
+            (
+              tt,
+              (
+                request_is y.txn y.request (responder_request y is.0) range.parts.request,
+                (range.issued, omega (arith, range.few)),
+              ),
+            ),
+          ),
+        ),
+      ),
     ) in
     (read.0, rw read.1 refl)
 
@@ -259,7 +297,8 @@ side_again below side is =
     rw (begun.1, whole) refl
 
 -- If bytes are read as a consistent side, they are its encoding, and it is in range.
-pub record_takes : Below → (bytes : List ℕ) (side : Side) → IsBytes bytes → record_at bytes ≡ Ok side → (bytes ≡ record_spelling side) × IsSide side
+pub record_takes : Below → (bytes : List ℕ) (side : Side) → IsBytes bytes → record_at bytes ≡ Ok side
+    → (bytes ≡ record_spelling side) × IsSide side
 unfolding record_at
 record_takes below bytes side fits e =
     let read = judged_ok (side_spelled bytes) side e in

@@ -9,7 +9,8 @@ use Rattle.ill_saved.specs.declared.fault.RecordFault.TheVariants as faults
 use Rattle.ill_saved.specs.declared.role.Role.{Role}
 use Rattle.ill_saved.specs.declared.side.Side.{Side}
 use Rattle.ill_saved.specs.Side.{is_consistent, IsConsistent}
-use Rattle.ill_saved.specs.Records.{start, side_at, side_spelled, judged, record_at, has_prefix, has_prefix_after, begins_as_record, Decodes, record_spelling}
+use Rattle.ill_saved.specs.Records.{start, side_at, side_spelled, judged, record_at, has_prefix, has_prefix_after}
+use Rattle.ill_saved.specs.Records.{begins_as_record, Decodes, record_spelling}
 use Rattle.ill_saved.specs.Ranges.{IsSide}
 use Rattle.ill_saved.proofs.Steps.{ok_is}
 
@@ -25,7 +26,8 @@ decodes_after bytes first left found role result begun is read_first decodes =
     ap start.read (sym begun) ∙ read_first ∙ ap (λ (r : Role). Ok (((tt, (tt, (tt, tt))), r), left)) is in
     let same : record_at bytes ≡ judged (side_at role left) = ap (λ r. judged (r >>= λ start. side_at start.0.1 start.1)) read in
     let begins : begins_as_record bytes ≡ has_prefix role left = ap has_prefix_after read in
-    subst (λ r. Decodes r (begins_as_record bytes) result) (sym same) (subst (λ b. Decodes (judged (side_at role left)) b result) (sym begins) decodes)
+    subst (λ r. Decodes r (begins_as_record bytes) result) (sym same)
+    (subst (λ b. Decodes (judged (side_at role left)) b result) (sym begins) decodes)
 
 -- If reading gives only sides in range with these bytes as their encoding, so does decoding.
 pub decodes_spelled : (bytes : List ℕ) (begins : Bool) (result : Result Side RecordFault)

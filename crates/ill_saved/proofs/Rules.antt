@@ -2,7 +2,8 @@
 use Rattle.std.proofs.Common.{◌≡◌, Bool, true, false, not, ◌&&◌, [], ◌∷◌, is_some}
 use Rattle.std.specs.List.{list_all, filter_map}
 use Rattle.std.proofs.lemmas.Bool.{and_parts, not-true}
-use Rattle.ill_core.specs.declared.state.State.TheVariants.{Idle, Pending, InProcess, CancelPending, Cancelled, Received, RenewPending, RenewOverdue, NotReceivedOverdue, CheckedIn}
+use Rattle.ill_core.specs.declared.state.State.TheVariants.{Idle, Pending, InProcess, CancelPending, Cancelled, Received}
+use Rattle.ill_core.specs.declared.state.State.TheVariants.{RenewPending, RenewOverdue, NotReceivedOverdue, CheckedIn}
 use Rattle.ill_core.specs.State.{is_among}
 use Rattle.ill_core.specs.Rules.{implies, are_alike}
 use Rattle.ill_core.specs.Bodies.{is_requesters}
@@ -35,7 +36,8 @@ requester_request x is =
 -- Returns true if the parts of a responder fit its state.
 abbrev responder_parts : ResponderRecord → Bool
 responder_parts y =
-    responder.parts_fit y.state (is_some y.request) (is_some y.accepted) (is_some y.last_cancel) (is_some y.last_renew) y.received (is_none y.issued)
+    responder.parts_fit y.state (is_some y.request) (is_some y.accepted) (is_some y.last_cancel) (is_some y.last_renew) y.received
+    (is_none y.issued)
 
 -- Returns true if the issued APDUs of a responder keep its rules.
 abbrev responder_issued : ResponderRecord → Bool
@@ -46,7 +48,8 @@ each_part : (y : ResponderRecord) → IsResponder y
     → (is_request_of y.txn y.request ≡ true) × (responder_parts y ≡ true) × (responder_issued y ≡ true)
 unfolding responder.is_consistent
 each_part y is =
-    let rest = and_parts (are_numbered y.txn 1 y.issued) (is_request_of y.txn y.request && (responder_parts y && responder_issued y)) is in
+    let rest = and_parts (are_numbered y.txn 1 y.issued)
+    (is_request_of y.txn y.request && (responder_parts y && responder_issued y)) is in
     let asked = and_parts (is_request_of y.txn y.request) (responder_parts y && responder_issued y) rest.1 in
     let both = and_parts (responder_parts y) (responder_issued y) asked.1 in
     (asked.0, both.0, both.1)

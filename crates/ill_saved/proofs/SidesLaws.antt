@@ -1,5 +1,7 @@
 -- The laws of records of many sides: bytes that are read encode the sides, and sides are read again.
-use Rattle.std.proofs.Common.{◌≡◌, ℕ, ◌-◌, ◌<◌, ◌≤◌, ltb, leb, Bool, true, false, cond, not, List, [], ◌∷◌, ◌++◌, length, take, drop, Some, None, Result, Ok, Err, refl, sym, ap, subst, ◌∙◌, append_assoc, append-nil, length-append, arith}
+use Rattle.std.proofs.Common.{◌≡◌, ℕ, ◌-◌, ◌<◌, ◌≤◌, ltb, leb, Bool, true, false, cond, not, List, [], ◌∷◌, ◌++◌, length, take}
+use Rattle.std.proofs.Common.{drop, Some, None, Result, Ok, Err, refl, sym, ap, subst, ◌∙◌, append_assoc, append-nil}
+use Rattle.std.proofs.Common.{length-append, arith}
 use Rattle.std.specs.Prelude.{nat_eq}
 use Rattle.std.specs.Int.{w16, byte_at, to_be_bytes, from_be_bytes}
 use Rattle.std.specs.List.{starts_with}
@@ -23,14 +25,18 @@ use Rattle.ill_saved.specs.declared.fault.RecordFault.TheVariants as faults
 use Rattle.ill_saved.specs.Sides.{SidesOf, most_sides, may_be_held}
 use Rattle.ill_saved.specs.Layout.{sized, counted_by, spell_all, ended}
 use Rattle.ill_saved.specs.Records.{role, role_octet, all_of, record_at, record_spelling}
-use Rattle.ill_saved.specs.RecordsV2.{version_2, two_octets, few_sides, side_count, bad_at, one_record, part, role_and_sides, body_of, sides_spelling, body, unsealed, judged_together, sides_at, read_alone, is_version_1, records_at, AreSides}
+use Rattle.ill_saved.specs.RecordsV2.{version_2, two_octets, few_sides, side_count, bad_at, one_record, part, role_and_sides}
+use Rattle.ill_saved.specs.RecordsV2.{body_of, sides_spelling, body, unsealed, judged_together, sides_at, read_alone}
+use Rattle.ill_saved.specs.RecordsV2.{is_version_1, records_at, AreSides}
 use Rattle.ill_saved.specs.Ranges.{IsSide}
 use Rattle.ill_saved.proofs.Steps.{bind_ok, ok_is, passed, went_on, IsBytes-take, IsBytes-rest}
-use Rattle.ill_saved.proofs.Fields.{ReadsAgain, Takes, IsField, IsSized, Any, Both, CountedBy, rest_fits, sized_is, followed_is, counted_by_is, role_is}
+use Rattle.ill_saved.proofs.Fields.{ReadsAgain, Takes, IsField, IsSized, Any, Both, CountedBy, rest_fits, sized_is, followed_is}
+use Rattle.ill_saved.proofs.Fields.{counted_by_is, role_is}
 
 -- The laws of one record: it encodes the side that is read, is read again, and has at most 41,811 bytes.
 pub record OneRecord : Type 0 where
-  pub spelled : (bytes : List ℕ) (side : Side) → IsBytes bytes → record_at bytes ≡ Ok side → (bytes ≡ record_spelling side) × IsSide side
+  pub spelled : (bytes : List ℕ) (side : Side) → IsBytes bytes → record_at bytes ≡ Ok side → (bytes ≡ record_spelling side)
+      × IsSide side
   pub again : (side : Side) → IsSide side → record_at (record_spelling side) ≡ Ok side
   pub short : (side : Side) → IsSide side → length (record_spelling side) ≤ 41811
 
@@ -63,9 +69,15 @@ two_octets_is = sized_is (λ n. n < 65536) 2 _ (record {
 side_count_is : IsField (λ n. n ≤ most_sides) side_count
 side_count_is = sized_is (λ n. n ≤ most_sides) 2 _ (record {
   takes = λ bytes n fits two e.
-      let read = cond_some (leb (from_be_bytes w16 bytes) most_sides) (from_be_bytes w16 bytes) n e in
-      (spells_two bytes n fits two read.1, subst (λ m. m ≤ most_sides) read.1 (leb-true (from_be_bytes w16 bytes) most_sides read.0));
-  again = λ n few. (ap few_sides (from_be_bytes-to_be_bytes_2 n (omega (arith, few))) ∙ ap (λ b. cond b (Some n) None) (le-leb n most_sides few), refl);
+      let read = cond_some (leb (from_be_bytes w16 bytes) most_sides) (from_be_bytes w16 bytes) n e in (
+        spells_two bytes n fits two read.1,
+        subst (λ m. m ≤ most_sides) read.1 (leb-true (from_be_bytes w16 bytes) most_sides read.0),
+      );
+  again = λ n few. (
+    ap few_sides (from_be_bytes-to_be_bytes_2 n (omega (arith, few)))
+        ∙ ap (λ b. cond b (Some n) None) (le-leb n most_sides few),
+    refl,
+  );
 })
 
 -- ---- a record after its length
@@ -93,13 +105,16 @@ good_at at (Err fault) x e = absurd cc
 part_takes : OneRecord → (left : Cursor) (side : Side) (rest : Cursor) → IsBytes left.bytes
     → part.read left ≡ Ok (side, rest) → Takes part IsSide left.bytes side rest.bytes
 part_takes one left side rest fits e =
-    let size = bind_ok (bad_at left.at (two_octets.read left)) (λ size. bad_at size.1.at ((sized size.0 one_record).read size.1)) (side, rest) e in
+    let size = bind_ok (bad_at left.at (two_octets.read left)) (λ size. bad_at size.1.at ((sized size.0 one_record).read size.1))
+    (side, rest) e in
     let read = good_at left.at (two_octets.read left) size.0 size.1 in
     let first = two_octets_is.takes left size.0.0 size.0.1 fits read in
     let after_fits = rest_fits (λ n. n < 65536) two_octets two_octets_is left size.0.0 size.0.1 fits read in
-    let second = (sized_is _ size.0.0 one_record (record_sized one size.0.0)).takes size.0.1 side rest after_fits (good_at size.0.1.at _ (side, rest) size.2) in
+    let second = (sized_is _ size.0.0 one_record (record_sized one size.0.0)).takes size.0.1 side rest after_fits
+    (good_at size.0.1.at _ (side, rest) size.2) in
     let parts : left.bytes ≡ (two_octets.spell (length (record_spelling side)) ++ record_spelling side) ++ rest.bytes =
-    first.0 ∙ ap (λ (x : List ℕ). two_octets.spell size.0.0 ++ x) second.0 ∙ ap (λ (n : ℕ). two_octets.spell n ++ (record_spelling side ++ rest.bytes)) (sym second.1.1)
+    first.0 ∙ ap (λ (x : List ℕ). two_octets.spell size.0.0 ++ x) second.0
+    ∙ ap (λ (n : ℕ). two_octets.spell n ++ (record_spelling side ++ rest.bytes)) (sym second.1.1)
     ∙ sym (append_assoc (two_octets.spell (length (record_spelling side))) (record_spelling side) rest.bytes) in
     (parts, second.1.0)
 
@@ -123,7 +138,8 @@ ManySides = CountedBy (λ n. n ≤ most_sides) IsSide
 
 -- The field of the role and the sides keeps the laws.
 role_and_sides_is : OneRecord → IsField (Both Any ManySides) role_and_sides
-role_and_sides_is one = followed_is Any ManySides role (counted_by side_count part) role_is (counted_by_is (λ n. n ≤ most_sides) IsSide side_count part side_count_is (part_is one))
+role_and_sides_is one = followed_is Any ManySides role (counted_by side_count part) role_is
+    (counted_by_is (λ n. n ≤ most_sides) IsSide side_count part side_count_is (part_is one))
 
 -- Returns the encoding of the role and the sides: the octets between the version and the digest.
 abbrev octets_of : SidesOf → List ℕ
@@ -154,12 +170,15 @@ unsealed_again held =
     let bytes = prefix ++ digest in
     let closed : length digest ≡ 32 = length-sha256 prefix in
     let all = length-append prefix digest in
-    let seven : 7 ≤ length prefix = seven_first 73 76 76 50 (role_octet held.role) (byte_at 1 (length held.sides)) (byte_at 0 (length held.sides)) (spell_all part.spell held.sides) in
+    let seven : 7 ≤ length prefix =
+    seven_first 73 76 76 50 (role_octet held.role) (byte_at 1 (length held.sides)) (byte_at 0 (length held.sides))
+    (spell_all part.spell held.sides) in
     let long : ltb (length bytes) 39 ≡ false = le-ltb (length bytes) 39 (omega (arith, closed, all, seven)) in
     let at_digest : length prefix ≡ length bytes - 32 = omega (arith, closed, all) in
     let taken : body bytes ≡ prefix = take_at prefix digest (length bytes - 32) at_digest in
     let dropped : drop (length bytes - 32) bytes ≡ digest = drop_at prefix digest (length bytes - 32) at_digest in
-    let sealed : bytes_eq (drop (length bytes - 32) bytes) (sha256 (body bytes)) ≡ true = same_bytes _ _ (dropped ∙ ap sha256 (sym taken)) in
+    let sealed : bytes_eq (drop (length bytes - 32) bytes) (sha256 (body bytes)) ≡ true =
+    same_bytes _ _ (dropped ∙ ap sha256 (sym taken)) in
     rw (long, sealed) (ap (λ (x : List ℕ). Ok (drop 4 x)) taken)
 
 -- The encoding of sides is not of version 1.
@@ -185,7 +204,8 @@ together_is false found held e = absurd cc
 judged_is : (r : Result (Role × List Side) LayoutFault) (held : SidesOf) → judged_together r ≡ Ok held
     → (r ≡ Ok (held.role, held.sides)) × (may_be_held held ≡ true)
 judged_is (Ok found) held e =
-    let both = together_is (may_be_held (record { role = found.0; sides = found.1 })) (record { role = found.0; sides = found.1 }) held e in
+    let both = together_is (may_be_held (record { role = found.0; sides = found.1 })) (record { role = found.0; sides = found.1 })
+    held e in
     (ap (λ (x : SidesOf). Ok (x.role, x.sides)) both.1, ap may_be_held (sym both.1) ∙ both.0)
 judged_is (Err fault) held e = absurd cc
 
@@ -198,12 +218,14 @@ sides_take : OneRecord → (octets : List ℕ) (held : SidesOf) → IsBytes octe
     → (octets ≡ octets_of held) × AreSides held
 sides_take one octets held fits e =
     let judged = judged_is (all_of (role_and_sides.read (cursor_at 4 octets))) held e in
-    let found = bind_ok (role_and_sides.read (cursor_at 4 octets)) (λ found. ended found.1 >>= λ _. Ok found.0) (held.role, held.sides) judged.0 in
+    let found = bind_ok (role_and_sides.read (cursor_at 4 octets)) (λ found. ended found.1 >>= λ _. Ok found.0)
+    (held.role, held.sides) judged.0 in
     let last = bind_ok (ended found.0.1) (λ _. Ok found.0.0) (held.role, held.sides) found.2 in
     let same : found.0.0 ≡ (held.role, held.sides) = ok_is found.0.0 (held.role, held.sides) last.2 in
     let is = (role_and_sides_is one).takes (cursor_at 4 octets) found.0.0 found.0.1 fits found.1 in
     let spelled : octets ≡ octets_of held =
-    is.0 ∙ ap (λ (x : List ℕ). role_and_sides.spell found.0.0 ++ x) (ends found.0.1 last.0 last.1) ∙ append-nil (role_and_sides.spell found.0.0) ∙ ap role_and_sides.spell same in
+    is.0 ∙ ap (λ (x : List ℕ). role_and_sides.spell found.0.0 ++ x) (ends found.0.1 last.0 last.1)
+    ∙ append-nil (role_and_sides.spell found.0.0) ∙ ap role_and_sides.spell same in
     let parts : Both Any ManySides (held.role, held.sides) = subst (Both Any ManySides) same is.1 in
     (spelled, record { held = judged.1; each = parts.1.0; few = parts.1.1 })
 
@@ -218,7 +240,8 @@ unsealed_is bytes octets fits e =
     let size = length bytes - 32 in
     let long = went_on (ltb (length bytes) 39) _ faults.Short octets e in
     let begun = went_on (not (starts_with nat_eq bytes version_2)) _ (faults.Bad 0) octets long.1 in
-    let closed = passed (bytes_eq (drop size bytes) (sha256 (body bytes))) (Ok (drop 4 (body bytes))) faults.Digest octets begun.1 in
+    let closed = passed (bytes_eq (drop size bytes) (sha256 (body bytes))) (Ok (drop 4 (body bytes))) faults.Digest octets
+    begun.1 in
     let enough : 39 ≤ length bytes = ltb-false (length bytes) 39 long.0 in
     let begins : starts_with nat_eq bytes version_2 ≡ true = not_not (starts_with nat_eq bytes version_2) begun.0 in
     let version : version_2 ≡ take 4 bytes = (bytes_eq-Decides version_2 (take 4 bytes)).0 begins in
@@ -226,9 +249,13 @@ unsealed_is bytes octets fits e =
     let after : drop 4 (body bytes) ≡ octets = ok_is (drop 4 (body bytes)) octets closed.1 in
     let first : take 4 (body bytes) ≡ version_2 = take-take 4 size bytes (omega (arith, enough)) ∙ sym version in
     let prefix : body bytes ≡ version_2 ++ octets =
-    sym (take-append-drop 4 (body bytes)) ∙ ap (λ (x : List ℕ). x ++ drop 4 (body bytes)) first ∙ ap (λ (x : List ℕ). version_2 ++ x) after in
-    let whole : bytes ≡ body bytes ++ sha256 (body bytes) = sym (take-append-drop size bytes) ∙ ap (λ (x : List ℕ). body bytes ++ x) digest in
-    (subst (λ (x : List ℕ). bytes ≡ x ++ sha256 x) prefix whole, IsBytes-rest (body bytes) version_2 octets prefix (IsBytes-take size bytes fits))
+    sym (take-append-drop 4 (body bytes)) ∙ ap (λ (x : List ℕ). x ++ drop 4 (body bytes)) first
+    ∙ ap (λ (x : List ℕ). version_2 ++ x) after in
+    let whole : bytes ≡ body bytes ++ sha256 (body bytes) =
+    sym (take-append-drop size bytes) ∙ ap (λ (x : List ℕ). body bytes ++ x) digest in (
+      subst (λ (x : List ℕ). bytes ≡ x ++ sha256 x) prefix whole,
+      IsBytes-rest (body bytes) version_2 octets prefix (IsBytes-take size bytes fits),
+    )
   where
     not_not : (b : Bool) → not b ≡ false → b ≡ true
     not_not true e = refl
@@ -239,7 +266,8 @@ pub spelled : OneRecord → (bytes : List ℕ) (held : SidesOf) → IsBytes byte
     → records_at bytes ≡ Ok held → (bytes ≡ sides_spelling held) × AreSides held
 unfolding records_at sides_spelling
 spelled one bytes held fits another e =
-    let many : (unsealed bytes >>= sides_at) ≡ Ok held = sym (ap (λ b. cond b (read_alone (record_at bytes)) (unsealed bytes >>= sides_at)) another) ∙ e in
+    let many : (unsealed bytes >>= sides_at) ≡ Ok held =
+    sym (ap (λ b. cond b (read_alone (record_at bytes)) (unsealed bytes >>= sides_at)) another) ∙ e in
     let octets = bind_ok (unsealed bytes) sides_at held many in
     let sealed = unsealed_is bytes octets.0 fits octets.1 in
     let is = sides_take one octets.0 held sealed.1 octets.2 in

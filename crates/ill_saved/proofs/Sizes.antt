@@ -1,5 +1,6 @@
 -- The maximum length of a record.
-use Rattle.std.proofs.Common.{◌≡◌, ℕ, ◌+◌, ◌*◌, ◌≤◌, Bool, true, false, ◌||◌, not, List, [], ◌∷◌, length, length-append, Option, Some, None, refl, arith}
+use Rattle.std.proofs.Common.{◌≡◌, ℕ, ◌+◌, ◌*◌, ◌≤◌, Bool, true, false, ◌||◌, not, List, [], ◌∷◌, length, length-append, Option}
+use Rattle.std.proofs.Common.{Some, None, refl, arith}
 use Rattle.std.specs.Prelude.{IfSome}
 use Rattle.std.specs.List.{list_all}
 use Rattle.std.proofs.lemmas.Bool.{and_parts}
@@ -21,7 +22,8 @@ use Rattle.ill_core.specs.Requester.{begins_with_request}
 use Rattle.ill_saved.specs.declared.side.Side.{Side}
 use Rattle.ill_saved.specs.declared.side.Side.TheVariants as sides
 use Rattle.ill_saved.specs.Layout.{apdu, ill_request, marked, counted, spell_all}
-use Rattle.ill_saved.specs.Records.{due_octets, heading, requester_states, responder_states, requester_rest, responder_rest, record_spelling}
+use Rattle.ill_saved.specs.Records.{due_octets, heading, requester_states, responder_states, requester_rest, responder_rest}
+use Rattle.ill_saved.specs.Records.{record_spelling}
 use Rattle.ill_saved.specs.Ranges.{Each, IsSide}
 use Rattle.ill_saved.specs.Sides.{SidesOf}
 use Rattle.ill_saved.specs.RecordsV2.{two_octets, part, body_of, sides_spelling, AreSides}
@@ -57,7 +59,12 @@ unfolding spell_all Each
 others_bound bounds [] are none = omega arith
 others_bound bounds (a ∷ apdus) are none =
     let parts = either (is_ill_request a.body) (has is_ill_request apdus) none in
-    omega (arith, bounds.shorter a are.0 (other_type a.body parts.0), others_bound bounds apdus are.1 parts.1, length-append (spelling a) (spell_all spelling apdus))
+    omega (
+      arith,
+      bounds.shorter a are.0 (other_type a.body parts.0),
+      others_bound bounds apdus are.1 parts.1,
+      length-append (spelling a) (spell_all spelling apdus),
+    )
 
 -- If the first APDU alone is an ILL-Request, the encodings have at most 162 bytes each, and 197 more.
 requester_issued_bound : Bounds → (apdus : List Apdu) → Each IsApdu apdus → begins_with_request apdus ≡ true
@@ -66,7 +73,12 @@ unfolding spell_all Each
 requester_issued_bound bounds [] are begins = omega arith
 requester_issued_bound bounds (a ∷ apdus) are begins =
     let parts = and_parts (is_ill_request a.body) (not (has is_ill_request apdus)) begins in
-    omega (arith, bounds.longest a are.0, others_bound bounds apdus are.1 (opposite (has is_ill_request apdus) parts.1), length-append (spelling a) (spell_all spelling apdus))
+    omega (
+      arith,
+      bounds.longest a are.0,
+      others_bound bounds apdus are.1 (opposite (has is_ill_request apdus) parts.1),
+      length-append (spelling a) (spell_all spelling apdus),
+    )
 
 -- A body of a responder's type is no ILL-Request.
 not_own : (body : Body) → not (is_requesters body) ≡ true → is_ill_request body ≡ false
@@ -106,7 +118,8 @@ record_bound bounds (sides.Requester x) is =
     let issued = spell_all spelling x.issued in
     omega (
       arith,
-      prefix_bound requester_states x.state x.txn.group x.txn.transaction (bounds.qualifier x.txn.group txn.group).1 (bounds.qualifier x.txn.transaction txn.transaction).1,
+      prefix_bound requester_states x.state x.txn.group x.txn.transaction (bounds.qualifier x.txn.group txn.group).1
+          (bounds.qualifier x.txn.transaction txn.transaction).1,
       length-append head (requester_rest.spell (x.held, (x.checked_in, (x.due, x.issued)))),
       length-append (due_octets x.due) ((counted apdu).spell x.issued),
       due_length x.due,
@@ -119,8 +132,10 @@ record_bound bounds (sides.Responder y) is =
     let request = (marked ill_request).spell y.request in
     omega (
       arith,
-      prefix_bound responder_states y.state y.txn.group y.txn.transaction (bounds.qualifier y.txn.group txn.group).1 (bounds.qualifier y.txn.transaction txn.transaction).1,
-      length-append head (responder_rest.spell (y.accepted, (y.last_cancel, (y.last_renew, (y.received, (y.request, y.issued)))))),
+      prefix_bound responder_states y.state y.txn.group y.txn.transaction (bounds.qualifier y.txn.group txn.group).1
+          (bounds.qualifier y.txn.transaction txn.transaction).1,
+      length-append head (responder_rest.spell
+          (y.accepted, (y.last_cancel, (y.last_renew, (y.received, (y.request, y.issued)))))),
       length-append request ((counted apdu).spell y.issued),
       request_bound bounds y.request is.1.parts.request,
       others_bound bounds y.issued is.1.issued (none_requested y.issued (responder_types y is.0)),

@@ -1,5 +1,6 @@
 -- What a desk holds: one side, or the sides of many transactions (this profile's own).
-use Rattle.std.specs.Prelude.{◌≡◌, ℕ, ◌≤◌, nat_le, List, length, Bool, true, false, Option, None, Some, is_ok, Result, Ok, Err, MatchResult}
+use Rattle.std.specs.Prelude.{◌≡◌, ℕ, ◌≤◌, nat_le, List, length, Bool, true, false, Option, None, Some, is_ok, Result, Ok, Err}
+use Rattle.std.specs.Prelude.{MatchResult}
 use Rattle.ill_values.specs.declared.apdu.Apdu.{Apdu}
 use Rattle.ill_values.specs.Apdu.{IsApdu}
 use Rattle.ill_der.specs.ShortForm.{spelling}
@@ -10,7 +11,8 @@ use Rattle.ill_saved.specs.declared.role.Role.{Role}
 use Rattle.ill_saved.specs.declared.side.Side.{Side}
 use Rattle.ill_saved.specs.declared.side.Action.{Action}
 use Rattle.ill_saved.specs.declared.fault.DeskFault.{DeskFault}
-use Rattle.ill_saved.specs.declared.fault.DeskFault.TheVariants.{Core, NoSuchMessage, NotSaved, NoSuchTransaction, DeskFull, Saved, OutOfMemory}
+use Rattle.ill_saved.specs.declared.fault.DeskFault.TheVariants.{Core, NoSuchMessage, NotSaved, NoSuchTransaction, DeskFull}
+use Rattle.ill_saved.specs.declared.fault.DeskFault.TheVariants.{Saved, OutOfMemory}
 use Rattle.ill_saved.specs.declared.fault.RecordFault.{RecordFault}
 use Rattle.ill_saved.specs.declared.fault.RecordFault.TheVariants as records
 use Rattle.ill_saved.specs.Side.{issued_of, takes_memory, IsConsistent, Follows}

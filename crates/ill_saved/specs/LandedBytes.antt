@@ -1,5 +1,6 @@
 -- The part of a landed record that a desk keeps in memory (this profile's own).
-use Rattle.std.specs.Prelude.{◌≡◌, ◌⊎◌, ℕ, ◌+◌, ◌≤◌, Bool, true, false, List, [], ◌++◌, length, take, drop, map, Option, Some, None}
+use Rattle.std.specs.Prelude.{◌≡◌, ◌⊎◌, ℕ, ◌+◌, ◌≤◌, Bool, true, false, List, [], ◌++◌, length, take, drop, map, Option, Some}
+use Rattle.std.specs.Prelude.{None}
 use Rattle.ill_der.specs.ShortForm.{spelling}
 use Rattle.ill_saved.specs.declared.side.Side.{Side}
 use Rattle.ill_saved.specs.declared.side.Standing.{Standing}

@@ -1,5 +1,6 @@
 -- The promises of a store of one record (this profile's own).
-use Rattle.std.specs.Prelude.{◌≡◌, ◌⊎◌, ℕ, ◌+◌, ◌<◌, ◌≤◌, min, nat_lt, if◌then◌else◌, Bool, true, List, [], length, codes, Option, Some, None, is_some, option_map, Result, Ok, Err, IfOk}
+use Rattle.std.specs.Prelude.{◌≡◌, ◌⊎◌, ℕ, ◌+◌, ◌<◌, ◌≤◌, min, nat_lt, if◌then◌else◌, Bool, true, List, [], length, codes, Option}
+use Rattle.std.specs.Prelude.{Some, None, is_some, option_map, Result, Ok, Err, IfOk}
 use Rattle.std.specs.Path.{path_parent}
 use Rattle.ill_saved.specs.declared.store.StoreFault.{StoreFault}
 use Rattle.ill_saved.specs.declared.store.StoreFault.TheVariants.{Failed, TooLarge, OutOfMemory}

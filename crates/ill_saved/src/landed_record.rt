@@ -69,7 +69,12 @@ impl LandedRecord {
 
     /// Returns the record of `side`, whose first `released` messages are kept here. Copies these, and encodes only
     /// the others.
-    pub fn next(&self, alloc: Global, side: &Side, released: u8) -> Result<LandedRecord, OutOfMemory>
+    pub fn next(
+        &self,
+        alloc: Global,
+        side: &Side,
+        released: u8,
+    ) -> Result<LandedRecord, OutOfMemory>
         requires keeps { HoldsReleased self.now side.now released }
         ensures { IfOk result (λ landed_record. IsLandedRecord landed_record side.now) }
     {

@@ -150,7 +150,10 @@ impl Holdings for OneSide {
 
     fn go_back(&mut self, alloc: Global, bytes: Option<Vec<u8>>) -> Result<(), DeskFault> {
         laws::read_again();
-        if self.landed_record.take_back(&bytes, self.released, &mut self.side) {
+        if self
+            .landed_record
+            .take_back(&bytes, self.released, &mut self.side)
+        {
             return Ok(());
         }
         *self = read_or_idle(alloc, bytes, &self.side)?;

@@ -36,14 +36,14 @@ pub fn end_quiet(alloc: Global) {
     mark(alloc, END);
 }
 
-/// Ends a call that may answer want of memory. `says_memory` tells if it did. Returns true if a growth was refused: then
-/// all has to be as it was, and the call is made again.
+/// Ends a call that may answer want of memory. `says_memory` tells if it did. Returns true if a growth was refused:
+/// then all has to be as it was, and the call is made again.
 pub fn is_refused(alloc: Global, says_memory: bool) -> bool {
     mark(alloc, if says_memory { END_OF_MEMORY } else { END })
 }
 
-/// Ends a call that may do without what it was refused. Returns true if a growth was refused: then the case is performed
-/// again from its beginning.
+/// Ends a call that may do without what it was refused. Returns true if a growth was refused: then the case is
+/// performed again from its beginning.
 pub fn is_refused_or_without(alloc: Global, says_memory: bool) -> bool {
     mark(
         alloc,

@@ -11,12 +11,16 @@ use Rattle.ill_tool.specs.Act.{RunsAct}
 
 module _ {L K : Type 0} (effects : Effects L K) (key : K) where
   -- If memory ran out for the words, the command has the fault `OutOfMemory`, and nothing changed.
-  words_unread : (named : Option Action) (now : HeldAndLanded L) (before : Option (List ℕ)) → RunsAct effects key named now before before (Err OutOfMemory) now
+  words_unread : (named : Option Action) (now : HeldAndLanded L) (before : Option (List ℕ))
+      → RunsAct effects key named now before before (Err OutOfMemory) now
   words_unread None now before = (inr refl, refl, Appends-nil before)
   words_unread (Some action) now before = (Err OutOfMemory, [], inl (tt, refl), Appends-nil before, (refl, refl))
 
   -- If the result is the fault `OutOfMemory` alone, the command has it, and nothing changed.
-  pub no_words : (named : Option Action) (now : HeldAndLanded L) (before : Option (List ℕ)) (result : Result Bool ToolFault) → IsErrAnd result (λ fault. fault ≡ OutOfMemory)
+  pub no_words : (named : Option Action) (now : HeldAndLanded L) (before : Option (List ℕ)) (result : Result Bool ToolFault)
+      → IsErrAnd result (λ fault. fault ≡ OutOfMemory)
       → RunsAct effects key named now before before result now
   no_words named now before (Ok fine) failed = absurd failed
-  no_words named now before (Err fault) failed = subst (λ (f : ToolFault). RunsAct effects key named now before before (Err f) now) (sym failed) (words_unread named now before)
+  no_words named now before (Err fault) failed =
+      subst (λ (f : ToolFault). RunsAct effects key named now before before (Err f) now) (sym failed)
+      (words_unread named now before)

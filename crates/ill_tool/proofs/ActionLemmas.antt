@@ -16,11 +16,13 @@ pub named_by_words : {X : Type 0} (text : X → List ℕ) (role : Role) (today :
     → list_all (λ word. is_word (text word)) words ≡ true
     → action_named role today (map text words) ≡ action_for role today (map text words)
 unfolding action_named
-named_by_words text role today words all = ap (λ (fits : Bool). cond fits (action_for role today (map text words)) None) (all_mapped text words ∙ all)
+named_by_words text role today words all =
+    ap (λ (fits : Bool). cond fits (action_for role today (map text words)) None) (all_mapped text words ∙ all)
 
 -- If a script may not have all words, they name no action.
 pub named_by_none : {X : Type 0} (text : X → List ℕ) (role : Role) (today : Option Date) (words : List X)
     → list_all (λ word. is_word (text word)) words ≡ false
     → action_named role today (map text words) ≡ None
 unfolding action_named
-named_by_none text role today words some = ap (λ (fits : Bool). cond fits (action_for role today (map text words)) None) (all_mapped text words ∙ some)
+named_by_none text role today words some =
+    ap (λ (fits : Bool). cond fits (action_for role today (map text words)) None) (all_mapped text words ∙ some)

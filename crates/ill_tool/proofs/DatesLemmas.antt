@@ -15,7 +15,8 @@ one_before None more = refl
 
 -- The deeds of the loans from `place` on are that of the loan there, and those of the others.
 pub one_further : (which : Dates) (today : Date) (sides : List Side) (place : ℕ)
-    → all_due which today (drop place sides) ≡ option_to_list (due_at which today (slice_get sides place)) ++ all_due which today (drop (suc place) sides)
+    → all_due which today (drop place sides)
+    ≡ option_to_list (due_at which today (slice_get sides place)) ++ all_due which today (drop (suc place) sides)
 one_further which today [] zero = refl
 one_further which today [] (suc place) = refl
 one_further which today (side ∷ sides) zero = one_before (due_in which today side) (filter_map (due_in which today) sides)

@@ -1,5 +1,6 @@
 -- Desks that are listed one after another.
-use Rattle.std.proofs.Common.{arith, ◌≡◌, ℕ, zero, suc, ◌+◌, ◌<◌, ◌++◌, Bool, true, false, List, [], ◌∷◌, length, map, take, get_or, Option, Ok, refl, ap, sym, subst, ◌∙◌, inl, inr, append_assoc, add-one}
+use Rattle.std.proofs.Common.{arith, ◌≡◌, ℕ, zero, suc, ◌+◌, ◌<◌, ◌++◌, Bool, true, false, List, [], ◌∷◌, length, map, take}
+use Rattle.std.proofs.Common.{get_or, Option, Ok, refl, ap, sym, subst, ◌∙◌, inl, inr, append_assoc, add-one}
 use Rattle.std.specs.Prelude.{◌==◌}
 use Rattle.std.specs.List.{flat_map, join_by}
 use Rattle.std.specs.Io.KnownBytes.{Appends}
@@ -26,11 +27,13 @@ lead Json = refl
 
 -- A join with one text more is the join, the text between two if one is before, and it.
 joined_more : {X : Type 0} (form : Form) (text : X → List ℕ) (done : List X) (one : X)
-    → join_by text (between form false) (done ++ one ∷ []) ≡ join_by text (between form false) done ++ (between form (is_nothing done) ++ text one)
+    → join_by text (between form false) (done ++ one ∷ [])
+    ≡ join_by text (between form false) done ++ (between form (is_nothing done) ++ text one)
 joined_more form text [] one = append-nil (text one) ∙ ap (λ lead. lead ++ text one) (sym (lead form))
 joined_more {X} form text (first ∷ done) one =
     let later : X → List ℕ = λ item. between form false ++ text item in
-    ap (λ more. text first ++ more) (flat_map-append later done (one ∷ []) ∙ ap (λ more. flat_map later done ++ more) (append-nil (later one)))
+    ap (λ more. text first ++ more)
+    (flat_map-append later done (one ∷ []) ∙ ap (λ more. flat_map later done ++ more) (append-nil (later one)))
     ∙ sym (append_assoc (text first) (flat_map later done) (later one))
 
 -- A place after another one is not the first.
@@ -47,15 +50,19 @@ first_listed (file ∷ files) (desk ∷ desks) zero within is = absurd cc
 first_listed (file ∷ files) (desk ∷ desks) (suc place) within is = sym (not_first place)
 
 -- If the desks before `place` are listed, and then the one there, one more of `files` is listed.
-pub one_more : (form : Form) (wanted : Wanted) (files : List (List ℕ)) (desks : List (List ℕ × List Side)) (place : ℕ) (file : List ℕ) (is_headed is_first : Bool)
+pub one_more : (form : Form) (wanted : Wanted) (files : List (List ℕ)) (desks : List (List ℕ × List Side)) (place : ℕ)
+    (file : List ℕ) (is_headed is_first : Bool)
     (before middle after : Option (List ℕ)) (done : Unit {0})
     → place < length files → file ≡ get_or files place file → is_headed ≡ are_several files → is_first ≡ (place == 0)
     → map (λ (desk : List ℕ × List Side). desk.0) desks ≡ take place files
     → Appends before middle (listed_desks form (are_several files) wanted desks)
     → ListsDesk form wanted is_first is_headed file middle after (Ok done)
-    → (desks : List (List ℕ × List Side)) × (map (λ (desk : List ℕ × List Side). desk.0) desks ≡ take (place + 1) files) × Appends before after (listed_desks form (are_several files) wanted desks)
-one_more form wanted files desks place file is_headed is_first before middle after done within at headed first listed so_far (inl shut) = absurd shut.0
-one_more form wanted files desks place file is_headed is_first before middle after done within at headed first listed so_far (inr (sides, written)) =
+    → (desks : List (List ℕ × List Side)) × (map (λ (desk : List ℕ × List Side). desk.0) desks ≡ take (place + 1) files)
+    × Appends before after (listed_desks form (are_several files) wanted desks)
+one_more form wanted files desks place file is_headed is_first before middle after done within at headed first listed so_far
+    (inl shut) = absurd shut.0
+one_more form wanted files desks place file is_headed is_first before middle after done within at headed first listed so_far
+    (inr (sides, written)) =
     let desk : List ℕ × List Side = (file, sides) in
     let path : List ℕ × List Side → List ℕ = λ desk. desk.0 in
     let text : List ℕ × List Side → List ℕ = λ desk. listed_desk form (are_several files) wanted desk.0 desk.1 in
@@ -63,8 +70,14 @@ one_more form wanted files desks place file is_headed is_first before middle aft
     map-append path desks (desk ∷ []) ∙ ap (λ done. done ++ file ∷ []) listed ∙ ap (λ file. take place files ++ file ∷ []) at
     ∙ sym (take-suc files place file within) ∙ ap (λ count. take count files) (sym (add-one place)) in
     let is_lead = first ∙ sym (first_listed files desks place within listed) in
-    let shown : between form is_first ++ listed_desk form is_headed wanted file sides ≡ between form (is_nothing desks) ++ text desk =
+    let shown : between form is_first ++ listed_desk form is_headed wanted file sides
+    ≡ between form (is_nothing desks) ++ text desk =
     ap (λ (is_first : Bool). between form is_first ++ listed_desk form is_headed wanted file sides) is_lead
     ∙ ap (λ (is_headed : Bool). between form (is_nothing desks) ++ listed_desk form is_headed wanted file sides) headed in
-    let joined = ap (λ more. listed_desks form (are_several files) wanted desks ++ more) shown ∙ sym (joined_more form text desks desk) in
-    (desks ++ desk ∷ [], paths, subst (λ text. Appends before after text) joined (Appends-trans before middle after _ _ so_far written))
+    let joined = ap (λ more. listed_desks form (are_several files) wanted desks ++ more) shown
+    ∙ sym (joined_more form text desks desk) in (
+      desks ++ desk ∷ [],
+      paths,
+      subst (λ text. Appends before after text) joined
+          (Appends-trans before middle after _ _ so_far written),
+    )

@@ -10,7 +10,8 @@ pub two_escape : (escaping : Escaping) (first second : ℕ) (rest : List ℕ) �
 unfolding written
 two_escape escaping first second [] acts =
     let shown = escape escaping (number_of_two first second) in
-    ap (λ (act : Bool). if act then shown else byte_text escaping first ++ byte_text escaping second) acts ∙ sym (append-nil shown)
+    ap (λ (act : Bool). if act then shown else byte_text escaping first ++ byte_text escaping second) acts
+    ∙ sym (append-nil shown)
 two_escape escaping first second (third ∷ rest) acts =
     ap
     (λ (act : Bool). if act then escape escaping (number_of_two first second) ++ written escaping (third ∷ rest)
@@ -20,7 +21,9 @@ two_escape escaping first second (third ∷ rest) acts =
 
 -- If two bytes do not act, the first three decide how the text is written.
 three_left : (escaping : Escaping) (first second third : ℕ) (rest : List ℕ) → two_act first second ≡ false
-    → written escaping (first ∷ second ∷ third ∷ rest) ≡ (if three_act first second third then escape escaping (number_of_three first second third) ++ written escaping rest else byte_text escaping first ++ written escaping (second ∷ third ∷ rest))
+    → written escaping (first ∷ second ∷ third ∷ rest)
+    ≡ (if three_act first second third then escape escaping (number_of_three first second third) ++ written escaping rest else
+    byte_text escaping first ++ written escaping (second ∷ third ∷ rest))
 unfolding written
 three_left escaping first second third rest pass =
     ap
@@ -32,10 +35,12 @@ three_left escaping first second third rest pass =
 -- If three bytes act, and the first two do not, they are written as an escape.
 pub three_escape : (escaping : Escaping) (first second third : ℕ) (rest : List ℕ) → two_act first second ≡ false
     → three_act first second third ≡ true
-    → written escaping (first ∷ second ∷ third ∷ rest) ≡ escape escaping (number_of_three first second third) ++ written escaping rest
+    → written escaping (first ∷ second ∷ third ∷ rest)
+    ≡ escape escaping (number_of_three first second third) ++ written escaping rest
 three_escape escaping first second third rest pass acts =
     three_left escaping first second third rest pass
-    ∙ ap (λ (act : Bool). if act then escape escaping (number_of_three first second third) ++ written escaping rest else byte_text escaping first ++ written escaping (second ∷ third ∷ rest)) acts
+    ∙ ap (λ (act : Bool). if act then escape escaping (number_of_three first second third) ++ written escaping rest else
+    byte_text escaping first ++ written escaping (second ∷ third ∷ rest)) acts
 
 -- If neither two bytes nor three act, the first is written by itself.
 pub first_stays : (escaping : Escaping) (first second third : ℕ) (rest : List ℕ) → two_act first second ≡ false
@@ -43,7 +48,8 @@ pub first_stays : (escaping : Escaping) (first second third : ℕ) (rest : List 
     → written escaping (first ∷ second ∷ third ∷ rest) ≡ byte_text escaping first ++ written escaping (second ∷ third ∷ rest)
 first_stays escaping first second third rest pass passes =
     three_left escaping first second third rest pass
-    ∙ ap (λ (act : Bool). if act then escape escaping (number_of_three first second third) ++ written escaping rest else byte_text escaping first ++ written escaping (second ∷ third ∷ rest)) passes
+    ∙ ap (λ (act : Bool). if act then escape escaping (number_of_three first second third) ++ written escaping rest else
+    byte_text escaping first ++ written escaping (second ∷ third ∷ rest)) passes
 
 -- The last byte of a text is written by itself.
 pub last_stays : (escaping : Escaping) (first : ℕ) (after : List ℕ) → after ≡ []
@@ -59,10 +65,13 @@ pub first_of_two_stays : (escaping : Escaping) (first second : ℕ) (after rest 
     → written escaping (first ∷ after) ≡ byte_text escaping first ++ written escaping after
 unfolding written
 first_of_two_stays escaping first second after rest is none pass =
-    let both = ap (λ (act : Bool). if act then escape escaping (number_of_two first second) else byte_text escaping first ++ byte_text escaping second) pass in
-    subst (λ (after : List ℕ). written escaping (first ∷ after) ≡ byte_text escaping first ++ written escaping after) (ap (λ (rest : List ℕ). second ∷ rest) (sym none) ∙ sym is) both
+    let both = ap (λ (act : Bool). if act then escape escaping (number_of_two first second) else
+    byte_text escaping first ++ byte_text escaping second) pass in
+    subst (λ (after : List ℕ). written escaping (first ∷ after) ≡ byte_text escaping first ++ written escaping after)
+    (ap (λ (rest : List ℕ). second ∷ rest) (sym none) ∙ sym is) both
 
 -- If no byte is left to write, the text that was written is all of it.
 pub none_left : (escaping : Escaping) (shown all rest : List ℕ) → shown ++ written escaping rest ≡ all → rest ≡ [] → shown ≡ all
 unfolding written
-none_left escaping shown all rest left none = sym (append-nil shown) ∙ subst (λ (rest : List ℕ). shown ++ written escaping rest ≡ all) none left
+none_left escaping shown all rest left none =
+    sym (append-nil shown) ∙ subst (λ (rest : List ℕ). shown ++ written escaping rest ≡ all) none left

@@ -1,5 +1,6 @@
 -- A held side is found by its own transaction.
-use Rattle.std.proofs.Common.{◌≡◌, ℕ, zero, suc, Bool, true, false, cond, List, [], ◌∷◌, map, Some, refl, ap, sym, subst, ◌∙◌, true≢false}
+use Rattle.std.proofs.Common.{◌≡◌, ℕ, zero, suc, Bool, true, false, cond, List, [], ◌∷◌, map, Some, refl, ap, sym, subst, ◌∙◌}
+use Rattle.std.proofs.Common.{true≢false}
 use Rattle.std.specs.Prelude.{option_map, is_none, is_some, slice_get}
 use Rattle.std.proofs.lemmas.Bool.{and_parts}
 use Rattle.ill_values.specs.TxnId.{Qualifiers}
@@ -21,7 +22,9 @@ side_of held = held.side
 hidden_by : (txn : Qualifiers) (sides : List DeskEntry) (held : DeskEntry)
     → is_none (side_with txn (map side_of sides)) ≡ true → found_by txn_held txn sides ≡ Some held → ⊥
 unfolding side_with
-hidden_by txn sides held none found = true≢false (sym none ∙ ap is_none (found_mapped txn_held txn_of side_of (λ h. refl) txn sides ∙ ap (option_map side_of) found))
+hidden_by txn sides held none found =
+    true≢false (sym none ∙ ap is_none
+    (found_mapped txn_held txn_of side_of (λ h. refl) txn sides ∙ ap (option_map side_of) found))
 
 -- If no later side has the transaction of `first`, a later side is found after it by its own transaction.
 found_after : (first held : DeskEntry) (sides : List DeskEntry) (same : Bool)
@@ -40,12 +43,15 @@ apart_found : (sides : List DeskEntry) (place : ℕ) (held : DeskEntry) → are_
 unfolding are_apart
 apart_found [] place held apart at = absurd (true≢false (sym (ap is_some at)))
 apart_found (first ∷ sides) zero held apart at =
-    subst (λ (h : DeskEntry). found_by txn_held (txn_held h) (first ∷ sides) ≡ Some h) (some_is first held at) (ap (λ same. cond same (Some first) (found_by txn_held (txn_held first) sides)) (same_self (txn_held first)))
+    subst (λ (h : DeskEntry). found_by txn_held (txn_held h) (first ∷ sides) ≡ Some h) (some_is first held at)
+    (ap (λ same. cond same (Some first) (found_by txn_held (txn_held first) sides)) (same_self (txn_held first)))
 apart_found (first ∷ sides) (suc place) held apart at =
     let parts = and_parts _ _ apart in
-    found_after first held sides (is_same_txn (txn_held held) (txn_held first)) refl parts.0 (apart_found sides place held parts.1 at)
+    found_after first held sides (is_same_txn (txn_held held) (txn_held first)) refl parts.0
+    (apart_found sides place held parts.1 at)
 
 -- If no two sides are of one transaction, the side at `place` is the one held for its own.
 pub held_at_place : (live : DeskContents) (place : ℕ) (held : DeskEntry) → are_apart (sides_held live).sides ≡ true
     → slice_get live.held place ≡ Some held → held_for (txn_held held) live ≡ held
-held_at_place live place held apart at = ap (found_or (idle_held live.role (txn_held held))) (apart_found live.held place held apart at)
+held_at_place live place held apart at =
+    ap (found_or (idle_held live.role (txn_held held))) (apart_found live.held place held apart at)

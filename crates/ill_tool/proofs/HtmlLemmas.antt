@@ -8,7 +8,9 @@ use Rattle.ill_tool.specs.Html.{html_byte, html_escaped, is_inert}
 -- Each name is inert, and so is a byte that is none of the four.
 either_inert : (byte : ℕ) (amp less more quote mark : Bool) → (byte == 0x3C) ≡ less → (byte == 0x3E) ≡ more
     → (byte == 0x22) ≡ quote → (byte == 0x27) ≡ mark
-    → list_all is_inert (if amp then codes "&amp;" else (if less then codes "&lt;" else (if more then codes "&gt;" else (if quote then codes "&quot;" else (if mark then codes "&#39;" else byte ∷ []))))) ≡ true
+    → list_all is_inert (if amp then codes "&amp;" else
+    (if less then codes "&lt;" else
+    (if more then codes "&gt;" else (if quote then codes "&quot;" else (if mark then codes "&#39;" else byte ∷ []))))) ≡ true
 either_inert byte true less more quote mark e1 e2 e3 e4 = refl
 either_inert byte false true more quote mark e1 e2 e3 e4 = refl
 either_inert byte false false true quote mark e1 e2 e3 e4 = refl

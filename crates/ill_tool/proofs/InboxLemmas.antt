@@ -1,5 +1,6 @@
 -- Mails, and the messages in them.
-use Rattle.std.proofs.Common.{◌≡◌, ℕ, ◌+◌, ◌≤◌, List, [], ◌∷◌, ◌++◌, Option, Result, Ok, Err, IfOk, length, drop, refl, ap, sym, arith, ◌∙◌}
+use Rattle.std.proofs.Common.{◌≡◌, ℕ, ◌+◌, ◌≤◌, List, [], ◌∷◌, ◌++◌, Option, Result, Ok, Err, IfOk, length, drop, refl, ap, sym}
+use Rattle.std.proofs.Common.{arith, ◌∙◌}
 use Rattle.std.proofs.lemmas.List.{length-drop}
 use Rattle.ill_values.specs.declared.apdu.Apdu.{Apdu}
 use Rattle.ill_der.specs.declared.fault.DerFault.{DerFault}
@@ -12,7 +13,8 @@ use Rattle.ill_tool.specs.declared.tally.Tally.{Tally}
 use Rattle.ill_saved.specs.ManySides.{many_sides}
 use Rattle.ill_tool.specs.Performing.{HeldAndLanded}
 use Rattle.ill_tool.specs.declared.fault.ToolFault.{ToolFault}
-use Rattle.ill_tool.specs.Inbox.{EndedWell, RunsInbox, Sorting, answered_with, concluded, inbox_text, one_message, tally_line, tally_of}
+use Rattle.ill_tool.specs.Inbox.{EndedWell, RunsInbox, Sorting, answered_with, concluded, inbox_text, one_message, tally_line}
+use Rattle.ill_tool.specs.Inbox.{tally_of}
 
 -- An APDU with further bytes after it is no message.
 some_after : (a : Apdu) (rest : List ℕ) → 1 ≤ length rest → one_message (Ok (a, rest)) ≡ Err Trailing
@@ -31,13 +33,17 @@ pub concluded_is : {L : Type 0} (waiting : ℕ) (sorted end : Sorting L) (verdic
     → told ≡ sorted.told ++ tally_line tally waiting
     → record { live = sorted.live; verdicts = sorted.verdicts; told = told; kept = sorted.kept } ≡ concluded waiting end
 concluded_is waiting sorted end verdicts tally told is all counted text =
-    let whole : told ≡ inbox_text sorted waiting = text ∙ ap (λ tally. sorted.told ++ tally_line tally waiting) (counted ∙ ap tally_of all) in
-    ap (λ told. record { live = sorted.live; verdicts = sorted.verdicts; told = told; kept = sorted.kept }) whole ∙ ap (concluded waiting) is
+    let whole : told ≡ inbox_text sorted waiting =
+    text ∙ ap (λ tally. sorted.told ++ tally_line tally waiting) (counted ∙ ap tally_of all) in
+    ap (λ told. record { live = sorted.live; verdicts = sorted.verdicts; told = told; kept = sorted.kept }) whole
+    ∙ ap (concluded waiting) is
 
 -- If a run over `mails` returns verdicts, it has ended well.
-pub ended_if_ok : {X : Type 0} (items : X → List Verdict) (mails : List Mail) (waiting : ℕ) (kept_before kept_after before after : Option (List ℕ)) (old new : HeldAndLanded DeskContents) (result : Result X ToolFault)
+pub ended_if_ok : {X : Type 0} (items : X → List Verdict) (mails : List Mail) (waiting : ℕ)
+    (kept_before kept_after before after : Option (List ℕ)) (old new : HeldAndLanded DeskContents) (result : Result X ToolFault)
     → RunsInbox many_sides mails waiting kept_before kept_after before after old (answered_with items result) new
     → IfOk result (λ verdicts. EndedWell mails (items verdicts) new)
 unfolding EndedWell
-ended_if_ok items mails waiting kept_before kept_after before after old new (Ok verdicts) runs = (waiting, kept_before, kept_after, before, after, old, runs)
+ended_if_ok items mails waiting kept_before kept_after before after old new (Ok verdicts) runs =
+    (waiting, kept_before, kept_after, before, after, old, runs)
 ended_if_ok items mails waiting kept_before kept_after before after old new (Err fault) runs = tt

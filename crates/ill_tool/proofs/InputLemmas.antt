@@ -1,5 +1,6 @@
 -- The reading of one piece after another, and the handling of the APDUs in them.
-use Rattle.std.proofs.Common.{◌≡◌, inl, inr, ◌⊎◌, ℕ, Bool, if◌then◌else◌, ◌+◌, ◌*◌, ◌-◌, ◌<◌, ◌≤◌, List, [], ◌∷◌, ◌++◌, length, Option, Some, None, Result, Ok, Err, refl, sym, ap, subst, ◌∙◌, arith, append_assoc}
+use Rattle.std.proofs.Common.{◌≡◌, inl, inr, ◌⊎◌, ℕ, Bool, if◌then◌else◌, ◌+◌, ◌*◌, ◌-◌, ◌<◌, ◌≤◌, List, [], ◌∷◌, ◌++◌, length}
+use Rattle.std.proofs.Common.{Option, Some, None, Result, Ok, Err, refl, sym, ap, subst, ◌∙◌, arith, append_assoc}
 use Rattle.std.specs.List.{AllByRecursion}
 use Rattle.std.specs.Io.KnownBytes.{Consumes, Keeps, IsAtEnd}
 use Rattle.std.proofs.KnownBytes.{Consumes-nil, Consumes-trans, Consumes-kept}
@@ -65,8 +66,15 @@ fails_as : {S T F : Type 0} (handles : Handles S F) (seen : Handles T F) (view :
     → ((s t : S) (apdu : Apdu) (r : Result (Unit {0}) F) → handles s apdu r t → seen (view s) apdu r (view t))
     → (old : Unread) (piece : List ℕ) (before after : S) (fault : F) → FailsAt handles old piece before fault after
     → FailsAt seen old piece (view before) fault (view after)
-fails_as handles seen view as_seen (Ok held) piece before after fault is =
-    (is.0, is.1, is.2, view is.3, is.4, handled_as handles seen view as_seen before is.3 is.0 is.5, as_seen is.3 after is.1 (Err fault) is.6)
+fails_as handles seen view as_seen (Ok held) piece before after fault is = (
+  is.0,
+  is.1,
+  is.2,
+  view is.3,
+  is.4,
+  handled_as handles seen view as_seen before is.3 is.0 is.5,
+  as_seen is.3 after is.1 (Err fault) is.6,
+)
 fails_as handles seen view as_seen (Err closed) piece before after fault is = absurd is
 
 -- A piece that was handled by `handles` is handled by `seen` on the views, if each step is.
@@ -75,15 +83,18 @@ pub each_as : {S T F : Type 0} (handles : Handles S F) (seen : Handles T F) (vie
     → (old : Unread) (piece : List ℕ) (before : S) (result : Result (Option DerFault) F) (new : Unread) (after : S)
     → HandlesEach handles old piece before result new after
     → HandlesEach seen old piece (view before) result new (view after)
-each_as handles seen view as_seen old piece before (Ok fault) new after is = (is.0, (is.1.0, is.1.1, handled_as handles seen view as_seen before after is.1.0 is.1.2))
-each_as handles seen view as_seen old piece before (Err fault) new after is = (is.0, fails_as handles seen view as_seen old piece before after fault is.1)
+each_as handles seen view as_seen old piece before (Ok fault) new after is =
+    (is.0, (is.1.0, is.1.1, handled_as handles seen view as_seen before after is.1.0 is.1.2))
+each_as handles seen view as_seen old piece before (Err fault) new after is =
+    (is.0, fails_as handles seen view as_seen old piece before after fault is.1)
 
 -- APDUs handled to a state, and more handled from it, are handled together.
 handled_join : {S F : Type 0} (handles : Handles S F) (before middle after : S) (prefix more : List Apdu)
     → Handled handles before prefix middle → Handled handles middle more after
     → Handled handles before (prefix ++ more) after
 handled_join handles before middle after [] more first second = subst (λ s. Handled handles s more after) first second
-handled_join handles before middle after (apdu ∷ prefix) more first second = (first.0, first.1, handled_join handles first.0 middle after prefix more first.2 second)
+handled_join handles before middle after (apdu ∷ prefix) more first second =
+    (first.0, first.1, handled_join handles first.0 middle after prefix more first.2 second)
 
 -- APDUs that were handled and counted raise the count by their number, to 100,000 at most, and are handled.
 counted_on : {S : Type 0} (handles : Handles S ToolFault) (before after : ℕ × S) (apdus : List Apdu)
@@ -101,14 +112,18 @@ counted_on handles before after (apdu ∷ apdus) few is =
 abbrev pub HandlesCounted : {H C : Type 0} → Handles (H × C) ToolFault → Unread → List ℕ → Counted H × C
     → Result (Option DerFault) ToolFault → Unread → Counted H × C → Type 0
 HandlesCounted handles old piece before result new after =
-    HandlesEach (λ s apdu r t. CountsOn handles (s.0.count, (s.0.handler, s.1)) apdu r (t.0.count, (t.0.handler, t.1))) old piece before result new after
+    HandlesEach (λ s apdu r t. CountsOn handles (s.0.count, (s.0.handler, s.1)) apdu r (t.0.count, (t.0.handler, t.1))) old piece
+    before result new after
 
 -- A piece handled with a counted handler is handled on the pairs of count and state.
-each_counted : {H C : Type 0} (handles : Handles (H × C) ToolFault) (old feed : Unread) (piece : List ℕ) (before : Counted H × C) (result : Result (Option DerFault) ToolFault) (new : Unread) (after : Counted H × C)
+each_counted : {H C : Type 0} (handles : Handles (H × C) ToolFault) (old feed : Unread) (piece : List ℕ) (before : Counted H × C)
+    (result : Result (Option DerFault) ToolFault) (new : Unread) (after : Counted H × C)
     → feed ≡ old → HandlesCounted handles feed piece before result new after
-    → HandlesEach (CountsOn handles) old piece (before.0.count, (before.0.handler, before.1)) result new (after.0.count, (after.0.handler, after.1))
+    → HandlesEach (CountsOn handles) old piece (before.0.count, (before.0.handler, before.1)) result new
+    (after.0.count, (after.0.handler, after.1))
 each_counted {H = H} {C = C} handles old feed piece before result new after same is =
-    each_as (λ (s : Counted H × C) apdu r t. CountsOn handles (s.0.count, (s.0.handler, s.1)) apdu r (t.0.count, (t.0.handler, t.1))) (CountsOn handles)
+    each_as (λ (s : Counted H × C) apdu r t.
+    CountsOn handles (s.0.count, (s.0.handler, s.1)) apdu r (t.0.count, (t.0.handler, t.1))) (CountsOn handles)
     (λ s. (s.0.count, (s.0.handler, s.1))) (λ s t apdu r h. h) old piece before result new after
     (subst (λ (f : Unread). HandlesCounted handles f piece before result new after) same is)
 
@@ -129,12 +144,15 @@ last_of (first ∷ apdus) apdu all = (let others = last_of apdus apdu all.1 in (
 -- The encodings of two lists, one after the other, are those of their join.
 spelled_join : (prefix more : List Apdu) (rest : List ℕ)
     → spellings prefix ++ (spellings more ++ rest) ≡ spellings (prefix ++ more) ++ rest
-spelled_join prefix more rest = sym (append_assoc (spellings prefix) (spellings more) rest) ∙ ap (λ (x : List ℕ). x ++ rest) (sym (flat_map-append spelling prefix more))
+spelled_join prefix more rest =
+    sym (append_assoc (spellings prefix) (spellings more) rest)
+    ∙ ap (λ (x : List ℕ). x ++ rest) (sym (flat_map-append spelling prefix more))
 
 -- ---- the APDUs so far
 
 -- The APDUs whose encodings were read have been handled, and the bytes `held` after them are held.
-pub record SoFar {S : Type 0} (handles : Handles S ToolFault) (old now : Option (List ℕ)) (before : S) (count : ℕ) (feed : Unread) (after : S) (apdus : List Apdu) (held : List ℕ) : Type 0 where
+pub record SoFar {S : Type 0} (handles : Handles S ToolFault) (old now : Option (List ℕ)) (before : S) (count : ℕ) (feed : Unread)
+    (after : S) (apdus : List Apdu) (held : List ℕ) : Type 0 where
   pub spelled : AllByRecursion IsApdu apdus
   pub counted : length apdus ≡ count
   pub few : count ≤ 100000
@@ -145,14 +163,26 @@ pub record SoFar {S : Type 0} (handles : Handles S ToolFault) (old now : Option 
 
 -- Some APDUs have been read and handled so far, and some bytes are held.
 abbrev pub ReadSoFar : {S : Type 0} → Handles S ToolFault → Option (List ℕ) → Option (List ℕ) → S → ℕ → Unread → S → Type 0
-ReadSoFar handles old now before count feed after = (apdus : List Apdu) × (held : List ℕ) × SoFar handles old now before count feed after apdus held
+ReadSoFar handles old now before count feed after =
+    (apdus : List Apdu) × (held : List ℕ) × SoFar handles old now before count feed after apdus held
 
 -- At the beginning no APDU is read, and no byte is held.
 pub none_read : {S : Type 0} (handles : Handles S ToolFault) (old : Option (List ℕ)) (before : S) (count : ℕ) (feed : Unread)
     → count ≡ 0 → feed ≡ Ok [] → ReadSoFar handles old old before count feed before
 unfolding apdu_at outer_at header_at
-none_read handles old before count feed none empty =
-    ([], [], record { spelled = tt; counted = sym none; few = omega (arith, none); read = Consumes-nil old; handled = refl; opened = empty; unfinished = refl })
+none_read handles old before count feed none empty = (
+  [],
+  [],
+  record {
+    spelled = tt;
+    counted = sym none;
+    few = omega (arith, none);
+    read = Consumes-nil old;
+    handled = refl;
+    opened = empty;
+    unfinished = refl;
+  },
+)
 
 -- If the decoder finds bytes short, it names their number, which is at most 358.
 abbrev pub ShortLaw : Type 0
@@ -167,14 +197,16 @@ piece_read : (old now new : Option (List ℕ)) (apdus : List Apdu) (held piece :
     → Consumes old now (spellings apdus ++ held) → Consumes now new piece
     → Consumes old new (spellings apdus ++ (held ++ piece))
 piece_read old now new apdus held piece read more =
-    subst (Consumes old new) (append_assoc (spellings apdus) held piece) (Consumes-trans old now new (spellings apdus ++ held) piece read more)
+    subst (Consumes old new) (append_assoc (spellings apdus) held piece)
+    (Consumes-trans old now new (spellings apdus ++ held) piece read more)
 
 -- If the held bytes and a piece are APDUs and a rest, those APDUs and the rest were read.
 apdus_read : (old now new : Option (List ℕ)) (apdus more : List Apdu) (held piece rest : List ℕ)
     → Consumes old now (spellings apdus ++ held) → Consumes now new piece → Begins (held ++ piece) more rest
     → Consumes old new (spellings (apdus ++ more) ++ rest)
 apdus_read old now new apdus more held piece rest read piece_is begins =
-    subst (Consumes old new) (ap (λ (x : List ℕ). spellings apdus ++ x) begins.parts ∙ spelled_join apdus more rest) (piece_read old now new apdus held piece read piece_is)
+    subst (Consumes old new) (ap (λ (x : List ℕ). spellings apdus ++ x) begins.parts ∙ spelled_join apdus more rest)
+    (piece_read old now new apdus held piece read piece_is)
 
 -- ---- one piece more
 
@@ -216,7 +248,8 @@ room_falls : ShortLaw → (count m : ℕ) (feed next : Unread) (held now piece :
 room_falls law count m feed next held now piece more was is parts counted few unfinished still some =
     subst (λ (f : Unread). room m next < room count f) (sym was)
     (subst (λ (f : Unread). room m f < room count (Ok held)) (sym is)
-    (more_room count (length more) (length held) (length piece) (length now) m (longer_or_handed more held piece now parts) counted few (few_held law held unfinished) (few_held law now still) some))
+    (more_room count (length more) (length held) (length piece) (length now) m (longer_or_handed more held piece now parts)
+    counted few (few_held law held unfinished) (few_held law now still) some))
 
 -- If a piece was pushed and the feed stayed open, the APDUs so far grow, and the room falls.
 pub one_piece_more : {H C : Type 0} (handles : Handles (H × C) ToolFault) → ShortLaw
@@ -224,7 +257,8 @@ pub one_piece_more : {H C : Type 0} (handles : Handles (H × C) ToolFault) → S
     → ReadSoFar handles old now before middle.0.count feed (middle.0.handler, middle.1) → Consumes now new piece
     → 0 < length piece → (closed : Option DerFault) → closed ≡ None
     → HandlesCounted handles feed piece middle (Ok closed) next after
-    → ReadSoFar handles old new before after.0.count next (after.0.handler, after.1) × (room after.0.count next < room middle.0.count feed)
+    → ReadSoFar handles old new before after.0.count next (after.0.handler, after.1)
+    × (room after.0.count next < room middle.0.count feed)
 one_piece_more {H = H} {C = C} handles law old now new before middle after feed next piece so_far read some closed none each =
     let apdus = so_far.0 in
     let held = so_far.1 in
@@ -251,14 +285,16 @@ one_piece_more {H = H} {C = C} handles law old now new before middle after feed 
           unfinished = leaves.1;
         },
       ),
-      room_falls law middle.0.count after.0.count feed next held rest piece more is.opened opened begins.parts on.0 on.1 is.unfinished leaves.1 some,
+      room_falls law middle.0.count after.0.count feed next held rest piece more is.opened opened begins.parts on.0 on.1
+          is.unfinished leaves.1 some,
     )
 
 -- ---- the end of an input
 
 -- If the input ends with the held bytes, it was read to that end.
 ends_held : {S : Type 0} (handles : Handles S ToolFault) → ShortLaw
-    → (old new : Option (List ℕ)) (before after : S) (count : ℕ) (feed : Unread) (result : Result ℕ ToolFault) (apdus : List Apdu) (held : List ℕ)
+    → (old new : Option (List ℕ)) (before after : S) (count : ℕ) (feed : Unread) (result : Result ℕ ToolFault) (apdus : List Apdu)
+    (held : List ℕ)
     → SoFar handles old new before count feed after apdus held → Ends handles result count held [] new after after
     → ReadsInput handles old new before result after
 ends_held handles law old new before after count feed result apdus held is ended = (
@@ -283,7 +319,8 @@ at_end : {S : Type 0} (handles : Handles S ToolFault) (count : ℕ) (held : List
 at_end handles count [] left after unfinished end = (refl, refl, (refl, end), refl)
 at_end handles count (byte ∷ held) left after unfinished end =
     let n = length (byte ∷ held) in
-    subst (λ (empty : Bool). Ends handles (answer_at_end (if empty then Ok tt else Err (Short n)) count) count (byte ∷ held) [] left after after) (sym (eqb-suc-zero (length held)))
+    subst (λ (empty : Bool). Ends handles (answer_at_end (if empty then Ok tt else Err (Short n)) count) count (byte ∷ held) []
+    left after after) (sym (eqb-suc-zero (length held)))
     (inl ((unfinished, (refl, end)), refl))
 
 -- If the reader is at its end, the input was read with the answer at its end.
@@ -295,10 +332,12 @@ ends_at_end handles law old new before after count feed so_far end =
     let held = so_far.1 in
     let is = so_far.2 in
     ends_held handles law old new before after count feed (answer_at_end (end_of feed) count) so_far.0 held is
-    (subst (λ (f : Unread). Ends handles (answer_at_end (end_of f) count) count held [] new after after) (sym is.opened) (at_end handles count held new after is.unfinished end))
+    (subst (λ (f : Unread). Ends handles (answer_at_end (end_of f) count) count held [] new after after) (sym is.opened)
+    (at_end handles count held new after is.unfinished end))
 
 -- If no byte more was read, the APDUs so far stay.
-pub read_nothing : {S : Type 0} (handles : Handles S ToolFault) (old now new : Option (List ℕ)) (before after : S) (count : ℕ) (feed : Unread)
+pub read_nothing : {S : Type 0} (handles : Handles S ToolFault) (old now new : Option (List ℕ)) (before after : S) (count : ℕ)
+    (feed : Unread)
     → ReadSoFar handles old now before count feed after
     → Consumes now new [] → ReadSoFar handles old new before count feed after
 read_nothing handles old now new before after count feed so_far read =
@@ -311,7 +350,8 @@ read_nothing handles old now new before after count feed so_far read =
         spelled = is.spelled;
         counted = is.counted;
         few = is.few;
-        read = subst (Consumes old new) (append-nil (spellings apdus ++ held)) (Consumes-trans old now new (spellings apdus ++ held) [] is.read read);
+        read = subst (Consumes old new) (append-nil (spellings apdus ++ held))
+            (Consumes-trans old now new (spellings apdus ++ held) [] is.read read);
         handled = is.handled;
         opened = is.opened;
         unfinished = is.unfinished;
@@ -329,7 +369,8 @@ pub ends_unread : {S : Type 0} (handles : Handles S ToolFault) → ShortLaw
     → Keeps now new → ReadsInput handles old new before (Err Read) after
 ends_unread handles law old now new before after count feed so_far keeps =
     let still = read_nothing handles old now new before after count feed so_far (kept_nothing now new keeps) in
-    ends_held handles law old new before after count feed (Err Read) still.0 still.1 still.2 (inl ((still.2.unfinished, refl), refl))
+    ends_held handles law old new before after count feed (Err Read) still.0 still.1 still.2
+    (inl ((still.2.unfinished, refl), refl))
 
 -- A feed that a push closed with `fault` is that fault.
 closed_by : (new : Unread) (fault : DerFault) → Some fault ≡ fault_of new → new ≡ Err fault
@@ -346,12 +387,14 @@ not_short OutOfMemory P none = tt
 
 -- If the bytes of a piece closed the feed, the input was read up to the fault of these bytes.
 pub ends_closed : {H C : Type 0} (handles : Handles (H × C) ToolFault) → ShortLaw
-    → (old now new : Option (List ℕ)) (before : H × C) (middle after : Counted H × C) (feed next : Unread) (piece : List ℕ) (fault : DerFault)
+    → (old now new : Option (List ℕ)) (before : H × C) (middle after : Counted H × C) (feed next : Unread) (piece : List ℕ)
+    (fault : DerFault)
     → ReadSoFar handles old now before middle.0.count feed (middle.0.handler, middle.1) → Consumes now new piece
     → length piece ≤ 4096 → (closed : Option DerFault) → closed ≡ Some fault
     → HandlesCounted handles feed piece middle (Ok closed) next after
     → ReadsInput handles old new before (Err (Der fault)) (after.0.handler, after.1)
-ends_closed {H = H} {C = C} handles law old now new before middle after feed next piece fault so_far read small closed is_some each =
+ends_closed {H = H} {C = C} handles law old now new before middle after feed next piece fault so_far read small closed is_some
+    each =
     let apdus = so_far.0 in
     let held = so_far.1 in
     let is = so_far.2 in
@@ -370,14 +413,16 @@ ends_closed {H = H} {C = C} handles law old now new before middle after feed nex
         spelled = all_join apdus more is.spelled begins.spelled;
         most = omega (arith, length-append apdus more, is.counted, on.0, on.1);
         few = omega (arith, rest_within held piece (spellings more) rest begins.parts, few_held law held is.unfinished, small);
-        read = subst (λ (x : List ℕ). Consumes old new (spellings (apdus ++ more) ++ x)) (sym (append-nil rest)) (apdus_read old now new apdus more held piece rest is.read read begins);
+        read = subst (λ (x : List ℕ). Consumes old new (spellings (apdus ++ more) ++ x)) (sym (append-nil rest))
+            (apdus_read old now new apdus more held piece rest is.read read begins);
         handled = handled_join handles before first (after.0.handler, after.1) apdus more is.handled on.2;
         ended = inl ((leaves.0, not_short fault _ leaves.1), refl);
       },
     )
 
 -- If the APDU in hand is one too many, or its handling failed, the input ends there.
-ends_in_hand : {S : Type 0} (handles : Handles S ToolFault) (state after : ℕ × S) (apdu : Apdu) (fault : ToolFault) (count : ℕ) (ahead : List ℕ) (left : Option (List ℕ))
+ends_in_hand : {S : Type 0} (handles : Handles S ToolFault) (state after : ℕ × S) (apdu : Apdu) (fault : ToolFault) (count : ℕ)
+    (ahead : List ℕ) (left : Option (List ℕ))
     → IsApdu apdu → count ≡ state.0
     → state.0 ≤ 100000 → CountsOn handles state apdu (Err fault) after
     → Ends handles (Err fault) count (spelling apdu) ahead left state.1 after.1
@@ -390,7 +435,8 @@ ends_in_hand handles state after apdu fault count ahead left is counted few on =
 
 -- If an APDU of a piece is one too many, or its handling failed, the input ends there.
 pub ends_failing : {H C : Type 0} (handles : Handles (H × C) ToolFault) → ShortLaw
-    → (old now new : Option (List ℕ)) (before : H × C) (middle after : Counted H × C) (feed next : Unread) (piece : List ℕ) (fault : ToolFault)
+    → (old now new : Option (List ℕ)) (before : H × C) (middle after : Counted H × C) (feed next : Unread) (piece : List ℕ)
+    (fault : ToolFault)
     → ReadSoFar handles old now before middle.0.count feed (middle.0.handler, middle.1) → Consumes now new piece
     → length piece ≤ 4096
     → HandlesCounted handles feed piece middle (Err fault) next after
@@ -409,8 +455,10 @@ ends_failing {H = H} {C = C} handles law old now new before middle after feed ne
     let text = spelling apdu in
     let on = counted_on handles (middle.0.count, first) state more is.few pushed.1.5 in
     let all = last_of more apdu begins.spelled in
-    let spelled : spellings (more ++ apdu ∷ []) ≡ spellings more ++ text = flat_map-append spelling more (apdu ∷ []) ∙ ap (λ (x : List ℕ). spellings more ++ x) (append-nil text) in
-    let parts : held ++ piece ≡ spellings more ++ (text ++ rest) = begins.parts ∙ ap (λ (x : List ℕ). x ++ rest) spelled ∙ append_assoc (spellings more) text rest in
+    let spelled : spellings (more ++ apdu ∷ []) ≡ spellings more ++ text =
+    flat_map-append spelling more (apdu ∷ []) ∙ ap (λ (x : List ℕ). spellings more ++ x) (append-nil text) in
+    let parts : held ++ piece ≡ spellings more ++ (text ++ rest) =
+    begins.parts ∙ ap (λ (x : List ℕ). x ++ rest) spelled ∙ append_assoc (spellings more) text rest in
     let counted : length (apdus ++ more) ≡ state.0 = omega (arith, length-append apdus more, is.counted, on.0) in (
       apdus ++ more,
       text,
@@ -419,9 +467,17 @@ ends_failing {H = H} {C = C} handles law old now new before middle after feed ne
       record {
         spelled = all_join apdus more is.spelled all.0;
         most = omega (arith, counted, on.1);
-        few = omega (arith, rest_within held piece (spellings more) (text ++ rest) parts, length-append text rest, few_held law held is.unfinished, small);
-        read = apdus_read old now new apdus more held piece (text ++ rest) is.read read (record { spelled = all.0; parts = parts });
+        few = omega (
+          arith,
+          rest_within held piece (spellings more) (text ++ rest) parts,
+          length-append text rest,
+          few_held law held is.unfinished,
+          small,
+        );
+        read = apdus_read old now new apdus more held piece (text ++ rest) is.read read
+            (record { spelled = all.0; parts = parts });
         handled = handled_join handles before first state.1 apdus more is.handled on.2;
-        ended = ends_in_hand handles state (after.0.count, (after.0.handler, after.1)) apdu fault (length (apdus ++ more)) rest new all.1 counted on.1 pushed.1.6;
+        ended = ends_in_hand handles state (after.0.count, (after.0.handler, after.1)) apdu fault (length (apdus ++ more)) rest
+            new all.1 counted on.1 pushed.1.6;
       },
     )

@@ -1,12 +1,14 @@
 -- Texts with a comma between two, one after another.
-use Rattle.std.proofs.Common.{◌≡◌, ℕ, ◌+◌, ◌≤◌, length, drop, List, [], ◌∷◌, ◌++◌, map, codes, refl, ap, sym, ◌∙◌, append_assoc, append-nil}
+use Rattle.std.proofs.Common.{◌≡◌, ℕ, ◌+◌, ◌≤◌, length, drop, List, [], ◌∷◌, ◌++◌, map, codes, refl, ap, sym, ◌∙◌, append_assoc}
+use Rattle.std.proofs.Common.{append-nil}
 use Rattle.std.proofs.lemmas.List.{at_drop_all}
 use Rattle.ill_tool.specs.Json.{joined}
 
 -- With the text of one item more, the texts of the others are left, after a comma.
 pub one_joined : {X : Type 0} (text : X → List ℕ) (before shown : List ℕ) (items : List X) (place : ℕ) (item : X)
     → drop place items ≡ item ∷ drop (place + 1) items
-    → ((shown ++ before) ++ text item) ++ joined text (codes ",") (drop (place + 1) items) ≡ shown ++ joined text before (drop place items)
+    → ((shown ++ before) ++ text item) ++ joined text (codes ",") (drop (place + 1) items)
+    ≡ shown ++ joined text before (drop place items)
 unfolding joined
 one_joined text before shown items place item there =
     let left = joined text (codes ",") (drop (place + 1) items) in
@@ -18,7 +20,8 @@ one_joined text before shown items place item there =
 pub all_joined : {X : Type 0} (text : X → List ℕ) (before shown : List ℕ) (items : List X) (place : ℕ)
     → length items ≤ place → shown ++ joined text before (drop place items) ≡ shown
 unfolding joined
-all_joined text before shown items place all = ap (λ left. shown ++ left) (at_drop_all (joined text before) items place all) ∙ append-nil shown
+all_joined text before shown items place all =
+    ap (λ left. shown ++ left) (at_drop_all (joined text before) items place all) ∙ append-nil shown
 
 -- The join of the texts of items under `f` is the join of the texts of the mapped items.
 pub joined_map : {X Y : Type 0} (text : Y → List ℕ) (f : X → Y) (before : List ℕ) (items : List X)
@@ -36,7 +39,8 @@ unfolding joined
 joined_more text [] more = refl
 joined_more text (item ∷ items) more =
     let this = codes "," ++ text item in
-    ap (λ left. this ++ left) (joined_more text items more) ∙ sym (append_assoc this (joined text (codes ",") items) (joined text (codes ",") more))
+    ap (λ left. this ++ left) (joined_more text items more)
+    ∙ sym (append_assoc this (joined text (codes ",") items) (joined text (codes ",") more))
 
 -- The texts of further items follow those of the first ones.
 pub joined_further : {X : Type 0} (text : X → List ℕ) (before old shown : List ℕ) (first : X) (items more : List X)

@@ -1,5 +1,6 @@
 -- The lines of a list, one after another, and the spaces within them.
-use Rattle.std.proofs.Common.{◌≡◌, ℕ, suc, ◌+◌, ◌-◌, ◌<◌, ◌++◌, Bool, true, false, cond, List, [], ◌∷◌, map, replicate, refl, ap, sym, ◌∙◌, arith}
+use Rattle.std.proofs.Common.{◌≡◌, ℕ, suc, ◌+◌, ◌-◌, ◌<◌, ◌++◌, Bool, true, false, cond, List, [], ◌∷◌, map, replicate, refl, ap}
+use Rattle.std.proofs.Common.{sym, ◌∙◌, arith}
 use Rattle.std.specs.Prelude.{filter}
 use Rattle.std.specs.List.{flat_map, join_by}
 use Rattle.std.proofs.lemmas.List.{append-nil}
@@ -8,7 +9,8 @@ use Rattle.std.proofs.lemmas.List.Folds.{flat_map-map}
 -- Before a place within the width one space more is left than after it.
 pub one_space : (width place : ℕ) → place < width
     → replicate {A = ℕ} (width - place) 32 ≡ 32 ∷ replicate {A = ℕ} (width - (place + 1)) 32
-one_space width place within = let e : width - place ≡ suc (width - (place + 1)) = omega arith in ap (λ n. replicate {A = ℕ} n 32) e
+one_space width place within = let e : width - place ≡ suc (width - (place + 1)) = omega arith in
+    ap (λ n. replicate {A = ℕ} n 32) e
 
 -- A join of items by their texts is the join of their texts.
 pub joined_as_texts : {X : Type 0} (text : X → List ℕ) (between : List ℕ) (items : List X)
@@ -27,4 +29,5 @@ pub kept_apart : {X : Type 0} (text : X → List ℕ) (keeps : X → Bool) (item
     → flat_map text (filter keeps items) ≡ flat_map (λ (item : X). flat_map text (filter keeps (item ∷ []))) items
 kept_apart text keeps [] = refl
 kept_apart text keeps (item ∷ items) =
-    kept_first text (keeps item) item (filter keeps items) ∙ ap (λ more. flat_map text (filter keeps (item ∷ [])) ++ more) (kept_apart text keeps items)
+    kept_first text (keeps item) item (filter keeps items)
+    ∙ ap (λ more. flat_map text (filter keeps (item ∷ [])) ++ more) (kept_apart text keeps items)

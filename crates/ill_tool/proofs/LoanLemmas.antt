@@ -1,5 +1,6 @@
 -- The lines of one message after another, and the names of verbs.
-use Rattle.std.proofs.Common.{◌≡◌, ℕ, ◌+◌, ◌<◌, ◌≤◌, length, drop, List, [], ◌∷◌, ◌++◌, map, ap, sym, ◌∙◌, append_assoc, append-nil}
+use Rattle.std.proofs.Common.{◌≡◌, ℕ, ◌+◌, ◌<◌, ◌≤◌, length, drop, List, [], ◌∷◌, ◌++◌, map, ap, sym, ◌∙◌, append_assoc}
+use Rattle.std.proofs.Common.{append-nil}
 use Rattle.std.specs.List.{flat_map}
 use Rattle.std.proofs.Math.ListN.{get_or}
 use Rattle.std.proofs.lemmas.List.{at_drop_all, drop_more, map-append}
@@ -7,7 +8,8 @@ use Rattle.std.proofs.lemmas.List.{at_drop_all, drop_more, map-append}
 -- A list from `place` on begins with the item at that place.
 pub from_place : {X : Type 0} (items : List X) (place : ℕ) (item : X) → place < length items
     → item ≡ get_or items place item → drop place items ≡ item ∷ drop (place + 1) items
-from_place items place item within there = drop_more items place item within ∙ ap (λ first. first ∷ drop (place + 1) items) (sym there)
+from_place items place item within there =
+    drop_more items place item within ∙ ap (λ first. first ∷ drop (place + 1) items) (sym there)
 
 -- With the text of one item more, the texts of the others are left.
 pub one_shown : {X : Type 0} (text : X → List ℕ) (shown : List ℕ) (items : List X) (place : ℕ) (item : X)
@@ -23,7 +25,8 @@ pub all_shown : {X : Type 0} (text : X → List ℕ) (shown : List ℕ) (items :
 all_shown text shown items place all = ap (λ left. shown ++ left) (at_drop_all (flat_map text) items place all) ∙ append-nil shown
 
 -- With the name of one item more, the names of the others are left.
-pub one_named : {X Y : Type 0} (text : Y → List ℕ) (name : X → List ℕ) (named : List Y) (items : List X) (place : ℕ) (item : X) (word : Y)
+pub one_named : {X Y : Type 0} (text : Y → List ℕ) (name : X → List ℕ) (named : List Y) (items : List X) (place : ℕ) (item : X)
+    (word : Y)
     → place < length items → item ≡ get_or items place item
     → text word ≡ name item
     → map text (named ++ word ∷ []) ++ map name (drop (place + 1) items) ≡ map text named ++ map name (drop place items)
@@ -36,4 +39,5 @@ one_named text name named items place item word within there is =
 -- No name is left after the last item.
 pub all_named : {X Y : Type 0} (text : Y → List ℕ) (name : X → List ℕ) (named : List Y) (items : List X) (place : ℕ)
     → length items ≤ place → map text named ++ map name (drop place items) ≡ map text named
-all_named text name named items place all = ap (λ left. map text named ++ left) (at_drop_all (map name) items place all) ∙ append-nil (map text named)
+all_named text name named items place all =
+    ap (λ left. map text named ++ left) (at_drop_all (map name) items place all) ∙ append-nil (map text named)

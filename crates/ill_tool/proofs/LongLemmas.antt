@@ -1,5 +1,6 @@
 -- A text with two spaces before each line, byte by byte.
-use Rattle.std.proofs.Common.{◌≡◌, ℕ, ◌+◌, ◌<◌, ◌≤◌, Bool, ◌==◌, List, [], ◌∷◌, ◌++◌, length, drop, slice_index_or, ap, sym, ◌∙◌, append_assoc}
+use Rattle.std.proofs.Common.{◌≡◌, ℕ, ◌+◌, ◌<◌, ◌≤◌, Bool, ◌==◌, List, [], ◌∷◌, ◌++◌, length, drop, slice_index_or, ap, sym, ◌∙◌}
+use Rattle.std.proofs.Common.{append_assoc}
 use Rattle.std.proofs.Math.ListN.{drop_of_length-le}
 use Rattle.std.proofs.lemmas.List.{append-nil, at_drop_more}
 use Rattle.ill_tool.specs.LongLines.{indent, indented_on}
@@ -7,7 +8,8 @@ use Rattle.ill_tool.specs.LongLines.{indent, indented_on}
 -- With one byte more, and the spaces before it, the text after that byte is left.
 pub one_byte_further : (text : List ℕ) (place : ℕ) (begins : Bool) (shown set shown_further : List ℕ)
     → place < length text → set ≡ shown ++ indent begins → shown_further ≡ set ++ slice_index_or text place 0 ∷ []
-    → shown_further ++ indented_on (slice_index_or text place 0 == 10) (drop (place + 1) text) ≡ shown ++ indented_on begins (drop place text)
+    → shown_further ++ indented_on (slice_index_or text place 0 == 10) (drop (place + 1) text)
+    ≡ shown ++ indented_on begins (drop place text)
 unfolding indented_on
 one_byte_further text place begins shown set shown_further lt is_set is_further =
     let byte : ℕ = slice_index_or text place 0 in

@@ -1,5 +1,6 @@
 -- A stable sort gives the items as `ordered` has them.
-use Rattle.std.proofs.Common.{◌≡◌, ℕ, suc, ◌+◌, Bool, true, false, cond, List, [], ◌∷◌, map, refl, ap, sym, ◌∙◌, true≢false, arith}
+use Rattle.std.proofs.Common.{◌≡◌, ℕ, suc, ◌+◌, Bool, true, false, cond, List, [], ◌∷◌, map, refl, ap, sym, ◌∙◌, true≢false}
+use Rattle.std.proofs.Common.{arith}
 use Rattle.std.specs.Prelude.{not, ◌||◌, filter, slice_index_or}
 use Rattle.std.specs.Cmp.{IsStrictWeakOrder}
 use Rattle.std.specs.List.{list_any}
@@ -10,7 +11,8 @@ use Rattle.ill_tool.specs.Waiting.{placed, ordered}
 -- One step of `placed_mapped`: the placing past `first`, or before it, commutes with the map.
 placed_one : {X Y : Type 0} (f : X → Y) (lt : Y → Y → Bool) (item first : X) (others : List X) (is_first : Bool)
     → map f (placed (λ (a b : X). lt (f a) (f b)) item others) ≡ placed lt (f item) (map f others)
-    → map f (cond is_first (first ∷ placed (λ (a b : X). lt (f a) (f b)) item others) (item ∷ first ∷ others)) ≡ cond is_first (f first ∷ placed lt (f item) (map f others)) (f item ∷ f first ∷ map f others)
+    → map f (cond is_first (first ∷ placed (λ (a b : X). lt (f a) (f b)) item others) (item ∷ first ∷ others))
+    ≡ cond is_first (f first ∷ placed lt (f item) (map f others)) (f item ∷ f first ∷ map f others)
 placed_one f lt item first others true further = ap (λ after. f first ∷ after) further
 placed_one f lt item first others false further = refl
 
@@ -18,7 +20,8 @@ placed_one f lt item first others false further = refl
 placed_mapped : {X Y : Type 0} (f : X → Y) (lt : Y → Y → Bool) (item : X) (items : List X)
     → map f (placed (λ (a b : X). lt (f a) (f b)) item items) ≡ placed lt (f item) (map f items)
 placed_mapped f lt item [] = refl
-placed_mapped f lt item (first ∷ others) = placed_one f lt item first others (lt (f first) (f item)) (placed_mapped f lt item others)
+placed_mapped f lt item (first ∷ others) =
+    placed_one f lt item first others (lt (f first) (f item)) (placed_mapped f lt item others)
 
 -- If items are ordered by a function `f`, their images are ordered by the order of images.
 pub ordered_mapped : {X Y : Type 0} (f : X → Y) (lt : Y → Y → Bool) (items : List X)
@@ -41,21 +44,27 @@ module _ {X : Type 0} (lt : X → X → Bool) (o : IsStrictWeakOrder lt) where
       or_from (lt z x) (list_any (λ z. lt z x) zs) (o.chain z y x parts.0 after) (none_before x y zs after parts.1)
 
   -- One step of `none_placed`: with `x` past `y` or before it, no item passes the test.
-  none_of_two : (test : X → Bool) (x y : X) (ys : List X) (is_first : Bool) → test x ≡ false → (test y || list_any test ys) ≡ false → list_any test (placed lt x ys) ≡ false
+  none_of_two : (test : X → Bool) (x y : X) (ys : List X) (is_first : Bool) → test x ≡ false
+      → (test y || list_any test ys) ≡ false → list_any test (placed lt x ys) ≡ false
       → list_any test (cond is_first (y ∷ placed lt x ys) (x ∷ y ∷ ys)) ≡ false
-  none_of_two test x y ys true not_x not_others not_placed = or_from (test y) (list_any test (placed lt x ys)) (or_parts (test y) (list_any test ys) not_others).0 not_placed
+  none_of_two test x y ys true not_x not_others not_placed =
+      or_from (test y) (list_any test (placed lt x ys)) (or_parts (test y) (list_any test ys) not_others).0 not_placed
   none_of_two test x y ys false not_x not_others not_placed = or_from (test x) (test y || list_any test ys) not_x not_others
 
   -- If neither `x` nor the others pass a test, none of the list with `x` placed passes it.
-  none_placed : (test : X → Bool) (x : X) (ys : List X) → test x ≡ false → list_any test ys ≡ false → list_any test (placed lt x ys) ≡ false
+  none_placed : (test : X → Bool) (x : X) (ys : List X) → test x ≡ false → list_any test ys ≡ false
+      → list_any test (placed lt x ys) ≡ false
   none_placed test x [] not_x not_others = or_from (test x) false not_x refl
   none_placed test x (y ∷ ys) not_x not_others =
-      none_of_two test x y ys (lt y x) not_x not_others (none_placed test x ys not_x (or_parts (test y) (list_any test ys) not_others).1)
+      none_of_two test x y ys (lt y x) not_x not_others
+      (none_placed test x ys not_x (or_parts (test y) (list_any test ys) not_others).1)
 
   -- One step of `placed_in_order`: placed past `y` or before it, an item is in order.
-  placed_one_in_order : (x y : X) (ys : List X) (is_first : Bool) → lt y x ≡ is_first → IsInOrder (y ∷ ys) → IsInOrder (placed lt x ys) → IsInOrder (cond is_first (y ∷ placed lt x ys) (x ∷ y ∷ ys))
+  placed_one_in_order : (x y : X) (ys : List X) (is_first : Bool) → lt y x ≡ is_first → IsInOrder (y ∷ ys)
+      → IsInOrder (placed lt x ys) → IsInOrder (cond is_first (y ∷ placed lt x ys) (x ∷ y ∷ ys))
   placed_one_in_order x y ys true is (none, others) further = (none_placed (λ z. lt z y) x ys (o.one_way y x is) none, further)
-  placed_one_in_order x y ys false is (none, others) further = (or_from (lt y x) (list_any (λ z. lt z x) ys) is (none_before x y ys is none), (none, others))
+  placed_one_in_order x y ys false is (none, others) further =
+      (or_from (lt y x) (list_any (λ z. lt z x) ys) is (none_before x y ys is none), (none, others))
 
   -- If items are in order, they are with `x` placed among them.
   placed_in_order : (x : X) (ys : List X) → IsInOrder ys → IsInOrder (placed lt x ys)
@@ -78,14 +87,16 @@ module _ {X : Type 0} (lt : X → X → Bool) (o : IsStrictWeakOrder lt) where
 
   -- If not both of two items are kept, the kept part of them does not depend on their order.
   kept_alike : (x y : X) (after : List X) (keeps_x keeps_y : Bool) → (keeps_y ≡ true → keeps_x ≡ true → ⊥)
-      → cond keeps_y (y ∷ cond keeps_x (x ∷ after) after) (cond keeps_x (x ∷ after) after) ≡ cond keeps_x (x ∷ cond keeps_y (y ∷ after) after) (cond keeps_y (y ∷ after) after)
+      → cond keeps_y (y ∷ cond keeps_x (x ∷ after) after) (cond keeps_x (x ∷ after) after)
+      ≡ cond keeps_x (x ∷ cond keeps_y (y ∷ after) after) (cond keeps_y (y ∷ after) after)
   kept_alike x y after true true never = absurd (never refl refl)
   kept_alike x y after true false never = refl
   kept_alike x y after false true never = refl
   kept_alike x y after false false never = refl
 
   -- One step of `placed_stable`: placed past `y` or before it, an item leaves those that tie in their order.
-  placed_one_stable : (w x y : X) (ys : List X) (is_first : Bool) → lt y x ≡ is_first → filter (ties lt w) (placed lt x ys) ≡ filter (ties lt w) (x ∷ ys)
+  placed_one_stable : (w x y : X) (ys : List X) (is_first : Bool) → lt y x ≡ is_first
+      → filter (ties lt w) (placed lt x ys) ≡ filter (ties lt w) (x ∷ ys)
       → filter (ties lt w) (cond is_first (y ∷ placed lt x ys) (x ∷ y ∷ ys)) ≡ filter (ties lt w) (x ∷ y ∷ ys)
   placed_one_stable w x y ys true is further =
       ap (λ after. cond (ties lt w y) (y ∷ after) after) further
@@ -100,7 +111,8 @@ module _ {X : Type 0} (lt : X → X → Bool) (o : IsStrictWeakOrder lt) where
   -- Ordered items have those that tie with any `w` in their old order.
   ordered_stable : (w : X) (xs : List X) → filter (ties lt w) (ordered lt xs) ≡ filter (ties lt w) xs
   ordered_stable w [] = refl
-  ordered_stable w (x ∷ xs) = placed_stable w x (ordered lt xs) ∙ ap (λ after. cond (ties lt w x) (x ∷ after) after) (ordered_stable w xs)
+  ordered_stable w (x ∷ xs) = placed_stable w x (ordered lt xs)
+      ∙ ap (λ after. cond (ties lt w x) (x ∷ after) after) (ordered_stable w xs)
 
   -- ---- there is one such order
 
@@ -122,13 +134,15 @@ module _ {X : Type 0} (lt : X → X → Bool) (o : IsStrictWeakOrder lt) where
   tie_self x = both_tie x x (not_self x) (not_self x)
 
   -- One step of `first_kept`: the first kept item is `x`, or the first of the others.
-  first_of : (keeps test : X → Bool) (y x : X) (rest xs : List X) (is_kept : Bool) → cond is_kept (x ∷ filter keeps xs) (filter keeps xs) ≡ y ∷ rest → test x ≡ false
+  first_of : (keeps test : X → Bool) (y x : X) (rest xs : List X) (is_kept : Bool)
+      → cond is_kept (x ∷ filter keeps xs) (filter keeps xs) ≡ y ∷ rest → test x ≡ false
       → (filter keeps xs ≡ y ∷ rest → test y ≡ false) → test y ≡ false
   first_of keeps test y x rest xs true is not_x others = let same : x ≡ y = cc in ap test (sym same) ∙ not_x
   first_of keeps test y x rest xs false is not_x others = others is
 
   -- If no item of a list passes a test, the first that is kept does not pass it.
-  first_kept : (keeps test : X → Bool) (y : X) (rest xs : List X) → filter keeps xs ≡ y ∷ rest → list_any test xs ≡ false → test y ≡ false
+  first_kept : (keeps test : X → Bool) (y : X) (rest xs : List X) → filter keeps xs ≡ y ∷ rest → list_any test xs ≡ false
+      → test y ≡ false
   first_kept keeps test y rest [] is none = cc
   first_kept keeps test y rest (x ∷ xs) is none =
       let parts = or_parts (test x) (list_any test xs) none in
@@ -151,11 +165,15 @@ module _ {X : Type 0} (lt : X → X → Bool) (o : IsStrictWeakOrder lt) where
   alike (y ∷ ys) (z ∷ zs) y_order z_order same =
       let of_y = sym (same y) ∙ stands_first (ties lt y) y ys (tie_self y) in
       let of_z = same z ∙ stands_first (ties lt z) z zs (tie_self z) in
-      let not_y = first_kept (ties lt y) (λ v. lt v z) y (filter (ties lt y) ys) (z ∷ zs) of_y (or_from (lt z z) (list_any (λ v. lt v z) zs) (not_self z) z_order.0) in
-      let not_z = first_kept (ties lt z) (λ v. lt v y) z (filter (ties lt z) zs) (y ∷ ys) of_z (or_from (lt y y) (list_any (λ v. lt v y) ys) (not_self y) y_order.0) in
+      let not_y = first_kept (ties lt y) (λ v. lt v z) y (filter (ties lt y) ys) (z ∷ zs) of_y
+      (or_from (lt z z) (list_any (λ v. lt v z) zs) (not_self z) z_order.0) in
+      let not_z = first_kept (ties lt z) (λ v. lt v y) z (filter (ties lt z) zs) (y ∷ ys) of_z
+      (or_from (lt y y) (list_any (λ v. lt v y) ys) (not_self y) y_order.0) in
       let both = sym of_y ∙ stands_first (ties lt y) z zs (both_tie y z not_y not_z) in
       let is : y ≡ z = cc in
-      let after = alike ys zs y_order.1 z_order.1 (λ w. after_first y (filter (ties lt w) ys) (filter (ties lt w) zs) (ties lt w y) (same w ∙ ap (λ (x : X). filter (ties lt w) (x ∷ zs)) (sym is))) in
+      let after = alike ys zs y_order.1 z_order.1
+      (λ w. after_first y (filter (ties lt w) ys) (filter (ties lt w) zs) (ties lt w y)
+      (same w ∙ ap (λ (x : X). filter (ties lt w) (x ∷ zs)) (sym is))) in
       ap (λ (x : X). x ∷ ys) is ∙ ap (λ (rest : List X). z ∷ rest) after
 
   -- Sorted items are in order.
@@ -164,9 +182,13 @@ module _ {X : Type 0} (lt : X → X → Bool) (o : IsStrictWeakOrder lt) where
   in_order_from_sorted (x ∷ []) sorted = (refl, tt)
   in_order_from_sorted (x ∷ y ∷ ys) sorted =
       let next : lt y x ≡ false = sorted 0 x (omega arith) (omega arith) in
-      let others = in_order_from_sorted (y ∷ ys) (λ k d from within. let further : suc (k + 1) ≡ suc k + 1 = omega arith in ap (λ (n : ℕ). lt (slice_index_or (x ∷ y ∷ ys) n d) (slice_index_or (y ∷ ys) k d)) further ∙ sorted (suc k) d (omega arith) (omega arith)) in
+      let others = in_order_from_sorted (y ∷ ys)
+      (λ k d from within. let further : suc (k + 1) ≡ suc k + 1 = omega arith in
+      ap (λ (n : ℕ). lt (slice_index_or (x ∷ y ∷ ys) n d) (slice_index_or (y ∷ ys) k d)) further
+      ∙ sorted (suc k) d (omega arith) (omega arith)) in
       (or_from (lt y x) (list_any (λ z. lt z x) ys) next (none_before x y ys next others.0), others)
 
   -- A list that is sorted, and stable for `xs`, is `xs` in order.
   pub sorted_is_ordered : (xs ys : List X) → IsSortedBy lt ys → IsStableBy lt xs ys → ys ≡ ordered lt xs
-  sorted_is_ordered xs ys sorted stable = alike ys (ordered lt xs) (in_order_from_sorted ys sorted) (ordered_in_order xs) (λ w. stable w ∙ sym (ordered_stable w xs))
+  sorted_is_ordered xs ys sorted stable =
+      alike ys (ordered lt xs) (in_order_from_sorted ys sorted) (ordered_in_order xs) (λ w. stable w ∙ sym (ordered_stable w xs))

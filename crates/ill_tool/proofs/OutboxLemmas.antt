@@ -1,5 +1,6 @@
 -- Mails that are put one after another, and their messages.
-use Rattle.std.proofs.Common.{◌≡◌, ℕ, zero, suc, ◌++◌, List, [], ◌∷◌, map, take, drop, Option, Some, None, Result, Ok, Err, refl, ap, sym, subst, ◌∙◌, append_assoc}
+use Rattle.std.proofs.Common.{◌≡◌, ℕ, zero, suc, ◌++◌, List, [], ◌∷◌, map, take, drop, Option, Some, None, Result, Ok, Err, refl}
+use Rattle.std.proofs.Common.{ap, sym, subst, ◌∙◌, append_assoc}
 use Rattle.std.specs.Prelude.{slice_get}
 use Rattle.std.specs.List.{zip}
 use Rattle.std.specs.Io.KnownBytes.{Appends}
@@ -12,12 +13,14 @@ use Rattle.ill_tool.specs.declared.verdict.Mail.{Mail}
 use Rattle.ill_tool.specs.declared.verdict.Verdict.{Verdict}
 use Rattle.ill_tool.specs.Output.{WritesPrefix}
 use Rattle.ill_tool.specs.declared.outbox.Leaving.{Leaving}
-use Rattle.ill_tool.specs.Outbox.{Letter, RunsOutbox, StreamsOutbox, after_all, after_one, asked_by, asks_at, issue_of, letter_of, letters_of, stream_of}
+use Rattle.ill_tool.specs.Outbox.{Letter, RunsOutbox, StreamsOutbox, after_all, after_one, asked_by, asks_at, issue_of, letter_of}
+use Rattle.ill_tool.specs.Outbox.{letters_of, stream_of}
 use Rattle.std.specs.List.{fold}
 
 -- The content of an outlet after the mails of messages is that after each of them in turn.
 pub each_put : {M : Type 0} (after : M → Letter → M) (leaving : List Leaving) (there : Option M)
-    → after_all after (map letter_of (map issue_of leaving)) there ≡ fold (λ there message. after_one after there (letter_of (issue_of message))) there leaving
+    → after_all after (map letter_of (map issue_of leaving)) there
+    ≡ fold (λ there message. after_one after there (letter_of (issue_of message))) there leaving
 each_put after [] there = refl
 each_put after (message ∷ leaving) there = each_put after leaving (after_one after there (letter_of (issue_of message)))
 
@@ -32,24 +35,35 @@ first_mails size leaving = take-map letter_of size (map issue_of leaving) ∙ ap
 streamed : (start : List ℕ) (letters : List Letter)
     → after_all (λ there letter. there ++ letter.bytes) letters (Some start) ≡ Some (start ++ stream_of letters)
 streamed start [] = ap Some (sym (append-nil start))
-streamed start (letter ∷ letters) = streamed (start ++ letter.bytes) letters ∙ ap Some (append_assoc start letter.bytes (stream_of letters))
+streamed start (letter ∷ letters) =
+    streamed (start ++ letter.bytes) letters ∙ ap Some (append_assoc start letter.bytes (stream_of letters))
 
 -- The bytes on a stream that was empty are those of its mails.
 stream_has : (letters : List Letter) (start bytes : List ℕ) → start ≡ []
     → Some bytes ≡ after_all (λ there letter. there ++ letter.bytes) letters (Some start) → bytes ≡ stream_of letters
 stream_has letters start bytes empty put =
-    some_is _ _ (put ∙ ap (λ start. after_all (λ there letter. there ++ letter.bytes) letters (Some start)) empty ∙ streamed [] letters)
+    some_is _ _ (put ∙ ap (λ start. after_all (λ there letter. there ++ letter.bytes) letters (Some start)) empty
+    ∙ streamed [] letters)
 
 -- If mails were gathered on an empty stream, and its bytes written, the command has written them.
-pub stream_written : (asking : List ℕ) (held : List DeskEntry) (start bytes gathered : List ℕ) (count : ℕ) (before after : Option (List ℕ)) (result : Result (Unit {0}) ToolFault)
+pub stream_written : (asking : List ℕ) (held : List DeskEntry) (start bytes gathered : List ℕ) (count : ℕ)
+    (before after : Option (List ℕ)) (result : Result (Unit {0}) ToolFault)
     → start ≡ [] → gathered ≡ bytes
     → RunsOutbox (λ there letter. there ++ letter.bytes) asking held (Some start) (Some bytes) (Ok count)
     → WritesPrefix before after gathered result → StreamsOutbox asking held before after result
 stream_written asking held start bytes gathered count before after (Ok done) empty same (a, are, (counted, put)) written =
     (a, are, subst (λ text. Appends before after text) (same ∙ stream_has (letters_of a held) start bytes empty put) written)
-stream_written asking held start bytes gathered count before after (Err fault) empty same (a, are, (counted, put)) (failed, (size, written)) =
-    subst (λ fault. StreamsOutbox asking held before after (Err fault)) (sym failed)
-    (a, are, (size, subst (λ text. Appends before after (take size text)) (same ∙ stream_has (letters_of a held) start bytes empty put) written))
+stream_written asking held start bytes gathered count before after (Err fault) empty same (a, are, (counted, put))
+    (failed, (size, written)) =
+    subst (λ fault. StreamsOutbox asking held before after (Err fault)) (sym failed) (
+      a,
+      are,
+      (
+        size,
+        subst (λ text. Appends before after (take size text))
+            (same ∙ stream_has (letters_of a held) start bytes empty put) written,
+      ),
+    )
 
 -- ---- the messages that ask
 
@@ -65,11 +79,14 @@ absent live (Some mail) rest = refl
 
 -- The bytes that ask from `place` on are those of the mail there, and those of the others.
 pub one_asking : (live : DeskContents) (mails : List Mail) (verdicts : List Verdict) (place : ℕ)
-    → asks_at live (slice_get mails place) (slice_get verdicts place) ++ asked_by live (zip (drop (suc place) mails) (drop (suc place) verdicts)) ≡ asked_by live (zip (drop place mails) (drop place verdicts))
+    → asks_at live (slice_get mails place) (slice_get verdicts place)
+    ++ asked_by live (zip (drop (suc place) mails) (drop (suc place) verdicts))
+    ≡ asked_by live (zip (drop place mails) (drop place verdicts))
 one_asking live [] verdicts zero = refl
 one_asking live [] verdicts (suc place) = refl
 one_asking live (mail ∷ mails) [] zero = ap (asked_by live) (zip_nothing mails)
 one_asking live (mail ∷ mails) [] (suc place) =
-    absent live (slice_get mails place) (asked_by live (zip (drop (suc place) mails) [])) ∙ ap (asked_by live) (zip_nothing (drop (suc place) mails) ∙ sym (zip_nothing (drop place mails)))
+    absent live (slice_get mails place) (asked_by live (zip (drop (suc place) mails) []))
+    ∙ ap (asked_by live) (zip_nothing (drop (suc place) mails) ∙ sym (zip_nothing (drop place mails)))
 one_asking live (mail ∷ mails) (verdict ∷ verdicts) zero = refl
 one_asking live (mail ∷ mails) (verdict ∷ verdicts) (suc place) = one_asking live mails verdicts place

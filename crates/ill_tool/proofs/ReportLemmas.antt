@@ -15,7 +15,8 @@ no_desks today before = ([], sym (append-nil before))
 -- A page with the part of one desk after it has the parts of some added.
 pub one_desk : (today : Date) (before after file : List ℕ) (sides : List Side)
     → after ≡ before ++ desk_text today (file, sides) → AddsDesks today before after
-one_desk today before after file sides added = ((file, sides) ∷ [], added ∙ ap (λ text. before ++ text) (sym (append-nil (desk_text today (file, sides)))))
+one_desk today before after file sides added =
+    ((file, sides) ∷ [], added ∙ ap (λ text. before ++ text) (sym (append-nil (desk_text today (file, sides)))))
 
 -- If a page has the parts of some desks added, and then of others, it has those of all.
 pub further_desks : (today : Date) (before between after : List ℕ) → AddsDesks today before between
@@ -36,4 +37,5 @@ whole_page today page (desks, told) = (desks, ap (λ text. text ++ END.now) told
 pub three_added : (before first second third one two three : List ℕ) → first ≡ before ++ one → second ≡ first ++ two
     → third ≡ second ++ three → third ≡ before ++ (one ++ (two ++ three))
 three_added before first second third one two three e f g =
-    g ∙ ap (λ text. text ++ three) (f ∙ ap (λ text. text ++ two) e) ∙ append_assoc (before ++ one) two three ∙ append_assoc before one (two ++ three)
+    g ∙ ap (λ text. text ++ three) (f ∙ ap (λ text. text ++ two) e) ∙ append_assoc (before ++ one) two three
+    ∙ append_assoc before one (two ++ three)

@@ -73,8 +73,10 @@ pub met_with : (m : ArgMatches) (word : List ℕ) (rows : List Row) → Some wor
     → subcommand_rows_of m ≡ Some (word, rows)
 met_with m word rows named has = go (out-ArgMatches m).subcommand named has
   where
-    go : {Z : Type 0} (sub : Option (Box SubCommand Z)) → Some word ≡ option_map (λ b. (out-SubCommand (box_value b)).name.now) sub
-        → Some rows ≡ option_map (λ (said : Text × List Row). said.1) (subcommand_rows sub) → subcommand_rows sub ≡ Some (word, rows)
+    go : {Z : Type 0} (sub : Option (Box SubCommand Z))
+        → Some word ≡ option_map (λ b. (out-SubCommand (box_value b)).name.now) sub
+        → Some rows ≡ option_map (λ (said : Text × List Row). said.1) (subcommand_rows sub)
+        → subcommand_rows sub ≡ Some (word, rows)
     go None named has = cc
     go (Some sub) named has = cc
 
@@ -88,16 +90,20 @@ refused_on (Some value) next (Fault OutOfMemory) right = right
 refused_on (Some value) next (Fault other) right = search rules
 
 -- A refusal for the argument after one that was read is a refusal for all.
-pub refused_after : {A B C : Type 0} (first : Option A) (value : A) (second : Option B) (next : A → B → Option C) (refusal : Refusal)
+pub refused_after : {A B C : Type 0} (first : Option A) (value : A) (second : Option B) (next : A → B → Option C)
+    (refusal : Refusal)
     → first ≡ Some value
     → IsRefusal (is_none second) refusal → IsRefusal (is_none (first >>= λ value. second >>= next value)) refusal
 refused_after {A} first value second next refusal is right =
-    subst (λ (first : Option A). IsRefusal (is_none (first >>= λ value. second >>= next value)) refusal) (sym is) (refused_on second (next value) refusal right)
+    subst (λ (first : Option A). IsRefusal (is_none (first >>= λ value. second >>= next value)) refusal) (sym is)
+    (refused_on second (next value) refusal right)
 
 -- A refusal for the argument after two that were read is a refusal for all.
-pub refused_third : {A B C D : Type 0} (first : Option A) (a : A) (second : Option B) (b : B) (third : Option C) (next : A → B → C → Option D) (refusal : Refusal)
+pub refused_third : {A B C D : Type 0} (first : Option A) (a : A) (second : Option B) (b : B) (third : Option C)
+    (next : A → B → C → Option D) (refusal : Refusal)
     → first ≡ Some a
     → second ≡ Some b → IsRefusal (is_none third) refusal
     → IsRefusal (is_none (first >>= λ a. second >>= λ b. third >>= next a b)) refusal
 refused_third {A} first a second b third next refusal is also right =
-    subst (λ (first : Option A). IsRefusal (is_none (first >>= λ a. second >>= λ b. third >>= next a b)) refusal) (sym is) (refused_after second b third (next a) refusal also right)
+    subst (λ (first : Option A). IsRefusal (is_none (first >>= λ a. second >>= λ b. third >>= next a b)) refusal) (sym is)
+    (refused_after second b third (next a) refusal also right)

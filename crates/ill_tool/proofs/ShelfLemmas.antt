@@ -1,5 +1,6 @@
 -- Desks of a shelf that are visited one after another, and their names.
-use Rattle.std.proofs.Common.{arith, ◌≡◌, ℕ, ◌+◌, ◌<◌, ◌++◌, Bool, true, false, List, [], ◌∷◌, All, length, map, fold, take, get_or, Option, Result, Ok, Err, refl, ap, sym, ◌∙◌, add-one}
+use Rattle.std.proofs.Common.{arith, ◌≡◌, ℕ, ◌+◌, ◌<◌, ◌++◌, Bool, true, false, List, [], ◌∷◌, All, length, map, fold, take}
+use Rattle.std.proofs.Common.{get_or, Option, Result, Ok, Err, refl, ap, sym, ◌∙◌, add-one}
 use Rattle.std.specs.List.{list_all}
 use Rattle.std.proofs.Math.Seq.{take-suc}
 use Rattle.std.proofs.lemmas.List.{map-append, append_cancel_right}
@@ -11,7 +12,8 @@ use Rattle.percent_encoding.specs.Percent.{percent_decode, percent_encode}
 use Rattle.ill_values.specs.Text.{IsQualifier, is_printable}
 use Rattle.ill_saved.specs.declared.role.Role.{Role}
 use Rattle.ill_tool.specs.declared.fault.ToolFault.{ToolFault}
-use Rattle.ill_tool.specs.declared.fault.ToolFault.TheVariants.{Arguments, Der, TooMany, Script, Desk, Left, Read, Write, OutOfMemory}
+use Rattle.ill_tool.specs.declared.fault.ToolFault.TheVariants.{Arguments, Der, TooMany, Script, Desk, Left, Read, Write}
+use Rattle.ill_tool.specs.declared.fault.ToolFault.TheVariants.{OutOfMemory}
 use Rattle.ill_tool.specs.declared.shelf.TheConstants.{ESCAPED}
 use Rattle.ill_tool.specs.Input.{ReadsInput}
 use Rattle.ill_tool.proofs.InputLemmas.{reads_as}
@@ -22,16 +24,19 @@ follow_more : (before between : Option (List ℕ)) (stops : List Stop) (stop : S
     → Follow before stops between → stop.before ≡ between → Follow before (stops ++ stop ∷ []) stop.after
 unfolding Follow
 follow_more before between [] stop is begins = (begins ∙ is, refl)
-follow_more before between (first ∷ stops) stop follows begins = (follows.0, follow_more first.after between stops stop follows.1 begins)
+follow_more before between (first ∷ stops) stop follows begins =
+    (follows.0, follow_more first.after between stops stop follows.1 begins)
 
 -- With one visit more, the gravest answer is the graver of the one before and of its own.
 gravest_more : (stops : List Stop) (stop : Stop) → gravest (stops ++ stop ∷ []) ≡ graver (gravest stops) stop.answer
 gravest_more stops stop =
     let answer : Stop → Result Bool ToolFault = λ stop. stop.answer in
-    ap (λ answers. fold graver (Ok true) answers) (map-append answer stops (stop ∷ [])) ∙ fold-append graver (Ok true) (map answer stops) (stop.answer ∷ [])
+    ap (λ answers. fold graver (Ok true) answers) (map-append answer stops (stop ∷ []))
+    ∙ fold-append graver (Ok true) (map answer stops) (stop.answer ∷ [])
 
 -- If the desks before `place` were visited, and then the one there, one more of `paths` was visited.
-pub one_more_visit : (is_headed : Bool) (Runs : Option (List ℕ) → Option (List ℕ) → Result Bool ToolFault → Type 0) (paths : List (List ℕ)) (place : ℕ) (path : List ℕ)
+pub one_more_visit : (is_headed : Bool) (Runs : Option (List ℕ) → Option (List ℕ) → Result Bool ToolFault → Type 0)
+    (paths : List (List ℕ)) (place : ℕ) (path : List ℕ)
     (before between after : Option (List ℕ)) (answer next : Result Bool ToolFault)
     → place < length paths → path ≡ get_or paths place path → VisitsAll is_headed Runs (take place paths) before between answer
     → Headed is_headed Runs (record { path = path; before = between; after = after; answer = next })
@@ -43,11 +48,17 @@ one_more_visit is_headed Runs paths place path before between after answer next 
     let visited : map path_of (stops ++ stop ∷ []) ≡ take (place + 1) paths =
     map-append path_of stops (stop ∷ []) ∙ ap (λ done. done ++ path ∷ []) so_far.1 ∙ ap (λ path. take place paths ++ path ∷ []) at
     ∙ sym (take-suc paths place path within) ∙ ap (λ count. take count paths) (sym (add-one place)) in
-    let graver_is = ap (λ answer. graver answer next) so_far.4 ∙ sym (gravest_more stops stop) in
-    (stops ++ stop ∷ [], visited, follow_more before between stops stop so_far.2 refl, All-push (Headed is_headed Runs) stops stop so_far.3 headed, graver_is)
+    let graver_is = ap (λ answer. graver answer next) so_far.4 ∙ sym (gravest_more stops stop) in (
+      stops ++ stop ∷ [],
+      visited,
+      follow_more before between stops stop so_far.2 refl,
+      All-push (Headed is_headed Runs) stops stop so_far.3 headed,
+      graver_is,
+    )
 
 -- Before the first visit no desk was visited.
-pub no_visit : (is_headed : Bool) (Runs : Option (List ℕ) → Option (List ℕ) → Result Bool ToolFault → Type 0) (before : Option (List ℕ))
+pub no_visit : (is_headed : Bool) (Runs : Option (List ℕ) → Option (List ℕ) → Result Bool ToolFault → Type 0)
+    (before : Option (List ℕ))
     → VisitsAll is_headed Runs [] before before (Ok true)
 unfolding Follow
 no_visit is_headed Runs before = ([], refl, refl, All-nil (Headed is_headed Runs), refl)
@@ -76,17 +87,22 @@ qualifier_prints text is = grind (arith, nat_tests)
 
 -- A qualifier has bytes alone.
 qualifier_bytes : (text : List ℕ) → IsQualifier text → All IsByte text
-qualifier_bytes text is k d within = printable_is_byte _ (AllPass-from_list_all is_printable text (qualifier_prints text is) k d within)
+qualifier_bytes text is k d within =
+    printable_is_byte _ (AllPass-from_list_all is_printable text (qualifier_prints text is) k d within)
 
 -- Two groups whose desks have one name are one group.
 pub own_desk : (role : Role) (one other : List ℕ) → IsQualifier one → IsQualifier other
     → desk_name role one ≡ desk_name role other → one ≡ other
 own_desk role one other is_one is_other same =
     let encoded = append_cancel_right (percent_encode ESCAPED one) (percent_encode ESCAPED other) _ same in
-    sym (round_trip ESCAPED one refl (qualifier_bytes one is_one)) ∙ ap percent_decode encoded ∙ round_trip ESCAPED other refl (qualifier_bytes other is_other)
+    sym (round_trip ESCAPED one refl (qualifier_bytes one is_one)) ∙ ap percent_decode encoded
+    ∙ round_trip ESCAPED other refl (qualifier_bytes other is_other)
 
 -- An input that was taken on a handler is taken on the views of its states.
-pub taken_home : {S : Type 0} (view : S → ShelfTaking) (left rest : Option (List ℕ)) (before after : S) (count : Result ℕ ToolFault)
+pub taken_home : {S : Type 0} (view : S → ShelfTaking) (left rest : Option (List ℕ)) (before after : S)
+    (count : Result ℕ ToolFault)
     → ReadsInput (λ (s : S) apdu r (t : S). takes_home (view s) apdu r (view t)) left rest before count after
     → ReadsInput takes_home left rest (view before) count (view after)
-taken_home view left rest before after count is = reads_as (λ s apdu r t. takes_home (view s) apdu r (view t)) takes_home view (λ s t apdu r h. h) left rest before after count is
+taken_home view left rest before after count is =
+    reads_as (λ s apdu r t. takes_home (view s) apdu r (view t)) takes_home view (λ s t apdu r h. h) left rest before after count
+    is

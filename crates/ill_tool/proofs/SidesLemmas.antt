@@ -1,5 +1,6 @@
 -- Items of a list, one after another.
-use Rattle.std.proofs.Common.{◌≡◌, ℕ, zero, suc, true, true≢false, ◌++◌, List, [], ◌∷◌, drop, Option, Some, None, refl, ap, sym, ◌∙◌}
+use Rattle.std.proofs.Common.{◌≡◌, ℕ, zero, suc, true, true≢false, ◌++◌, List, [], ◌∷◌, drop, Option, Some, None, refl, ap, sym}
+use Rattle.std.proofs.Common.{◌∙◌}
 use Rattle.std.specs.Prelude.{slice_get, option_map, is_some}
 use Rattle.std.proofs.lemmas.Option.{slice_get-map}
 use Rattle.ill_saved.specs.declared.side.Side.{Side}
@@ -26,7 +27,8 @@ held_so : (live : DeskContents) (place : ℕ) (side : Side) (released : ℕ) (fo
     → released ≡ (held_for (txn_of side) live).released → found ≡ Some (record { side = side; released = released })
 held_so live place side released (Some held) apart at e counted =
     let is : held.side ≡ side = some_is held.side side e in
-    let there : held_for (txn_of side) live ≡ held = ap (λ s. held_for (txn_of s) live) (sym is) ∙ held_at_place live place held apart at in
+    let there : held_for (txn_of side) live ≡ held =
+    ap (λ s. held_for (txn_of s) live) (sym is) ∙ held_at_place live place held apart at in
     let many : held.released ≡ released = sym (counted ∙ ap (λ (h : DeskEntry). h.released) there) in
     ap (λ s. Some (record { side = s; released = held.released })) is ∙ ap (λ n. Some (record { side = side; released = n })) many
 held_so live place side released None apart at e counted = absurd (true≢false (sym (ap is_some e)))
@@ -37,7 +39,8 @@ pub held_there : (live : DeskContents) (place : ℕ) (side : Side) (released : �
     → released ≡ (held_for (txn_of side) live).released
     → slice_get live.held place ≡ Some (record { side = side; released = released })
 held_there live place side released apart at counted =
-    held_so live place side released (slice_get live.held place) apart refl (sym (slice_get-map (λ (held : DeskEntry). held.side) live.held place) ∙ at) counted
+    held_so live place side released (slice_get live.held place) apart refl
+    (sym (slice_get-map (λ (held : DeskEntry). held.side) live.held place) ∙ at) counted
 
 -- An entry without a side is none.
 none_so : (found : Option DeskEntry) → option_map (λ (held : DeskEntry). held.side) found ≡ None → found ≡ None
@@ -47,4 +50,5 @@ none_so None e = refl
 -- If a desk has no side at `place`, it has no entry there.
 pub none_there : (live : DeskContents) (place : ℕ) → slice_get (sides_held live).sides place ≡ None
     → slice_get live.held place ≡ None
-none_there live place at = none_so (slice_get live.held place) (sym (slice_get-map (λ (held : DeskEntry). held.side) live.held place) ∙ at)
+none_there live place at = none_so (slice_get live.held place)
+    (sym (slice_get-map (λ (held : DeskEntry). held.side) live.held place) ∙ at)

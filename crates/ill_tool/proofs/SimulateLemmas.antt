@@ -24,18 +24,23 @@ no_id id old before fault (Ok count) given failed = absurd failed
 no_id (Ok txn) old before fault (Err tool) given failed =
     subst (λ (f : ToolFault). Performs (Ok txn) old old before before (Err f)) (sym (failed ∙ given))
     (Err simulation.OutOfMemory, not_begun txn old before, refl)
-no_id (Err text) old before fault (Err tool) given failed = (ap (λ (f : ToolFault). Err f) (failed ∙ given), Consumes-nil old, Appends-nil before)
+no_id (Err text) old before fault (Err tool) given failed =
+    (ap (λ (f : ToolFault). Err f) (failed ∙ given), Consumes-nil old, Appends-nil before)
 
 -- If the script was performed, to its end or up to a fault, the command has its answer.
-pub performed : (id : Result Qualifiers TextFault) (txn : Qualifiers) (old new before after : Option (List ℕ)) (simulated : Result ℕ SimFault)
+pub performed : (id : Result Qualifiers TextFault) (txn : Qualifiers) (old new before after : Option (List ℕ))
+    (simulated : Result ℕ SimFault)
     → GivesId id (Ok txn)
     → Simulates txn old new before after simulated → Performs id old new before after (tool_answer simulated)
-performed (Ok wanted) txn old new before after simulated given done = (simulated, subst (λ (t : Qualifiers). Simulates t old new before after simulated) given done, refl)
+performed (Ok wanted) txn old new before after simulated given done =
+    (simulated, subst (λ (t : Qualifiers). Simulates t old new before after simulated) given done, refl)
 performed (Err text) txn old new before after simulated given done = absurd given
 
 -- If the script was performed up to `fault`, the command has that fault.
-pub performed_until : (id : Result Qualifiers TextFault) (txn : Qualifiers) (old new before after : Option (List ℕ)) (fault : SimFault) (tool : ToolFault)
+pub performed_until : (id : Result Qualifiers TextFault) (txn : Qualifiers) (old new before after : Option (List ℕ))
+    (fault : SimFault) (tool : ToolFault)
     → GivesId id (Ok txn)
     → Simulates txn old new before after (Err fault) → tool ≡ sim_fault fault → Performs id old new before after (Err tool)
 performed_until id txn old new before after fault tool given done is =
-    subst (λ (f : ToolFault). Performs id old new before after (Err f)) (sym is) (performed id txn old new before after (Err fault) given done)
+    subst (λ (f : ToolFault). Performs id old new before after (Err f)) (sym is)
+    (performed id txn old new before after (Err fault) given done)

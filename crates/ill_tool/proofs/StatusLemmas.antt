@@ -1,5 +1,6 @@
 -- The marks of a side as text, and the lines of one side after another.
-use Rattle.std.proofs.Common.{◌≡◌, ℕ, zero, suc, true, false, true≢false, ◌==◌, ◌++◌, List, [], ◌∷◌, map, length, drop, Option, Some, None, refl, ap, sym, ◌∙◌}
+use Rattle.std.proofs.Common.{◌≡◌, ℕ, zero, suc, true, false, true≢false, ◌==◌, ◌++◌, List, [], ◌∷◌, map, length, drop, Option}
+use Rattle.std.proofs.Common.{Some, None, refl, ap, sym, ◌∙◌}
 use Rattle.std.specs.Prelude.{slice_get, option_map, is_some}
 use Rattle.std.specs.List.{flat_map, join_by}
 use Rattle.std.proofs.lemmas.Option.{slice_get-map}
@@ -30,7 +31,8 @@ joined_by_spaces text (word ∷ words) some = ap (λ (more : List ℕ). text wor
 
 -- The text of the sides from `place` on is that of the one there, and of the others.
 pub one_further : (form : Form) (sides : List DeskEntry) (place : ℕ)
-    → status_of_desk form (drop place sides) ≡ text_of_one form (slice_get sides place) ++ status_of_desk form (drop (suc place) sides)
+    → status_of_desk form (drop place sides)
+    ≡ text_of_one form (slice_get sides place) ++ status_of_desk form (drop (suc place) sides)
 one_further form [] zero = refl
 one_further form [] (suc place) = refl
 one_further form (held ∷ sides) zero = refl
@@ -43,8 +45,10 @@ lines_so : (form : Form) (live : DeskContents) (place : ℕ) (side : Side) (rele
     → released ≡ (held_for (txn_of side) live).released → status_text form side released ≡ text_of_one form found
 lines_so form live place side released (Some held) apart at e counted =
     let is : held.side ≡ side = some_is held.side side e in
-    let there : held_for (txn_of side) live ≡ held = ap (λ s. held_for (txn_of s) live) (sym is) ∙ held_at_place live place held apart at in
-    ap (status_text form side) (counted ∙ ap (λ (h : DeskEntry). h.released) there) ∙ ap (λ s. status_text form s held.released) (sym is)
+    let there : held_for (txn_of side) live ≡ held =
+    ap (λ s. held_for (txn_of s) live) (sym is) ∙ held_at_place live place held apart at in
+    ap (status_text form side) (counted ∙ ap (λ (h : DeskEntry). h.released) there)
+    ∙ ap (λ s. status_text form s held.released) (sym is)
 lines_so form live place side released None apart at e counted = absurd (true≢false (sym (ap is_some e)))
 
 -- An entry without a side has no text.
@@ -59,9 +63,11 @@ pub lines_there : (form : Form) (live : DeskContents) (place : ℕ) (side : Side
     → released ≡ (held_for (txn_of side) live).released
     → status_text form side released ≡ text_of_one form (slice_get live.held place)
 lines_there form live place side released apart at counted =
-    lines_so form live place side released (slice_get live.held place) apart refl (sym (slice_get-map (λ (held : DeskEntry). held.side) live.held place) ∙ at) counted
+    lines_so form live place side released (slice_get live.held place) apart refl
+    (sym (slice_get-map (λ (held : DeskEntry). held.side) live.held place) ∙ at) counted
 
 -- If a desk has no side at `place`, no text is there.
 pub no_lines_there : (form : Form) (live : DeskContents) (place : ℕ) → slice_get (sides_held live).sides place ≡ None
     → [] ≡ text_of_one form (slice_get live.held place)
-no_lines_there form live place at = no_lines_so form (slice_get live.held place) (sym (slice_get-map (λ (held : DeskEntry). held.side) live.held place) ∙ at)
+no_lines_there form live place at =
+    no_lines_so form (slice_get live.held place) (sym (slice_get-map (λ (held : DeskEntry). held.side) live.held place) ∙ at)

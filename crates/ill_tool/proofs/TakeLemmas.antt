@@ -1,5 +1,6 @@
 -- The taking of one APDU after another.
-use Rattle.std.proofs.Common.{◌≡◌, inl, inr, ℕ, ◌≤◌, Bool, true, List, [], ◌∷◌, Option, Result, Ok, Err, refl, ap, subst, ◌∙◌, arith}
+use Rattle.std.proofs.Common.{◌≡◌, inl, inr, ℕ, ◌≤◌, Bool, true, List, [], ◌∷◌, Option, Result, Ok, Err, refl, ap, subst, ◌∙◌}
+use Rattle.std.proofs.Common.{arith}
 use Rattle.ill_values.specs.declared.apdu.Apdu.{Apdu}
 use Rattle.ill_der.specs.Handling.{Handles, Handled}
 use Rattle.ill_saved.specs.declared.fault.DeskFault.TheVariants as desks
@@ -39,9 +40,11 @@ unfailing other count bytes ahead left before after stops = tt
 
 -- The lent desk, the lent file, and the count of the store's failures.
 module _ {S N M : Type 0} (is_kept : Bool) (handles : Handles S ToolFault) (name : S → N) (came : S → M) (failures : S → ℕ)
-    (keeps : (s t : S) (apdu : Apdu) (r : Result (Unit {0}) ToolFault) → handles s apdu r t → KeepsDesk is_kept r (name s) (name t) (came s) (came t) (failures s) (failures t)) where
+    (keeps : (s t : S) (apdu : Apdu) (r : Result (Unit {0}) ToolFault) → handles s apdu r t
+    → KeepsDesk is_kept r (name s) (name t) (came s) (came t) (failures s) (failures t)) where
   -- APDUs that were handled keep the lent values, and the count of failures never falls.
-  handled_keeps : (before after : S) (apdus : List Apdu) → Handled handles before apdus after → ((name after ≡ name before) × (came after ≡ came before)) × (failures before ≤ failures after)
+  handled_keeps : (before after : S) (apdus : List Apdu) → Handled handles before apdus after
+      → ((name after ≡ name before) × (came after ≡ came before)) × (failures before ≤ failures after)
   handled_keeps before after [] is = ((ap name is, ap came is), omega (arith, ap failures is))
   handled_keeps before after (apdu ∷ apdus) is =
       let one = keeps before is.0 apdu (Ok tt) is.1 in
@@ -49,7 +52,8 @@ module _ {S N M : Type 0} (is_kept : Bool) (handles : Handles S ToolFault) (name
       ((on.0.0 ∙ one.0.0, on.0.1 ∙ one.0.1), omega (arith, one.1.0, on.1))
 
   -- An input keeps the lent values, and counts the failures of the store, if each message does.
-  pub input_keeps : (old new : Option (List ℕ)) (before after : S) (result : Result ℕ ToolFault) → ReadsInput handles old new before result after
+  pub input_keeps : (old new : Option (List ℕ)) (before after : S) (result : Result ℕ ToolFault)
+      → ReadsInput handles old new before result after
       → KeepsDesk is_kept result (name before) (name after) (came before) (came after) (failures before) (failures after)
   input_keeps old new before after (Ok n) is =
       let so_far = handled_keeps before is.3 is.0 is.4.handled in
@@ -59,19 +63,28 @@ module _ {S N M : Type 0} (is_kept : Bool) (handles : Handles S ToolFault) (name
       let so_far = handled_keeps before is.3 is.0 is.4.handled in elim is.4.ended [
         | inl stops ↦ (
           (ap name stops.1 ∙ so_far.0.0, ap came stops.1 ∙ so_far.0.1),
-          (omega (arith, so_far.1, ap failures stops.1), λ none. unfailing fault _ is.1 is.2 new (failures before) (failures after) stops.0),
+          (
+            omega (arith, so_far.1, ap failures stops.1),
+            λ none.
+                unfailing fault _ is.1 is.2 new (failures before) (failures after) stops.0,
+          ),
         )
         | inr hand ↦
             let one = keeps is.3 after hand.0 (Err fault) hand.4 in (
               (one.0.0 ∙ so_far.0.0, one.0.1 ∙ so_far.0.1),
-              (omega (arith, so_far.1, one.1.0), λ none. fails_from fault (failures before) (failures is.3) (failures after) so_far.1 (one.1.1 none)),
+              (
+                omega (arith, so_far.1, one.1.0),
+                λ none.
+                    fails_from fault (failures before) (failures is.3) (failures after) so_far.1 (one.1.1 none),
+              ),
             )
       ]
 
 -- ---- the command
 
 -- An input whose messages are taken on a lent desk, and kept if messages are kept.
-module _ {H S D A B C L N W : Type 0} {n m : ℕ} (is_kept : Bool) (told : Wording) (effects : Effects L N) (view : DeskOf H S → HeldAndLanded L) (failures : DeskOf H S → ℕ) (kept : D → Option (List ℕ))
+module _ {H S D A B C L N W : Type 0} {n m : ℕ} (is_kept : Bool) (told : Wording) (effects : Effects L N)
+    (view : DeskOf H S → HeldAndLanded L) (failures : DeskOf H S → ℕ) (kept : D → Option (List ℕ))
     (contents : W → Option (List ℕ)) where
   -- Returns the state of the command by the state of its handler.
   abbrev how_far : TakesEach H S D n m A B C × W → Progress L
@@ -81,16 +94,28 @@ module _ {H S D A B C L N W : Type 0} {n m : ℕ} (is_kept : Bool) (told : Wordi
   abbrev pub TakesOn : Handles (TakesEach H S D n m A B C × W) ToolFault
   TakesOn s apdu r t =
       takes_each is_kept told effects (how_far s) apdu r (how_far t)
-      × KeepsDesk is_kept r s.0.desk.ghost_name t.0.desk.ghost_name s.0.came.ghost_name t.0.came.ghost_name (failures s.0.desk.now) (failures t.0.desk.now)
+      × KeepsDesk is_kept r s.0.desk.ghost_name t.0.desk.ghost_name s.0.came.ghost_name t.0.came.ghost_name
+      (failures s.0.desk.now) (failures t.0.desk.now)
 
   -- If an input was read by `TakesOn`, the command has taken it, and the lent values are kept.
-  pub input_taken : (old new : Option (List ℕ)) (before after : TakesEach H S D n m A B C × W) (result : Result ℕ ToolFault) → before.0.all_fine ≡ true → ReadsInput TakesOn old new before result after
-      → RunsTaking is_kept told effects old new (kept before.0.came.now) (kept after.0.came.now) (contents before.1) (contents after.1) (view before.0.desk.now) (answer_of result after.0.all_fine)
+  pub input_taken : (old new : Option (List ℕ)) (before after : TakesEach H S D n m A B C × W) (result : Result ℕ ToolFault)
+      → before.0.all_fine ≡ true → ReadsInput TakesOn old new before result after
+      → RunsTaking is_kept told effects old new (kept before.0.came.now) (kept after.0.came.now) (contents before.1)
+      (contents after.1) (view before.0.desk.now) (answer_of result after.0.all_fine)
       (view after.0.desk.now)
-      × KeepsDesk is_kept result before.0.desk.ghost_name after.0.desk.ghost_name before.0.came.ghost_name after.0.came.ghost_name (failures before.0.desk.now) (failures after.0.desk.now)
+      × KeepsDesk is_kept result before.0.desk.ghost_name after.0.desk.ghost_name before.0.came.ghost_name after.0.came.ghost_name
+      (failures before.0.desk.now) (failures after.0.desk.now)
   input_taken old new before after result fine is =
-      let taken = reads_as TakesOn (takes_each is_kept told effects) how_far (λ s t apdu r h. h.0) old new before after result is in
+      let taken = reads_as TakesOn (takes_each is_kept told effects) how_far (λ s t apdu r h. h.0) old new before after result
+      is in
       let first = progress (view before.0.desk.now) (kept before.0.came.now) (contents before.1) in (
-        (result, after.0.all_fine, refl, subst (λ (b : Bool). ReadsInput (takes_each is_kept told effects) old new (first b) result (how_far after)) fine taken),
-        input_keeps is_kept TakesOn (λ s. s.0.desk.ghost_name) (λ s. s.0.came.ghost_name) (λ s. failures s.0.desk.now) (λ s t apdu r h. h.1) old new before after result is,
+        (
+          result,
+          after.0.all_fine,
+          refl,
+          subst (λ (b : Bool). ReadsInput (takes_each is_kept told effects) old new (first b) result (how_far after)) fine
+              taken,
+        ),
+        input_keeps is_kept TakesOn (λ s. s.0.desk.ghost_name) (λ s. s.0.came.ghost_name) (λ s. failures s.0.desk.now)
+            (λ s t apdu r h. h.1) old new before after result is,
       )

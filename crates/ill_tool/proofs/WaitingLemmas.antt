@@ -1,5 +1,6 @@
 -- A stable sort by deadlines gives the loans with the most urgent first.
-use Rattle.std.proofs.Common.{arith, ◌≡◌, Bool, true, false, List, map, is_none, Option, Some, None, Bor, refl, ap, subst, ◌∙◌, is_lt}
+use Rattle.std.proofs.Common.{arith, ◌≡◌, Bool, true, false, List, map, is_none, Option, Some, None, Bor, refl, ap, subst, ◌∙◌}
+use Rattle.std.proofs.Common.{is_lt}
 use Rattle.std.proofs.lemmas.Bool.Decides.{nat_tests}
 use Rattle.std.specs.Cmp.{IsStrictWeakOrder}
 use Rattle.std.specs.List.Sorted.{IsSortedBy, IsStableBy}
@@ -61,6 +62,8 @@ pub sorted_by_urgency : (cmp : Date → Date → Ordering) → ((a b : Date) →
 sorted_by_urgency cmp same sides sorted rises stays =
     let now : Bor Side → Side = λ side. side.now in
     ap (map now) (sorted_is_ordered (λ (side other : Bor Side). is_more_urgent side.now other.now) urgency_order sides sorted
-    (subst (λ (lt : Bor Side → Bor Side → Bool). IsSortedBy lt sorted) (λ i side other. by_keys_is cmp same (deadline_of side.now) (deadline_of other.now) i) rises)
-    (subst (λ (lt : Bor Side → Bor Side → Bool). IsStableBy lt sides sorted) (λ i side other. by_keys_is cmp same (deadline_of side.now) (deadline_of other.now) i) stays))
+    (subst (λ (lt : Bor Side → Bor Side → Bool). IsSortedBy lt sorted)
+    (λ i side other. by_keys_is cmp same (deadline_of side.now) (deadline_of other.now) i) rises)
+    (subst (λ (lt : Bor Side → Bor Side → Bool). IsStableBy lt sides sorted)
+    (λ i side other. by_keys_is cmp same (deadline_of side.now) (deadline_of other.now) i) stays))
     ∙ ordered_mapped now is_more_urgent sides

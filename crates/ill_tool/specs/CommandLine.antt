@@ -1,10 +1,14 @@
 -- The words of commands in a command line, and the names that `clap` has for their arguments.
 use Rattle.std.specs.Prelude.{ℕ, List, [], ◌∷◌, codes, Option, find, bytes_eq}
 use Rattle.ill_tool.specs.declared.command_line.Name.{Name}
-use Rattle.ill_tool.specs.declared.command_line.Name.TheVariants.{New, Act, Take, Inbox, Outbox, Exchange, Send, Status, Loan, Report, Retire, Verify, Show, Check, Simulate, SimulateDesks}
+use Rattle.ill_tool.specs.declared.command_line.Name.TheVariants.{New, Act, Take, Inbox, Outbox, Exchange, Send, Status, Loan}
+use Rattle.ill_tool.specs.declared.command_line.Name.TheVariants.{Report, Retire, Verify, Show, Check, Simulate, SimulateDesks}
 use Rattle.ill_tool.specs.declared.command_line.Name.TheVariants as names
 use Rattle.ill_tool.specs.declared.command_line.Argument.{Argument}
-use Rattle.ill_tool.specs.declared.command_line.Argument.TheVariants.{NewFile, File, Folder, Role, Group, Transaction, Today, Words, Number, Long, Keep, Picture, Open, Mine, Json, Paths, OnDay, DueBefore, InState, ReportDay, OutFolder, Stream, In, Out, NightDay, Overdue, Expire, Copy, Beat, NewGroup}
+use Rattle.ill_tool.specs.declared.command_line.Argument.TheVariants.{NewFile, File, Folder, Role, Group, Transaction, Today}
+use Rattle.ill_tool.specs.declared.command_line.Argument.TheVariants.{Words, Number, Long, Keep, Picture, Open, Mine, Json, Paths}
+use Rattle.ill_tool.specs.declared.command_line.Argument.TheVariants.{OnDay, DueBefore, InState, ReportDay, OutFolder, Stream, In}
+use Rattle.ill_tool.specs.declared.command_line.Argument.TheVariants.{Out, NightDay, Overdue, Expire, Copy, Beat, NewGroup}
 
 -- Returns the word of a command.
 abbrev pub word_of : Name → List ℕ

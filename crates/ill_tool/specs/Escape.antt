@@ -1,6 +1,7 @@
 -- A text of UTF-8 on which no terminal acts, for a screen or in JSON. Each character that one may act on is
 -- written as an escape, such as `\u{202e}` or `\u202e`.
-use Rattle.std.specs.Prelude.{◌≡◌, ◌≤◌, ℕ, ◌+◌, ◌-◌, ◌*◌, ◌/◌, ◌%◌, nat_lt, nat_le, Bool, false, ◌&&◌, ◌||◌, ◌==◌, if◌then◌else◌, List, [], ◌∷◌, ◌++◌, length, codes, Option, Some, None}
+use Rattle.std.specs.Prelude.{◌≡◌, ◌≤◌, ℕ, ◌+◌, ◌-◌, ◌*◌, ◌/◌, ◌%◌, nat_lt, nat_le, Bool, false, ◌&&◌, ◌||◌, ◌==◌, if◌then◌else◌}
+use Rattle.std.specs.Prelude.{List, [], ◌∷◌, ◌++◌, length, codes, Option, Some, None}
 use Rattle.std.specs.Fmt.{digits}
 use Rattle.ill_tool.specs.declared.escape.Escaping.{Escaping}
 use Rattle.ill_tool.specs.declared.escape.Escaping.TheVariants.{Screen, Json}

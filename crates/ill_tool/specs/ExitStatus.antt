@@ -5,7 +5,8 @@ use Rattle.std.specs.Prelude.{◌≡◌, ◌⊎◌, ℕ, Bool, true, false, Resu
 use Rattle.ill_saved.specs.declared.fault.DeskFault.{DeskFault}
 use Rattle.ill_saved.specs.declared.fault.DeskFault.TheVariants as desks
 use Rattle.ill_tool.specs.declared.fault.ToolFault.{ToolFault}
-use Rattle.ill_tool.specs.declared.fault.ToolFault.TheVariants.{Arguments, Der, TooMany, Script, Desk, Left, Read, Write, OutOfMemory}
+use Rattle.ill_tool.specs.declared.fault.ToolFault.TheVariants.{Arguments, Der, TooMany, Script, Desk, Left, Read, Write}
+use Rattle.ill_tool.specs.declared.fault.ToolFault.TheVariants.{OutOfMemory}
 
 -- Returns the status after a fault of a side or its record.
 abbrev pub desk_status : DeskFault → ℕ

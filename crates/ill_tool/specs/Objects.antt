@@ -5,7 +5,9 @@ use Rattle.std.specs.Fmt.{decimal}
 use Rattle.ill_values.specs.Day.{Date}
 use Rattle.ill_values.specs.declared.apdu.Apdu.{Apdu}
 use Rattle.ill_values.specs.declared.apdu.Body.{Body}
-use Rattle.ill_values.specs.declared.apdu.Body.TheVariants.{IllRequest, IllAnswer, ConditionalReply, Cancel, CancelReply, Shipped, Received, Recall, Returned, CheckedIn, Overdue, Renew, RenewAnswer, Expired}
+use Rattle.ill_values.specs.declared.apdu.Body.TheVariants.{IllRequest, IllAnswer, ConditionalReply, Cancel, CancelReply, Shipped}
+use Rattle.ill_values.specs.declared.apdu.Body.TheVariants.{Received, Recall, Returned, CheckedIn, Overdue, Renew, RenewAnswer}
+use Rattle.ill_values.specs.declared.apdu.Body.TheVariants.{Expired}
 use Rattle.ill_values.specs.Results.{result_name}
 use Rattle.ill_values.specs.Types.{type_name}
 use Rattle.ill_core.specs.declared.turn.Turn.{Turn}

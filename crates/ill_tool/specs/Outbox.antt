@@ -1,5 +1,6 @@
 -- The command `outbox`: the messages that leave a desk in a night, and the names of their mails.
-use Rattle.std.specs.Prelude.{◌≡◌, ◌⊎◌, ℕ, ◌+◌, ◌/◌, ◌%◌, Bool, false, if◌then◌else◌, List, [], ◌∷◌, ◌++◌, length, take, fold, map, codes, Option, None, Some, option_map, Result, Ok, Err}
+use Rattle.std.specs.Prelude.{◌≡◌, ◌⊎◌, ℕ, ◌+◌, ◌/◌, ◌%◌, Bool, false, if◌then◌else◌, List, [], ◌∷◌, ◌++◌, length, take, fold}
+use Rattle.std.specs.Prelude.{map, codes, Option, None, Some, option_map, Result, Ok, Err}
 use Rattle.std.specs.List.{flat_map, list_any}
 use Rattle.std.specs.Fmt.{decimal}
 use Rattle.std.specs.Io.KnownBytes.{Appends}

@@ -1,7 +1,8 @@
 -- The command `report`: a page of HTML of the loans of desks. The texts of persons stand in it by
 -- `html_text`: the file, the item and both qualifiers. All else is a constant of this program, a name, a
 -- number or a date.
-use Rattle.std.specs.Prelude.{ℕ, ◌+◌, ◌*◌, Bool, true, false, ◌≡◌, List, [], ◌∷◌, ◌++◌, length, filter, count_by, codes, Option, Some, None}
+use Rattle.std.specs.Prelude.{ℕ, ◌+◌, ◌*◌, Bool, true, false, ◌≡◌, List, [], ◌∷◌, ◌++◌, length, filter, count_by, codes, Option}
+use Rattle.std.specs.Prelude.{Some, None}
 use Rattle.std.specs.List.{flat_map, list_any}
 use Rattle.std.specs.Fmt.{decimal}
 use Rattle.ill_values.specs.Day.{Date, iso_text}
@@ -9,7 +10,8 @@ use Rattle.ill_values.specs.Types.{type_name}
 use Rattle.ill_values.specs.Results.{result_name}
 use Rattle.ill_values.specs.declared.apdu.Apdu.{Apdu}
 use Rattle.ill_values.specs.declared.apdu.Body.{Body}
-use Rattle.ill_values.specs.declared.apdu.Body.TheVariants.{IllAnswer, ConditionalReply, CancelReply, Shipped, Overdue, Renew, RenewAnswer}
+use Rattle.ill_values.specs.declared.apdu.Body.TheVariants.{IllAnswer, ConditionalReply, CancelReply, Shipped, Overdue, Renew}
+use Rattle.ill_values.specs.declared.apdu.Body.TheVariants.{RenewAnswer}
 use Rattle.ill_core.specs.declared.turn.Turn.{Turn}
 use Rattle.ill_core.specs.declared.turn.Turn.TheVariants.{Over, Mine, Theirs}
 use Rattle.ill_core.specs.declared.verb.Verb.{Verb}
@@ -21,7 +23,8 @@ use Rattle.ill_saved.specs.declared.side.Side.{Side}
 use Rattle.ill_saved.specs.Side.{issued_of, txn_of, state_of, due_date_of, verbs_of}
 use Rattle.ill_tool.specs.declared.report_parts.Field.{Field}
 use Rattle.ill_tool.specs.declared.report_parts.Field.TheVariants as fields
-use Rattle.ill_tool.specs.declared.report_parts.TheConstants.{PAGE, DESKS, END, DESK, LOANS, DESK_END, WAITING, OPEN, OPENING, OVER, FOLDED, TASK, LOAN, LIFELINES, ROW, NAME, ARROW}
+use Rattle.ill_tool.specs.declared.report_parts.TheConstants.{PAGE, DESKS, END, DESK, LOANS, DESK_END, WAITING, OPEN, OPENING}
+use Rattle.ill_tool.specs.declared.report_parts.TheConstants.{OVER, FOLDED, TASK, LOAN, LIFELINES, ROW, NAME, ARROW}
 use Rattle.ill_tool.specs.Lines.{reply_word}
 use Rattle.ill_tool.specs.Html.{html_escaped, html_text}
 use Rattle.ill_tool.specs.Loan.{request_of}

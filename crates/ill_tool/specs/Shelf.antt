@@ -1,6 +1,7 @@
 -- A shelf: a folder of desks of one role, one for each group. The group of a transaction names its desk (this
 -- profile's own).
-use Rattle.std.specs.Prelude.{◌≡◌, ◌⊎◌, All, ℕ, Bool, true, false, ◌&&◌, List, [], ◌∷◌, ◌++◌, map, fold, codes, Option, Some, is_some, Result, Ok, Err}
+use Rattle.std.specs.Prelude.{◌≡◌, ◌⊎◌, All, ℕ, Bool, true, false, ◌&&◌, List, [], ◌∷◌, ◌++◌, map, fold, codes, Option, Some}
+use Rattle.std.specs.Prelude.{is_some, Result, Ok, Err}
 use Rattle.std.specs.List.{list_all}
 use Rattle.percent_encoding.specs.Percent.{percent_encode}
 use Rattle.ill_saved.specs.declared.role.Role.{Role}
@@ -22,7 +23,8 @@ use Rattle.ill_der.specs.Handling.{Handles}
 use Rattle.ill_der.specs.ShortForm.{spelling}
 use Rattle.ill_tool.specs.Asked.{Asked}
 use Rattle.ill_tool.specs.Asked as asks
-use Rattle.ill_tool.specs.Commands.{ActsAtFile, ExchangesAtFile, InboxAtFile, IsShut, LoanAtFile, NewAtFile, OutboxAtFile, SendsAtFile, ShowsFile, TakesAtFile}
+use Rattle.ill_tool.specs.Commands.{ActsAtFile, ExchangesAtFile, InboxAtFile, IsShut, LoanAtFile, NewAtFile, OutboxAtFile}
+use Rattle.ill_tool.specs.Commands.{SendsAtFile, ShowsFile, TakesAtFile}
 use Rattle.ill_tool.specs.Copy.{Copies}
 use Rattle.ill_tool.specs.Input.{ReadsInput}
 use Rattle.ill_tool.specs.Take.{answer_of}

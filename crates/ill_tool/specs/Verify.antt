@@ -1,5 +1,6 @@
 -- The command `verify`: what the record of a desk has, or why it is none.
-use Rattle.std.specs.Prelude.{◌≡◌, ℕ, ◌-◌, true, if◌then◌else◌, List, [], ◌++◌, length, sum_by, codes, Option, None, Some, Result, Ok, Err, IfOk}
+use Rattle.std.specs.Prelude.{◌≡◌, ℕ, ◌-◌, true, if◌then◌else◌, List, [], ◌++◌, length, sum_by, codes, Option, None, Some, Result}
+use Rattle.std.specs.Prelude.{Ok, Err, IfOk}
 use Rattle.std.specs.Io.KnownBytes.{Appends}
 use Rattle.ill_saved.specs.declared.side.Side.{Side}
 use Rattle.ill_saved.specs.Side.{issued_of}

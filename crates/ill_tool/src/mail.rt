@@ -124,8 +124,8 @@ pub fn claim_mails<T: Files>(
     }
 }
 
-/// Reads the mails that a shelf has sorted from `folder` to the desk in `file`. A carrier may still write to a mail that
-/// it opened before the claim. Then its message may be for another desk, and its bytes are hidden.
+/// Reads the mails that a shelf has sorted from `folder` to the desk in `file`. A carrier may still write to a mail
+/// that it opened before the claim. Then its message may be for another desk, and its bytes are hidden.
 pub fn sorted_mails<T: Files>(
     rt: &T,
     alloc: Global,

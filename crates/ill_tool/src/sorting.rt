@@ -75,8 +75,8 @@ pub(crate) fn route_of(role: Role, home: Home, is_request: bool, has_room: bool)
     }
 }
 
-/// Sorts the mails of `folder` to the desks of `shelf`. Returns true if any wait for the next run, or a desk is lost. It
-/// writes lines to `errors` of those, of new desks, and of mails of retired groups.
+/// Sorts the mails of `folder` to the desks of `shelf`. Returns true if any wait for the next run, or a desk is lost.
+/// It writes lines to `errors` of those, of new desks, and of mails of retired groups.
 pub(crate) fn sort_mails<T: LockFiles, E: Write>(
     rt: &T,
     alloc: Global,

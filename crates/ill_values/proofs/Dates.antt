@@ -1,5 +1,6 @@
 -- A date text is read as its day, and no other text is read as that day.
-use Rattle.std.proofs.Common.{◌≡◌, ℕ, ◌+◌, ◌-◌, ◌*◌, ◌/◌, ◌%◌, ◌≤◌, Bool, true, false, cond, ◌&&◌, eqb, leb, List, [], ◌∷◌, length, Result, Ok, Err, refl, sym, ap, subst, ◌∙◌, arith}
+use Rattle.std.proofs.Common.{◌≡◌, ℕ, ◌+◌, ◌-◌, ◌*◌, ◌/◌, ◌%◌, ◌≤◌, Bool, true, false, cond, ◌&&◌, eqb, leb, List, [], ◌∷◌}
+use Rattle.std.proofs.Common.{length, Result, Ok, Err, refl, sym, ap, subst, ◌∙◌, arith}
 use Rattle.std.specs.List.{list_all}
 use Rattle.std.specs.Char.{is_ascii_digit}
 use Rattle.std.specs.Int.{IsInRange}
@@ -7,7 +8,8 @@ use Rattle.std.proofs.lemmas.Bool.{and_parts, and_from, le-leb, leb-true, eqb-tr
 use Rattle.std.proofs.lemmas.Grind.{common_steps}
 use Rattle.ill_values.specs.declared.fault.DayFault.{DayFault}
 use Rattle.ill_values.specs.declared.fault.DayFault.TheVariants.{NotDigits, OutOfRange, NotADate}
-use Rattle.ill_values.specs.Day.{Date, IsDate, is_year, is_in_year, days_in_month, date_of, date_text, eight_digits, two_digits_at, read_date}
+use Rattle.ill_values.specs.Day.{Date, IsDate, is_year, is_in_year, days_in_month, date_of, date_text, eight_digits}
+use Rattle.ill_values.specs.Day.{two_digits_at, read_date}
 
 -- If `cond b r (Err fault)` gives `x`, `b` is true and `r` gives `x`.
 passed : {A : Type 0} (b : Bool) (r : Result A DayFault) (fault : DayFault) (x : A) → cond b r (Err fault) ≡ Ok x
@@ -71,7 +73,12 @@ digit_range x rest e =
 
 -- Eight ASCII digits are the date text of the year, the month and the day that they make.
 eight_spelled : (a b c e f g h i : ℕ) → list_all is_ascii_digit (a ∷ b ∷ c ∷ e ∷ f ∷ g ∷ h ∷ i ∷ []) ≡ true
-    → a ∷ b ∷ c ∷ e ∷ f ∷ g ∷ h ∷ i ∷ [] ≡ date_text (record { year = (10 * (a - 48) + (b - 48)) * 100 + (10 * (c - 48) + (e - 48)); month = 10 * (f - 48) + (g - 48); day = 10 * (h - 48) + (i - 48) })
+    → a ∷ b ∷ c ∷ e ∷ f ∷ g ∷ h ∷ i ∷ []
+    ≡ date_text (record {
+      year = (10 * (a - 48) + (b - 48)) * 100 + (10 * (c - 48) + (e - 48));
+      month = 10 * (f - 48) + (g - 48);
+      day = 10 * (h - 48) + (i - 48);
+    })
 eight_spelled a b c e f g h i digits =
     let pa = digit_range a (b ∷ c ∷ e ∷ f ∷ g ∷ h ∷ i ∷ []) digits in
     let pb = digit_range b (c ∷ e ∷ f ∷ g ∷ h ∷ i ∷ []) pa.1 in
@@ -115,7 +122,9 @@ eight_read d a b c e f g h i found =
 -- If `text` is read as `d`, it is the date text of `d`, which is in range.
 pub date_read : (text : List ℕ) (d : Date) → IsRead d text
 date_read text d found =
-    let tested = passed (eight_digits text) (date_of (two_digits_at text 0 * 100 + two_digits_at text 2) (two_digits_at text 4) (two_digits_at text 6)) NotDigits d found in
+    let tested = passed (eight_digits text)
+    (date_of (two_digits_at text 0 * 100 + two_digits_at text 2) (two_digits_at text 4) (two_digits_at text 6)) NotDigits d
+    found in
     let digits = and_parts (eqb (length text) 8) (list_all is_ascii_digit text) tested.0 in
     let a = first_of text 7 (eqb-true (length text) 8 digits.0) in
     let b = first_of a.1 6 a.3 in
@@ -135,7 +144,8 @@ month_at_most year month = grind (arith, common_steps)
 
 -- 48 and a last decimal digit make an ASCII digit.
 is_digit : (n : ℕ) → is_ascii_digit (48 + n % 10) ≡ true
-is_digit n = and_from (leb 48 (48 + n % 10)) (leb (48 + n % 10) 57) (le-leb 48 (48 + n % 10) (omega arith)) (le-leb (48 + n % 10) 57 (omega arith))
+is_digit n = and_from (leb 48 (48 + n % 10)) (leb (48 + n % 10) 57) (le-leb 48 (48 + n % 10) (omega arith))
+    (le-leb (48 + n % 10) 57 (omega arith))
 
 -- If `d` is in range, `date_of` makes it of its year, month and day.
 pub date_made : (d : Date) → IsDate d → date_of d.year d.month d.day ≡ Ok d
@@ -152,7 +162,8 @@ date_made d is =
 -- The date text of a day in range is read as that day.
 pub date_again : (d : Date) → IsDate d → read_date (date_text d) ≡ Ok d
 date_again d is =
-    let year : (10 * (48 + d.year / 1000 % 10 - 48) + (48 + d.year / 100 % 10 - 48)) * 100 + (10 * (48 + d.year / 10 % 10 - 48) + (48 + d.year % 10 - 48)) ≡ d.year = omega (arith, is.to_9999) in
+    let year : (10 * (48 + d.year / 1000 % 10 - 48) + (48 + d.year / 100 % 10 - 48)) * 100
+    + (10 * (48 + d.year / 10 % 10 - 48) + (48 + d.year % 10 - 48)) ≡ d.year = omega (arith, is.to_9999) in
     let month : 10 * (48 + d.month / 10 % 10 - 48) + (48 + d.month % 10 - 48) ≡ d.month = omega (arith, is.to_december) in
     let last : d.day ≤ 31 = omega (arith, is.to_last, month_at_most d.year d.month) in
     let day : 10 * (48 + d.day / 10 % 10 - 48) + (48 + d.day % 10 - 48) ≡ d.day = omega (arith, last) in

@@ -1,5 +1,6 @@
 -- The day `n` days later has, in jiff's calendar, a number that is higher by `n`.
-use Rattle.std.proofs.Common.{◌≡◌, ℕ, zero, suc, ◌+◌, ◌<◌, ◌≤◌, Bool, true, false, cond, nat_lt, Ok, Err, refl, sym, ap, ◌∙◌, arith, ℤ, pos, ◌+ℤ◌, ◌≤ℤ◌, unsigned_abs, inl, inr}
+use Rattle.std.proofs.Common.{◌≡◌, ℕ, zero, suc, ◌+◌, ◌<◌, ◌≤◌, Bool, true, false, cond, nat_lt, Ok, Err, refl, sym, ap, ◌∙◌}
+use Rattle.std.proofs.Common.{arith, ℤ, pos, ◌+ℤ◌, ◌≤ℤ◌, unsigned_abs, inl, inr}
 use Rattle.std.specs.Int.{IsInRange}
 use Rattle.std.proofs.lemmas.Bool.{ltb-true, ltb-false, cases_lt}
 use Rattle.std.proofs.lemmas.Grind.{common_steps}
@@ -9,7 +10,8 @@ use Rattle.jiff_core.specs.Calendar.{days_from_civil, IsEpochDay}
 use Rattle.jiff_core.specs.Date.{epoch_day, IsYmd}
 use Rattle.jiff_core.proofs.SignedLemmas.{signed_arith}
 use Rattle.jiff_core.proofs.CalendarLemmas.{days_from_civil-day_count, day_count-lt_year, days_in_month_bounds}
-use Rattle.jiff_core.proofs.DateLemmas.{days_from_civil-day, days_from_civil-next_month, days_from_civil-next_year, days_from_civil-max, epoch_day_range, epoch_day_injective}
+use Rattle.jiff_core.proofs.DateLemmas.{days_from_civil-day, days_from_civil-next_month, days_from_civil-next_year}
+use Rattle.jiff_core.proofs.DateLemmas.{days_from_civil-max, epoch_day_range, epoch_day_injective}
 use Rattle.ill_values.specs.declared.fault.DayFault.TheVariants.{OutOfRange}
 use Rattle.ill_values.specs.Day.{Date, IsDate, days_in_month, next_day, days_later, day_after, date_of}
 use Rattle.ill_values.proofs.Dates.{date_made}
@@ -64,7 +66,11 @@ next_in_month d is more = record {
 next_in_year : (d : Date) → IsDay d → days_in_month d.year d.month ≤ d.day → d.month < 12
     → IsLater 1 d (record { year = d.year; month = d.month + 1; day = 1 })
 next_in_year d is last more = record {
-  is_day = record { from_1900 = is.from_1900; month_in = (omega arith, omega arith); day_in = (omega arith, omega (arith, month_bounds d.year (d.month + 1))) };
+  is_day = record {
+    from_1900 = is.from_1900;
+    month_in = (omega arith, omega arith);
+    day_in = (omega arith, omega (arith, month_bounds d.year (d.month + 1)));
+  };
   number = days_from_civil-next_month (pos d.year) d.month d.day is.month_in.0 (omega (arith, is.day_in.1));
 }
 
@@ -76,14 +82,21 @@ next_in_next_year d is last end =
     let long : days_in_month d.year d.month ≡ 31 = rw month refl in
     let day : d.day ≡ 31 = omega (arith, is.day_in.1) in
     record {
-      is_day = record { from_1900 = omega (arith, is.from_1900); month_in = (omega arith, omega arith); day_in = (omega arith, omega arith) };
-      number = rw (month, day) (days_from_civil-next_year (pos d.year) (pos (d.year + 1)) (omega (arith, signed_arith)) (omega (arith, signed_arith)));
+      is_day = record {
+        from_1900 = omega (arith, is.from_1900);
+        month_in = (omega arith, omega arith);
+        day_in = (omega arith, omega arith);
+      };
+      number = rw (month, day) (days_from_civil-next_year (pos d.year) (pos (d.year + 1)) (omega (arith, signed_arith))
+          (omega (arith, signed_arith)));
     }
 
 -- The choice of `next_day`, by both of its tests, is the day one day after `d`.
 next_by : (d : Date) (in_month in_year : Bool) → IsDay d → nat_lt d.day (days_in_month d.year d.month) ≡ in_month
     → nat_lt d.month 12 ≡ in_year
-    → IsLater 1 d (cond in_month (record { year = d.year; month = d.month; day = d.day + 1 }) (cond in_year (record { year = d.year; month = d.month + 1; day = 1 }) (record { year = d.year + 1; month = 1; day = 1 })))
+    → IsLater 1 d (cond in_month (record { year = d.year; month = d.month; day = d.day + 1 })
+    (cond in_year (record { year = d.year; month = d.month + 1; day = 1 })
+    (record { year = d.year + 1; month = 1; day = 1 })))
 next_by d true in_year is e f = next_in_month d is (ltb-true d.day (days_in_month d.year d.month) e)
 next_by d false true is e f = next_in_year d is (ltb-false d.day (days_in_month d.year d.month) e) (ltb-true d.month 12 f)
 next_by d false false is e f = next_in_next_year d is (ltb-false d.day (days_in_month d.year d.month) e) (ltb-false d.month 12 f)
@@ -106,7 +119,14 @@ days_later_later (suc n) d is =
 
 -- Returns the date of jiff for a day in range.
 civil_of : (d : Date) → IsDate d → CivilDate
-civil_of d is = record { year = pos d.year; month = d.month; day = d.day; year_in = omega (arith, signed_arith, is.to_9999); month_in = (is.from_january, is.to_december); day_in = (is.from_first, is.to_last) }
+civil_of d is = record {
+  year = pos d.year;
+  month = d.month;
+  day = d.day;
+  year_in = omega (arith, signed_arith, is.to_9999);
+  month_in = (is.from_january, is.to_december);
+  day_in = (is.from_first, is.to_last);
+}
 
 -- Holds if the date of jiff has the year, the month and the day of `d`.
 abbrev pub IsSame : Date → CivilDate → Type 0
@@ -133,7 +153,9 @@ year_in_reach d is reach =
         signed_arith,
         days_from_civil-day_count,
         days_from_civil-max,
-        day_count-lt_year (pos 9999) 12 31 (pos d.year) d.month d.day (omega (arith, signed_arith), (omega arith, omega arith), (omega arith, omega arith)) is.day_in.0 (omega (arith, signed_arith)),
+        day_count-lt_year (pos 9999) 12 31 (pos d.year) d.month d.day
+            (omega (arith, signed_arith), (omega arith, omega arith), (omega arith, omega arith)) is.day_in.0
+            (omega (arith, signed_arith)),
       ))
       | inr year ↦ year
     ]
@@ -159,7 +181,14 @@ pub refused_too_many : (n : ℕ) (d : Date) → IsDate d → 7_304_484 < n → E
 refused_too_many n d is many =
     let day = day_of_date d is in
     let far = days_later_later n d day in
-    refused n d (lt_of_not-le (λ year. omega (arith, signed_arith, number_in_reach d day is.to_9999, number_in_reach (days_later n d) far.is_day year, far.number)))
+    refused n d (lt_of_not-le (λ year.
+    omega (
+      arith,
+      signed_arith,
+      number_in_reach d day is.to_9999,
+      number_in_reach (days_later n d) far.is_day year,
+      far.number,
+    )))
 
 -- If the number of `later` is higher by `n` than that of `d`, it is `days_later n d`, in range.
 reached_same : (n : ℕ) (d : Date) (date later : CivilDate) → IsDate d → IsSame d date

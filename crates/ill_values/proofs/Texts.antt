@@ -1,5 +1,6 @@
 -- The tests of texts: UTF-8, by the answer of std's `from_utf8`, the size of a text, and texts that are UTF-8.
-use Rattle.std.proofs.Common.{◌≡◌, ℕ, ◌/◌, ◌<◌, ◌≤◌, Bool, true, false, cond, eqb, ltb, List, [], ◌∷◌, length, Result, Ok, Err, sym, refl, arith}
+use Rattle.std.proofs.Common.{◌≡◌, ℕ, ◌/◌, ◌<◌, ◌≤◌, Bool, true, false, cond, eqb, ltb, List, [], ◌∷◌, length, Result, Ok, Err}
+use Rattle.std.proofs.Common.{sym, refl, arith}
 use Rattle.std.specs.Prelude.{MatchResult, is_ok, map}
 use Rattle.std.specs.List.{All, list_all}
 use Rattle.std.specs.Str.{IsUtf8, is_utf8}
@@ -32,7 +33,8 @@ no_fault false r fault e = (refl, e)
 -- A text that passes `text_check` has at most `most` bytes.
 text_most : (most : ℕ) (passes : List ℕ → Bool) (text : List ℕ) → text_check most passes text ≡ Ok tt → length text ≤ most
 text_most most passes text e =
-    let some = no_fault (eqb (length text) 0) (cond (ltb most (length text)) (Err TooLong) (cond (passes text) (Ok tt) (Err BadByte))) Empty e in
+    let some = no_fault (eqb (length text) 0)
+    (cond (ltb most (length text)) (Err TooLong) (cond (passes text) (Ok tt) (Err BadByte))) Empty e in
     let few = no_fault (ltb most (length text)) (cond (passes text) (Ok tt) (Err BadByte)) TooLong some.1 in
     ltb-false most (length text) few.0
 
@@ -58,7 +60,8 @@ passed false e = absurd cc
 -- A text that passes `text_check` passes its last test, `passes`.
 text_passes : (most : ℕ) (passes : List ℕ → Bool) (text : List ℕ) → text_check most passes text ≡ Ok tt → passes text ≡ true
 text_passes most passes text e =
-    let some = no_fault (eqb (length text) 0) (cond (ltb most (length text)) (Err TooLong) (cond (passes text) (Ok tt) (Err BadByte))) Empty e in
+    let some = no_fault (eqb (length text) 0)
+    (cond (ltb most (length text)) (Err TooLong) (cond (passes text) (Ok tt) (Err BadByte))) Empty e in
     let few = no_fault (ltb most (length text)) (cond (passes text) (Ok tt) (Err BadByte)) TooLong some.1 in
     passed (passes text) few.1
 

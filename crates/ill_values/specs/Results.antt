@@ -1,7 +1,8 @@
 -- The results of an ILL-Answer, and their names.
 use Rattle.std.specs.Prelude.{ℕ, List, [], ◌∷◌, Option, codes}
 use Rattle.ill_values.specs.declared.apdu.AnswerResult.{AnswerResult}
-use Rattle.ill_values.specs.declared.apdu.AnswerResult.TheVariants.{Conditional, Retry, Unfilled, LocationsProvided, WillSupply, HoldPlaced, Estimate}
+use Rattle.ill_values.specs.declared.apdu.AnswerResult.TheVariants.{Conditional, Retry, Unfilled, LocationsProvided, WillSupply}
+use Rattle.ill_values.specs.declared.apdu.AnswerResult.TheVariants.{HoldPlaced, Estimate}
 use Rattle.ill_values.specs.Names.{named_by}
 
 -- Returns the name of a result.

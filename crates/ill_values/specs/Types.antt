@@ -3,7 +3,9 @@ use Rattle.std.specs.Prelude.{ℕ, List, [], ◌∷◌, Option, codes}
 use Rattle.ill_values.specs.declared.apdu.Body.{Body}
 use Rattle.ill_values.specs.declared.apdu.Body.TheVariants as bodies
 use Rattle.ill_values.specs.declared.apdu_type.ApduType.{ApduType}
-use Rattle.ill_values.specs.declared.apdu_type.ApduType.TheVariants.{IllRequest, Shipped, IllAnswer, ConditionalReply, Cancel, CancelReply, Received, Recall, Returned, CheckedIn, Overdue, Renew, RenewAnswer, Expired}
+use Rattle.ill_values.specs.declared.apdu_type.ApduType.TheVariants.{IllRequest, Shipped, IllAnswer, ConditionalReply, Cancel}
+use Rattle.ill_values.specs.declared.apdu_type.ApduType.TheVariants.{CancelReply, Received, Recall, Returned, CheckedIn, Overdue}
+use Rattle.ill_values.specs.declared.apdu_type.ApduType.TheVariants.{Renew, RenewAnswer, Expired}
 use Rattle.ill_values.specs.Names.{named_by}
 
 -- The fourteen types of APDU.

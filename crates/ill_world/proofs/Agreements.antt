@@ -1,5 +1,6 @@
 -- Why both sides of a world that stands agree.
-use Rattle.std.proofs.Common.{rules, ◌≡◌, ◌⊎◌, inl, inr, ℕ, ◌≤◌, Bool, true, false, List, [], ◌∷◌, Option, Some, if◌then◌else◌, refl, sym, ap, ◌∙◌, arith}
+use Rattle.std.proofs.Common.{rules, ◌≡◌, ◌⊎◌, inl, inr, ℕ, ◌≤◌, Bool, true, false, List, [], ◌∷◌, Option, Some, if◌then◌else◌}
+use Rattle.std.proofs.Common.{refl, sym, ap, ◌∙◌, arith}
 use Rattle.std.proofs.lemmas.Bool.{and_parts, eq-eqb}
 use Rattle.ill_values.specs.TxnId.{Qualifiers}
 use Rattle.ill_values.specs.declared.apdu.Apdu.{Apdu}
@@ -8,7 +9,8 @@ use Rattle.ill_values.specs.declared.apdu.Body.TheVariants as types
 use Rattle.ill_core.specs.declared.state.State.{State}
 use Rattle.ill_core.specs.declared.state.State.TheVariants as states
 use Rattle.ill_core.specs.State.{is_among}
-use Rattle.ill_core.specs.Bodies.{is_cancelled, is_shipped, is_ill_request, is_cancel, is_received, is_returned, is_checked_in, accepts}
+use Rattle.ill_core.specs.Bodies.{is_cancelled, is_shipped, is_ill_request, is_cancel, is_received, is_returned, is_checked_in}
+use Rattle.ill_core.specs.Bodies.{accepts}
 use Rattle.ill_core.specs.Issued.{message, has, was, is_there}
 use Rattle.ill_core.specs.Requester.{RequesterRecord, later}
 use Rattle.ill_core.specs.RequesterEvidence as requester
@@ -20,12 +22,14 @@ use Rattle.ill_saved.specs.Side.{issued_of}
 use Rattle.ill_world.specs.World.{Party, Parties, sent_message}
 use Rattle.ill_world.specs.Safety.{OfBoth}
 use Rattle.ill_world.specs.Agreement.{AnswersOnce, EndsOnce, Facing, AcceptedBy, IsNotLater, SaysTrue, Agrees}
-use Rattle.ill_world.specs.Invariant.{RequesterStands, ResponderStands, RequesterSideStands, ResponderSideStands, SendsSaved, Invariant}
+use Rattle.ill_world.specs.Invariant.{RequesterStands, ResponderStands, RequesterSideStands, ResponderSideStands, SendsSaved}
+use Rattle.ill_world.specs.Invariant.{Invariant}
 use Rattle.ill_core.proofs.GrantLemmas.{granted_not_later}
 use Rattle.ill_core.proofs.MessageLemmas.{message_says, says_message}
 use Rattle.ill_world.proofs.Sendings.{prefix_message}
 use Rattle.ill_world.proofs.Uniqueness.{message_number, answers_once, one_end}
-use Rattle.ill_world.proofs.Claims.{AreIssued, tells_grant, is_in_cancelled, has_issued, not_supplied_faces, shipped_by, landed_issues, live_issues}
+use Rattle.ill_world.proofs.Claims.{AreIssued, tells_grant, is_in_cancelled, has_issued, not_supplied_faces, shipped_by}
+use Rattle.ill_world.proofs.Claims.{landed_issues, live_issues}
 
 -- ---- evidence
 
@@ -41,7 +45,8 @@ pub tells_requested : (n : ℕ) (body : Body) → responder.IsEvidence n body re
 tells_requested n (types.IllRequest expiry item) tells = refl
 tells_requested n body tells = search rules
 
-pub tells_cancel : (n c : ℕ) (body : Body) → responder.IsEvidence n body (responder.CancelAsked c) → (is_cancel body ≡ true) × (n ≡ c)
+pub tells_cancel : (n c : ℕ) (body : Body) → responder.IsEvidence n body (responder.CancelAsked c) → (is_cancel body ≡ true)
+    × (n ≡ c)
 tells_cancel n c types.Cancel tells = (refl, tells)
 tells_cancel n c body tells = search rules
 
@@ -81,7 +86,8 @@ is_in_checked_in state e = search rules
 -- sent.
 abbrev pub PairOf : (RequesterRecord → ResponderRecord → Type 0) → Type 0
 PairOf P =
-    (txn : Qualifiers) (x : RequesterRecord) (y : ResponderRecord) (requester_sent responder_sent : List (Option Apdu)) → RequesterStands txn x requester_sent → ResponderStands txn y responder_sent → AreIssued requester_sent y.issued
+    (txn : Qualifiers) (x : RequesterRecord) (y : ResponderRecord) (requester_sent responder_sent : List (Option Apdu))
+    → RequesterStands txn x requester_sent → ResponderStands txn y responder_sent → AreIssued requester_sent y.issued
     → AreIssued responder_sent x.issued → P x y
 
 -- A state that is one of NOT-SUPPLIED, SHIPPED and later is NOT-SUPPLIED, or one of SHIPPED and later.
@@ -91,7 +97,8 @@ split_final states.NotSupplied is = inl refl
 split_final state is = inr is
 
 -- A responder that stands, and has issued a Shipped, is not in CANCELLED.
-shipped_is_later : (y : ResponderRecord) (txn : Qualifiers) (responder_sent : List (Option Apdu)) → ResponderStands txn y responder_sent
+shipped_is_later : (y : ResponderRecord) (txn : Qualifiers) (responder_sent : List (Option Apdu))
+    → ResponderStands txn y responder_sent
     → has is_shipped y.issued ≡ true → y.state ≡ states.Cancelled → ⊥
 shipped_is_later y txn responder_sent responder_stands shipped e =
     let no : has is_shipped y.issued ≡ false = responder_stands.ends.shipped ∙ ap (is_among shipped_states) e in
@@ -102,14 +109,19 @@ shipped_is_later y txn responder_sent responder_stands shipped e =
 no_other_end : (txn : Qualifiers) (x : RequesterRecord) (y : ResponderRecord) (requester_sent responder_sent : List (Option Apdu))
     → RequesterStands txn x requester_sent → ResponderStands txn y responder_sent → AreIssued requester_sent y.issued
     → y.state ≡ states.Cancelled → is_among (states.NotSupplied ∷ later) x.state ≡ false
-no_other_end txn x y requester_sent responder_sent requester_stands responder_stands issued e = go (is_among (states.NotSupplied ∷ later) x.state) refl
+no_other_end txn x y requester_sent responder_sent requester_stands responder_stands issued e =
+    go (is_among (states.NotSupplied ∷ later) x.state) refl
   where
     go : (b : Bool) → is_among (states.NotSupplied ∷ later) x.state ≡ b → b ≡ false
     go false is = refl
     go true is =
         elim (split_final x.state is) [
-          | inl ended ↦ let no : states.Cancelled ≡ states.NotSupplied = sym e ∙ not_supplied_faces txn x y requester_sent responder_sent requester_stands responder_stands issued ended in search rules
-          | inr shipped ↦ absurd (shipped_is_later y txn responder_sent responder_stands (shipped_by txn x y requester_sent responder_sent x.due requester_stands responder_stands issued refl (requester_stands.rules.parts.due ∙ shipped)) e)
+          | inl ended ↦ let no : states.Cancelled ≡ states.NotSupplied =
+              sym e ∙ not_supplied_faces txn x y requester_sent responder_sent requester_stands responder_stands issued ended in
+              search rules
+          | inr shipped ↦ absurd (shipped_is_later y txn responder_sent responder_stands
+              (shipped_by txn x y requester_sent responder_sent x.due requester_stands responder_stands issued refl
+              (requester_stands.rules.parts.due ∙ shipped)) e)
         ]
 
 -- Equal APDUs have equal bodies.
@@ -117,31 +129,40 @@ body_of : (a b : Apdu) → ◌≡◌ {A = Option Apdu} (Some a) (Some b) → a.b
 body_of a b e = let same : a ≡ b = search rules in ap (λ (x : Apdu). x.body) same
 
 -- If the responder has issued a Cancel-Reply yes to c, Cancel c is open at the requester.
-pub cancel_is_open : (txn : Qualifiers) (x : RequesterRecord) (y : ResponderRecord) (requester_sent responder_sent : List (Option Apdu))
+pub cancel_is_open : (txn : Qualifiers) (x : RequesterRecord) (y : ResponderRecord)
+    (requester_sent responder_sent : List (Option Apdu))
     → RequesterStands txn x requester_sent → ResponderStands txn y responder_sent → AreIssued requester_sent y.issued
     → AreIssued responder_sent x.issued → (m c : ℕ) (a : Apdu) → message y.issued m ≡ Some a
     → a.body ≡ types.CancelReply c true → requester.is_open x c ≡ true
 cancel_is_open txn x y requester_sent responder_sent requester_stands responder_stands issued heeded m c a at is =
     let ends : is_cancelled a.body ≡ true = ap is_cancelled is in
-    let cancelled : y.state ≡ states.Cancelled = is_in_cancelled y.state (sym responder_stands.ends.cancelled ∙ message_says is_cancelled y.issued m a at ends) in
+    let cancelled : y.state ≡ states.Cancelled =
+    is_in_cancelled y.state (sym responder_stands.ends.cancelled ∙ message_says is_cancelled y.issued m a at ends) in
     let cancels_it : responder.cancels c a.body ≡ true = ap (responder.cancels c) is ∙ eq-eqb c c refl in
-    let asked_for = responder_stands.knows (responder.CancelAsked c) (inr (message_says (responder.cancels c) y.issued m a at cancels_it)) in
+    let asked_for = responder_stands.knows (responder.CancelAsked c)
+    (inr (message_says (responder.cancels c) y.issued m a at cancels_it)) in
     let there = heeded asked_for.0 asked_for.1 in
     let says = tells_cancel asked_for.0.number c asked_for.0.body asked_for.2 in
-    let number : there.0 ≡ c = sym (message_number x.txn x.issued there.0 asked_for.0 requester_stands.rules.numbered there.1).1 ∙ says.1 in
-    let issued_it : was is_cancel x.issued c ≡ true = ap (is_there is_cancel) (ap (message x.issued) (sym number) ∙ there.1) ∙ says.0 in
+    let number : there.0 ≡ c = sym (message_number x.txn x.issued there.0 asked_for.0 requester_stands.rules.numbered there.1).1
+    ∙ says.1 in
+    let issued_it : was is_cancel x.issued c ≡ true =
+    ap (is_there is_cancel) (ap (message x.issued) (sym number) ∙ there.1) ∙ says.0 in
     let final = no_other_end txn x y requester_sent responder_sent requester_stands responder_stands issued cancelled in
     go issued_it final (requester.is_open x c) refl
   where
-    go : was is_cancel x.issued c ≡ true → is_among (states.NotSupplied ∷ later) x.state ≡ false → (b : Bool) → requester.is_open x c ≡ b → b ≡ true
+    go : was is_cancel x.issued c ≡ true → is_among (states.NotSupplied ∷ later) x.state ≡ false → (b : Bool)
+        → requester.is_open x c ≡ b → b ≡ true
     go issued_it final true e = refl
     go issued_it final false e =
         let refused = requester_stands.knows (requester.Refused c) (issued_it, final, e) in
         let other = issued refused.0 refused.1 in
         let no = tells_refused refused.0.body c refused.2 in
-        let yes_answers : responder.answered_number responder.MayCancel a.body ≡ Some c = ap (responder.answered_number responder.MayCancel) is in
-        let no_answers : responder.answered_number responder.MayCancel refused.0.body ≡ Some c = ap (responder.answered_number responder.MayCancel) no in
-        let place : m ≡ other.0 = answers_once (responder.answered_number responder.MayCancel) y.issued responder_stands.cancels.distinct m other.0 c a refused.0 at other.1 yes_answers no_answers in
+        let yes_answers : responder.answered_number responder.MayCancel a.body ≡ Some c =
+        ap (responder.answered_number responder.MayCancel) is in
+        let no_answers : responder.answered_number responder.MayCancel refused.0.body ≡ Some c =
+        ap (responder.answered_number responder.MayCancel) no in
+        let place : m ≡ other.0 = answers_once (responder.answered_number responder.MayCancel) y.issued
+        responder_stands.cancels.distinct m other.0 c a refused.0 at other.1 yes_answers no_answers in
         let same : ◌≡◌ {A = Option Apdu} (Some a) (Some refused.0) = sym at ∙ ap (message y.issued) place ∙ other.1 in
         let bodies : types.CancelReply c true ≡ types.CancelReply c false = sym is ∙ body_of a refused.0 same ∙ no in
         search rules
@@ -152,13 +173,16 @@ says_true txn x y requester_sent responder_sent requester_stands responder_stand
   returned =
       λ is.
       let known = responder_stands.knows responder.SentBack is in
-      is_in_returned x.state (sym requester_stands.rules.issued.returned ∙ has_issued x.issued responder_sent is_returned known.0 heeded known.1 (tells_sent_back known.0.number known.0.body known.2));
+      is_in_returned x.state (sym requester_stands.rules.issued.returned
+      ∙ has_issued x.issued responder_sent is_returned known.0 heeded known.1
+      (tells_sent_back known.0.number known.0.body known.2));
   cancelled =
       λ e.
       let ended : has is_cancelled y.issued ≡ true = responder_stands.ends.cancelled ∙ ap (is_among (states.Cancelled ∷ [])) e in
       let at = says_message is_cancelled y.issued ended in
       let by = cancels_with at.1.body at.3 in
-      (and_parts _ _ (cancel_is_open txn x y requester_sent responder_sent requester_stands responder_stands issued heeded at.0 by.0 at.1 at.2 by.1)).0;
+      (and_parts _ _ (cancel_is_open txn x y requester_sent responder_sent requester_stands responder_stands issued heeded at.0
+      by.0 at.1 at.2 by.1)).0;
   received =
       λ is.
       let known = responder_stands.knows responder.Arrived is in
@@ -166,7 +190,8 @@ says_true txn x y requester_sent responder_sent requester_stands responder_stand
   checked_in =
       λ is.
       let known = requester_stands.knows requester.GivenBack is in
-      is_in_checked_in y.state (sym responder_stands.rules.issued.checked_in ∙ has_issued y.issued requester_sent is_checked_in known.0 issued known.1 (tells_given_back known.0.body known.2));
+      is_in_checked_in y.state (sym responder_stands.rules.issued.checked_in
+      ∙ has_issued y.issued requester_sent is_checked_in known.0 issued known.1 (tells_given_back known.0.body known.2));
 }
 
 -- Of two records that stand by each other's messages, the requester's due date is not later than the responder's.
@@ -181,14 +206,19 @@ not_later txn x y requester_sent responder_sent requester_stands responder_stand
 
 -- A fact of all such pairs of records holds of two sides that stand by each other's messages.
 facing : (P : RequesterRecord → ResponderRecord → Type 0) → PairOf P
-    → (txn : Qualifiers) (x y : Side) (requester_sent responder_sent : List (Option Apdu)) → RequesterSideStands txn x requester_sent
+    → (txn : Qualifiers) (x y : Side) (requester_sent responder_sent : List (Option Apdu))
+    → RequesterSideStands txn x requester_sent
     → ResponderSideStands txn y responder_sent
     → AreIssued requester_sent (issued_of y) → AreIssued responder_sent (issued_of x) → Facing P x y
-facing P pair txn (sides.Requester x) (sides.Responder y) requester_sent responder_sent requester_stands responder_stands issued heeded = pair txn x y requester_sent responder_sent requester_stands responder_stands issued heeded
-facing P pair txn (sides.Responder x) y requester_sent responder_sent requester_stands responder_stands issued heeded = absurd requester_stands
-facing P pair txn (sides.Requester x) (sides.Requester y) requester_sent responder_sent requester_stands responder_stands issued heeded = absurd responder_stands
+facing P pair txn (sides.Requester x) (sides.Responder y) requester_sent responder_sent requester_stands responder_stands issued
+    heeded = pair txn x y requester_sent responder_sent requester_stands responder_stands issued heeded
+facing P pair txn (sides.Responder x) y requester_sent responder_sent requester_stands responder_stands issued heeded =
+    absurd requester_stands
+facing P pair txn (sides.Requester x) (sides.Requester y) requester_sent responder_sent requester_stands responder_stands issued
+    heeded = absurd responder_stands
 
-of_both_facing : (P : RequesterRecord → ResponderRecord → Type 0) → PairOf P → (txn : Qualifiers) (w : Parties) → Invariant txn w → OfBoth (Facing P) w
+of_both_facing : (P : RequesterRecord → ResponderRecord → Type 0) → PairOf P → (txn : Qualifiers) (w : Parties) → Invariant txn w
+    → OfBoth (Facing P) w
 of_both_facing P pair txn w stands =
     let sent = w.responder.sent in
     let responder_sent = w.requester.sent in
@@ -197,10 +227,14 @@ of_both_facing P pair txn w stands =
     let heeded = live_issues w.requester stands.requester.saved in
     let heeded_landed = landed_issues w.requester stands.requester.saved in
     record {
-      live = facing P pair txn w.requester.live w.responder.live sent responder_sent stands.requester.live stands.responder.live live heeded;
-      live_landed = facing P pair txn w.requester.live w.responder.landed sent responder_sent stands.requester.live stands.responder.landed landed heeded;
-      landed_live = facing P pair txn w.requester.landed w.responder.live sent responder_sent stands.requester.landed stands.responder.live live heeded_landed;
-      landed = facing P pair txn w.requester.landed w.responder.landed sent responder_sent stands.requester.landed stands.responder.landed landed heeded_landed;
+      live = facing P pair txn w.requester.live w.responder.live sent responder_sent stands.requester.live stands.responder.live
+          live heeded;
+      live_landed = facing P pair txn w.requester.live w.responder.landed sent responder_sent stands.requester.live
+          stands.responder.landed landed heeded;
+      landed_live = facing P pair txn w.requester.landed w.responder.live sent responder_sent stands.requester.landed
+          stands.responder.live live heeded_landed;
+      landed = facing P pair txn w.requester.landed w.responder.landed sent responder_sent stands.requester.landed
+          stands.responder.landed landed heeded_landed;
     }
 
 -- ---- one answer, and one end
@@ -208,24 +242,31 @@ of_both_facing P pair txn w stands =
 -- If no two landed messages answer one number, no two messages that were sent do.
 once_sent : (answered : Body → Option ℕ) (p : Party) → SendsSaved p
     → AnswersOnce answered (message (issued_of p.landed)) → AnswersOnce answered (sent_message p.sent)
-once_sent answered p saved once = λ m n k a b at_m at_n is_a is_b. once m n k a b (saved.landed m a at_m) (saved.landed n b at_n) is_a is_b
+once_sent answered p saved once = λ m n k a b at_m at_n is_a is_b.
+    once m n k a b (saved.landed m a at_m) (saved.landed n b at_n) is_a is_b
 
 -- No two messages of a requester's side that stands reply to one number.
-replies_once : (txn : Qualifiers) (side : Side) (requester_sent : List (Option Apdu)) → RequesterSideStands txn side requester_sent
+replies_once : (txn : Qualifiers) (side : Side) (requester_sent : List (Option Apdu))
+    → RequesterSideStands txn side requester_sent
     → AnswersOnce requester.replied_number (message (issued_of side))
-replies_once txn (sides.Requester x) requester_sent stands = answers_once requester.replied_number x.issued stands.replies.distinct
+replies_once txn (sides.Requester x) requester_sent stands =
+    answers_once requester.replied_number x.issued stands.replies.distinct
 replies_once txn (sides.Responder y) requester_sent stands = absurd stands
 
 -- No two messages of a responder's side that stands answer one Cancel.
-cancels_once : (txn : Qualifiers) (side : Side) (requester_sent : List (Option Apdu)) → ResponderSideStands txn side requester_sent
+cancels_once : (txn : Qualifiers) (side : Side) (requester_sent : List (Option Apdu))
+    → ResponderSideStands txn side requester_sent
     → AnswersOnce (responder.answered_number responder.MayCancel) (message (issued_of side))
-cancels_once txn (sides.Responder y) requester_sent stands = answers_once (responder.answered_number responder.MayCancel) y.issued stands.cancels.distinct
+cancels_once txn (sides.Responder y) requester_sent stands =
+    answers_once (responder.answered_number responder.MayCancel) y.issued stands.cancels.distinct
 cancels_once txn (sides.Requester x) requester_sent stands = absurd stands
 
 -- No two messages of a responder's side that stands answer one Renew.
-renewals_once : (txn : Qualifiers) (side : Side) (requester_sent : List (Option Apdu)) → ResponderSideStands txn side requester_sent
+renewals_once : (txn : Qualifiers) (side : Side) (requester_sent : List (Option Apdu))
+    → ResponderSideStands txn side requester_sent
     → AnswersOnce (responder.answered_number responder.MayRenew) (message (issued_of side))
-renewals_once txn (sides.Responder y) requester_sent stands = answers_once (responder.answered_number responder.MayRenew) y.issued stands.renewals.distinct
+renewals_once txn (sides.Responder y) requester_sent stands =
+    answers_once (responder.answered_number responder.MayRenew) y.issued stands.renewals.distinct
 renewals_once txn (sides.Requester x) requester_sent stands = absurd stands
 
 -- A Bool counts as one at most.
@@ -234,9 +275,11 @@ at_most_one true = omega arith
 at_most_one false = omega arith
 
 -- A message of a responder's side that stands, if it ends the request, is the last that does.
-ends_once : (txn : Qualifiers) (side : Side) (requester_sent : List (Option Apdu)) → ResponderSideStands txn side requester_sent → EndsOnce side
+ends_once : (txn : Qualifiers) (side : Side) (requester_sent : List (Option Apdu)) → ResponderSideStands txn side requester_sent
+    → EndsOnce side
 ends_once txn (sides.Responder y) requester_sent stands =
-    λ n a at is. one_end y.txn y.issued n a stands.rules.numbered (omega (arith, stands.ends.once, at_most_one (is_among responder.ended y.state))) at is
+    λ n a at is. one_end y.txn y.issued n a stands.rules.numbered
+    (omega (arith, stands.ends.once, at_most_one (is_among responder.ended y.state))) at is
 ends_once txn (sides.Requester x) requester_sent stands = absurd stands
 
 -- If a responder's side that stands has conditions as accepted, the requester has sent the acceptance, and has it.
@@ -246,7 +289,8 @@ accepted_by txn w (sides.Responder y) saved stands =
     λ c e.
     let known = stands.knows (responder.Accepted c) e in
     let sent = known.1 in
-    let live = prefix_message (issued_of w.requester.landed) (issued_of w.requester.live) sent.0 known.0 saved.prefix (saved.landed sent.0 known.0 sent.1) in
+    let live = prefix_message (issued_of w.requester.landed) (issued_of w.requester.live) sent.0 known.0 saved.prefix
+    (saved.landed sent.0 known.0 sent.1) in
     (sent.0, known.0, sent.1, live, tells_accepted known.0.number c known.0.body known.2)
 accepted_by txn w (sides.Requester x) saved stands = absurd stands
 
@@ -258,18 +302,30 @@ agrees txn w stands =
     let responder_sent = w.requester.sent in
     record {
       answered = record {
-        conditions = (replies_once txn w.requester.live sent requester_stands.live, once_sent requester.replied_number w.requester requester_stands.saved (replies_once txn w.requester.landed sent requester_stands.landed));
+        conditions = (
+          replies_once txn w.requester.live sent requester_stands.live,
+          once_sent requester.replied_number w.requester requester_stands.saved
+              (replies_once txn w.requester.landed sent requester_stands.landed),
+        );
         cancels = (
           cancels_once txn w.responder.live responder_sent responder_stands.live,
-          once_sent (responder.answered_number responder.MayCancel) w.responder responder_stands.saved (cancels_once txn w.responder.landed responder_sent responder_stands.landed),
+          once_sent (responder.answered_number responder.MayCancel) w.responder responder_stands.saved
+              (cancels_once txn w.responder.landed responder_sent responder_stands.landed),
         );
         renewals = (
           renewals_once txn w.responder.live responder_sent responder_stands.live,
-          once_sent (responder.answered_number responder.MayRenew) w.responder responder_stands.saved (renewals_once txn w.responder.landed responder_sent responder_stands.landed),
+          once_sent (responder.answered_number responder.MayRenew) w.responder responder_stands.saved
+              (renewals_once txn w.responder.landed responder_sent responder_stands.landed),
         );
       };
-      ended = (ends_once txn w.responder.live responder_sent responder_stands.live, ends_once txn w.responder.landed responder_sent responder_stands.landed);
-      accepted = (accepted_by txn w w.responder.live requester_stands.saved responder_stands.live, accepted_by txn w w.responder.landed requester_stands.saved responder_stands.landed);
+      ended = (
+        ends_once txn w.responder.live responder_sent responder_stands.live,
+        ends_once txn w.responder.landed responder_sent responder_stands.landed,
+      );
+      accepted = (
+        accepted_by txn w w.responder.live requester_stands.saved responder_stands.live,
+        accepted_by txn w w.responder.landed requester_stands.saved responder_stands.landed,
+      );
       dates = of_both_facing IsNotLater not_later txn w stands;
       says = of_both_facing SaysTrue says_true txn w stands;
     }

@@ -1,5 +1,6 @@
 -- One arrival of the end of a request, or of a Returned, is enough.
-use Rattle.std.proofs.Common.{rules, ◌≡◌, ◌⊎◌, inl, inr, ℕ, Bool, true, false, ◌&&◌, ◌||◌, List, [], ◌∷◌, Option, Some, Result, Ok, refl, sym, ap, ◌∙◌, subst}
+use Rattle.std.proofs.Common.{rules, ◌≡◌, ◌⊎◌, inl, inr, ℕ, Bool, true, false, ◌&&◌, ◌||◌, List, [], ◌∷◌, Option, Some, Result}
+use Rattle.std.proofs.Common.{Ok, refl, sym, ap, ◌∙◌, subst}
 use Rattle.ill_values.specs.Day.{Date}
 use Rattle.ill_values.specs.TxnId.{Qualifiers}
 use Rattle.ill_values.specs.declared.apdu.Apdu.{Apdu}
@@ -32,20 +33,25 @@ use Rattle.ill_world.specs.Agreement.{settled_by, Settles, Arrives}
 use Rattle.ill_world.specs.Invariant.{RequesterStands, ResponderStands, RequesterSideStands, ResponderSideStands, Invariant}
 use Rattle.ill_core.proofs.MessageLemmas.{message_says}
 use Rattle.ill_world.proofs.Uniqueness.{message_number}
-use Rattle.ill_world.proofs.Claims.{AreIssued, has_issued, cancelled_faces, not_supplied_faces, shipped_by, landed_issues, live_issues}
+use Rattle.ill_world.proofs.Claims.{AreIssued, has_issued, cancelled_faces, not_supplied_faces, shipped_by, landed_issues}
+use Rattle.ill_world.proofs.Claims.{live_issues}
 use Rattle.ill_world.proofs.Agreements.{tells_requested, cancel_is_open}
 
 -- The rows lead a requester that takes an end of the request to its states. They lead a responder that takes a
 -- Returned to RETURNED or CHECKED-IN.
 pub record RowsFollow : Type 0 where
   pub shipped : (x : RequesterRecord) (a : Apdu) (due : Date) → is_same_txn a.txn x.txn ≡ true → a.body ≡ types.Shipped due
-      → is_among (states.Pending ∷ states.Conditional ∷ states.CancelPending ∷ later) x.state ≡ true → requester.LeadsTo later (requester_deliveries.takes x a)
+      → is_among (states.Pending ∷ states.Conditional ∷ states.CancelPending ∷ later) x.state ≡ true
+      → requester.LeadsTo later (requester_deliveries.takes x a)
   pub ended : (x : RequesterRecord) (a : Apdu) → is_same_txn a.txn x.txn ≡ true → requester.IsEvidence a.body requester.Ended
       → is_among (states.Pending ∷ states.Conditional ∷ states.CancelPending ∷ states.NotSupplied ∷ []) x.state ≡ true
       → requester.LeadsTo (states.NotSupplied ∷ []) (requester_deliveries.takes x a)
-  pub cancelled : (x : RequesterRecord) (a : Apdu) (c : ℕ) → is_same_txn a.txn x.txn ≡ true → a.body ≡ types.CancelReply c true → is_the c (last_cancel x) ≡ true
-      → is_among (states.CancelPending ∷ states.Cancelled ∷ []) x.state ≡ true → requester.LeadsTo (states.Cancelled ∷ []) (requester_deliveries.takes x a)
-  pub returned : (y : ResponderRecord) (a : Apdu) → is_same_txn a.txn y.txn ≡ true → a.body ≡ types.Returned → is_among shipped_states y.state ≡ true
+  pub cancelled : (x : RequesterRecord) (a : Apdu) (c : ℕ) → is_same_txn a.txn x.txn ≡ true → a.body ≡ types.CancelReply c true
+      → is_the c (last_cancel x) ≡ true
+      → is_among (states.CancelPending ∷ states.Cancelled ∷ []) x.state ≡ true
+      → requester.LeadsTo (states.Cancelled ∷ []) (requester_deliveries.takes x a)
+  pub returned : (y : ResponderRecord) (a : Apdu) → is_same_txn a.txn y.txn ≡ true → a.body ≡ types.Returned
+      → is_among shipped_states y.state ≡ true
       → responder.LeadsTo (states.Returned ∷ states.CheckedIn ∷ []) (responder_deliveries.takes y a)
 
 -- ---- states
@@ -98,15 +104,18 @@ not_shipped state e shipped = search rules
 
 -- CANCELLED is neither SHIPPED nor later.
 not_cancelled : (state : State) → state ≡ states.Cancelled → is_among shipped_states state ≡ true → ⊥
-not_cancelled state e shipped = let no : is_among shipped_states states.Cancelled ≡ true = subst (λ s. is_among shipped_states s ≡ true) e shipped in search rules
+not_cancelled state e shipped = let no : is_among shipped_states states.Cancelled ≡ true =
+    subst (λ s. is_among shipped_states s ≡ true) e shipped in search rules
 
 -- NOT-SUPPLIED is neither SHIPPED nor later.
 not_unsupplied : (state : State) → state ≡ states.NotSupplied → is_among shipped_states state ≡ true → ⊥
-not_unsupplied state e shipped = let no : is_among shipped_states states.NotSupplied ≡ true = subst (λ s. is_among shipped_states s ≡ true) e shipped in search rules
+not_unsupplied state e shipped = let no : is_among shipped_states states.NotSupplied ≡ true =
+    subst (λ s. is_among shipped_states s ≡ true) e shipped in search rules
 
 -- CANCELLED is not NOT-SUPPLIED.
 not_cancelled_too : (state : State) → state ≡ states.Cancelled → is_among (states.NotSupplied ∷ []) state ≡ true → ⊥
-not_cancelled_too state e ended = let no : is_among (states.NotSupplied ∷ []) states.Cancelled ≡ true = subst (λ s. is_among (states.NotSupplied ∷ []) s ≡ true) e ended in search rules
+not_cancelled_too state e ended = let no : is_among (states.NotSupplied ∷ []) states.Cancelled ≡ true =
+    subst (λ s. is_among (states.NotSupplied ∷ []) s ≡ true) e ended in search rules
 
 -- A list that has an APDU of which `says` holds is not empty.
 pub not_none : (says : Body → Bool) (apdus : List Apdu) → has says apdus ≡ true → is_none apdus ≡ false
@@ -121,15 +130,18 @@ was_asked : (txn : Qualifiers) (x : RequesterRecord) (y : ResponderRecord) (requ
     → is_among responder.ended y.state ≡ true → is_among (states.Idle ∷ []) x.state ≡ false
 was_asked txn x y requester_sent responder_sent requester_stands responder_stands heeded ended =
     let known = responder_stands.knows responder.Requested (ended_not_idle y.state ended) in
-    let request = has_issued x.issued responder_sent is_ill_request known.0 heeded known.1 (tells_requested known.0.number known.0.body known.2) in
+    let request = has_issued x.issued responder_sent is_ill_request known.0 heeded known.1
+    (tells_requested known.0.number known.0.body known.2) in
     sym requester_stands.rules.issued.idle ∙ not_none is_ill_request x.issued request
 
 -- A message that the responder has issued is of the requester's transaction.
-same_txn_as : (txn : Qualifiers) (x : RequesterRecord) (y : ResponderRecord) (requester_sent responder_sent : List (Option Apdu)) (n : ℕ) (a : Apdu)
+same_txn_as : (txn : Qualifiers) (x : RequesterRecord) (y : ResponderRecord) (requester_sent responder_sent : List (Option Apdu))
+    (n : ℕ) (a : Apdu)
     → RequesterStands txn x requester_sent → ResponderStands txn y responder_sent
     → message y.issued n ≡ Some a → is_same_txn a.txn x.txn ≡ true
 same_txn_as txn x y requester_sent responder_sent n a requester_stands responder_stands at =
-    subst (λ t. is_same_txn a.txn t ≡ true) (responder_stands.same_txn ∙ sym requester_stands.same_txn) (message_number y.txn y.issued n a responder_stands.rules.numbered at).0
+    subst (λ t. is_same_txn a.txn t ≡ true) (responder_stands.same_txn ∙ sym requester_stands.same_txn)
+    (message_number y.txn y.issued n a responder_stands.rules.numbered at).0
 
 tells_end : (body : Body) → is_unsupplied body ≡ true → requester.IsEvidence body requester.Ended
 tells_end (types.IllAnswer answer) is = is
@@ -138,31 +150,48 @@ tells_end body is = search rules
 
 -- A Shipped that the responder has issued leads a requester that takes it to SHIPPED or later.
 shipped_arrives : RowsFollow
-    → (txn : Qualifiers) (x : RequesterRecord) (y : ResponderRecord) (requester_sent responder_sent : List (Option Apdu)) (n : ℕ) (a : Apdu) (due : Date)
+    → (txn : Qualifiers) (x : RequesterRecord) (y : ResponderRecord) (requester_sent responder_sent : List (Option Apdu)) (n : ℕ)
+    (a : Apdu) (due : Date)
     → RequesterStands txn x requester_sent
-    → ResponderStands txn y responder_sent → AreIssued requester_sent y.issued → AreIssued responder_sent x.issued → message y.issued n ≡ Some a
+    → ResponderStands txn y responder_sent → AreIssued requester_sent y.issued → AreIssued responder_sent x.issued
+    → message y.issued n ≡ Some a
     → a.body ≡ types.Shipped due
     → requester.LeadsTo later (requester_deliveries.takes x a)
 shipped_arrives rows txn x y requester_sent responder_sent n a due requester_stands responder_stands issued heeded at is =
-    let shipped : is_among shipped_states y.state ≡ true = sym responder_stands.ends.shipped ∙ message_says is_shipped y.issued n a at (ap is_shipped is) in
+    let shipped : is_among shipped_states y.state ≡ true =
+    sym responder_stands.ends.shipped ∙ message_says is_shipped y.issued n a at (ap is_shipped is) in
     rows.shipped x a due (same_txn_as txn x y requester_sent responder_sent n a requester_stands responder_stands at) is
-    (may_ship x.state requester_stands.rules.parts.role (was_asked txn x y requester_sent responder_sent requester_stands responder_stands heeded (shipped_is_ended y.state shipped))
-    (λ e. not_cancelled y.state (cancelled_faces txn x y requester_sent responder_sent requester_stands responder_stands issued e) shipped)
-    (λ e. not_unsupplied y.state (not_supplied_faces txn x y requester_sent responder_sent requester_stands responder_stands issued e) shipped))
+    (may_ship x.state requester_stands.rules.parts.role
+    (was_asked txn x y requester_sent responder_sent requester_stands responder_stands heeded
+    (shipped_is_ended y.state shipped))
+    (λ e. not_cancelled y.state (cancelled_faces txn x y requester_sent responder_sent requester_stands responder_stands issued e)
+    shipped)
+    (λ e. not_unsupplied y.state (not_supplied_faces txn x y requester_sent responder_sent requester_stands responder_stands
+    issued e) shipped))
 
 -- A message of the responder that the item is not supplied leads a requester that takes it to NOT-SUPPLIED.
 end_arrives : RowsFollow
-    → (txn : Qualifiers) (x : RequesterRecord) (y : ResponderRecord) (requester_sent responder_sent : List (Option Apdu)) (n : ℕ) (a : Apdu)
+    → (txn : Qualifiers) (x : RequesterRecord) (y : ResponderRecord) (requester_sent responder_sent : List (Option Apdu)) (n : ℕ)
+    (a : Apdu)
     → RequesterStands txn x requester_sent
-    → ResponderStands txn y responder_sent → AreIssued requester_sent y.issued → AreIssued responder_sent x.issued → message y.issued n ≡ Some a
+    → ResponderStands txn y responder_sent → AreIssued requester_sent y.issued → AreIssued responder_sent x.issued
+    → message y.issued n ≡ Some a
     → is_unsupplied a.body ≡ true
     → requester.LeadsTo (states.NotSupplied ∷ []) (requester_deliveries.takes x a)
 end_arrives rows txn x y requester_sent responder_sent n a requester_stands responder_stands issued heeded at is =
-    let ended : is_among (states.NotSupplied ∷ []) y.state ≡ true = sym responder_stands.ends.unsupplied ∙ message_says is_unsupplied y.issued n a at is in
-    rows.ended x a (same_txn_as txn x y requester_sent responder_sent n a requester_stands responder_stands at) (tells_end a.body is)
-    (may_end x.state requester_stands.rules.parts.role (was_asked txn x y requester_sent responder_sent requester_stands responder_stands heeded (unsupplied_is_ended y.state ended))
-    (λ e. not_cancelled_too y.state (cancelled_faces txn x y requester_sent responder_sent requester_stands responder_stands issued e) ended)
-    (λ shipped. not_shipped y.state ended (sym responder_stands.ends.shipped ∙ shipped_by txn x y requester_sent responder_sent x.due requester_stands responder_stands issued refl (requester_stands.rules.parts.due ∙ shipped))))
+    let ended : is_among (states.NotSupplied ∷ []) y.state ≡ true =
+    sym responder_stands.ends.unsupplied ∙ message_says is_unsupplied y.issued n a at is in
+    rows.ended x a (same_txn_as txn x y requester_sent responder_sent n a requester_stands responder_stands at)
+    (tells_end a.body is)
+    (may_end x.state requester_stands.rules.parts.role
+    (was_asked txn x y requester_sent responder_sent requester_stands responder_stands heeded
+    (unsupplied_is_ended y.state ended))
+    (λ e. not_cancelled_too y.state
+    (cancelled_faces txn x y requester_sent responder_sent requester_stands responder_stands issued e) ended)
+    (λ shipped. not_shipped y.state ended
+    (sym responder_stands.ends.shipped
+    ∙ shipped_by txn x y requester_sent responder_sent x.due requester_stands responder_stands issued refl
+    (requester_stands.rules.parts.due ∙ shipped))))
 
 -- If `a && b` is true, so are a and b.
 both_of : (a b : Bool) → (a && b) ≡ true → (a ≡ true) × (b ≡ true)
@@ -171,14 +200,18 @@ both_of false b is = search rules
 
 -- A Cancel-Reply yes that the responder has issued leads a requester that takes it to CANCELLED.
 yes_arrives : RowsFollow
-    → (txn : Qualifiers) (x : RequesterRecord) (y : ResponderRecord) (requester_sent responder_sent : List (Option Apdu)) (n c : ℕ) (a : Apdu)
+    → (txn : Qualifiers) (x : RequesterRecord) (y : ResponderRecord) (requester_sent responder_sent : List (Option Apdu))
+    (n c : ℕ) (a : Apdu)
     → RequesterStands txn x requester_sent
-    → ResponderStands txn y responder_sent → AreIssued requester_sent y.issued → AreIssued responder_sent x.issued → message y.issued n ≡ Some a
+    → ResponderStands txn y responder_sent → AreIssued requester_sent y.issued → AreIssued responder_sent x.issued
+    → message y.issued n ≡ Some a
     → a.body ≡ types.CancelReply c true
     → requester.LeadsTo (states.Cancelled ∷ []) (requester_deliveries.takes x a)
 yes_arrives rows txn x y requester_sent responder_sent n c a requester_stands responder_stands issued heeded at is =
-    let parts = both_of _ _ (cancel_is_open txn x y requester_sent responder_sent requester_stands responder_stands issued heeded n c a at is) in
-    rows.cancelled x a c (same_txn_as txn x y requester_sent responder_sent n a requester_stands responder_stands at) is parts.1 parts.0
+    let parts = both_of _ _ (cancel_is_open txn x y requester_sent responder_sent requester_stands responder_stands issued heeded
+    n c a at is) in
+    rows.cancelled x a c (same_txn_as txn x y requester_sent responder_sent n a requester_stands responder_stands at) is parts.1
+    parts.0
 
 -- Requester `x`, when it takes `a`, is led to the states to which an end with `body` leads.
 abbrev Leads : RequesterRecord → Apdu → Body → Type 0
@@ -186,21 +219,33 @@ Leads x a body = requester.LeadsTo (settled_by body) (requester_deliveries.takes
 
 -- An end of the request that the responder has issued leads a requester that takes it to its states.
 arrives_as : RowsFollow
-    → (txn : Qualifiers) (x : RequesterRecord) (y : ResponderRecord) (requester_sent responder_sent : List (Option Apdu)) (n : ℕ) (a : Apdu) (body : Body)
+    → (txn : Qualifiers) (x : RequesterRecord) (y : ResponderRecord) (requester_sent responder_sent : List (Option Apdu)) (n : ℕ)
+    (a : Apdu) (body : Body)
     → RequesterStands txn x requester_sent
-    → ResponderStands txn y responder_sent → AreIssued requester_sent y.issued → AreIssued responder_sent x.issued → message y.issued n ≡ Some a
+    → ResponderStands txn y responder_sent → AreIssued requester_sent y.issued → AreIssued responder_sent x.issued
+    → message y.issued n ≡ Some a
     → a.body ≡ body → is_end body ≡ true → Leads x a body
-arrives_as rows txn x y requester_sent responder_sent n a (types.Shipped due) requester_stands responder_stands issued heeded at is ends = shipped_arrives rows txn x y requester_sent responder_sent n a due requester_stands responder_stands issued heeded at is
-arrives_as rows txn x y requester_sent responder_sent n a (types.CancelReply c true) requester_stands responder_stands issued heeded at is ends = yes_arrives rows txn x y requester_sent responder_sent n c a requester_stands responder_stands issued heeded at is
-arrives_as rows txn x y requester_sent responder_sent n a (types.CancelReply c false) requester_stands responder_stands issued heeded at is ends = search rules
-arrives_as rows txn x y requester_sent responder_sent n a types.Expired requester_stands responder_stands issued heeded at is ends = end_arrives rows txn x y requester_sent responder_sent n a requester_stands responder_stands issued heeded at (ap is_unsupplied is)
-arrives_as rows txn x y requester_sent responder_sent n a (types.IllAnswer answer) requester_stands responder_stands issued heeded at is ends =
-    end_arrives rows txn x y requester_sent responder_sent n a requester_stands responder_stands issued heeded at (ap is_unsupplied is ∙ plain_end _ ends)
+arrives_as rows txn x y requester_sent responder_sent n a (types.Shipped due) requester_stands responder_stands issued heeded at
+    is ends = shipped_arrives rows txn x y requester_sent responder_sent n a due requester_stands responder_stands issued heeded
+    at is
+arrives_as rows txn x y requester_sent responder_sent n a (types.CancelReply c true) requester_stands responder_stands issued
+    heeded at is ends = yes_arrives rows txn x y requester_sent responder_sent n c a requester_stands responder_stands issued
+    heeded at is
+arrives_as rows txn x y requester_sent responder_sent n a (types.CancelReply c false) requester_stands responder_stands issued
+    heeded at is ends = search rules
+arrives_as rows txn x y requester_sent responder_sent n a types.Expired requester_stands responder_stands issued heeded at is
+    ends = end_arrives rows txn x y requester_sent responder_sent n a requester_stands responder_stands issued heeded at
+    (ap is_unsupplied is)
+arrives_as rows txn x y requester_sent responder_sent n a (types.IllAnswer answer) requester_stands responder_stands issued heeded
+    at is ends =
+    end_arrives rows txn x y requester_sent responder_sent n a requester_stands responder_stands issued heeded at
+    (ap is_unsupplied is ∙ plain_end _ ends)
   where
     plain_end : (b : Bool) → (b || (false || false)) ≡ true → b ≡ true
     plain_end true is = refl
     plain_end false is = search rules
-arrives_as rows txn x y requester_sent responder_sent n a body requester_stands responder_stands issued heeded at is ends = search rules
+arrives_as rows txn x y requester_sent responder_sent n a body requester_stands responder_stands issued heeded at is ends =
+    search rules
 
 -- ---- its outcome
 
@@ -212,18 +257,26 @@ answers answer (inr repeat) = inr (ap answer_to repeat)
 
 -- An end of the request that the responder has issued settles the requester's party that receives it.
 settles_requester : RowsFollow
-    → (txn : Qualifiers) (p : Party) (side : Side) (requester_sent responder_sent : List (Option Apdu)) (n : ℕ) (a : Apdu) (found : Option Apdu)
+    → (txn : Qualifiers) (p : Party) (side : Side) (requester_sent responder_sent : List (Option Apdu)) (n : ℕ) (a : Apdu)
+    (found : Option Apdu)
     → RequesterSideStands txn p.live requester_sent
-    → ResponderSideStands txn side responder_sent → AreIssued requester_sent (issued_of side) → AreIssued responder_sent (issued_of p.live)
+    → ResponderSideStands txn side responder_sent → AreIssued requester_sent (issued_of side)
+    → AreIssued responder_sent (issued_of p.live)
     → message (issued_of side) n ≡ Some a → found ≡ Some a → is_end a.body ≡ true
     → Settles (settled_by a.body) (receives p found).0 (receives p found).1.live
-settles_requester rows txn p side requester_sent responder_sent n a found requester_stands responder_stands issued heeded at is ends =
-    subst (λ o. Settles (settled_by a.body) (receives p o).0 (receives p o).1.live) (sym is) (go p.live side requester_stands responder_stands issued heeded at)
+settles_requester rows txn p side requester_sent responder_sent n a found requester_stands responder_stands issued heeded at is
+    ends =
+    subst (λ o. Settles (settled_by a.body) (receives p o).0 (receives p o).1.live) (sym is)
+    (go p.live side requester_stands responder_stands issued heeded at)
   where
-    go : (live side : Side) → RequesterSideStands txn live requester_sent → ResponderSideStands txn side responder_sent → AreIssued requester_sent (issued_of side) → AreIssued responder_sent (issued_of live) → message (issued_of side) n ≡ Some a
-        → Settles (settled_by a.body) (receives (record p { live = live }) (Some a)).0 (receives (record p { live = live }) (Some a)).1.live
+    go : (live side : Side) → RequesterSideStands txn live requester_sent → ResponderSideStands txn side responder_sent
+        → AreIssued requester_sent (issued_of side) → AreIssued responder_sent (issued_of live)
+        → message (issued_of side) n ≡ Some a
+        → Settles (settled_by a.body) (receives (record p { live = live }) (Some a)).0
+        (receives (record p { live = live }) (Some a)).1.live
     go (sides.Requester x) (sides.Responder y) requester_stands responder_stands issued heeded at =
-        let leads = arrives_as rows txn x y requester_sent responder_sent n a a.body requester_stands responder_stands issued heeded at refl ends in
+        let leads = arrives_as rows txn x y requester_sent responder_sent n a a.body requester_stands responder_stands issued
+        heeded at refl ends in
         (answers (requester_deliveries.takes x a).0 leads.0, leads.1)
     go (sides.Responder y) side requester_stands responder_stands issued heeded at = absurd requester_stands
     go (sides.Requester x) (sides.Requester y) requester_stands responder_stands issued heeded at = absurd responder_stands
@@ -241,38 +294,50 @@ returned_is_later states.Returned is = refl
 returned_is_later state is = search rules
 
 -- If the requester has issued a Returned, the responder has issued a Shipped.
-pub shipped_before : (txn : Qualifiers) (x : RequesterRecord) (y : ResponderRecord) (requester_sent responder_sent : List (Option Apdu)) (n : ℕ) (a : Apdu)
+pub shipped_before : (txn : Qualifiers) (x : RequesterRecord) (y : ResponderRecord)
+    (requester_sent responder_sent : List (Option Apdu)) (n : ℕ) (a : Apdu)
     → RequesterStands txn x requester_sent → ResponderStands txn y responder_sent
     → AreIssued requester_sent y.issued → message x.issued n ≡ Some a → is_returned a.body ≡ true → has is_shipped y.issued ≡ true
 shipped_before txn x y requester_sent responder_sent n a requester_stands responder_stands issued at is =
     let returned = sym requester_stands.rules.issued.returned ∙ message_says is_returned x.issued n a at is in
-    shipped_by txn x y requester_sent responder_sent x.due requester_stands responder_stands issued refl (requester_stands.rules.parts.due ∙ returned_is_later x.state returned)
+    shipped_by txn x y requester_sent responder_sent x.due requester_stands responder_stands issued refl
+    (requester_stands.rules.parts.due ∙ returned_is_later x.state returned)
 
 -- A Returned that the requester has issued leads a responder that takes it to RETURNED or CHECKED-IN.
 returned_arrives : RowsFollow
-    → (txn : Qualifiers) (x : RequesterRecord) (y : ResponderRecord) (requester_sent responder_sent : List (Option Apdu)) (n : ℕ) (a : Apdu)
+    → (txn : Qualifiers) (x : RequesterRecord) (y : ResponderRecord) (requester_sent responder_sent : List (Option Apdu)) (n : ℕ)
+    (a : Apdu)
     → RequesterStands txn x requester_sent
-    → ResponderStands txn y responder_sent → AreIssued requester_sent y.issued → message x.issued n ≡ Some a → is_returned a.body ≡ true
+    → ResponderStands txn y responder_sent → AreIssued requester_sent y.issued → message x.issued n ≡ Some a
+    → is_returned a.body ≡ true
     → responder.LeadsTo (states.Returned ∷ states.CheckedIn ∷ []) (responder_deliveries.takes y a)
 returned_arrives rows txn x y requester_sent responder_sent n a requester_stands responder_stands issued at is =
     let shipped = shipped_before txn x y requester_sent responder_sent n a requester_stands responder_stands issued at is in
-    let same = subst (λ t. is_same_txn a.txn t ≡ true) (requester_stands.same_txn ∙ sym responder_stands.same_txn) (message_number x.txn x.issued n a requester_stands.rules.numbered at).0 in
+    let same = subst (λ t. is_same_txn a.txn t ≡ true) (requester_stands.same_txn ∙ sym responder_stands.same_txn)
+    (message_number x.txn x.issued n a requester_stands.rules.numbered at).0 in
     rows.returned y a same (returned_is a.body is) (sym responder_stands.ends.shipped ∙ shipped)
 
 -- A Returned that the requester has issued settles the responder's party that receives it.
 settles_responder : RowsFollow
-    → (txn : Qualifiers) (p : Party) (side : Side) (requester_sent responder_sent : List (Option Apdu)) (n : ℕ) (a : Apdu) (found : Option Apdu)
+    → (txn : Qualifiers) (p : Party) (side : Side) (requester_sent responder_sent : List (Option Apdu)) (n : ℕ) (a : Apdu)
+    (found : Option Apdu)
     → RequesterSideStands txn side requester_sent
-    → ResponderSideStands txn p.live responder_sent → AreIssued requester_sent (issued_of p.live) → message (issued_of side) n ≡ Some a
+    → ResponderSideStands txn p.live responder_sent → AreIssued requester_sent (issued_of p.live)
+    → message (issued_of side) n ≡ Some a
     → found ≡ Some a → is_returned a.body ≡ true
     → Settles (states.Returned ∷ states.CheckedIn ∷ []) (receives p found).0 (receives p found).1.live
-settles_responder rows txn p side requester_sent responder_sent n a found requester_stands responder_stands issued at is returned =
-    subst (λ o. Settles (states.Returned ∷ states.CheckedIn ∷ []) (receives p o).0 (receives p o).1.live) (sym is) (go side p.live requester_stands responder_stands issued at)
+settles_responder rows txn p side requester_sent responder_sent n a found requester_stands responder_stands issued at is
+    returned =
+    subst (λ o. Settles (states.Returned ∷ states.CheckedIn ∷ []) (receives p o).0 (receives p o).1.live) (sym is)
+    (go side p.live requester_stands responder_stands issued at)
   where
-    go : (side live : Side) → RequesterSideStands txn side requester_sent → ResponderSideStands txn live responder_sent → AreIssued requester_sent (issued_of live) → message (issued_of side) n ≡ Some a
-        → Settles (states.Returned ∷ states.CheckedIn ∷ []) (receives (record p { live = live }) (Some a)).0 (receives (record p { live = live }) (Some a)).1.live
+    go : (side live : Side) → RequesterSideStands txn side requester_sent → ResponderSideStands txn live responder_sent
+        → AreIssued requester_sent (issued_of live) → message (issued_of side) n ≡ Some a
+        → Settles (states.Returned ∷ states.CheckedIn ∷ []) (receives (record p { live = live }) (Some a)).0
+        (receives (record p { live = live }) (Some a)).1.live
     go (sides.Requester x) (sides.Responder y) requester_stands responder_stands issued at =
-        let leads = returned_arrives rows txn x y requester_sent responder_sent n a requester_stands responder_stands issued at returned in
+        let leads = returned_arrives rows txn x y requester_sent responder_sent n a requester_stands responder_stands issued at
+        returned in
         (answers (responder_deliveries.takes y a).0 leads.0, leads.1)
     go (sides.Responder y) live requester_stands responder_stands issued at = absurd requester_stands
     go (sides.Requester x) (sides.Requester y) requester_stands responder_stands issued at = absurd responder_stands
@@ -280,11 +345,14 @@ settles_responder rows txn p side requester_sent responder_sent n a found reques
 pub arrives : RowsFollow → (txn : Qualifiers) (w : Parties) (event : Event) → Invariant txn w → Arrives w event
 arrives rows txn w (events.Deliver who.Requester n) stands =
     λ a sent ends.
-    settles_requester rows txn w.requester w.responder.landed w.responder.sent w.requester.sent n a (sent_message w.responder.sent n) stands.requester.live stands.responder.landed
-    (landed_issues w.responder stands.responder.saved) (live_issues w.requester stands.requester.saved) (stands.responder.saved.landed n a sent) sent ends
+    settles_requester rows txn w.requester w.responder.landed w.responder.sent w.requester.sent n a
+    (sent_message w.responder.sent n) stands.requester.live stands.responder.landed
+    (landed_issues w.responder stands.responder.saved) (live_issues w.requester stands.requester.saved)
+    (stands.responder.saved.landed n a sent) sent ends
 arrives rows txn w (events.Deliver who.Responder n) stands =
     λ a sent returned.
-    settles_responder rows txn w.responder w.requester.landed w.responder.sent w.requester.sent n a (sent_message w.requester.sent n) stands.requester.landed stands.responder.live
+    settles_responder rows txn w.responder w.requester.landed w.responder.sent w.requester.sent n a
+    (sent_message w.requester.sent n) stands.requester.landed stands.responder.live
     (live_issues w.responder stands.responder.saved) (stands.requester.saved.landed n a sent) sent returned
 arrives rows txn w (events.Wish wish) stands = tt
 arrives rows txn w (events.Deed deed today) stands = tt

@@ -1,5 +1,6 @@
 -- The definitions on two desks take the events of a transaction, and exclude the bad ones.
-use Rattle.std.proofs.Common.{rules, ◌≡◌, inl, inr, ℕ, Bool, true, false, if◌then◌else◌, List, [], ◌∷◌, ◌++◌, length, nat_lt, Option, Some, None, refl, sym, ap, ◌∙◌, subst}
+use Rattle.std.proofs.Common.{rules, ◌≡◌, inl, inr, ℕ, Bool, true, false, if◌then◌else◌, List, [], ◌∷◌, ◌++◌, length, nat_lt}
+use Rattle.std.proofs.Common.{Option, Some, None, refl, sym, ap, ◌∙◌, subst}
 use Rattle.ill_values.specs.TxnId.{Qualifiers}
 use Rattle.ill_values.specs.declared.apdu.Apdu.{Apdu}
 use Rattle.ill_values.specs.declared.apdu.Body.{Body}
@@ -21,11 +22,13 @@ use Rattle.ill_world.specs.declared.event.Outcome.TheVariants.{NotSent}
 use Rattle.ill_world.specs.declared.event.DeskOutcome.{DeskOutcome}
 use Rattle.ill_world.specs.declared.event.DeskOutcome.TheVariants.{Plain, NoSuchTransaction, DeskFull}
 use Rattle.ill_world.specs.World.{Parties, party, sent_message, run_by, run_of, happens, first_world}
-use Rattle.ill_world.specs.Desks.{DeskParty, DeskParties, sent_for, desk_receives, plain, first_desks, desks_happen, desks_run, project, concerns, if_reached, is_event_of, events_for}
+use Rattle.ill_world.specs.Desks.{DeskParty, DeskParties, sent_for, desk_receives, plain, first_desks, desks_happen, desks_run}
+use Rattle.ill_world.specs.Desks.{project, concerns, if_reached, is_event_of, events_for}
 use Rattle.ill_world.specs.Agreement.{settled_by}
 use Rattle.ill_world.specs.DeskSafety.{IsRunOfEach, SettlesAt, ArrivesAt}
 use Rattle.ill_world.specs.DeskChanges.{IsPlain, Reaches, ReachesAt, ReachesSide, DeskMayChange}
-use Rattle.ill_world.specs.BadDesks.{Names, IsNotReached, MissesHeld, ChangesUnreached, EndsIn, shipped, cancelled, expired, refused, IsUnheededAt, ArrivesInVainAt, end_in_vain, returned_in_vain}
+use Rattle.ill_world.specs.BadDesks.{Names, IsNotReached, MissesHeld, ChangesUnreached, EndsIn, shipped, cancelled, expired}
+use Rattle.ill_world.specs.BadDesks.{refused, IsUnheededAt, ArrivesInVainAt, end_in_vain, returned_in_vain}
 use Rattle.ill_world.proofs.BadWorlds.{heeded, final_ends}
 use Rattle.ill_world.proofs.Runs.{run_both, run_one}
 
@@ -44,12 +47,14 @@ unfolding events_for run_by
 events_in_order txn w [] after = refl
 events_in_order txn w (event ∷ before) after =
     let next = (desks_happen w event).1 in
-    joined (is_event_of txn w event) (plain event) (events_for txn next before) (events_for txn (desks_run next before) after) (events_for txn next (before ++ after)) (events_in_order txn next before after)
+    joined (is_event_of txn w event) (plain event) (events_for txn next before) (events_for txn (desks_run next before) after)
+    (events_for txn next (before ++ after)) (events_in_order txn next before after)
 
 -- One event more leads a transaction on by the events that it has of it.
 pub runs_go_on : (events : List DeskEvent) (event : DeskEvent) (txn : Qualifiers) → IsRunOfEach events
     → IsRunOfEach (events ++ event ∷ [])
-    → let w = desks_run first_desks events in project txn (desks_happen w event).1 ≡ run_of (project txn w) (events_for txn w (event ∷ []))
+    → let w = desks_run first_desks events in
+    project txn (desks_happen w event).1 ≡ run_of (project txn w) (events_for txn w (event ∷ []))
 runs_go_on events event txn before after =
     let w = desks_run first_desks events in
     let first = first_world txn in
@@ -69,7 +74,8 @@ one_event txn w event = refl
 
 -- A save, a failed save and a restart of a desk are events of each transaction.
 pub whole_events : (txn : Qualifiers) (w : DeskParties) (role : Who) (landed : Bool)
-    → events_for txn w (events.Save role ∷ events.SaveFault role landed ∷ events.Restart role ∷ []) ≡ plain (events.Save role) ∷ plain (events.SaveFault role landed) ∷ plain (events.Restart role) ∷ []
+    → events_for txn w (events.Save role ∷ events.SaveFault role landed ∷ events.Restart role ∷ [])
+    ≡ plain (events.Save role) ∷ plain (events.SaveFault role landed) ∷ plain (events.Restart role) ∷ []
 unfolding events_for
 whole_events txn w role landed = refl
 
@@ -111,13 +117,15 @@ never_reached other = refl
 -- An event that names `txn`, and reaches it, is an event of `txn`.
 pub named_event : (txn : Qualifiers) (w : DeskParties) (event : DeskEvent) (outcome : Outcome) → Names txn event
     → (desks_happen w event).0 ≡ Plain outcome → events_for txn w (event ∷ []) ≡ plain event ∷ []
-named_event txn w event outcome names seen = is_one txn w event true (ap (λ o. if_reached o (concerns txn event)) seen ∙ names_own txn event names)
+named_event txn w event outcome names seen =
+    is_one txn w event true (ap (λ o. if_reached o (concerns txn event)) seen ∙ names_own txn event names)
 
 -- An event that names another transaction is no event of `txn`.
 pub other_event : (txn another : Qualifiers) (w : DeskParties) (event : DeskEvent) → Names another event
     → (txn ≡ another → ⊥) → events_for txn w (event ∷ []) ≡ []
 other_event txn another w event names apart =
-    is_one txn w event false (ap (if_reached (desks_happen w event).0) (names_another txn another event names apart) ∙ never_reached (desks_happen w event).0)
+    is_one txn w event false (ap (if_reached (desks_happen w event).0) (names_another txn another event names apart)
+    ∙ never_reached (desks_happen w event).0)
 
 -- An event that does not reach its transaction is no event of `txn`.
 pub unreached_event : (txn : Qualifiers) (w : DeskParties) (event : DeskEvent) → IsNotReached (desks_happen w event).0
@@ -155,7 +163,8 @@ none_in_vain_at w _ (end_in_vain txn n a among sent ends unheeded) arrives =
     heeded_at among after.0 side unheeded (subst (λ l. SettlesAt l after.0 side) is.1 (arrives a sent is.0))
 none_in_vain_at w _ (returned_in_vain txn n a sent is unheeded) arrives =
     let after = desks_happen w (events.Deliver who.Responder txn n) in
-    heeded_at (states.Returned ∷ states.CheckedIn ∷ []) after.0 (held_for txn after.1.responder.live).side unheeded (arrives a sent (ap is_returned is))
+    heeded_at (states.Returned ∷ states.CheckedIn ∷ []) after.0 (held_for txn after.1.responder.live).side unheeded
+    (arrives a sent (ap is_returned is))
 
 -- ---- events that reach a side, and changes
 
@@ -167,17 +176,23 @@ not_plain NoSuchTransaction plainly missed = plainly
 not_plain DeskFull plainly missed = plainly
 
 -- A transaction that a desk holds is reached there.
-held_missed : (may_begin : Bool) (p : DeskParty) (txn of : Qualifiers) (held : DeskEntry) (outcome : DeskOutcome) → of ≡ txn → found_by txn_held txn p.live.held ≡ Some held → ReachesAt may_begin p of outcome → IsNotReached outcome → ⊥
+held_missed : (may_begin : Bool) (p : DeskParty) (txn of : Qualifiers) (held : DeskEntry) (outcome : DeskOutcome) → of ≡ txn
+    → found_by txn_held txn p.live.held ≡ Some held → ReachesAt may_begin p of outcome → IsNotReached outcome → ⊥
 held_missed may_begin p txn of held outcome is found reaches missed =
     not_plain outcome
-    (subst (λ o. Reaches may_begin (nat_lt (length p.live.held) 1000) o outcome) (ap (λ t. found_by txn_held t p.live.held) is ∙ found) reaches) missed
+    (subst (λ o. Reaches may_begin (nat_lt (length p.live.held) 1000) o outcome)
+    (ap (λ t. found_by txn_held t p.live.held) is ∙ found) reaches) missed
 
 -- If `ReachesSide` holds of an event, it does not miss a transaction that its desk holds.
 pub none_missed : (w : DeskParties) (event : DeskEvent) → MissesHeld w event → ReachesSide w event → ⊥
-none_missed w (events.Wish of wish) (txn, held, names, found, missed) reaches = held_missed _ w.requester txn of held _ names found reaches missed
-none_missed w (events.Deed of deed today) (txn, held, names, found, missed) reaches = held_missed false w.responder txn of held _ names found reaches missed
-none_missed w (events.Send role of n) (txn, held, names, found, missed) reaches = held_missed false (party w role) txn of held _ names found reaches missed
-none_missed w (events.Deliver role of n) (txn, held, names, found, missed) reaches = go (sent_message (sent_for of (party w (other role)).sent) n) refl
+none_missed w (events.Wish of wish) (txn, held, names, found, missed) reaches =
+    held_missed _ w.requester txn of held _ names found reaches missed
+none_missed w (events.Deed of deed today) (txn, held, names, found, missed) reaches =
+    held_missed false w.responder txn of held _ names found reaches missed
+none_missed w (events.Send role of n) (txn, held, names, found, missed) reaches =
+    held_missed false (party w role) txn of held _ names found reaches missed
+none_missed w (events.Deliver role of n) (txn, held, names, found, missed) reaches =
+    go (sent_message (sent_for of (party w (other role)).sent) n) refl
   where
     go : (sent : Option Apdu) → sent_message (sent_for of (party w (other role)).sent) n ≡ sent → ⊥
     go None e = not_plain (Plain NotSent) tt (subst IsNotReached (ap (λ o. (desk_receives (party w role) o).0) e) missed)

@@ -12,7 +12,9 @@ use Rattle.ill_saved.specs.declared.side.Side.{Side}
 use Rattle.ill_saved.specs.declared.side.Side.TheVariants as sides
 use Rattle.ill_saved.specs.Side.{issued_of, state_of, verbs_of}
 use Rattle.ill_world.specs.Night.{is_nobodys, is_over, wants_sending, asks, AtRest}
-use Rattle.ill_world.specs.BadNights.{MisjudgesEnd, ended, marked, unmarked, unsettled, may_act, MisjudgesSending, over_requester_sends, unasked_sends, asked_is_silent, open_is_silent, MisjudgesAsking, over_asks, idle_asks, open_asks_not, Restless, open_requester, open_responder, unfaced}
+use Rattle.ill_world.specs.BadNights.{MisjudgesEnd, ended, marked, unmarked, unsettled, may_act, MisjudgesSending}
+use Rattle.ill_world.specs.BadNights.{over_requester_sends, unasked_sends, asked_is_silent, open_is_silent, MisjudgesAsking}
+use Rattle.ill_world.specs.BadNights.{over_asks, idle_asks, open_asks_not, Restless, open_requester, open_responder, unfaced}
 use Rattle.ill_world.proofs.Nights.{open_wants, over_is_silent}
 use Rattle.ill_world.proofs.OutOfStep.{faces_back}
 
@@ -90,9 +92,11 @@ no_verbs (sides.Responder y) over = over_responder y.state over
 pub not_misjudged : (side : Side) (says : Bool) → MisjudgesEnd side says → says ≡ is_over side → ⊥
 not_misjudged side says (ended _ is) e = true≢false (sym (ended_is_over side is) ∙ sym e)
 not_misjudged side says (marked x at has_mark) e =
-    true≢false (sym (ap (λ s. is_nobodys (requester_turn_in s (is_declined x) x.checked_in)) at ∙ ap (λ b. is_nobodys (requester_turn_in states.Returned (is_declined x) b)) has_mark) ∙ sym e)
+    true≢false (sym (ap (λ s. is_nobodys (requester_turn_in s (is_declined x) x.checked_in)) at
+    ∙ ap (λ b. is_nobodys (requester_turn_in states.Returned (is_declined x) b)) has_mark) ∙ sym e)
 not_misjudged side says (unmarked x at no_mark) e =
-    true≢false (e ∙ ap (λ s. is_nobodys (requester_turn_in s (is_declined x) x.checked_in)) at ∙ ap (λ b. is_nobodys (requester_turn_in states.Returned (is_declined x) b)) no_mark)
+    true≢false (e ∙ ap (λ s. is_nobodys (requester_turn_in s (is_declined x) x.checked_in)) at
+    ∙ ap (λ b. is_nobodys (requester_turn_in states.Returned (is_declined x) b)) no_mark)
 not_misjudged side says (unsettled _ is) e = true≢false (e ∙ unsettled_is_open side is)
 not_misjudged side says (may_act _ acts) e = acts (no_verbs side (sym e))
 
@@ -107,15 +111,20 @@ and_false false = refl
 pub not_missent : (was_asked : Bool) (side : Side) (says : Bool) → MisjudgesSending was_asked side says
     → says ≡ wants_sending was_asked side → ⊥
 not_missent was_asked side says (over_requester_sends x over) e = true≢false (e ∙ ap not over)
-not_missent was_asked side says (unasked_sends y over unasked) e = true≢false (e ∙ or_from (not (is_over (sides.Responder y))) was_asked (ap not over) unasked)
-not_missent was_asked side says (asked_is_silent y asked) e = true≢false (sym (or_right (not (is_over (sides.Responder y))) was_asked asked) ∙ sym e)
+not_missent was_asked side says (unasked_sends y over unasked) e =
+    true≢false (e ∙ or_from (not (is_over (sides.Responder y))) was_asked (ap not over) unasked)
+not_missent was_asked side says (asked_is_silent y asked) e =
+    true≢false (sym (or_right (not (is_over (sides.Responder y))) was_asked asked) ∙ sym e)
 not_missent was_asked side says (open_is_silent _ is_open) e = true≢false (sym (open_wants was_asked side is_open) ∙ sym e)
 
 -- The answer of `asks` is no wrong one.
 pub not_misasked : (side : Side) (says : Bool) → MisjudgesAsking side says → says ≡ asks side → ⊥
-not_misasked side says (over_asks _ over) e = true≢false (e ∙ ap (λ b. b && not (is_none (issued_of side))) (over_is_silent side over))
-not_misasked side says (idle_asks _ none) e = true≢false (e ∙ ap (λ b. wants_sending false side && not b) none ∙ and_false (wants_sending false side))
-not_misasked side says (open_asks_not _ is_open some) e = true≢false (sym (and_from _ _ (open_wants false side is_open) (ap not some)) ∙ sym e)
+not_misasked side says (over_asks _ over) e =
+    true≢false (e ∙ ap (λ b. b && not (is_none (issued_of side))) (over_is_silent side over))
+not_misasked side says (idle_asks _ none) e =
+    true≢false (e ∙ ap (λ b. wants_sending false side && not b) none ∙ and_false (wants_sending false side))
+not_misasked side says (open_asks_not _ is_open some) e =
+    true≢false (sym (and_from _ _ (open_wants false side is_open) (ap not some)) ∙ sym e)
 
 -- ---- records at rest
 

@@ -16,5 +16,7 @@ cut_leaves_apart who.Responder step = true≢false (sym step.faced)
 -- A whole round brings these two sides in step.
 pub whole_brings_in_step : (who : Who) → AreInStep (run_of (last_unheard who) (round_of (last_unheard who)))
 unfolding run_by sends_and_delivers
-whole_brings_in_step who.Requester = record { faced = refl; undeclined = refl; received = λ is. search rules; checked_in = refl; due = λ is. refl }
-whole_brings_in_step who.Responder = record { faced = refl; undeclined = refl; received = λ is. search rules; checked_in = refl; due = λ is. refl }
+whole_brings_in_step who.Requester =
+    record { faced = refl; undeclined = refl; received = λ is. search rules; checked_in = refl; due = λ is. refl }
+whole_brings_in_step who.Responder =
+    record { faced = refl; undeclined = refl; received = λ is. search rules; checked_in = refl; due = λ is. refl }

@@ -1,5 +1,6 @@
 -- No bad trace is written.
-use Rattle.std.proofs.Common.{arith, rules, ◌≡◌, ℕ, List, [], ◌∷◌, ◌++◌, length, Some, Err, refl, sym, ap, ◌∙◌, subst, append_assoc, length-append}
+use Rattle.std.proofs.Common.{arith, rules, ◌≡◌, ℕ, List, [], ◌∷◌, ◌++◌, length, Some, Err, refl, sym, ap, ◌∙◌, subst}
+use Rattle.std.proofs.Common.{append_assoc, length-append}
 use Rattle.ill_saved.specs.Side.{IsPrefix}
 use Rattle.ill_world.specs.declared.fault.SimFault.TheVariants.{Write, OutOfMemory}
 use Rattle.ill_world.specs.Play.{Play, ends, says_on, trace_from, Plays}
@@ -23,22 +24,28 @@ no_prefix : (written trace : List ℕ) → Leaves written trace → IsPrefix wri
 no_prefix written trace (goes_on byte rest is) (more, prefix) =
     omega (arith, ap length is, ap length prefix, length-append trace (byte ∷ rest), length-append written more)
 no_prefix written trace (differs common rest more byte other is there apart) (after, prefix) =
-    apart (same_after common (rest ++ after) more byte other (sym (append_assoc common (byte ∷ rest) after) ∙ ap (λ l. l ++ after) (sym is) ∙ sym prefix ∙ there))
+    apart (same_after common (rest ++ after) more byte other
+    (sym (append_assoc common (byte ∷ rest) after) ∙ ap (λ l. l ++ after) (sym is) ∙ sym prefix ∙ there))
 
 -- There are no first events whose trace such bytes are.
-no_events : {E : Type 0} (trace_of : List E → List ℕ) (events : List E) (written : List ℕ) → IsOfNoPrefix trace_of events written → (prefix : List E) × IsPrefix prefix events × (written ≡ trace_of prefix) → ⊥
+no_events : {E : Type 0} (trace_of : List E → List ℕ) (events : List E) (written : List ℕ) → IsOfNoPrefix trace_of events written
+    → (prefix : List E) × IsPrefix prefix events × (written ≡ trace_of prefix) → ⊥
 no_events trace_of events written none (prefix, (more, is), shown) = none prefix more is shown
 
 module _ {W E C : Type 0} (play : Play W E C) (c : C) (w : W) (text left written : List ℕ) where
   -- When the writer fails, the bytes written do not leave the trace.
-  pub none_leaves : Leaves written (trace_from play 1 w (says_on play (ends play) c 1 text).events) → Plays play c 1 w 0 (Some text) (Some left) (Some []) (Some written) (Err Write) → ⊥
+  pub none_leaves : Leaves written (trace_from play 1 w (says_on play (ends play) c 1 text).events)
+      → Plays play c 1 w 0 (Some text) (Some left) (Some []) (Some written) (Err Write) → ⊥
   none_leaves leaves (read, trace, consumed, appended, answers) =
       no_prefix written (trace_from play 1 w (says_on play (ends play) c 1 text).events) leaves
       (subst (λ t. IsPrefix written (trace_from play 1 w (says_on play (ends play) c 1 t).events)) (sym consumed)
-      (subst (λ l. IsPrefix l (trace_from play 1 w (says_on play (ends play) c 1 (read ++ left)).events)) (sym appended) (answers left refl)))
+      (subst (λ l. IsPrefix l (trace_from play 1 w (says_on play (ends play) c 1 (read ++ left)).events)) (sym appended)
+      (answers left refl)))
 
   -- When memory runs out, the bytes written are the trace of a prefix of the events.
-  pub some_prefix : IsOfNoPrefix (trace_from play 1 w) (says_on play (ends play) c 1 text).events written → Plays play c 1 w 0 (Some text) (Some left) (Some []) (Some written) (Err OutOfMemory) → ⊥
+  pub some_prefix : IsOfNoPrefix (trace_from play 1 w) (says_on play (ends play) c 1 text).events written
+      → Plays play c 1 w 0 (Some text) (Some left) (Some []) (Some written) (Err OutOfMemory) → ⊥
   some_prefix none (read, trace, consumed, appended, answers) =
       no_events (trace_from play 1 w) (says_on play (ends play) c 1 (read ++ left)).events trace
-      (λ prefix more is shown. none prefix more (ap (λ t. (says_on play (ends play) c 1 t).events) consumed ∙ is) (appended ∙ shown)) (answers left refl)
+      (λ prefix more is shown. none prefix more (ap (λ t. (says_on play (ends play) c 1 t).events) consumed ∙ is)
+      (appended ∙ shown)) (answers left refl)

@@ -6,7 +6,8 @@ use Rattle.ill_values.specs.declared.apdu.AnswerResult.{AnswerResult}
 use Rattle.ill_values.specs.declared.apdu.Apdu.{Apdu}
 use Rattle.ill_core.specs.Dates.{is_after_due}
 use Rattle.ill_values.specs.declared.apdu.Body.{Body}
-use Rattle.ill_values.specs.declared.apdu.Body.TheVariants.{IllAnswer, ConditionalReply, CancelReply, Shipped, RenewAnswer, Expired}
+use Rattle.ill_values.specs.declared.apdu.Body.TheVariants.{IllAnswer, ConditionalReply, CancelReply, Shipped, RenewAnswer}
+use Rattle.ill_values.specs.declared.apdu.Body.TheVariants.{Expired}
 use Rattle.ill_core.specs.declared.state.State.{State}
 use Rattle.ill_core.specs.declared.state.State.TheVariants as states
 use Rattle.ill_core.specs.State.{is_among}
@@ -26,8 +27,14 @@ use Rattle.ill_world.specs.declared.event.Outcome.{Outcome}
 use Rattle.ill_world.specs.World.{Party, Parties, happens, sent_message}
 use Rattle.ill_core.proofs.GrantLemmas.{before_on, not_before_itself}
 use Rattle.ill_world.specs.Safety.{EndsAlike, WasShipped, WasGranted, OfBoth, Safe}
-use Rattle.ill_world.specs.Agreement.{AnswersOnce, AnswersOnceBoth, EndsOnce, Facing, AcceptedBy, IsNotLater, SaysTrue, Agrees, KeepsLiveDate, KeepsDates, Settles, settled_by, Arrives}
-use Rattle.ill_world.specs.BadWorlds.{Has, HasMessages, TwoSay, Contradicts, IsUnsafe, Misleads, Disagrees, not_supplied, cancelled, never_shipped, never_granted, contradicted, due_later, not_returned, checked_in_unreturned, cancelled_unasked, not_received, not_checked_in, TakesBack, IsTakenBack, IsUnheeded, ArrivesInVain, in_memory, in_store, shipped_in_vain, cancelled_in_vain, expired_in_vain, refused_in_vain, returned_in_vain, conditions_twice, cancel_twice, renew_twice, ended_twice, never_accepted, acceptance_forgotten, misled}
+use Rattle.ill_world.specs.Agreement.{AnswersOnce, AnswersOnceBoth, EndsOnce, Facing, AcceptedBy, IsNotLater, SaysTrue, Agrees}
+use Rattle.ill_world.specs.Agreement.{KeepsLiveDate, KeepsDates, Settles, settled_by, Arrives}
+use Rattle.ill_world.specs.BadWorlds.{Has, HasMessages, TwoSay, Contradicts, IsUnsafe, Misleads, Disagrees, not_supplied}
+use Rattle.ill_world.specs.BadWorlds.{cancelled, never_shipped, never_granted, contradicted, due_later, not_returned}
+use Rattle.ill_world.specs.BadWorlds.{checked_in_unreturned, cancelled_unasked, not_received, not_checked_in, TakesBack}
+use Rattle.ill_world.specs.BadWorlds.{IsTakenBack, IsUnheeded, ArrivesInVain, in_memory, in_store, shipped_in_vain}
+use Rattle.ill_world.specs.BadWorlds.{cancelled_in_vain, expired_in_vain, refused_in_vain, returned_in_vain, conditions_twice}
+use Rattle.ill_world.specs.BadWorlds.{cancel_twice, renew_twice, ended_twice, never_accepted, acceptance_forgotten, misled}
 
 -- ---- either record of a party
 
@@ -49,12 +56,14 @@ no_contradiction : (x y : Side) → Contradicts x y → EndsAlike x y → WasShi
 no_contradiction x y (not_supplied is other) ends shipped granted = other (ends.1 is)
 no_contradiction x y (cancelled is other) ends shipped granted = other (ends.0 is)
 no_contradiction x y (never_shipped is none) ends shipped granted = let both : true ≡ false = sym (shipped is) ∙ none in cc
-no_contradiction x y (never_granted due is none) ends shipped granted = let grant = granted due is in none grant.0 grant.1 grant.2 grant.3
+no_contradiction x y (never_granted due is none) ends shipped granted = let grant = granted due is in
+    none grant.0 grant.1 grant.2 grant.3
 
 -- An unsafe world is not safe.
 pub not_safe : (w : Parties) → IsUnsafe w → Safe w → ⊥
 not_safe w (contradicted x y requester_has responder_has bad) safe =
-    no_contradiction x y bad (of_pair EndsAlike w x y safe.ends requester_has responder_has) (of_pair WasShipped w x y safe.shipped requester_has responder_has)
+    no_contradiction x y bad (of_pair EndsAlike w x y safe.ends requester_has responder_has)
+    (of_pair WasShipped w x y safe.shipped requester_has responder_has)
     (of_pair WasGranted w x y safe.granted requester_has responder_has)
 
 -- ---- agreement
@@ -68,7 +77,8 @@ has_asked state is waits done = search rules
 
 -- Two records of which `IsNotLater` and `SaysTrue` hold do not mislead.
 not_misled : (x : RequesterRecord) (y : ResponderRecord) → Misleads x y → IsNotLater x y → SaysTrue x y → ⊥
-not_misled x y (due_later due is after) dates says = let granted = dates due is in let both : true ≡ false = sym (after granted.0 granted.1) ∙ granted.2 in cc
+not_misled x y (due_later due is after) dates says = let granted = dates due is in let both : true ≡ false =
+    sym (after granted.0 granted.1) ∙ granted.2 in cc
 not_misled x y (not_returned is other) dates says = other (says.returned (rw is refl))
 not_misled x y (checked_in_unreturned is other) dates says = other (says.returned (rw is refl))
 not_misled x y (cancelled_unasked is waits done) dates says = has_asked x.state (says.cancelled is) waits done
@@ -97,12 +107,16 @@ not_ended_twice side once two =
 -- Sides that disagree do not agree.
 pub not_agreed : (w : Parties) → Disagrees w → Agrees w → ⊥
 not_agreed w (conditions_twice at k said again of two) agrees =
-    not_twice replied_number at k (ConditionalReply k said) (ConditionalReply k again) refl refl (of_messages replied_number w.requester at agrees.answered.conditions of) two
+    not_twice replied_number at k (ConditionalReply k said) (ConditionalReply k again) refl refl
+    (of_messages replied_number w.requester at agrees.answered.conditions of) two
 not_agreed w (cancel_twice at k said again of two) agrees =
-    not_twice (answered_number MayCancel) at k (CancelReply k said) (CancelReply k again) refl refl (of_messages (answered_number MayCancel) w.responder at agrees.answered.cancels of) two
+    not_twice (answered_number MayCancel) at k (CancelReply k said) (CancelReply k again) refl refl
+    (of_messages (answered_number MayCancel) w.responder at agrees.answered.cancels of) two
 not_agreed w (renew_twice at k due again of two) agrees =
-    not_twice (answered_number MayRenew) at k (RenewAnswer k due) (RenewAnswer k again) refl refl (of_messages (answered_number MayRenew) w.responder at agrees.answered.renewals of) two
-not_agreed w (ended_twice side of two) agrees = not_ended_twice side (of_record EndsOnce w.responder side agrees.ended.0 agrees.ended.1 of) two
+    not_twice (answered_number MayRenew) at k (RenewAnswer k due) (RenewAnswer k again) refl refl
+    (of_messages (answered_number MayRenew) w.responder at agrees.answered.renewals of) two
+not_agreed w (ended_twice side of two) agrees =
+    not_ended_twice side (of_record EndsOnce w.responder side agrees.ended.0 agrees.ended.1 of) two
 not_agreed w (never_accepted y c of is none) agrees =
     let reply = of_record (AcceptedBy w) w.responder (sides.Responder y) agrees.accepted.0 agrees.accepted.1 of c is in
     none reply.0 reply.1 reply.2 reply.4
@@ -110,7 +124,8 @@ not_agreed w (acceptance_forgotten y c of is none) agrees =
     let reply = of_record (AcceptedBy w) w.responder (sides.Responder y) agrees.accepted.0 agrees.accepted.1 of c is in
     none reply.0 reply.1 reply.3 reply.4
 not_agreed w (misled x y requester_has responder_has bad) agrees =
-    not_misled x y bad (of_pair (Facing IsNotLater) w (sides.Requester x) (sides.Responder y) agrees.dates requester_has responder_has)
+    not_misled x y bad (of_pair (Facing IsNotLater) w (sides.Requester x) (sides.Responder y) agrees.dates requester_has
+    responder_has)
     (of_pair (Facing SaysTrue) w (sides.Requester x) (sides.Responder y) agrees.says requester_has responder_has)
 
 -- ---- events
@@ -131,7 +146,8 @@ live_kept event old new other keeps = keeps
 
 -- An event that keeps the requester's due dates takes none back.
 pub no_date_taken_back : (old new : Parties) (event : Event) → TakesBack old event new → KeepsDates old event new → ⊥
-no_date_taken_back old new event (in_memory other back) keeps = not_taken_back _ _ back (live_kept event old.requester new.requester other keeps.0)
+no_date_taken_back old new event (in_memory other back) keeps =
+    not_taken_back _ _ back (live_kept event old.requester new.requester other keeps.0)
 no_date_taken_back old new event (in_store back) keeps = not_taken_back _ _ back keeps.1
 
 -- A message that settles a side in the states `among` is not unheeded.
@@ -148,7 +164,8 @@ end_heeded : (w : Parties) (n : ℕ) (a : Apdu) (body : Body) → Arrives w (Del
     → ⊥
 end_heeded w n a body arrives sent is ends unheeded =
     let after = happens w (Deliver who.Requester n) in
-    heeded (settled_by body) after.0 after.1.requester.live unheeded (subst (λ b. Settles (settled_by b) after.0 after.1.requester.live) is (arrives a sent (ap is_end is ∙ ends)))
+    heeded (settled_by body) after.0 after.1.requester.live unheeded
+    (subst (λ b. Settles (settled_by b) after.0 after.1.requester.live) is (arrives a sent (ap is_end is ∙ ends)))
 
 -- A final ILL-Answer ends the request.
 pub final_ends : (answer : AnswerResult) → is_final answer ≡ true → is_end (IllAnswer answer) ≡ true
@@ -157,9 +174,11 @@ final_ends answer is = rw is refl
 -- If `Arrives` holds of an event, no message arrives in vain by it.
 pub none_in_vain : (w : Parties) (event : Event) → ArrivesInVain w event → Arrives w event → ⊥
 none_in_vain w _ (shipped_in_vain n a due sent is unheeded) arrives = end_heeded w n a (Shipped due) arrives sent is refl unheeded
-none_in_vain w _ (cancelled_in_vain n a c sent is unheeded) arrives = end_heeded w n a (CancelReply c true) arrives sent is refl unheeded
+none_in_vain w _ (cancelled_in_vain n a c sent is unheeded) arrives =
+    end_heeded w n a (CancelReply c true) arrives sent is refl unheeded
 none_in_vain w _ (expired_in_vain n a sent is unheeded) arrives = end_heeded w n a Expired arrives sent is refl unheeded
-none_in_vain w _ (refused_in_vain n a answer sent is final unheeded) arrives = end_heeded w n a (IllAnswer answer) arrives sent is (final_ends answer final) unheeded
+none_in_vain w _ (refused_in_vain n a answer sent is final unheeded) arrives =
+    end_heeded w n a (IllAnswer answer) arrives sent is (final_ends answer final) unheeded
 none_in_vain w _ (returned_in_vain n a sent is unheeded) arrives =
     let after = happens w (Deliver who.Responder n) in
     heeded (states.Returned ∷ states.CheckedIn ∷ []) after.0 after.1.responder.live unheeded (arrives a sent (ap is_returned is))

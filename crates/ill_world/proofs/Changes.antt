@@ -1,5 +1,6 @@
 -- The changes that an event may make to a party, and so to the world.
-use Rattle.std.proofs.Common.{◌≡◌, ◌⊎◌, inl, inr, ℕ, Bool, true, false, List, [], ◌∷◌, ◌++◌, Option, Some, None, Result, Ok, Err, refl, sym, ap, subst}
+use Rattle.std.proofs.Common.{◌≡◌, ◌⊎◌, inl, inr, ℕ, Bool, true, false, List, [], ◌∷◌, ◌++◌, Option, Some, None, Result, Ok, Err}
+use Rattle.std.proofs.Common.{refl, sym, ap, subst}
 use Rattle.ill_values.specs.TxnId.{Qualifiers}
 use Rattle.ill_values.specs.declared.apdu.Apdu.{Apdu}
 use Rattle.ill_der.specs.ShortForm.{apdu_at}
@@ -19,15 +20,18 @@ use Rattle.ill_world.specs.declared.event.Event.{Event}
 use Rattle.ill_world.specs.declared.event.Event.TheVariants as events
 use Rattle.ill_world.specs.declared.event.Outcome.{Outcome}
 use Rattle.ill_world.specs.declared.event.Outcome.TheVariants.{Done, Saved, Faulted, Sent, Answered, Restarted}
-use Rattle.ill_world.specs.World.{Party, Parties, party, with_party, who_of, sent_message, decides, sends, answer_to, receives, hears, happens_to, happens, run_by, run_of}
+use Rattle.ill_world.specs.World.{Party, Parties, party, with_party, who_of, sent_message, decides, sends, answer_to, receives}
+use Rattle.ill_world.specs.World.{hears, happens_to, happens, run_by, run_of}
 use Rattle.ill_world.specs.Changes.{OnlyLands, OnlyLandedChanges, MayChange, KeepsSent}
 use Rattle.ill_world.specs.Invariant.{SendsSaved, Invariant}
 use Rattle.ill_world.proofs.Kept.{stays_sent}
 
 -- By the laws of the rows, a message that is not taken changes nothing.
 pub record Quiet : Type 0 where
-  pub requester : (x : RequesterRecord) (a : Apdu) → ((requester_deliveries.takes x a).0 ≡ Ok Taken) ⊎ ((requester_deliveries.takes x a).1 ≡ x)
-  pub responder : (y : ResponderRecord) (a : Apdu) → ((responder_deliveries.takes y a).0 ≡ Ok Taken) ⊎ ((responder_deliveries.takes y a).1 ≡ y)
+  pub requester : (x : RequesterRecord) (a : Apdu)
+      → ((requester_deliveries.takes x a).0 ≡ Ok Taken) ⊎ ((requester_deliveries.takes x a).1 ≡ x)
+  pub responder : (y : ResponderRecord) (a : Apdu)
+      → ((responder_deliveries.takes y a).0 ≡ Ok Taken) ⊎ ((responder_deliveries.takes y a).1 ≡ y)
 
 -- ---- one party
 
@@ -77,7 +81,8 @@ receives_changes rows p None = refl
 receives_changes rows p (Some a) =
     elim (quiet rows p.live a) [
       | inl taken ↦ subst (λ answer. MayChange OnlyLands (answer_to answer) p (receives p (Some a)).1) (sym taken) tt
-      | inr same ↦ subst (λ side. MayChange OnlyLands (receives p (Some a)).0 p (record p { live = side })) (sym same) (nothing_changes (receives p (Some a)).0 p)
+      | inr same ↦ subst (λ side. MayChange OnlyLands (receives p (Some a)).0 p (record p { live = side })) (sym same)
+          (nothing_changes (receives p (Some a)).0 p)
     ]
 
 -- The outcome of each event allows the change of the party.
@@ -152,13 +157,17 @@ event_keeps_sent txn w event stands =
 abbrev pub After : Qualifiers → Type 0
 After txn = (w : Parties) (event : Event) → Invariant txn w → Invariant txn (happens w event).1
 
-further_keeps_sent : (txn : Qualifiers) → After txn → (w : Parties) (more : List Event) → Invariant txn w → KeepsSent w (run_of w more)
+further_keeps_sent : (txn : Qualifiers) → After txn → (w : Parties) (more : List Event) → Invariant txn w
+    → KeepsSent w (run_of w more)
 unfolding run_by
 further_keeps_sent txn after w [] stands = λ of n a was. was
 further_keeps_sent txn after w (event ∷ more) stands =
-    λ of n a was. further_keeps_sent txn after (happens w event).1 more (after w event stands) of n a (event_keeps_sent txn w event stands of n a was)
+    λ of n a was. further_keeps_sent txn after (happens w event).1 more (after w event stands) of n a
+    (event_keeps_sent txn w event stands of n a was)
 
-pub run_keeps_sent : (txn : Qualifiers) → After txn → (w : Parties) (events more : List Event) → Invariant txn w → KeepsSent (run_of w events) (run_of w (events ++ more))
+pub run_keeps_sent : (txn : Qualifiers) → After txn → (w : Parties) (events more : List Event) → Invariant txn w
+    → KeepsSent (run_of w events) (run_of w (events ++ more))
 unfolding run_by
 run_keeps_sent txn after w [] more stands = further_keeps_sent txn after w more stands
-run_keeps_sent txn after w (event ∷ events) more stands = run_keeps_sent txn after (happens w event).1 events more (after w event stands)
+run_keeps_sent txn after w (event ∷ events) more stands =
+    run_keeps_sent txn after (happens w event).1 events more (after w event stands)

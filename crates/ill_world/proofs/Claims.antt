@@ -1,5 +1,6 @@
 -- A world with the invariant is safe, by a requester's record and a responder's that it faces.
-use Rattle.std.proofs.Common.{rules, ◌≡◌, ◌⊎◌, inl, inr, ℕ, Bool, true, false, not, ◌&&◌, ◌||◌, List, [], ◌∷◌, Option, Some, None, is_some, refl, sym, ap, ◌∙◌}
+use Rattle.std.proofs.Common.{rules, ◌≡◌, ◌⊎◌, inl, inr, ℕ, Bool, true, false, not, ◌&&◌, ◌||◌, List, [], ◌∷◌, Option, Some, None}
+use Rattle.std.proofs.Common.{is_some, refl, sym, ap, ◌∙◌}
 use Rattle.ill_values.specs.Day.{Date}
 use Rattle.ill_values.specs.TxnId.{Qualifiers}
 use Rattle.ill_values.specs.declared.apdu.Apdu.{Apdu}
@@ -19,7 +20,8 @@ use Rattle.ill_saved.specs.declared.side.Side.TheVariants as sides
 use Rattle.ill_saved.specs.Side.{issued_of}
 use Rattle.ill_world.specs.World.{Party, Parties}
 use Rattle.ill_world.specs.Safety.{OfBoth, EndsAlike, WasShipped, WasGranted}
-use Rattle.ill_world.specs.Invariant.{WasSent, RequesterStands, ResponderStands, RequesterSideStands, ResponderSideStands, SendsSaved, Invariant}
+use Rattle.ill_world.specs.Invariant.{WasSent, RequesterStands, ResponderStands, RequesterSideStands, ResponderSideStands}
+use Rattle.ill_world.specs.Invariant.{SendsSaved, Invariant}
 use Rattle.ill_core.proofs.MessageLemmas.{message_says}
 use Rattle.ill_world.proofs.Sendings.{prefix_message}
 
@@ -42,7 +44,8 @@ tells_grant (types.RenewAnswer c (Some d)) due tells = ap Some tells
 tells_grant (types.RenewAnswer c None) due tells = absurd tells
 tells_grant body due tells = search rules
 
-tells_shipped : (body : Body) (due : Date) → requester.IsEvidence body (requester.Granted due) → (is_shipped body ≡ true) ⊎ (is_renewal body ≡ true)
+tells_shipped : (body : Body) (due : Date) → requester.IsEvidence body (requester.Granted due)
+    → (is_shipped body ≡ true) ⊎ (is_renewal body ≡ true)
 tells_shipped (types.Shipped d) due tells = inl refl
 tells_shipped (types.RenewAnswer c (Some d)) due tells = inr refl
 tells_shipped (types.RenewAnswer c None) due tells = absurd tells
@@ -66,7 +69,9 @@ unfolding ships_first
 ships_before [] first renewed = search rules
 ships_before (a ∷ apdus) first renewed = go (is_shipped a.body) (is_renewal a.body) (ships_before apdus) first renewed
   where
-    go : (shipped renewal : Bool) → (ships_first apdus ≡ true → has is_renewal apdus ≡ true → has is_shipped apdus ≡ true) → (shipped || (not renewal && ships_first apdus)) ≡ true → (renewal || has is_renewal apdus) ≡ true → (shipped || has is_shipped apdus) ≡ true
+    go : (shipped renewal : Bool) → (ships_first apdus ≡ true → has is_renewal apdus ≡ true → has is_shipped apdus ≡ true)
+        → (shipped || (not renewal && ships_first apdus)) ≡ true → (renewal || has is_renewal apdus) ≡ true
+        → (shipped || has is_shipped apdus) ≡ true
     go true renewal before first renewed = refl
     go false true before first renewed = search rules
     go false false before first renewed = before first renewed
@@ -79,7 +84,9 @@ AreIssued sent apdus = (a : Apdu) → WasSent sent a → (n : ℕ) × (message a
 
 -- `P` holds of two sides that stand, if the responder's has issued the messages by which the requester's stands.
 abbrev Pair : (Side → Side → Type 0) → Type 0
-Pair P = (txn : Qualifiers) (x y : Side) (requester_sent responder_sent : List (Option Apdu)) → RequesterSideStands txn x requester_sent → ResponderSideStands txn y responder_sent → AreIssued requester_sent (issued_of y) → P x y
+Pair P = (txn : Qualifiers) (x y : Side) (requester_sent responder_sent : List (Option Apdu))
+    → RequesterSideStands txn x requester_sent → ResponderSideStands txn y responder_sent → AreIssued requester_sent (issued_of y)
+    → P x y
 
 -- If `says` holds of a message that was sent, and those are issued, it holds of one that is issued.
 pub has_issued : (apdus : List Apdu) (requester_sent : List (Option Apdu)) (says : Body → Bool) (a : Apdu)
@@ -87,27 +94,35 @@ pub has_issued : (apdus : List Apdu) (requester_sent : List (Option Apdu)) (says
 has_issued apdus requester_sent says a issued was is = let at = issued a was in message_says says apdus at.0 a at.1 is
 
 -- A requester in CANCELLED faces a responder in CANCELLED, if both stand.
-pub cancelled_faces : (txn : Qualifiers) (x : RequesterRecord) (y : ResponderRecord) (requester_sent responder_sent : List (Option Apdu))
+pub cancelled_faces : (txn : Qualifiers) (x : RequesterRecord) (y : ResponderRecord)
+    (requester_sent responder_sent : List (Option Apdu))
     → RequesterStands txn x requester_sent → ResponderStands txn y responder_sent → AreIssued requester_sent y.issued
     → x.state ≡ states.Cancelled → y.state ≡ states.Cancelled
 cancelled_faces txn x y requester_sent responder_sent requester_stands responder_stands issued e =
     let known = requester_stands.knows requester.Cancelled e in
-    is_in_cancelled y.state (sym responder_stands.ends.cancelled ∙ has_issued y.issued requester_sent responder.is_cancelled known.0 issued known.1 (tells_cancelled known.0.body known.2))
+    is_in_cancelled y.state (sym responder_stands.ends.cancelled
+    ∙ has_issued y.issued requester_sent responder.is_cancelled known.0 issued known.1 (tells_cancelled known.0.body known.2))
 
 -- A requester in NOT-SUPPLIED faces a responder in NOT-SUPPLIED, if both stand.
-pub not_supplied_faces : (txn : Qualifiers) (x : RequesterRecord) (y : ResponderRecord) (requester_sent responder_sent : List (Option Apdu))
+pub not_supplied_faces : (txn : Qualifiers) (x : RequesterRecord) (y : ResponderRecord)
+    (requester_sent responder_sent : List (Option Apdu))
     → RequesterStands txn x requester_sent → ResponderStands txn y responder_sent
     → AreIssued requester_sent y.issued → x.state ≡ states.NotSupplied → y.state ≡ states.NotSupplied
 not_supplied_faces txn x y requester_sent responder_sent requester_stands responder_stands issued e =
     let known = requester_stands.knows requester.Ended e in
-    is_in_not_supplied y.state (sym responder_stands.ends.unsupplied ∙ has_issued y.issued requester_sent responder.is_unsupplied known.0 issued known.1 (tells_ended known.0.body known.2))
+    is_in_not_supplied y.state (sym responder_stands.ends.unsupplied
+    ∙ has_issued y.issued requester_sent responder.is_unsupplied known.0 issued known.1 (tells_ended known.0.body known.2))
 
 -- `EndsAlike` holds of two sides that stand.
 ends_pair : Pair EndsAlike
-ends_pair txn (sides.Requester x) (sides.Responder y) requester_sent responder_sent requester_stands responder_stands issued =
-    (cancelled_faces txn x y requester_sent responder_sent requester_stands responder_stands issued, not_supplied_faces txn x y requester_sent responder_sent requester_stands responder_stands issued)
-ends_pair txn (sides.Responder x) y requester_sent responder_sent requester_stands responder_stands issued = absurd requester_stands
-ends_pair txn (sides.Requester x) (sides.Requester y) requester_sent responder_sent requester_stands responder_stands issued = absurd responder_stands
+ends_pair txn (sides.Requester x) (sides.Responder y) requester_sent responder_sent requester_stands responder_stands issued = (
+  cancelled_faces txn x y requester_sent responder_sent requester_stands responder_stands issued,
+  not_supplied_faces txn x y requester_sent responder_sent requester_stands responder_stands issued,
+)
+ends_pair txn (sides.Responder x) y requester_sent responder_sent requester_stands responder_stands issued =
+    absurd requester_stands
+ends_pair txn (sides.Requester x) (sides.Requester y) requester_sent responder_sent requester_stands responder_stands issued =
+    absurd responder_stands
 
 -- `WasGranted` holds of two sides that stand.
 grant_pair : Pair WasGranted
@@ -116,11 +131,14 @@ grant_pair txn (sides.Requester x) (sides.Responder y) requester_sent responder_
     let known = requester_stands.knows (requester.Granted due) e in
     let at = issued known.0 known.1 in
     (at.0, known.0, at.1, tells_grant known.0.body due known.2)
-grant_pair txn (sides.Responder x) y requester_sent responder_sent requester_stands responder_stands issued = absurd requester_stands
-grant_pair txn (sides.Requester x) (sides.Requester y) requester_sent responder_sent requester_stands responder_stands issued = absurd responder_stands
+grant_pair txn (sides.Responder x) y requester_sent responder_sent requester_stands responder_stands issued =
+    absurd requester_stands
+grant_pair txn (sides.Requester x) (sides.Requester y) requester_sent responder_sent requester_stands responder_stands issued =
+    absurd responder_stands
 
 -- If a requester has a due date, the responder has issued a Shipped, if both stand.
-pub shipped_by : (txn : Qualifiers) (x : RequesterRecord) (y : ResponderRecord) (requester_sent responder_sent : List (Option Apdu)) (due : Option Date)
+pub shipped_by : (txn : Qualifiers) (x : RequesterRecord) (y : ResponderRecord)
+    (requester_sent responder_sent : List (Option Apdu)) (due : Option Date)
     → RequesterStands txn x requester_sent → ResponderStands txn y responder_sent
     → AreIssued requester_sent y.issued → x.due ≡ due → is_some due ≡ true → has is_shipped y.issued ≡ true
 shipped_by txn x y requester_sent responder_sent None requester_stands responder_stands issued e some = search rules
@@ -128,14 +146,19 @@ shipped_by txn x y requester_sent responder_sent (Some d) requester_stands respo
     let known = requester_stands.knows (requester.Granted d) e in
     elim (tells_shipped known.0.body d known.2) [
       | inl shipped ↦ has_issued y.issued requester_sent is_shipped known.0 issued known.1 shipped
-      | inr renewal ↦ ships_before y.issued responder_stands.rules.ships_first (has_issued y.issued requester_sent is_renewal known.0 issued known.1 renewal)
+      | inr renewal ↦ ships_before y.issued responder_stands.rules.ships_first
+          (has_issued y.issued requester_sent is_renewal known.0 issued known.1 renewal)
     ]
 
 -- `WasShipped` holds of two sides that stand.
 shipped_pair : Pair WasShipped
-shipped_pair txn (sides.Requester x) (sides.Responder y) requester_sent responder_sent requester_stands responder_stands issued = λ is. shipped_by txn x y requester_sent responder_sent x.due requester_stands responder_stands issued refl (requester_stands.rules.parts.due ∙ is)
-shipped_pair txn (sides.Responder x) y requester_sent responder_sent requester_stands responder_stands issued = absurd requester_stands
-shipped_pair txn (sides.Requester x) (sides.Requester y) requester_sent responder_sent requester_stands responder_stands issued = absurd responder_stands
+shipped_pair txn (sides.Requester x) (sides.Responder y) requester_sent responder_sent requester_stands responder_stands issued =
+    λ is. shipped_by txn x y requester_sent responder_sent x.due requester_stands responder_stands issued refl
+    (requester_stands.rules.parts.due ∙ is)
+shipped_pair txn (sides.Responder x) y requester_sent responder_sent requester_stands responder_stands issued =
+    absurd requester_stands
+shipped_pair txn (sides.Requester x) (sides.Requester y) requester_sent responder_sent requester_stands responder_stands issued =
+    absurd responder_stands
 
 -- ---- both records of either
 
@@ -145,7 +168,10 @@ landed_issues p saved = λ a was. (was.0, saved.landed was.0 a was.1)
 
 -- A party that sends only what it has saved has sent only messages of its live side.
 pub live_issues : (p : Party) → SendsSaved p → AreIssued p.sent (issued_of p.live)
-live_issues p saved = λ a was. (was.0, prefix_message (issued_of p.landed) (issued_of p.live) was.0 a saved.prefix (saved.landed was.0 a was.1))
+live_issues p saved = λ a was. (
+  was.0,
+  prefix_message (issued_of p.landed) (issued_of p.live) was.0 a saved.prefix (saved.landed was.0 a was.1),
+)
 
 of_both : (P : Side → Side → Type 0) → Pair P → (txn : Qualifiers) (w : Parties) → Invariant txn w → OfBoth P w
 of_both P pair txn w stands =
@@ -155,9 +181,12 @@ of_both P pair txn w stands =
     let landed = landed_issues w.responder stands.responder.saved in
     record {
       live = pair txn w.requester.live w.responder.live sent responder_sent stands.requester.live stands.responder.live live;
-      live_landed = pair txn w.requester.live w.responder.landed sent responder_sent stands.requester.live stands.responder.landed landed;
-      landed_live = pair txn w.requester.landed w.responder.live sent responder_sent stands.requester.landed stands.responder.live live;
-      landed = pair txn w.requester.landed w.responder.landed sent responder_sent stands.requester.landed stands.responder.landed landed;
+      live_landed = pair txn w.requester.live w.responder.landed sent responder_sent stands.requester.live stands.responder.landed
+          landed;
+      landed_live = pair txn w.requester.landed w.responder.live sent responder_sent stands.requester.landed stands.responder.live
+          live;
+      landed = pair txn w.requester.landed w.responder.landed sent responder_sent stands.requester.landed stands.responder.landed
+          landed;
     }
 
 pub ends_alike : (txn : Qualifiers) (w : Parties) → Invariant txn w → OfBoth EndsAlike w

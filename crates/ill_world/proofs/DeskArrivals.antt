@@ -1,5 +1,6 @@
 -- One arrival of the end of a request, or of a Returned, is enough at a desk too: the transaction is held there.
-use Rattle.std.proofs.Common.{rules, ◌≡◌, ℕ, nat_lt, length, zero, suc, Bool, true, false, ◌&&◌, not, List, [], ◌∷◌, Option, Some, None, is_some, refl, sym, ap, ◌∙◌, subst, true≢false}
+use Rattle.std.proofs.Common.{rules, ◌≡◌, ℕ, nat_lt, length, zero, suc, Bool, true, false, ◌&&◌, not, List, [], ◌∷◌, Option, Some}
+use Rattle.std.proofs.Common.{None, is_some, refl, sym, ap, ◌∙◌, subst, true≢false}
 use Rattle.ill_values.specs.TxnId.{Qualifiers}
 use Rattle.ill_values.specs.declared.apdu.Apdu.{Apdu}
 use Rattle.ill_core.specs.declared.state.State.{State}
@@ -57,24 +58,35 @@ idle_issued (b ∷ apdus) n a none at = true≢false (sym none)
 pub asked : (txn : Qualifiers) (x y : Side) (requester_sent responder_sent : List (Option Apdu)) (n : ℕ) (a : Apdu)
     → RequesterSideStands txn x requester_sent → ResponderSideStands txn y responder_sent → AreIssued responder_sent (issued_of x)
     → message (issued_of y) n ≡ Some a → issued_of x ≡ [] → ⊥
-asked txn (sides.Requester x) (sides.Responder y) requester_sent responder_sent n a requester_stands responder_stands heeded at none =
+asked txn (sides.Requester x) (sides.Responder y) requester_sent responder_sent n a requester_stands responder_stands heeded at
+    none =
     let known = responder_stands.knows responder.Requested (begun (is_among (states.Idle ∷ []) y.state) refl) in
-    not_nothing is_ill_request x.issued (has_issued x.issued responder_sent is_ill_request known.0 heeded known.1 (tells_requested known.0.number known.0.body known.2)) none
+    not_nothing is_ill_request x.issued
+    (has_issued x.issued responder_sent is_ill_request known.0 heeded known.1
+    (tells_requested known.0.number known.0.body known.2)) none
   where
     begun : (idle : Bool) → is_among (states.Idle ∷ []) y.state ≡ idle → idle ≡ false
     begun false e = refl
-    begun true e = absurd (idle_issued y.issued n a (last_of_five (is_among (states.Idle ∷ []) y.state) (is_some y.accepted) (is_some y.last_cancel) (is_some y.last_renew) y.received (is_none y.issued) e responder_stands.rules.parts.empty) at)
-asked txn (sides.Responder x) y requester_sent responder_sent n a requester_stands responder_stands heeded at none = absurd requester_stands
-asked txn (sides.Requester x) (sides.Requester y) requester_sent responder_sent n a requester_stands responder_stands heeded at none = absurd responder_stands
+    begun true e = absurd (idle_issued y.issued n a
+        (last_of_five (is_among (states.Idle ∷ []) y.state) (is_some y.accepted) (is_some y.last_cancel) (is_some y.last_renew)
+        y.received (is_none y.issued) e responder_stands.rules.parts.empty) at)
+asked txn (sides.Responder x) y requester_sent responder_sent n a requester_stands responder_stands heeded at none =
+    absurd requester_stands
+asked txn (sides.Requester x) (sides.Requester y) requester_sent responder_sent n a requester_stands responder_stands heeded at
+    none = absurd responder_stands
 
 -- If the requester has issued a Returned, the responder has issued a message.
 supplied : (txn : Qualifiers) (x y : Side) (requester_sent responder_sent : List (Option Apdu)) (n : ℕ) (a : Apdu)
     → RequesterSideStands txn x requester_sent → ResponderSideStands txn y responder_sent → AreIssued requester_sent (issued_of y)
     → message (issued_of x) n ≡ Some a → is_returned a.body ≡ true → issued_of y ≡ [] → ⊥
-supplied txn (sides.Requester x) (sides.Responder y) requester_sent responder_sent n a requester_stands responder_stands issued at is none =
-    not_nothing is_shipped y.issued (shipped_before txn x y requester_sent responder_sent n a requester_stands responder_stands issued at is) none
-supplied txn (sides.Responder x) y requester_sent responder_sent n a requester_stands responder_stands issued at is none = absurd requester_stands
-supplied txn (sides.Requester x) (sides.Requester y) requester_sent responder_sent n a requester_stands responder_stands issued at is none = absurd responder_stands
+supplied txn (sides.Requester x) (sides.Responder y) requester_sent responder_sent n a requester_stands responder_stands issued at
+    is none =
+    not_nothing is_shipped y.issued
+    (shipped_before txn x y requester_sent responder_sent n a requester_stands responder_stands issued at is) none
+supplied txn (sides.Responder x) y requester_sent responder_sent n a requester_stands responder_stands issued at is none =
+    absurd requester_stands
+supplied txn (sides.Requester x) (sides.Requester y) requester_sent responder_sent n a requester_stands responder_stands issued at
+    is none = absurd responder_stands
 
 -- ---- a side that is held is reached
 
@@ -84,19 +96,24 @@ idle_issues who.Requester txn = refl
 idle_issues who.Responder txn = refl
 
 -- a side that has issued something is held
-held_plainly : (may_begin : Bool) (p : DeskParty) (txn : Qualifiers) (found : Option DeskEntry) (outcome : DeskOutcome) → found_by txn_held txn p.live.held ≡ found → (issued_of (held_for txn p.live).side ≡ [] → ⊥)
+held_plainly : (may_begin : Bool) (p : DeskParty) (txn : Qualifiers) (found : Option DeskEntry) (outcome : DeskOutcome)
+    → found_by txn_held txn p.live.held ≡ found → (issued_of (held_for txn p.live).side ≡ [] → ⊥)
     → ReachesAt may_begin p txn outcome → IsPlain outcome
-held_plainly may_begin p txn (Some held) outcome e not_idle reaches = subst (λ o. Reaches may_begin (nat_lt (length p.live.held) 1000) o outcome) e reaches
-held_plainly may_begin p txn None outcome e not_idle reaches = absurd (not_idle (ap (λ o. issued_of (found_or (idle_held p.live.role txn) o).side) e ∙ idle_issues p.live.role txn))
+held_plainly may_begin p txn (Some held) outcome e not_idle reaches =
+    subst (λ o. Reaches may_begin (nat_lt (length p.live.held) 1000) o outcome) e reaches
+held_plainly may_begin p txn None outcome e not_idle reaches =
+    absurd (not_idle (ap (λ o. issued_of (found_or (idle_held p.live.role txn) o).side) e ∙ idle_issues p.live.role txn))
 
 -- ---- the law
 
 -- If a delivery reaches its transaction, and settles the expected side, it settles the side that is seen.
-settles_as : (among : List State) (own : Bool) (expected : Outcome × Parties) (old new : Parties) (outcome : DeskOutcome) (side : Parties → Side)
+settles_as : (among : List State) (own : Bool) (expected : Outcome × Parties) (old new : Parties) (outcome : DeskOutcome)
+    (side : Parties → Side)
     → IsSeenAs (if_reached outcome own) expected old outcome new → own ≡ true → IsPlain outcome
     → Settles among expected.0 (side expected.1) → SettlesAt among outcome (side new)
 settles_as among true expected old new (Plain outcome) side seen concerned is_plain settles =
-    subst (λ o. Settles among o (side new)) (sym (same_plain outcome expected.0 seen.0)) (subst (λ w. Settles among expected.0 (side w)) (sym seen.1) settles)
+    subst (λ o. Settles among o (side new)) (sym (same_plain outcome expected.0 seen.0))
+    (subst (λ w. Settles among expected.0 (side w)) (sym seen.1) settles)
 settles_as among false expected old new outcome side seen concerned is_plain settles = search rules
 settles_as among true expected old new NoSuchTransaction side seen concerned is_plain settles = absurd is_plain
 settles_as among true expected old new DeskFull side seen concerned is_plain settles = absurd is_plain
@@ -105,31 +122,40 @@ settles_as among true expected old new DeskFull side seen concerned is_plain set
 abbrev pub EachReaches : Type 0
 EachReaches = (w : DeskParties) (event : DeskEvent) → DesksStand w → ReachesSide w event
 
-module _ (projects : EachProjects) (reaches : EachReaches) (w : DeskParties) (stands : DesksStand w) (txn : Qualifiers) (n : ℕ) (a : Apdu) where
+module _ (projects : EachProjects) (reaches : EachReaches) (w : DeskParties) (stands : DesksStand w) (txn : Qualifiers) (n : ℕ)
+    (a : Apdu) where
   -- If a message settles a side that has issued something, it settles this side at its desk.
-  settles_there : (role : Who) (among : List State) → sent_message (sent_for txn (party w (other role)).sent) n ≡ Some a → (issued_of (held_for txn (party w role).live).side ≡ [] → ⊥)
+  settles_there : (role : Who) (among : List State) → sent_message (sent_for txn (party w (other role)).sent) n ≡ Some a
+      → (issued_of (held_for txn (party w role).live).side ≡ [] → ⊥)
       → let after = happens (project txn w) (events.Deliver role n) in Settles among after.0 (party after.1 role).live
-      → let after = desks_happen w (desk_events.Deliver role txn n) in SettlesAt among after.0 (party (project txn after.1) role).live
+      → let after = desks_happen w (desk_events.Deliver role txn n) in
+      SettlesAt among after.0 (party (project txn after.1) role).live
   settles_there role among sent begun settles =
       let event = desk_events.Deliver role txn n in
       let is_plain : IsPlain (desks_happen w event).0 =
-      held_plainly (is_ill_request a.body) (party w role) txn (found_by txn_held txn (party w role).live.held) (desks_happen w event).0 refl begun (reaches w event stands a sent) in
-      settles_as among (concerns txn event) (happens (project txn w) (plain event)) (project txn w) (project txn (desks_happen w event).1) (desks_happen w event).0 (λ v. (party v role).live) (projects txn w event stands)
+      held_plainly (is_ill_request a.body) (party w role) txn (found_by txn_held txn (party w role).live.held)
+      (desks_happen w event).0 refl begun (reaches w event stands a sent) in
+      settles_as among (concerns txn event) (happens (project txn w) (plain event)) (project txn w)
+      (project txn (desks_happen w event).1) (desks_happen w event).0 (λ v. (party v role).live) (projects txn w event stands)
       (same_self txn) is_plain settles
 
-pub arrives_at : EachProjects → EachReaches → ((txn : Qualifiers) (w : Parties) (event : Event) → Invariant txn w → Arrives w event) → (w : DeskParties) (event : DeskEvent) → DesksStand w → ArrivesAt w event
+pub arrives_at : EachProjects → EachReaches
+    → ((txn : Qualifiers) (w : Parties) (event : Event) → Invariant txn w → Arrives w event)
+    → (w : DeskParties) (event : DeskEvent) → DesksStand w → ArrivesAt w event
 arrives_at projects reaches arrives w (desk_events.Deliver who.Requester txn n) stands =
     λ a sent ends.
     let shown = stands.each txn in
     let v = project txn w in
     settles_there projects reaches w stands txn n a who.Requester (settled_by a.body) sent
-    (asked txn v.requester.live v.responder.landed v.responder.sent v.requester.sent n a shown.requester.live shown.responder.landed (live_issues v.requester shown.requester.saved) (shown.responder.saved.landed n a sent))
+    (asked txn v.requester.live v.responder.landed v.responder.sent v.requester.sent n a shown.requester.live
+    shown.responder.landed (live_issues v.requester shown.requester.saved) (shown.responder.saved.landed n a sent))
     (arrives txn v (events.Deliver who.Requester n) shown a sent ends)
 arrives_at projects reaches arrives w (desk_events.Deliver who.Responder txn n) stands =
     λ a sent returned.
     let shown = stands.each txn in
     let v = project txn w in
     settles_there projects reaches w stands txn n a who.Responder (states.Returned ∷ states.CheckedIn ∷ []) sent
-    (supplied txn v.requester.landed v.responder.live v.responder.sent v.requester.sent n a shown.requester.landed shown.responder.live (live_issues v.responder shown.responder.saved)
+    (supplied txn v.requester.landed v.responder.live v.responder.sent v.requester.sent n a shown.requester.landed
+    shown.responder.live (live_issues v.responder shown.responder.saved)
     (shown.requester.saved.landed n a sent) returned) (arrives txn v (events.Deliver who.Responder n) shown a sent returned)
 arrives_at projects reaches arrives w event stands = tt

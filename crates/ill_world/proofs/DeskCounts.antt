@@ -1,6 +1,8 @@
 -- The delivery of a message finds room: the requester's desk holds each transaction of the responder's desk, and 1,000
 -- at most.
-use Rattle.std.proofs.Common.{arith, rules, ◌≡◌, ◌⊎◌, inl, inr, ℕ, suc, ◌+◌, ◌≤◌, nat_lt, Bool, true, false, cond, if◌then◌else◌, ◌||◌, List, [], ◌∷◌, ◌++◌, length, map, Option, Some, None, is_some, Result, Ok, Err, refl, sym, ap, ◌∙◌, subst, true≢false, length-append}
+use Rattle.std.proofs.Common.{arith, rules, ◌≡◌, ◌⊎◌, inl, inr, ℕ, suc, ◌+◌, ◌≤◌, nat_lt, Bool, true, false, cond, if◌then◌else◌}
+use Rattle.std.proofs.Common.{◌||◌, List, [], ◌∷◌, ◌++◌, length, map, Option, Some, None, is_some, Result, Ok, Err, refl, sym, ap}
+use Rattle.std.proofs.Common.{◌∙◌, subst, true≢false, length-append}
 use Rattle.std.proofs.lemmas.Bool.{ltb-true, ltb-false, or_parts, or_from, or_left, or_right}
 use Rattle.std.proofs.lemmas.List.{length-map, map-append}
 use Rattle.std.proofs.lemmas.List.Folds.{list_any-append}
@@ -22,7 +24,8 @@ use Rattle.ill_saved.specs.declared.side.Action.TheVariants as actions
 use Rattle.ill_saved.specs.Side.{issued_of, txn_of, other, idle_side, acts, takes, acted, took, begins}
 use Rattle.ill_saved.specs.Sides.{found_by, is_same_role, most_sides, side_with}
 use Rattle.ill_saved.specs.Holdings.{DeskEntry, whole}
-use Rattle.ill_saved.specs.ManySides.{txn_held, idle_held, found_or, with_held, held_or_begun, reached, is_own, acted as acted_at, acts_reached, took as took_at, takes_reached}
+use Rattle.ill_saved.specs.ManySides.{txn_held, idle_held, found_or, with_held, held_or_begun, reached, is_own, acted as acted_at}
+use Rattle.ill_saved.specs.ManySides.{acts_reached, took as took_at, takes_reached}
 use Rattle.ill_saved.proofs.Finding.{same_is, same_self, apart_back, found_is, keys_put, put_last}
 use Rattle.ill_world.specs.declared.event.DeskEvent.{DeskEvent}
 use Rattle.ill_world.specs.declared.event.DeskEvent.TheVariants as desk_events
@@ -30,7 +33,8 @@ use Rattle.ill_world.specs.declared.event.DeskOutcome.{DeskOutcome}
 use Rattle.ill_world.specs.declared.event.DeskOutcome.TheVariants.{Plain, DeskFull}
 use Rattle.ill_world.specs.declared.event.Outcome.TheVariants.{NotSent}
 use Rattle.ill_world.specs.World.{sent_message, sends_by, happens_at, party, who_of}
-use Rattle.ill_world.specs.Desks.{DeskParty, DeskParties, Sending, sent_for, plain, desk_decides, desk_sends, desk_receives, desk_happens_to, desks_happen, first_desks, project}
+use Rattle.ill_world.specs.Desks.{DeskParty, DeskParties, Sending, sent_for, plain, desk_decides, desk_sends, desk_receives}
+use Rattle.ill_world.specs.Desks.{desk_happens_to, desks_happen, first_desks, project}
 use Rattle.ill_world.specs.DeskCounts.{is_one_of, AreAmong, AreApart, live_txns, landed_txns, Counts, DesksCount}
 use Rattle.ill_world.specs.DeskSafety.{DesksStand}
 use Rattle.ill_world.specs.DeskChanges.{Reaches}
@@ -54,7 +58,8 @@ or_as false b c is follows = follows is
 
 -- A transaction that is one of `txns` is one of them with one more.
 has_still : (txn new : Qualifiers) (txns : List Qualifiers) → is_one_of txn txns ≡ true → is_one_of txn (txns ++ new ∷ []) ≡ true
-has_still txn new txns is = list_any-append (is_same_txn txn) txns (new ∷ []) ∙ or_left (is_one_of txn txns) (is_one_of txn (new ∷ [])) is
+has_still txn new txns is = list_any-append (is_same_txn txn) txns (new ∷ [])
+    ∙ or_left (is_one_of txn txns) (is_one_of txn (new ∷ [])) is
 
 -- A transaction that is one of `txns` with `new` at the end is one of `txns`, or is `new`.
 has_either : (txn new : Qualifiers) (txns : List Qualifiers) → is_one_of txn (txns ++ new ∷ []) ≡ true
@@ -62,14 +67,16 @@ has_either : (txn new : Qualifiers) (txns : List Qualifiers) → is_one_of txn (
 has_either txn new txns is =
     elim (one_of (is_one_of txn txns) (is_one_of txn (new ∷ [])) (sym (list_any-append (is_same_txn txn) txns (new ∷ [])) ∙ is)) [
       | inl there ↦ inl there
-      | inr last ↦ inr (elim (one_of (is_same_txn txn new) false last) [ inl same ↦ same_is txn new same | inr none ↦ absurd (true≢false (sym none)) ])
+      | inr last ↦ inr (elim (one_of (is_same_txn txn new) false last)
+          [ inl same ↦ same_is txn new same | inr none ↦ absurd (true≢false (sym none)) ])
     ]
 
 -- A transaction that is none of `txns`, and not `new`, is none of `txns` with `new` at the end.
 pub has_not : (txn new : Qualifiers) (txns : List Qualifiers) → is_one_of txn txns ≡ false
     → is_same_txn txn new ≡ false → is_one_of txn (txns ++ new ∷ []) ≡ false
 has_not txn new txns none other =
-    list_any-append (is_same_txn txn) txns (new ∷ []) ∙ or_from (is_one_of txn txns) (is_one_of txn (new ∷ [])) none (or_from (is_same_txn txn new) false other refl)
+    list_any-append (is_same_txn txn) txns (new ∷ [])
+    ∙ or_from (is_one_of txn txns) (is_one_of txn (new ∷ [])) none (or_from (is_same_txn txn new) false other refl)
 
 -- If no transaction stands twice in `txns`, and `new` is none of them, none does with `new` at the end.
 apart_still : (new : Qualifiers) (txns : List Qualifiers) → AreApart txns → is_one_of new txns ≡ false
@@ -95,7 +102,8 @@ one_less first txns rest false there is further = ap suc (further is)
 length_without : (txn : Qualifiers) (txns : List Qualifiers) → is_one_of txn txns ≡ true
     → suc (length (without txn txns)) ≡ length txns
 length_without txn [] is = absurd (true≢false (sym is))
-length_without txn (first ∷ txns) is = one_less first txns (without txn txns) (is_same_txn txn first) (is_one_of txn txns) is (length_without txn txns)
+length_without txn (first ∷ txns) is =
+    one_less first txns (without txn txns) (is_same_txn txn first) (is_one_of txn txns) is (length_without txn txns)
 
 -- Another one is among them without this one too.
 has_without : (txn another : Qualifiers) (txns : List Qualifiers) → is_same_txn another txn ≡ false
@@ -103,13 +111,16 @@ has_without : (txn another : Qualifiers) (txns : List Qualifiers) → is_same_tx
 has_without txn another [] apart is = is
 has_without txn another (first ∷ txns) apart is = go (is_same_txn txn first) refl (has_without txn another txns apart)
   where
-    go : (same : Bool) → is_same_txn txn first ≡ same → (is_one_of another txns ≡ true → is_one_of another (without txn txns) ≡ true) → is_one_of another (cond same txns (first ∷ without txn txns)) ≡ true
+    go : (same : Bool) → is_same_txn txn first ≡ same
+        → (is_one_of another txns ≡ true → is_one_of another (without txn txns) ≡ true)
+        → is_one_of another (cond same txns (first ∷ without txn txns)) ≡ true
     go true same further =
         elim (one_of (is_same_txn another first) (is_one_of another txns) is) [
           | inl here ↦ absurd (true≢false (sym here ∙ ap (is_same_txn another) (sym (same_is txn first same)) ∙ apart))
           | inr there ↦ there
         ]
-    go false same further = or_as (is_same_txn another first) (is_one_of another txns) (is_one_of another (without txn txns)) is further
+    go false same further = or_as (is_same_txn another first) (is_one_of another txns) (is_one_of another (without txn txns)) is
+        further
 
 -- A transaction that is one of these is not another that is none of them.
 not_both : (txn another : Qualifiers) (txns : List Qualifiers) → is_one_of txn txns ≡ false
@@ -126,7 +137,8 @@ no_more [] those apart among = omega arith
 no_more (txn ∷ these) those apart among =
     let here = among txn (or_left (is_same_txn txn txn) (is_one_of txn these) (same_self txn)) in
     let less = no_more these (without txn those) apart.1
-    (λ another is. has_without txn another those (not_both txn another these apart.0 is) (among another (or_right (is_same_txn another txn) (is_one_of another these) is))) in
+    (λ another is. has_without txn another those (not_both txn another these apart.0 is)
+    (among another (or_right (is_same_txn another txn) (is_one_of another these) is))) in
     omega (arith, less, length_without txn those here)
 
 -- ---- the transactions of a desk
@@ -141,12 +153,15 @@ either_some false there item found is = is
 pub has_found : {X : Type 0} (key : X → Qualifiers) (txn : Qualifiers) (items : List X)
     → is_some (found_by key txn items) ≡ is_one_of txn (map key items)
 has_found key txn [] = refl
-has_found key txn (item ∷ items) = either_some (is_same_txn txn (key item)) (is_one_of txn (map key items)) item (found_by key txn items) (has_found key txn items)
+has_found key txn (item ∷ items) =
+    either_some (is_same_txn txn (key item)) (is_one_of txn (map key items)) item (found_by key txn items)
+    (has_found key txn items)
 
 -- An event leaves the transactions held and landed, or begins one. Or it lands those held, or holds those landed.
 pub data Leads (May : Qualifiers → Type 0) (live landed new_live new_landed : List Qualifiers) : Type 0 where
   stays : new_live ≡ live → new_landed ≡ landed → Leads May live landed new_live new_landed
-  begun : (txn : Qualifiers) → is_one_of txn live ≡ false → length live + 1 ≤ 1000 → May txn → new_live ≡ live ++ txn ∷ [] → new_landed ≡ landed → Leads May live landed new_live new_landed
+  begun : (txn : Qualifiers) → is_one_of txn live ≡ false → length live + 1 ≤ 1000 → May txn → new_live ≡ live ++ txn ∷ []
+      → new_landed ≡ landed → Leads May live landed new_live new_landed
   lands : new_live ≡ live → new_landed ≡ live → Leads May live landed new_live new_landed
   returns : new_live ≡ landed → new_landed ≡ landed → Leads May live landed new_live new_landed
 
@@ -160,64 +175,93 @@ Puts of p new = (new ≡ p) ⊎ ((held : DeskEntry) × (txn_held held ≡ of) ×
 
 module _ (May : Qualifiers → Type 0) (p : DeskParty) (of : Qualifiers) where
   -- A side that is put leaves the transactions as they are, where its own is held, and else begins it.
-  put_leads : (held : DeskEntry) → txn_held held ≡ of → (found : Option DeskEntry) → found_by txn_held of p.live.held ≡ found → (found ≡ None → (nat_lt (length p.live.held) most_sides ≡ true) × May of)
+  put_leads : (held : DeskEntry) → txn_held held ≡ of → (found : Option DeskEntry) → found_by txn_held of p.live.held ≡ found
+      → (found ≡ None → (nat_lt (length p.live.held) most_sides ≡ true) × May of)
       → LeadsTo May p (record p { live = with_held p.live held })
-  put_leads held is (Some there) e may = stays (keys_put txn_held held there p.live.held (ap (λ t. found_by txn_held t p.live.held) is ∙ e)) refl
+  put_leads held is (Some there) e may =
+      stays (keys_put txn_held held there p.live.held (ap (λ t. found_by txn_held t p.live.held) is ∙ e)) refl
   put_leads held is None e may =
       let room = may refl in
       begun of (sym (has_found txn_held of p.live.held) ∙ ap is_some e) (few room.0) room.1
-      (ap (map txn_held) (put_last txn_held held p.live.held (ap (λ t. found_by txn_held t p.live.held) is ∙ e)) ∙ map-append txn_held p.live.held (held ∷ []) ∙ ap (λ t. live_txns p ++ t ∷ []) is) refl
+      (ap (map txn_held) (put_last txn_held held p.live.held (ap (λ t. found_by txn_held t p.live.held) is ∙ e))
+      ∙ map-append txn_held p.live.held (held ∷ []) ∙ ap (λ t. live_txns p ++ t ∷ []) is) refl
     where
       few : nat_lt (length p.live.held) most_sides ≡ true → length (live_txns p) + 1 ≤ 1000
       few room = omega (arith, ltb-true (length p.live.held) 1000 room, length-map p.live.held txn_held)
 
   -- A desk that puts a side, or stays, leads on.
-  puts_lead : (new : DeskParty) → Puts of p new → (found : Option DeskEntry) → found_by txn_held of p.live.held ≡ found → (found ≡ None → (nat_lt (length p.live.held) most_sides ≡ true) × May of) → LeadsTo May p new
+  puts_lead : (new : DeskParty) → Puts of p new → (found : Option DeskEntry) → found_by txn_held of p.live.held ≡ found
+      → (found ≡ None → (nat_lt (length p.live.held) most_sides ≡ true) × May of) → LeadsTo May p new
   puts_lead new (inl is) found e may = subst (LeadsTo May p) (sym is) (stays refl refl)
   puts_lead new (inr (held, is, put)) found e may = subst (LeadsTo May p) (sym put) (put_leads held is found e may)
 
   -- A desk at which a side is reached puts it or stays; one at which none is stays.
-  reach_leads : (seen : Result DeskEntry DeskFault → DeskParty) → ((held : DeskEntry) → txn_held held ≡ of → Puts of p (seen (Ok held))) → ((fault : DeskFault) → seen (Err fault) ≡ p) → txn_held (idle_held p.live.role of) ≡ of
-      → (may_begin : Bool) → (may_begin ≡ true → May of) → (has_room : Bool) → nat_lt (length p.live.held) most_sides ≡ has_room → (found : Option DeskEntry) → found_by txn_held of p.live.held ≡ found
+  reach_leads : (seen : Result DeskEntry DeskFault → DeskParty)
+      → ((held : DeskEntry) → txn_held held ≡ of → Puts of p (seen (Ok held))) → ((fault : DeskFault) → seen (Err fault) ≡ p)
+      → txn_held (idle_held p.live.role of) ≡ of
+      → (may_begin : Bool) → (may_begin ≡ true → May of) → (has_room : Bool) → nat_lt (length p.live.held) most_sides ≡ has_room
+      → (found : Option DeskEntry) → found_by txn_held of p.live.held ≡ found
       → LeadsTo May p (seen (held_or_begun may_begin has_room (idle_held p.live.role of) found))
   reach_leads seen puts fails idle may_begin may has_room room (Some held) e =
-      puts_lead (seen (Ok held)) (puts held (sym (found_is txn_held of p.live.held held e))) (Some held) e (λ none. absurd (true≢false (ap is_some none)))
-  reach_leads seen puts fails idle true may true room None e = puts_lead (seen (Ok (idle_held p.live.role of))) (puts (idle_held p.live.role of) idle) None e (λ none. (room, may refl))
-  reach_leads seen puts fails idle true may false room None e = subst (LeadsTo May p) (sym (fails faults.DeskFull)) (stays refl refl)
-  reach_leads seen puts fails idle false may has_room room None e = subst (LeadsTo May p) (sym (fails faults.NoSuchTransaction)) (stays refl refl)
+      puts_lead (seen (Ok held)) (puts held (sym (found_is txn_held of p.live.held held e))) (Some held) e
+      (λ none. absurd (true≢false (ap is_some none)))
+  reach_leads seen puts fails idle true may true room None e =
+      puts_lead (seen (Ok (idle_held p.live.role of))) (puts (idle_held p.live.role of) idle) None e (λ none. (room, may refl))
+  reach_leads seen puts fails idle true may false room None e =
+      subst (LeadsTo May p) (sym (fails faults.DeskFull)) (stays refl refl)
+  reach_leads seen puts fails idle false may has_room room None e =
+      subst (LeadsTo May p) (sym (fails faults.NoSuchTransaction)) (stays refl refl)
 
 -- `May` holds of each transaction that an event may begin: that of a wish, or of a message that comes.
 abbrev pub Permits : (Qualifiers → Type 0) → List Sending → DeskEvent → Type 0
 Permits May partner_sent (desk_events.Wish of wish) = May of
-Permits May partner_sent (desk_events.Deliver role of n) = (a : Apdu) → sent_message (sent_for of partner_sent) n ≡ Some a → May a.txn
+Permits May partner_sent (desk_events.Deliver role of n) =
+    (a : Apdu) → sent_message (sent_for of partner_sent) n ≡ Some a → May a.txn
 Permits May partner_sent other = Unit {0}
 
 module _ (grows : RowsGrow) (May : Qualifiers → Type 0) (p : DeskParty) where
   -- A decision puts its side, or the desk stays.
-  decided_puts : (of : Qualifiers) (action : Action) (held : DeskEntry) → txn_held held ≡ of → (result : Result Side Refusal) → acts held.side action ≡ result → Puts of p (desk_decides p (acted_at p.live held result)).1
-  decided_puts of action held is (Ok new) e = inr (record { side = new; released = held.released }, row_txn grows held.side new (acted action e) ∙ is, refl)
+  decided_puts : (of : Qualifiers) (action : Action) (held : DeskEntry) → txn_held held ≡ of → (result : Result Side Refusal)
+      → acts held.side action ≡ result → Puts of p (desk_decides p (acted_at p.live held result)).1
+  decided_puts of action held is (Ok new) e =
+      inr (record { side = new; released = held.released }, row_txn grows held.side new (acted action e) ∙ is, refl)
   decided_puts of action held is (Err refusal) e = inl refl
 
   -- A decision leads on.
   decides_leads : (of : Qualifiers) (action : Action) → (begins action ≡ true → May of) → (may : Bool)
-      → LeadsTo May p (desk_decides p (if may then acts_reached p.live action (reached p.live of (begins action)) else Err (faults.Core WrongRole))).1
+      → LeadsTo May p (desk_decides p
+      (if may then acts_reached p.live action (reached p.live of (begins action)) else Err (faults.Core WrongRole))).1
   decides_leads of action may true =
-      reach_leads May p of (λ found. (desk_decides p (acts_reached p.live action found)).1) (λ held is. decided_puts of action held is (acts held.side action) refl) (λ fault. refl) (idle_txn p.live.role of)
+      reach_leads May p of (λ found. (desk_decides p (acts_reached p.live action found)).1)
+      (λ held is. decided_puts of action held is (acts held.side action) refl) (λ fault. refl) (idle_txn p.live.role of)
       (begins action) may (nat_lt (length p.live.held) most_sides) refl (found_by txn_held of p.live.held) refl
   decides_leads of action may false = stays refl refl
 
   -- A message that comes puts its side, or the desk stays.
-  took_puts : (a : Apdu) (held : DeskEntry) → txn_held held ≡ a.txn → (answer : Result Taking Refusal) (new : Side) → takes held.side a ≡ (answer, new) → Puts a.txn p (record p { live = (took_at p.live held (answer, new)).1 })
-  took_puts a held is (Ok _) new e = inr (record { side = new; released = held.released }, row_txn grows held.side new (took a (ap (λ (r : Result Taking Refusal × Side). r.1) e)) ∙ is, refl)
+  took_puts : (a : Apdu) (held : DeskEntry) → txn_held held ≡ a.txn → (answer : Result Taking Refusal) (new : Side)
+      → takes held.side a ≡ (answer, new) → Puts a.txn p (record p { live = (took_at p.live held (answer, new)).1 })
+  took_puts a held is (Ok _) new e =
+      inr (
+        record { side = new; released = held.released },
+        row_txn grows held.side new (took a (ap (λ (r : Result Taking Refusal × Side). r.1) e)) ∙ is,
+        refl,
+      )
   took_puts a held is (Err refusal) new e = inl refl
 
   -- A message that comes leads on.
   takes_leads : (a : Apdu) → May a.txn → (own : Bool)
-      → LeadsTo May p (record p { live = (if own then (Err (faults.Core WrongRole), p.live) else takes_reached p.live a (reached p.live a.txn (is_ill_request a.body))).1 })
+      → LeadsTo May p (record p {
+        live =
+            (if own then (Err (faults.Core WrongRole), p.live) else
+            takes_reached p.live a (reached p.live a.txn (is_ill_request a.body))).1;
+      })
   takes_leads a may true = stays refl refl
   takes_leads a may false =
-      reach_leads May p a.txn (λ found. record p { live = (takes_reached p.live a found).1 }) (λ held is. took_puts a held is (takes held.side a).0 (takes held.side a).1 refl) (λ fault. refl) (idle_txn p.live.role a.txn)
-      (is_ill_request a.body) (λ begins. may) (nat_lt (length p.live.held) most_sides) refl (found_by txn_held a.txn p.live.held) refl
+      reach_leads May p a.txn (λ found. record p { live = (takes_reached p.live a found).1 })
+      (λ held is. took_puts a held is (takes held.side a).0 (takes held.side a).1 refl) (λ fault. refl)
+      (idle_txn p.live.role a.txn)
+      (is_ill_request a.body) (λ begins. may) (nat_lt (length p.live.held) most_sides) refl (found_by txn_held a.txn p.live.held)
+      refl
 
   -- A delivery leads on.
   receives_leads : (found : Option Apdu) → ((a : Apdu) → found ≡ Some a → May a.txn) → LeadsTo May p (desk_receives p found).1
@@ -225,7 +269,8 @@ module _ (grows : RowsGrow) (May : Qualifiers → Type 0) (p : DeskParty) where
   receives_leads (Some a) may = takes_leads a (may a refl) (is_own p.live.role a.body)
 
   -- A message that is sent leads on, if the desk after it does.
-  sends_leads : (after : Apdu → DeskParty) (issued : Option Apdu) (released : Bool) → ((a : Apdu) → LeadsTo May p (after a)) → LeadsTo May p (sends_by p after issued released).1
+  sends_leads : (after : Apdu → DeskParty) (issued : Option Apdu) (released : Bool) → ((a : Apdu) → LeadsTo May p (after a))
+      → LeadsTo May p (sends_by p after issued released).1
   sends_leads after None released leads = stays refl refl
   sends_leads after (Some a) false leads = stays refl refl
   sends_leads after (Some a) true leads = leads a
@@ -240,10 +285,14 @@ module _ (grows : RowsGrow) (May : Qualifiers → Type 0) (p : DeskParty) where
   held_txns = map-map txn_of (λ (held : DeskEntry). held.side) p.live.held
 
   -- An event leads on.
-  pub event_leads : (partner_sent : List Sending) (event : DeskEvent) → Permits May partner_sent event → LeadsTo May p (desk_happens_to p partner_sent event).1
-  event_leads partner_sent (desk_events.Wish of wish) may = decides_leads of (actions.Wish wish) (λ is. may) (is_same_role p.live.role who.Requester)
-  event_leads partner_sent (desk_events.Deed of deed today) may = decides_leads of (actions.Deed deed today) (λ is. absurd (true≢false (sym is))) (is_same_role p.live.role who.Responder)
-  event_leads partner_sent (desk_events.Save role) may = lands (map-map txn_held whole (map (λ (held : DeskEntry). held.side) p.live.held) ∙ held_txns) held_txns
+  pub event_leads : (partner_sent : List Sending) (event : DeskEvent) → Permits May partner_sent event
+      → LeadsTo May p (desk_happens_to p partner_sent event).1
+  event_leads partner_sent (desk_events.Wish of wish) may =
+      decides_leads of (actions.Wish wish) (λ is. may) (is_same_role p.live.role who.Requester)
+  event_leads partner_sent (desk_events.Deed of deed today) may =
+      decides_leads of (actions.Deed deed today) (λ is. absurd (true≢false (sym is))) (is_same_role p.live.role who.Responder)
+  event_leads partner_sent (desk_events.Save role) may =
+      lands (map-map txn_held whole (map (λ (held : DeskEntry). held.side) p.live.held) ∙ held_txns) held_txns
   event_leads partner_sent (desk_events.SaveFault role true) may = lands refl held_txns
   event_leads partner_sent (desk_events.SaveFault role false) may = stays refl refl
   event_leads partner_sent (desk_events.Send role of n) may = send_leads of n (found_by txn_held of p.live.held)
@@ -256,7 +305,8 @@ module _ (grows : RowsGrow) (May : Qualifiers → Type 0) (p : DeskParty) where
 -- A fact of two lists holds of lists that are equal to them.
 both_are : (P : List Qualifiers → List Qualifiers → Type 0) (live landed new_live new_landed : List Qualifiers)
     → new_live ≡ live → new_landed ≡ landed → P live landed → P new_live new_landed
-both_are P live landed new_live new_landed is there holds = subst (λ l. P l new_landed) (sym is) (subst (P live) (sym there) holds)
+both_are P live landed new_live new_landed is there holds =
+    subst (λ l. P l new_landed) (sym is) (subst (P live) (sym there) holds)
 
 -- The counts hold after the requester's desk has changed as `Leads` says.
 requester_counts : (live landed new_live new_landed others others_landed : List Qualifiers)
@@ -276,8 +326,10 @@ requester_counts live landed new_live new_landed others others_landed leads (few
           (known.0, (λ t among. has_still t txn live (known.1 t among)), known.2),
           (known_landed.0, (λ t among. has_still t txn live (known_landed.1 t among)), known_landed.2),
         )
-    go (lands is there) = both_are P live live new_live new_landed is there (few, few, (known.0, known.1, known.1), (known_landed.0, known_landed.1, known_landed.1))
-    go (returns is there) = both_are P landed landed new_live new_landed is there (few_landed, few_landed, (known.0, known.2, known.2), (known_landed.0, known_landed.2, known_landed.2))
+    go (lands is there) = both_are P live live new_live new_landed is there
+        (few, few, (known.0, known.1, known.1), (known_landed.0, known_landed.1, known_landed.1))
+    go (returns is there) = both_are P landed landed new_live new_landed is there
+        (few_landed, few_landed, (known.0, known.2, known.2), (known_landed.0, known_landed.2, known_landed.2))
 
 -- `txn` is one of the requester's live transactions, and one of its landed ones.
 abbrev IsKnown : List Qualifiers → List Qualifiers → Qualifiers → Type 0
@@ -293,16 +345,28 @@ responder_counts live landed others others_landed new new_landed leads (few, few
     P : List Qualifiers → List Qualifiers → Type 0
     P l m = Counts live landed l m
 
-    with_one : (those : List Qualifiers) (txn : Qualifiers) → is_one_of txn those ≡ true → AreAmong others those → AreAmong (others ++ txn ∷ []) those
-    with_one those txn here among t is = elim (has_either t txn others is) [ inl there ↦ among t there | inr same ↦ subst (λ u. is_one_of u those ≡ true) (sym same) here ]
+    with_one : (those : List Qualifiers) (txn : Qualifiers) → is_one_of txn those ≡ true → AreAmong others those
+        → AreAmong (others ++ txn ∷ []) those
+    with_one those txn here among t is =
+        elim (has_either t txn others is)
+        [ inl there ↦ among t there | inr same ↦ subst (λ u. is_one_of u those ≡ true) (sym same) here ]
 
     go : Leads (IsKnown live landed) others others_landed new new_landed → P new new_landed
     go (stays is there) = both_are P others others_landed new new_landed is there (few, few_landed, known, known_landed)
     go (begun txn none room may is there) =
-        both_are P (others ++ txn ∷ []) others_landed new new_landed is there
-        (few, few_landed, (apart_still txn others known.0 none, with_one live txn may.0 known.1, with_one landed txn may.1 known.2), known_landed)
+        both_are P (others ++ txn ∷ []) others_landed new new_landed is there (
+          few,
+          few_landed,
+          (
+            apart_still txn others known.0 none,
+            with_one live txn may.0 known.1,
+            with_one landed txn may.1 known.2,
+          ),
+          known_landed,
+        )
     go (lands is there) = both_are P others others new new_landed is there (few, few_landed, known, known)
-    go (returns is there) = both_are P others_landed others_landed new new_landed is there (few, few_landed, known_landed, known_landed)
+    go (returns is there) = both_are P others_landed others_landed new new_landed is there
+        (few, few_landed, known_landed, known_landed)
 
 -- A side that has issued a message is found.
 issued_found : {X : Type 0} (side : X → Side) (idle : X) (found : Option X) (n : ℕ) (a : Apdu)
@@ -319,8 +383,12 @@ sent_known w stands of n a sent =
     let saved = (stands.each of).requester.saved in
     let p = w.requester in
     let live = live_issues (project of w).requester saved a (n, sent) in (
-      sym (has_found txn_held of p.live.held) ∙ issued_found (λ (held : DeskEntry). held.side) (idle_held p.live.role of) (found_by txn_held of p.live.held) live.0 a (idle_issues p.live.role of) live.1,
-      sym (has_found txn_of of p.landed.sides) ∙ issued_found (λ side. side) (idle_side p.landed.role of) (found_by txn_of of p.landed.sides) n a (idle_issues p.landed.role of) (saved.landed n a sent),
+      sym (has_found txn_held of p.live.held)
+          ∙ issued_found (λ (held : DeskEntry). held.side) (idle_held p.live.role of) (found_by txn_held of p.live.held) live.0 a
+          (idle_issues p.live.role of) live.1,
+      sym (has_found txn_of of p.landed.sides)
+          ∙ issued_found (λ side. side) (idle_side p.landed.role of) (found_by txn_of of p.landed.sides) n a
+          (idle_issues p.landed.role of) (saved.landed n a sent),
     )
 
 -- The requester's desk may begin every transaction.
@@ -334,7 +402,8 @@ known_permitted : (w : DeskParties) → DesksStand w → (event : DeskEvent) →
     → Permits (IsKnown (live_txns w.requester) (landed_txns w.requester)) w.requester.sent event
 known_permitted w stands (desk_events.Wish of wish) is = search rules
 known_permitted w stands (desk_events.Deliver role of n) is =
-    λ a sent. subst (IsKnown (live_txns w.requester) (landed_txns w.requester)) ((keeps_to w who.Responder stands).txn_of_sent of n a sent) (sent_known w stands of n a sent)
+    λ a sent. subst (IsKnown (live_txns w.requester) (landed_txns w.requester))
+    ((keeps_to w who.Responder stands).txn_of_sent of n a sent) (sent_known w stands of n a sent)
 known_permitted w stands event is = tt
 
 -- An event leaves the transactions of two desks few and known.
@@ -343,12 +412,15 @@ pub count_at : RowsGrow → (w : DeskParties) (event : DeskEvent) → DesksStand
     → DesksCount (happens_at w role (λ p partner. desk_happens_to p partner.sent event)).1
 count_at grows w event stands who.Requester is =
     let new = (desk_happens_to w.requester w.responder.sent event).1 in
-    requester_counts (live_txns w.requester) (landed_txns w.requester) (live_txns new) (landed_txns new) (live_txns w.responder) (landed_txns w.responder)
+    requester_counts (live_txns w.requester) (landed_txns w.requester) (live_txns new) (landed_txns new) (live_txns w.responder)
+    (landed_txns w.responder)
     (event_leads grows (λ txn. Unit {0}) w.requester w.responder.sent event (all_permitted w.responder.sent event)) stands.counts
 count_at grows w event stands who.Responder is =
     let new = (desk_happens_to w.responder w.requester.sent event).1 in
-    responder_counts (live_txns w.requester) (landed_txns w.requester) (live_txns w.responder) (landed_txns w.responder) (live_txns new) (landed_txns new)
-    (event_leads grows (IsKnown (live_txns w.requester) (landed_txns w.requester)) w.responder w.requester.sent event (known_permitted w stands event is)) stands.counts
+    responder_counts (live_txns w.requester) (landed_txns w.requester) (live_txns w.responder) (landed_txns w.responder)
+    (live_txns new) (landed_txns new)
+    (event_leads grows (IsKnown (live_txns w.requester) (landed_txns w.requester)) w.responder w.requester.sent event
+    (known_permitted w stands event is)) stands.counts
 
 -- `DesksCount` holds of two desks that hold nothing.
 pub first_counts : DesksCount first_desks
@@ -357,7 +429,8 @@ first_counts = ((tt, omega arith), (tt, omega arith), (tt, (λ t is. is), (λ t 
 -- ---- deliveries
 
 -- A delivery that is never without room is not to a full desk.
-never_full : (may_begin has_room : Bool) (found : Option DeskEntry) → (found ≡ None → has_room ≡ false → ⊥) → Reaches may_begin has_room found DeskFull → ⊥
+never_full : (may_begin has_room : Bool) (found : Option DeskEntry) → (found ≡ None → has_room ≡ false → ⊥)
+    → Reaches may_begin has_room found DeskFull → ⊥
 never_full may_begin has_room (Some held) room reaches = reaches
 never_full true true None room reaches = reaches
 never_full true false None room reaches = room refl refl
@@ -365,15 +438,19 @@ never_full false has_room None room reaches = search rules
 
 -- A delivery finds room, if a desk without room holds the transaction of each message that was sent.
 none_full : EachReaches → (w : DeskParties) → DesksStand w → (role : Who) (txn : Qualifiers) (n : ℕ)
-    → ((a : Apdu) → sent_message (sent_for txn (party w (other role)).sent) n ≡ Some a → found_by txn_held txn (party w role).live.held ≡ None → nat_lt (length (party w role).live.held) 1000 ≡ false → ⊥)
+    → ((a : Apdu) → sent_message (sent_for txn (party w (other role)).sent) n ≡ Some a
+    → found_by txn_held txn (party w role).live.held ≡ None → nat_lt (length (party w role).live.held) 1000 ≡ false → ⊥)
     → (desks_happen w (desk_events.Deliver role txn n)).0 ≡ DeskFull → ⊥
 none_full reaches w stands role txn n room full = go (sent_message (sent_for txn (party w (other role)).sent) n) refl
   where
     go : (found : Option Apdu) → sent_message (sent_for txn (party w (other role)).sent) n ≡ found → ⊥
-    go None e = let seen : ◌≡◌ {A = DeskOutcome} (Plain NotSent) DeskFull = sym (ap (λ o. (desk_receives (party w role) o).0) e) ∙ full in search (rules, seen)
+    go None e = let seen : ◌≡◌ {A = DeskOutcome} (Plain NotSent) DeskFull =
+        sym (ap (λ o. (desk_receives (party w role) o).0) e) ∙ full in search (rules, seen)
     go (Some a) e =
-        never_full (is_ill_request a.body) (nat_lt (length (party w role).live.held) 1000) (found_by txn_held txn (party w role).live.held) (room a e)
-        (subst (Reaches (is_ill_request a.body) (nat_lt (length (party w role).live.held) 1000) (found_by txn_held txn (party w role).live.held)) full (reaches w (desk_events.Deliver role txn n) stands a e))
+        never_full (is_ill_request a.body) (nat_lt (length (party w role).live.held) 1000)
+        (found_by txn_held txn (party w role).live.held) (room a e)
+        (subst (Reaches (is_ill_request a.body) (nat_lt (length (party w role).live.held) 1000)
+        (found_by txn_held txn (party w role).live.held)) full (reaches w (desk_events.Deliver role txn n) stands a e))
 
 -- Nothing was sent to the requester in a transaction that its desk does not hold.
 pub none_sent : (w : DeskParties) → DesksStand w → (txn : Qualifiers) (n : ℕ) (a : Apdu)
@@ -381,7 +458,8 @@ pub none_sent : (w : DeskParties) → DesksStand w → (txn : Qualifiers) (n : �
 none_sent w stands txn n a sent none =
     let shown = stands.each txn in
     let v = project txn w in
-    asked txn v.requester.live v.responder.landed v.responder.sent v.requester.sent n a shown.requester.live shown.responder.landed (live_issues v.requester shown.requester.saved) (shown.responder.saved.landed n a sent)
+    asked txn v.requester.live v.responder.landed v.responder.sent v.requester.sent n a shown.requester.live
+    shown.responder.landed (live_issues v.requester shown.requester.saved) (shown.responder.saved.landed n a sent)
     (ap (λ o. issued_of (found_or (idle_held w.requester.live.role txn) o).side) none ∙ idle_issues w.requester.live.role txn)
 
 -- A delivery to the requester's desk in a transaction that it does not hold has the outcome NotSent.
@@ -390,7 +468,8 @@ pub unheld_is_not_sent : (w : DeskParties) (txn : Qualifiers) (n : ℕ) → Desk
     → (desks_happen w (desk_events.Deliver who.Requester txn n)).0 ≡ Plain NotSent
 unheld_is_not_sent w txn n stands none = go (sent_message (sent_for txn w.responder.sent) n) refl
   where
-    go : (found : Option Apdu) → sent_message (sent_for txn w.responder.sent) n ≡ found → (desks_happen w (desk_events.Deliver who.Requester txn n)).0 ≡ Plain NotSent
+    go : (found : Option Apdu) → sent_message (sent_for txn w.responder.sent) n ≡ found
+        → (desks_happen w (desk_events.Deliver who.Requester txn n)).0 ≡ Plain NotSent
     go None e = ap (λ o. (desk_receives w.requester o).0) e
     go (Some a) e = absurd (none_sent w stands txn n a e none)
 
@@ -402,14 +481,20 @@ responder_room w stands txn n a sent none full =
     let few = stands.counts.0.1 in
     let known = stands.counts.2 in
     let here = (sent_known w stands txn n a sent).0 in
-    let absent : is_one_of txn (live_txns w.responder) ≡ false = sym (has_found txn_held txn w.responder.live.held) ∙ ap is_some none in
+    let absent : is_one_of txn (live_txns w.responder) ≡ false =
+    sym (has_found txn_held txn w.responder.live.held) ∙ ap is_some none in
     let all : AreAmong (txn ∷ live_txns w.responder) (live_txns w.requester) =
-    λ t is. elim (one_of (is_same_txn t txn) (is_one_of t (live_txns w.responder)) is) [ inl same ↦ subst (λ u. is_one_of u (live_txns w.requester) ≡ true) (sym (same_is t txn same)) here | inr there ↦ known.1 t there ] in
+    λ t is. elim (one_of (is_same_txn t txn) (is_one_of t (live_txns w.responder)) is) [
+      | inl same ↦ subst (λ u. is_one_of u (live_txns w.requester) ≡ true) (sym (same_is t txn same)) here
+      | inr there ↦ known.1
+          t there
+    ] in
     let more = no_more (txn ∷ live_txns w.responder) (live_txns w.requester) (absent, known.0) all in
     omega (arith, few, more, ltb-false (length w.responder.live.held) 1000 full, length-map w.responder.live.held txn_held)
 
 -- If two desks stand, a delivery finds room.
 pub finds_room : EachReaches → (w : DeskParties) (role : Who) (txn : Qualifiers) (n : ℕ) → DesksStand w
     → (desks_happen w (desk_events.Deliver role txn n)).0 ≡ DeskFull → ⊥
-finds_room reaches w who.Requester txn n stands = none_full reaches w stands who.Requester txn n (λ a sent none full. none_sent w stands txn n a sent none)
+finds_room reaches w who.Requester txn n stands =
+    none_full reaches w stands who.Requester txn n (λ a sent none full. none_sent w stands txn n a sent none)
 finds_room reaches w who.Responder txn n stands = none_full reaches w stands who.Responder txn n (responder_room w stands txn n)

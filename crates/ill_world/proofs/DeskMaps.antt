@@ -1,5 +1,6 @@
 -- The messages sent in each transaction, in a map.
-use Rattle.std.proofs.Common.{◌≡◌, ℕ, Bool, true, false, cond, List, [], ◌∷◌, ◌++◌, Option, Some, None, is_some, Result, Ok, Err, OnOk, refl, sym, ap, ◌∙◌, true≢false}
+use Rattle.std.proofs.Common.{◌≡◌, ℕ, Bool, true, false, cond, List, [], ◌∷◌, ◌++◌, Option, Some, None, is_some, Result, Ok, Err}
+use Rattle.std.proofs.Common.{OnOk, refl, sym, ap, ◌∙◌, true≢false}
 use Rattle.std.specs.Map.{lookup, set_value}
 use Rattle.std.proofs.lemmas.List.{map-append}
 use Rattle.ill_values.specs.TxnId.{Qualifiers}
@@ -18,9 +19,11 @@ abbrev Entries : Type 0
 Entries = List (Qualifiers × List (Option Apdu))
 
 -- If the messages found in the rest of both lists are equal, they are so with one entry more.
-sent_first : (txn : Qualifiers) (e : Qualifiers × List (Option Apdu)) (found : Option Sending) (there : Option (List (Option Apdu))) (same : Bool)
+sent_first : (txn : Qualifiers) (e : Qualifiers × List (Option Apdu)) (found : Option Sending)
+    (there : Option (List (Option Apdu))) (same : Bool)
     → (found_or {X = Sending} (record { txn = txn; sent = nothing_sent }) found).sent ≡ found_or nothing_sent there
-    → (found_or {X = Sending} (record { txn = txn; sent = nothing_sent }) (cond same (Some (record { txn = e.0; sent = e.1 })) found)).sent ≡ found_or nothing_sent (cond same (Some e.1) there)
+    → (found_or {X = Sending} (record { txn = txn; sent = nothing_sent })
+    (cond same (Some (record { txn = e.0; sent = e.1 })) found)).sent ≡ found_or nothing_sent (cond same (Some e.1) there)
 sent_first txn e found there true further = refl
 sent_first txn e found there false further = further
 
@@ -28,7 +31,8 @@ sent_first txn e found there false further = further
 pub sent_there : (txn : Qualifiers) (entries : Entries)
     → sent_for txn (sendings_of entries) ≡ found_or nothing_sent (lookup (is_same_txn txn) entries)
 sent_there txn [] = refl
-sent_there txn (e ∷ entries) = sent_first txn e (found_by txn_sent txn (sendings_of entries)) (lookup (is_same_txn txn) entries) (is_same_txn txn e.0) (sent_there txn entries)
+sent_there txn (e ∷ entries) = sent_first txn e (found_by txn_sent txn (sendings_of entries)) (lookup (is_same_txn txn) entries)
+    (is_same_txn txn e.0) (sent_there txn entries)
 
 -- No message n was sent among 255 empty places.
 pub nothing_there : (n : ℕ) → sent_message nothing_sent n ≡ None
@@ -39,19 +43,25 @@ nothing_there n = go (sent_message nothing_sent n) refl
     go (Some a) e = absurd (none_sent n a e)
 
 -- If setting an entry and putting it agree on the rest of both lists, they agree with one entry more.
-set_first : (txn : Qualifiers) (new sent : List (Option Apdu)) (e : Qualifiers × List (Option Apdu)) (found : Option (List (Option Apdu))) (entries set_on : Entries) (put_on : List Sending) (same : Bool)
+set_first : (txn : Qualifiers) (new sent : List (Option Apdu)) (e : Qualifiers × List (Option Apdu))
+    (found : Option (List (Option Apdu))) (entries set_on : Entries) (put_on : List Sending) (same : Bool)
     → is_same_txn txn e.0 ≡ same → cond same (Some e.1) found ≡ Some sent → (found ≡ Some sent → sendings_of set_on ≡ put_on)
-    → sendings_of (cond same ((e.0, new) ∷ entries) (e ∷ set_on)) ≡ cond same (record { txn = txn; sent = new } ∷ sendings_of entries) (record { txn = e.0; sent = e.1 } ∷ put_on)
-set_first txn new sent e found entries set_on put_on true same there further = ap (λ t. record { txn = t; sent = new } ∷ sendings_of entries) (sym (same_is txn e.0 same))
-set_first txn new sent e found entries set_on put_on false same there further = ap (λ all. record { txn = e.0; sent = e.1 } ∷ all) (further there)
+    → sendings_of (cond same ((e.0, new) ∷ entries) (e ∷ set_on))
+    ≡ cond same (record { txn = txn; sent = new } ∷ sendings_of entries) (record { txn = e.0; sent = e.1 } ∷ put_on)
+set_first txn new sent e found entries set_on put_on true same there further =
+    ap (λ t. record { txn = t; sent = new } ∷ sendings_of entries) (sym (same_is txn e.0 same))
+set_first txn new sent e found entries set_on put_on false same there further =
+    ap (λ all. record { txn = e.0; sent = e.1 } ∷ all) (further there)
 
 -- Setting the entry of `txn`, if there is one, is putting it.
 set_there : (txn : Qualifiers) (new sent : List (Option Apdu)) (entries : Entries) → lookup (is_same_txn txn) entries ≡ Some sent
-    → sendings_of (set_value (is_same_txn txn) entries new) ≡ put_by txn_sent (record { txn = txn; sent = new }) (sendings_of entries)
+    → sendings_of (set_value (is_same_txn txn) entries new)
+    ≡ put_by txn_sent (record { txn = txn; sent = new }) (sendings_of entries)
 unfolding put_by
 set_there txn new sent [] there = absurd (true≢false (sym (ap is_some there)))
 set_there txn new sent (e ∷ entries) there =
-    set_first txn new sent e (lookup (is_same_txn txn) entries) entries (set_value (is_same_txn txn) entries new) (put_by txn_sent (record { txn = txn; sent = new }) (sendings_of entries)) (is_same_txn txn e.0) refl there
+    set_first txn new sent e (lookup (is_same_txn txn) entries) entries (set_value (is_same_txn txn) entries new)
+    (put_by txn_sent (record { txn = txn; sent = new }) (sendings_of entries)) (is_same_txn txn e.0) refl there
     (set_there txn new sent entries)
 
 -- If `txn` has an entry, setting it with message n added is sending message n in `txn`.
@@ -60,10 +70,12 @@ pub put_there : (txn : Qualifiers) (n : ℕ) (a : Apdu) (sent : List (Option Apd
     → sendings_of (set_value (is_same_txn txn) entries (with_sent sent n a)) ≡ with_sent_for txn (sendings_of entries) n a
 put_there txn n a sent entries there =
     set_there txn (with_sent sent n a) sent entries there
-    ∙ ap (λ s. put_by txn_sent (record { txn = txn; sent = with_sent s n a }) (sendings_of entries)) (sym (sent_there txn entries ∙ ap (found_or nothing_sent) there))
+    ∙ ap (λ s. put_by txn_sent (record { txn = txn; sent = with_sent s n a }) (sendings_of entries))
+    (sym (sent_there txn entries ∙ ap (found_or nothing_sent) there))
 
 -- If neither the first entry nor the rest is of a transaction, nothing is found of it.
-none_first : (same : Bool) (here : List (Option Apdu)) (new : Sending) (there : Option (List (Option Apdu))) (found : Option Sending)
+none_first : (same : Bool) (here : List (Option Apdu)) (new : Sending) (there : Option (List (Option Apdu)))
+    (found : Option Sending)
     → cond same (Some here) there ≡ None → (there ≡ None → found ≡ None)
     → cond same (Some new) found ≡ None
 none_first true here new there found none further = absurd (true≢false (ap is_some none))
@@ -74,15 +86,18 @@ none_found : (txn : Qualifiers) (entries : Entries) → lookup (is_same_txn txn)
     → found_by txn_sent txn (sendings_of entries) ≡ None
 none_found txn [] none = refl
 none_found txn (e ∷ entries) none =
-    none_first (is_same_txn txn e.0) e.1 (record { txn = e.0; sent = e.1 }) (lookup (is_same_txn txn) entries) (found_by txn_sent txn (sendings_of entries)) none (none_found txn entries)
+    none_first (is_same_txn txn e.0) e.1 (record { txn = e.0; sent = e.1 }) (lookup (is_same_txn txn) entries)
+    (found_by txn_sent txn (sendings_of entries)) none (none_found txn entries)
 
 -- If `txn` has no entry, adding one with message n alone is sending message n in `txn`.
 pub put_new : (txn : Qualifiers) (n : ℕ) (a : Apdu) (entries : Entries) → lookup (is_same_txn txn) entries ≡ None
     → sendings_of (entries ++ (txn, with_sent nothing_sent n a) ∷ []) ≡ with_sent_for txn (sendings_of entries) n a
 put_new txn n a entries none =
     let new : Sending = record { txn = txn; sent = with_sent nothing_sent n a } in
-    map-append (λ e. record { txn = e.0; sent = e.1 }) entries ((txn, with_sent nothing_sent n a) ∷ []) ∙ sym (put_last txn_sent new (sendings_of entries) (none_found txn entries none))
-    ∙ ap (λ s. put_by txn_sent (record { txn = txn; sent = with_sent s n a }) (sendings_of entries)) (sym (sent_there txn entries ∙ ap (found_or nothing_sent) none))
+    map-append (λ e. record { txn = e.0; sent = e.1 }) entries ((txn, with_sent nothing_sent n a) ∷ [])
+    ∙ sym (put_last txn_sent new (sendings_of entries) (none_found txn entries none))
+    ∙ ap (λ s. put_by txn_sent (record { txn = txn; sent = with_sent s n a }) (sendings_of entries))
+    (sym (sent_there txn entries ∙ ap (found_or nothing_sent) none))
 
 -- ---- changes of a map
 
@@ -95,16 +110,20 @@ becomes_put txn n a entries new (Some sent) e becomes = ap sendings_of becomes.1
 becomes_put txn n a entries new None e becomes = absurd (true≢false (sym (ap is_some becomes.0)))
 
 -- If `a` comes back, `txn` has no entry, and nothing has changed.
-pub becomes_none : (txn : Qualifiers) (next : List (Option Apdu) → List (Option Apdu)) (a back : Apdu) (entries new : Entries) (found : Option (List (Option Apdu)))
+pub becomes_none : (txn : Qualifiers) (next : List (Option Apdu) → List (Option Apdu)) (a back : Apdu) (entries new : Entries)
+    (found : Option (List (Option Apdu)))
     → BecomesAmong txn next entries found (Some back) a new → (found ≡ None) × (a ≡ back) × (new ≡ entries)
 becomes_none txn next a back entries new None becomes = (refl, sym (some_is back a becomes.0), becomes.1)
 becomes_none txn next a back entries new (Some sent) becomes = absurd (true≢false (ap is_some becomes.0))
 
 -- If `txn` has no entry, and one with message n alone was added, message n was sent in `txn`.
-pub first_put : {F : Type 0} (txn key : Qualifiers) (n : ℕ) (a : Apdu) (value : List (Option Apdu)) (entries old new : Entries) (result : Result (Unit {0}) F)
+pub first_put : {F : Type 0} (txn key : Qualifiers) (n : ℕ) (a : Apdu) (value : List (Option Apdu)) (entries old new : Entries)
+    (result : Result (Unit {0}) F)
     → lookup (is_same_txn txn) entries ≡ None → key ≡ txn
     → value ≡ with_sent nothing_sent n a → old ≡ entries → OnOk result (new ≡ old ++ (key, value) ∷ [])
     → OnOk result (sendings_of new ≡ with_sent_for txn (sendings_of entries) n a)
 first_put txn key n a value entries old new (Ok done) none of is same put =
-    ap sendings_of put ∙ ap (λ es. sendings_of (es ++ (key, value) ∷ [])) same ∙ ap (λ t. sendings_of (entries ++ (t, value) ∷ [])) of ∙ ap (λ v. sendings_of (entries ++ (txn, v) ∷ [])) is ∙ put_new txn n a entries none
+    ap sendings_of put ∙ ap (λ es. sendings_of (es ++ (key, value) ∷ [])) same
+    ∙ ap (λ t. sendings_of (entries ++ (t, value) ∷ [])) of ∙ ap (λ v. sendings_of (entries ++ (txn, v) ∷ [])) is
+    ∙ put_new txn n a entries none
 first_put txn key n a value entries old new (Err fault) none of is same put = put

@@ -1,5 +1,6 @@
 -- Why a night of two desks is a night of both sides in each transaction.
-use Rattle.std.proofs.Common.{◌≡◌, Bool, true, false, cond, List, [], ◌∷◌, length, map, Option, Some, None, refl, sym, ap, ◌∙◌, subst}
+use Rattle.std.proofs.Common.{◌≡◌, Bool, true, false, cond, List, [], ◌∷◌, length, map, Option, Some, None, refl, sym, ap, ◌∙◌}
+use Rattle.std.proofs.Common.{subst}
 use Rattle.std.specs.Prelude.{filter}
 use Rattle.std.proofs.lemmas.Bool.{or_parts, or_from}
 use Rattle.ill_values.specs.TxnId.{Qualifiers}
@@ -32,14 +33,16 @@ use Rattle.ill_world.proofs.DeskRounds.{shown, sides_alike, held_apart}
 
 module _ (wants : Side → Bool) where
   -- If a transaction has none of the sides, it has none of those that want sending.
-  none_wanted : (txn : Qualifiers) (all : List Side) → is_one_of txn (map txn_of all) ≡ false → is_one_of txn (map txn_of (filter wants all)) ≡ false
+  none_wanted : (txn : Qualifiers) (all : List Side) → is_one_of txn (map txn_of all) ≡ false
+      → is_one_of txn (map txn_of (filter wants all)) ≡ false
   none_wanted txn [] none = none
   none_wanted txn (side ∷ more) none = go (wants side) (none_wanted txn more parts.1)
     where
       parts : (is_same_txn txn (txn_of side) ≡ false) × (is_one_of txn (map txn_of more) ≡ false)
       parts = or_parts (is_same_txn txn (txn_of side)) (is_one_of txn (map txn_of more)) none
 
-      go : (wanted : Bool) → is_one_of txn (map txn_of (filter wants more)) ≡ false → is_one_of txn (map txn_of (cond wanted (side ∷ filter wants more) (filter wants more))) ≡ false
+      go : (wanted : Bool) → is_one_of txn (map txn_of (filter wants more)) ≡ false
+          → is_one_of txn (map txn_of (cond wanted (side ∷ filter wants more) (filter wants more))) ≡ false
       go true rest = or_from (is_same_txn txn (txn_of side)) (is_one_of txn (map txn_of (filter wants more))) parts.0 rest
       go false rest = rest
 
@@ -48,7 +51,8 @@ module _ (wants : Side → Bool) where
   apart_wanted [] apart = apart
   apart_wanted (side ∷ more) apart = go (wants side) (apart_wanted more apart.1)
     where
-      go : (wanted : Bool) → AreApart (map txn_of (filter wants more)) → AreApart (map txn_of (cond wanted (side ∷ filter wants more) (filter wants more)))
+      go : (wanted : Bool) → AreApart (map txn_of (filter wants more))
+          → AreApart (map txn_of (cond wanted (side ∷ filter wants more) (filter wants more)))
       go true rest = (none_wanted (txn_of side) more apart.0, rest)
       go false rest = rest
 
@@ -66,9 +70,11 @@ module _ (wants : Side → Bool) where
 
   -- Among sides that want sending, the one found for `txn` is its side if that wants it, or else idle.
   found_wanted : (txn : Qualifiers) (idle : Side) (all : List Side) → AreApart (map txn_of all)
-      → found_or idle (found_by txn_of txn (filter wants all)) ≡ cond (wants (found_or idle (found_by txn_of txn all))) (found_or idle (found_by txn_of txn all)) idle
+      → found_or idle (found_by txn_of txn (filter wants all))
+      ≡ cond (wants (found_or idle (found_by txn_of txn all))) (found_or idle (found_by txn_of txn all)) idle
   found_wanted txn idle [] apart = idle_either idle (wants idle)
-  found_wanted txn idle (side ∷ more) apart = go (is_same_txn txn (txn_of side)) (wants side) refl refl (found_wanted txn idle more apart.1)
+  found_wanted txn idle (side ∷ more) apart =
+      go (is_same_txn txn (txn_of side)) (wants side) refl refl (found_wanted txn idle more apart.1)
     where
       kept : Option Side
       kept = found_by txn_of txn (filter wants more)
@@ -76,13 +82,16 @@ module _ (wants : Side → Bool) where
       rest : Option Side
       rest = found_by txn_of txn more
 
-      go : (same wanted : Bool) → is_same_txn txn (txn_of side) ≡ same → wants side ≡ wanted → found_or idle kept ≡ cond (wants (found_or idle rest)) (found_or idle rest) idle
+      go : (same wanted : Bool) → is_same_txn txn (txn_of side) ≡ same → wants side ≡ wanted
+          → found_or idle kept ≡ cond (wants (found_or idle rest)) (found_or idle rest) idle
           → found_or idle (found_by txn_of txn (cond wanted (side ∷ filter wants more) (filter wants more)))
           ≡ cond (wants (found_or idle (cond same (Some side) rest))) (found_or idle (cond same (Some side) rest)) idle
       go true true e is further = ap (λ b. found_or idle (cond b (Some side) kept)) e ∙ ap (λ b. cond b side idle) (sym is)
       go true false e is further =
-          let none : is_one_of txn (map txn_of more) ≡ false = subst (λ t. is_one_of t (map txn_of more) ≡ false) (sym (same_is txn (txn_of side) e)) apart.0 in
-          ap (found_or idle) (found_none txn (filter wants more) (none_wanted txn more none)) ∙ ap (λ b. cond b side idle) (sym is)
+          let none : is_one_of txn (map txn_of more) ≡ false =
+          subst (λ t. is_one_of t (map txn_of more) ≡ false) (sym (same_is txn (txn_of side) e)) apart.0 in
+          ap (found_or idle) (found_none txn (filter wants more) (none_wanted txn more none))
+          ∙ ap (λ b. cond b side idle) (sym is)
       go false true e is further = ap (λ b. found_or idle (cond b (Some side) kept)) e ∙ further
       go false false e is further = further
 
@@ -95,9 +104,11 @@ passes_of role side = sends_and_delivers role 1 (length (issued_of side))
 module _ (projects : EachProjects) (reaches : EachReaches) (after : EachStands) (txn : Qualifiers) where
   -- The half of the sides that want sending is, in `txn`, the half of its side if that wants sending.
   half_if_alike : (wants : Side → Bool) (w : DeskParties) (role : Who) → DesksStand w
-      → project txn (desks_run w (desk_half_if wants role w)) ≡ run_of (project txn w) (half_if (wants (party (project txn w) role).live) role (project txn w))
+      → project txn (desks_run w (desk_half_if wants role w))
+      ≡ run_of (project txn w) (half_if (wants (party (project txn w) role).live) role (project txn w))
   unfolding run_by side_with sends_and_delivers
-  half_if_alike wants w role stands = saved_alike ∙ go (wants side) ∙ ap (λ (p : Party). run_of v (half_if (wants p.live) role v)) (sym (shown txn w role))
+  half_if_alike wants w role stands =
+      saved_alike ∙ go (wants side) ∙ ap (λ (p : Party). run_of v (half_if (wants p.live) role v)) (sym (shown txn w role))
     where
       v : Parties
       v = project txn w
@@ -120,19 +131,24 @@ module _ (projects : EachProjects) (reaches : EachReaches) (after : EachStands) 
       apart : AreApart (map txn_of all)
       apart = held_apart projects reaches after txn w role stands
 
-      saved_alike : project txn (desks_run w (desk_half_if wants role w)) ≡ run_of v (events.Save role ∷ passes_of role (cond (wants side) side idle))
+      saved_alike : project txn (desks_run w (desk_half_if wants role w))
+          ≡ run_of v (events.Save role ∷ passes_of role (cond (wants side) side idle))
       saved_alike =
-          sides_alike projects reaches after txn saved role idle (idle_issues live.role txn) (filter wants all) (apart_wanted wants all apart) (after w (desk_events.Save role) stands)
+          sides_alike projects reaches after txn saved role idle (idle_issues live.role txn) (filter wants all)
+          (apart_wanted wants all apart) (after w (desk_events.Save role) stands)
           ∙ ap (λ s. run_of (project txn saved) (passes_of role s)) (found_wanted wants txn idle all apart)
           ∙ ap (λ s. run_of (project txn saved) (passes_of role (cond (wants s) s idle))) (side_of_held txn live)
           ∙ ap (λ u. run_of u (passes_of role (cond (wants side) side idle))) (projects txn w (desk_events.Save role) stands).1
 
-      go : (wanted : Bool) → run_of v (events.Save role ∷ passes_of role (cond wanted side idle)) ≡ run_of v (half_if wanted role v)
+      go : (wanted : Bool) → run_of v (events.Save role ∷ passes_of role (cond wanted side idle))
+          ≡ run_of v (half_if wanted role v)
       go true = ap (λ (p : Party). run_of v (events.Save role ∷ passes_of role p.live)) (sym (shown txn w role))
-      go false = ap (λ (apdus : List Apdu). run_of v (events.Save role ∷ sends_and_delivers role 1 (length apdus))) (idle_issues live.role txn)
+      go false = ap (λ (apdus : List Apdu). run_of v (events.Save role ∷ sends_and_delivers role 1 (length apdus)))
+          (idle_issues live.role txn)
 
   -- A night of two desks is a night of both sides in the transaction.
-  pub night_alike : (w : DeskParties) → DesksStand w → project txn (desks_run w (desk_night_of w)) ≡ run_of (project txn w) (night_of (project txn w))
+  pub night_alike : (w : DeskParties) → DesksStand w
+      → project txn (desks_run w (desk_night_of w)) ≡ run_of (project txn w) (night_of (project txn w))
   night_alike w stands =
       let first = desk_asking_half w in
       let next = desks_run w first in
@@ -142,6 +158,10 @@ module _ (projects : EachProjects) (reaches : EachReaches) (after : EachStands) 
       let wants : Side → Bool = λ side. wants_sending (is_asked_by w side) side in
       ap (project txn) (run_both desks_happen w first (desk_half_if wants who.Responder next))
       ∙ half_if_alike wants next who.Responder (desks_stand_on after w first stands)
-      ∙ ap (λ t. run_of (project txn next) (half_if (wants_sending (asks (held_for t w.requester.live).side) lender) who.Responder (project txn next))) (held_txn txn next.responder.live)
-      ∙ ap (λ (u : Parties). run_of u (half_if (wants_sending (asks v.requester.live) u.responder.live) who.Responder u)) (half_if_alike (wants_sending false) w who.Requester stands)
-      ∙ sym (run_both happens v v_first (half_if (wants_sending (asks v.requester.live) (run_of v v_first).responder.live) who.Responder (run_of v v_first)))
+      ∙ ap (λ t. run_of (project txn next)
+      (half_if (wants_sending (asks (held_for t w.requester.live).side) lender) who.Responder (project txn next)))
+      (held_txn txn next.responder.live)
+      ∙ ap (λ (u : Parties). run_of u (half_if (wants_sending (asks v.requester.live) u.responder.live) who.Responder u))
+      (half_if_alike (wants_sending false) w who.Requester stands)
+      ∙ sym (run_both happens v v_first
+      (half_if (wants_sending (asks v.requester.live) (run_of v v_first).responder.live) who.Responder (run_of v v_first)))

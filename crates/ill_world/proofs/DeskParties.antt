@@ -57,7 +57,8 @@ heard_part bytes read a size decodes part = let found = part_reads bytes read a 
 -- The outcome of noise fits the APDU that was decoded.
 pub heard_as : (bytes : List ℕ) (read : Result (Apdu × List ℕ) DerFault) (answer : Result (Apdu × ℕ) DerFault)
     → Decodes bytes read answer → HeardAs bytes (desk_hears read) answer
-heard_as bytes read (Ok (a, size)) decodes = (λ whole. ap desk_hears (whole_reads bytes read a size decodes whole), λ part. heard_part bytes read a size decodes part)
+heard_as bytes read (Ok (a, size)) decodes =
+    (λ whole. ap desk_hears (whole_reads bytes read a size decodes whole), λ part. heard_part bytes read a size decodes part)
 heard_as bytes read (Err OutOfMemory) decodes = tt
 heard_as bytes (Err none) (Err fault) decodes = refl
 heard_as bytes (Ok found) (Err fault) decodes = search (rules, decodes)

@@ -9,5 +9,6 @@ pub flat_map_grows : {X A : Type 0} (f : X → List A) (xs : List X) (i : ℕ) (
     → slice_get xs i ≡ Some x → after ≡ before ++ f x
     → before ≡ first ∷ flat_map f (take i xs) → after ≡ first ∷ flat_map f (take (i + 1) xs)
 flat_map_grows f xs i x first before after found is so_far =
-    let one_more : take (i + 1) xs ≡ take i xs ++ x ∷ [] = take_more xs i x (slice_get_within xs i x found) ∙ ap (λ y. take i xs ++ y ∷ []) (get_or_from_slice_get xs i x x found) in
+    let one_more : take (i + 1) xs ≡ take i xs ++ x ∷ [] =
+    take_more xs i x (slice_get_within xs i x found) ∙ ap (λ y. take i xs ++ y ∷ []) (get_or_from_slice_get xs i x x found) in
     is ∙ ap (λ l. l ++ f x) so_far ∙ flat_map_more f (first ∷ []) (take i xs) x ∙ ap (λ l. first ∷ flat_map f l) (sym one_more)

@@ -1,5 +1,6 @@
 -- In each transaction, a round of two desks is a round of both sides.
-use Rattle.std.proofs.Common.{rules, ◌≡◌, ℕ, zero, suc, ◌+◌, nat_le, nat_lt, Bool, true, false, not, cond, List, [], ◌∷◌, length, map, Option, Some, None, refl, sym, ap, ◌∙◌, subst, true≢false}
+use Rattle.std.proofs.Common.{rules, ◌≡◌, ℕ, zero, suc, ◌+◌, nat_le, nat_lt, Bool, true, false, not, cond, List, [], ◌∷◌, length}
+use Rattle.std.proofs.Common.{map, Option, Some, None, refl, sym, ap, ◌∙◌, subst, true≢false}
 use Rattle.std.specs.Prelude.{flat_map}
 use Rattle.std.proofs.lemmas.Bool.{or_parts}
 use Rattle.std.proofs.lemmas.Simd.{map-map}
@@ -30,7 +31,8 @@ use Rattle.ill_world.specs.declared.event.Outcome.{Outcome}
 use Rattle.ill_world.specs.declared.event.DeskOutcome.{DeskOutcome}
 use Rattle.ill_world.specs.declared.event.DeskOutcome.TheVariants.{Plain, NoSuchTransaction, DeskFull}
 use Rattle.ill_world.specs.World.{Party, Parties, party, with_party, sent_message, sends, receives, happens, run_by, run_of}
-use Rattle.ill_world.specs.Desks.{DeskParties, sent_for, plain, desks_happen, desks_run, party_for, project, concerns, if_reached, IsSeenAs}
+use Rattle.ill_world.specs.Desks.{DeskParties, sent_for, plain, desks_happen, desks_run, party_for, project, concerns, if_reached}
+use Rattle.ill_world.specs.Desks.{IsSeenAs}
 use Rattle.ill_world.specs.DeskScript.{in_txn}
 use Rattle.ill_world.specs.DeskChanges.{Reaches}
 use Rattle.ill_world.specs.DeskCounts.{is_one_of, AreApart}
@@ -77,10 +79,12 @@ idle_takes : (txn : Qualifiers) (a : Apdu) → is_ill_request a.body ≡ false
     → (takes (idle_side who.Responder txn) a).1 ≡ idle_side who.Responder txn
 idle_takes txn a is =
     ap sides.Responder
-    (refused_or_same (first_refusal txn (not (is_requesters a.body)) a) (idle_responder txn) (take_message (idle_responder txn) a a.body) (idle_message txn a a.body is))
+    (refused_or_same (first_refusal txn (not (is_requesters a.body)) a) (idle_responder txn)
+    (take_message (idle_responder txn) a a.body) (idle_message txn a a.body is))
 
 -- A side that is not held has issued nothing.
-unheld_issues : (txn : Qualifiers) (live : DeskContents) → found_by txn_held txn live.held ≡ None → issued_of (held_for txn live).side ≡ []
+unheld_issues : (txn : Qualifiers) (live : DeskContents) → found_by txn_held txn live.held ≡ None
+    → issued_of (held_for txn live).side ≡ []
 unheld_issues txn live none = ap (λ o. issued_of (found_or (idle_held live.role txn) o).side) none ∙ idle_issues live.role txn
 
 -- ---- one event
@@ -114,7 +118,8 @@ seen_elsewhere false is expected old new NoSuchTransaction seen = seen
 seen_elsewhere false is expected old new DeskFull seen = seen
 
 -- A transaction that is not reached is not held, and the event may not begin it.
-not_reached : (may_begin has_room : Bool) (found : Option DeskEntry) → Reaches may_begin has_room found NoSuchTransaction → (found ≡ None) × (may_begin ≡ false)
+not_reached : (may_begin has_room : Bool) (found : Option DeskEntry) → Reaches may_begin has_room found NoSuchTransaction
+    → (found ≡ None) × (may_begin ≡ false)
 not_reached may_begin has_room (Some held) reaches = absurd reaches
 not_reached true true None reaches = absurd reaches
 not_reached true false None reaches = search rules
@@ -131,19 +136,25 @@ module _ (projects : EachProjects) (reaches : EachReaches) (after : EachStands) 
   HappensAlike w event = project txn (desks_happen w event).1 ≡ (happens (project txn w) (plain event)).1
 
   -- An event of another transaction changes nothing.
-  other_stays : (w : DeskParties) (event : DeskEvent) → concerns txn event ≡ false → DesksStand w → project txn (desks_happen w event).1 ≡ project txn w
+  other_stays : (w : DeskParties) (event : DeskEvent) → concerns txn event ≡ false → DesksStand w
+      → project txn (desks_happen w event).1 ≡ project txn w
   other_stays w event is stands =
-      seen_elsewhere (concerns txn event) is (happens (project txn w) (plain event)) (project txn w) (project txn (desks_happen w event).1) (desks_happen w event).0 (projects txn w event stands)
+      seen_elsewhere (concerns txn event) is (happens (project txn w) (plain event)) (project txn w)
+      (project txn (desks_happen w event).1) (desks_happen w event).0 (projects txn w event stands)
 
   -- An event of the transaction happens alike, if an event that is not reached changes nothing.
-  alike : (w : DeskParties) (event : DeskEvent) → concerns txn event ≡ true → DesksStand w → ((desks_happen w event).0 ≡ DeskFull → ⊥)
-      → ((desks_happen w event).0 ≡ NoSuchTransaction → (happens (project txn w) (plain event)).1 ≡ project txn w) → HappensAlike w event
+  alike : (w : DeskParties) (event : DeskEvent) → concerns txn event ≡ true → DesksStand w
+      → ((desks_happen w event).0 ≡ DeskFull → ⊥)
+      → ((desks_happen w event).0 ≡ NoSuchTransaction → (happens (project txn w) (plain event)).1 ≡ project txn w)
+      → HappensAlike w event
   alike w event is stands room stays =
-      seen_alike (concerns txn event) is (happens (project txn w) (plain event)) (project txn w) (project txn (desks_happen w event).1) (desks_happen w event).0 (projects txn w event stands) room stays
+      seen_alike (concerns txn event) is (happens (project txn w) (plain event)) (project txn w)
+      (project txn (desks_happen w event).1) (desks_happen w event).0 (projects txn w event stands) room stays
 
   -- A Send in the transaction happens alike.
   send_alike : (w : DeskParties) (role : Who) (n : ℕ) → DesksStand w → HappensAlike w (desk_events.Send role txn n)
-  send_alike w role n stands = alike w event (same_self txn) stands (λ full. begins_in_room has_room found (reached DeskFull full)) stays
+  send_alike w role n stands = alike w event (same_self txn) stands
+      (λ full. begins_in_room has_room found (reached DeskFull full)) stays
     where
       event : DeskEvent
       event = desk_events.Send role txn n
@@ -163,14 +174,19 @@ module _ (projects : EachProjects) (reaches : EachReaches) (after : EachStands) 
       stays : (desks_happen w event).0 ≡ NoSuchTransaction → (happens v (events.Send role n)).1 ≡ v
       stays missed =
           let nothing : issued_of (party v role).live ≡ [] =
-          ap (λ (p : Party). issued_of p.live) (shown txn w role) ∙ unheld_issues txn (party w role).live (not_reached false has_room found (reached NoSuchTransaction missed)).0 in
+          ap (λ (p : Party). issued_of p.live) (shown txn w role)
+          ∙ unheld_issues txn (party w role).live (not_reached false has_room found (reached NoSuchTransaction missed)).0 in
           ap (with_party v role) (idle_sends (party v role) n (nat_le n (party v role).released) nothing) ∙ same_party v role
 
   -- A message that does not reach its transaction changes nothing of the side that is shown.
-  idle_stays : (w : DeskParties) (role : Who) (n : ℕ) (a : Apdu) → DesksStand w → sent_message (sent_for txn (party w (other role)).sent) n ≡ Some a
-      → (desks_happen w (desk_events.Deliver role txn n)).0 ≡ NoSuchTransaction → (receives (party (project txn w) role) (Some a)).1 ≡ party (project txn w) role
+  idle_stays : (w : DeskParties) (role : Who) (n : ℕ) (a : Apdu) → DesksStand w
+      → sent_message (sent_for txn (party w (other role)).sent) n ≡ Some a
+      → (desks_happen w (desk_events.Deliver role txn n)).0 ≡ NoSuchTransaction
+      → (receives (party (project txn w) role) (Some a)).1 ≡ party (project txn w) role
   idle_stays w role n a stands sent missed =
-      go role sent (not_reached (is_ill_request a.body) has_room found (subst (Reaches (is_ill_request a.body) has_room found) missed (reaches w (desk_events.Deliver role txn n) stands a sent)))
+      go role sent (not_reached (is_ill_request a.body) has_room found
+      (subst (Reaches (is_ill_request a.body) has_room found) missed
+      (reaches w (desk_events.Deliver role txn n) stands a sent)))
     where
       has_room : Bool
       has_room = nat_lt (length (party w role).live.held) 1000
@@ -178,14 +194,16 @@ module _ (projects : EachProjects) (reaches : EachReaches) (after : EachStands) 
       found : Option DeskEntry
       found = found_by txn_held txn (party w role).live.held
 
-      go : (to : Who) → sent_message (sent_for txn (party w (other to)).sent) n ≡ Some a → (found_by txn_held txn (party w to).live.held ≡ None) × (is_ill_request a.body ≡ false)
+      go : (to : Who) → sent_message (sent_for txn (party w (other to)).sent) n ≡ Some a
+          → (found_by txn_held txn (party w to).live.held ≡ None) × (is_ill_request a.body ≡ false)
           → (receives (party (project txn w) to) (Some a)).1 ≡ party (project txn w) to
       go who.Requester sent missed = absurd (none_sent w stands txn n a sent missed.0)
       go who.Responder sent missed =
           let live = w.responder.live in
           let idle : (held_for txn live).side ≡ idle_side who.Responder txn =
           ap (λ o. (found_or (idle_held live.role txn) o).side) missed.0 ∙ ap (λ role. idle_side role txn) stands.responder.0 in
-          ap (λ side. record (party_for txn w.responder) { live = side }) (ap (λ side. (takes side a).1) idle ∙ idle_takes txn a missed.1 ∙ sym idle)
+          ap (λ side. record (party_for txn w.responder) { live = side })
+          (ap (λ side. (takes side a).1) idle ∙ idle_takes txn a missed.1 ∙ sym idle)
 
   -- A delivery in the transaction happens alike.
   deliver_alike : (w : DeskParties) (role : Who) (n : ℕ) → DesksStand w → HappensAlike w (desk_events.Deliver role txn n)
@@ -197,7 +215,8 @@ module _ (projects : EachProjects) (reaches : EachReaches) (after : EachStands) 
       v : Parties
       v = project txn w
 
-      received : (found : Option Apdu) → sent_message (sent_for txn (party w (other role)).sent) n ≡ found → (desks_happen w event).0 ≡ NoSuchTransaction → (receives (party v role) found).1 ≡ party v role
+      received : (found : Option Apdu) → sent_message (sent_for txn (party w (other role)).sent) n ≡ found
+          → (desks_happen w event).0 ≡ NoSuchTransaction → (receives (party v role) found).1 ≡ party v role
       received None e missed = refl
       received (Some a) e missed = idle_stays w role n a stands e missed
 
@@ -210,7 +229,9 @@ module _ (projects : EachProjects) (reaches : EachReaches) (after : EachStands) 
   -- ---- the messages of a side
 
   -- Passing on messages of the transaction leads on as in it alone.
-  passes_alike : (w : DeskParties) (role : Who) (n count : ℕ) → DesksStand w → project txn (desks_run w (map (in_txn txn) (sends_and_delivers role n count))) ≡ run_of (project txn w) (sends_and_delivers role n count)
+  passes_alike : (w : DeskParties) (role : Who) (n count : ℕ) → DesksStand w
+      → project txn (desks_run w (map (in_txn txn) (sends_and_delivers role n count)))
+      ≡ run_of (project txn w) (sends_and_delivers role n count)
   unfolding sends_and_delivers run_by
   passes_alike w role n zero stands = refl
   passes_alike w role n (suc count) stands =
@@ -219,10 +240,13 @@ module _ (projects : EachProjects) (reaches : EachReaches) (after : EachStands) 
       let sent = (desks_happen w send).1 in
       let sent_stands = after w send stands in
       passes_alike (desks_happen sent deliver).1 role (n + 1) count (after sent deliver sent_stands)
-      ∙ ap (λ v. run_of v (sends_and_delivers role (n + 1) count)) (deliver_alike sent (other role) n sent_stands ∙ ap (λ v. (happens v (events.Deliver (other role) n)).1) (send_alike w role n stands))
+      ∙ ap (λ v. run_of v (sends_and_delivers role (n + 1) count))
+      (deliver_alike sent (other role) n sent_stands
+      ∙ ap (λ v. (happens v (events.Deliver (other role) n)).1) (send_alike w role n stands))
 
   -- Passing on messages of another transaction changes nothing.
-  others_stay : (of : Qualifiers) → is_same_txn txn of ≡ false → (w : DeskParties) (role : Who) (n count : ℕ) → DesksStand w → project txn (desks_run w (map (in_txn of) (sends_and_delivers role n count))) ≡ project txn w
+  others_stay : (of : Qualifiers) → is_same_txn txn of ≡ false → (w : DeskParties) (role : Who) (n count : ℕ) → DesksStand w
+      → project txn (desks_run w (map (in_txn of) (sends_and_delivers role n count))) ≡ project txn w
   unfolding sends_and_delivers run_by
   others_stay of apart w role n zero stands = refl
   others_stay of apart w role n (suc count) stands =
@@ -237,11 +261,14 @@ module _ (projects : EachProjects) (reaches : EachReaches) (after : EachStands) 
   -- ---- the messages of a desk
 
   -- Passing on the messages of sides is passing on those of the first side, and then those of the others.
-  passes_both : (w : DeskParties) (role : Who) (side : Side) (more : List Side) → desks_run w (flat_map (passes_side role) (side ∷ more)) ≡ desks_run (desks_run w (passes_side role side)) (flat_map (passes_side role) more)
+  passes_both : (w : DeskParties) (role : Who) (side : Side) (more : List Side)
+      → desks_run w (flat_map (passes_side role) (side ∷ more))
+      ≡ desks_run (desks_run w (passes_side role side)) (flat_map (passes_side role) more)
   passes_both w role side more = run_both desks_happen w (passes_side role side) (flat_map (passes_side role) more)
 
   -- Passing on the messages of sides of other transactions changes nothing.
-  sides_stay : (w : DeskParties) (role : Who) (all : List Side) → is_one_of txn (map txn_of all) ≡ false → DesksStand w → project txn (desks_run w (flat_map (passes_side role) all)) ≡ project txn w
+  sides_stay : (w : DeskParties) (role : Who) (all : List Side) → is_one_of txn (map txn_of all) ≡ false → DesksStand w
+      → project txn (desks_run w (flat_map (passes_side role) all)) ≡ project txn w
   unfolding run_by
   sides_stay w role [] none stands = refl
   sides_stay w role (side ∷ more) none stands =
@@ -251,11 +278,16 @@ module _ (projects : EachProjects) (reaches : EachReaches) (after : EachStands) 
       ∙ others_stay (txn_of side) parts.0 w role 1 (length (issued_of side)) stands
 
   -- Passing on the messages of sides that are apart is, in the transaction, passing on those of its side.
-  pub sides_alike : (w : DeskParties) (role : Who) (idle : Side) → issued_of idle ≡ [] → (all : List Side) → AreApart (map txn_of all) → DesksStand w
-      → project txn (desks_run w (flat_map (passes_side role) all)) ≡ run_of (project txn w) (sends_and_delivers role 1 (length (issued_of (found_or idle (found_by txn_of txn all)))))
+  pub sides_alike : (w : DeskParties) (role : Who) (idle : Side) → issued_of idle ≡ [] → (all : List Side)
+      → AreApart (map txn_of all) → DesksStand w
+      → project txn (desks_run w (flat_map (passes_side role) all))
+      ≡ run_of (project txn w) (sends_and_delivers role 1 (length (issued_of (found_or idle (found_by txn_of txn all)))))
   unfolding run_by sends_and_delivers
-  sides_alike w role idle nothing [] apart stands = ap (λ apdus. run_of (project txn w) (sends_and_delivers role 1 (length apdus))) (sym nothing)
-  sides_alike w role idle nothing (side ∷ more) apart stands = ap (project txn) (passes_both w role side more) ∙ go (is_same_txn txn (txn_of side)) refl (sides_alike next role idle nothing more apart.1 next_stands)
+  sides_alike w role idle nothing [] apart stands =
+      ap (λ apdus. run_of (project txn w) (sends_and_delivers role 1 (length apdus))) (sym nothing)
+  sides_alike w role idle nothing (side ∷ more) apart stands =
+      ap (project txn) (passes_both w role side more)
+      ∙ go (is_same_txn txn (txn_of side)) refl (sides_alike next role idle nothing more apart.1 next_stands)
     where
       next : DeskParties
       next = desks_run w (passes_side role side)
@@ -264,29 +296,41 @@ module _ (projects : EachProjects) (reaches : EachReaches) (after : EachStands) 
       next_stands = desks_stand_on after w (passes_side role side) stands
 
       go : (same : Bool) → is_same_txn txn (txn_of side) ≡ same
-          → project txn (desks_run next (flat_map (passes_side role) more)) ≡ run_of (project txn next) (sends_and_delivers role 1 (length (issued_of (found_or idle (found_by txn_of txn more)))))
-          → project txn (desks_run next (flat_map (passes_side role) more)) ≡ run_of (project txn w) (sends_and_delivers role 1 (length (issued_of (found_or idle (cond same (Some side) (found_by txn_of txn more))))))
+          → project txn (desks_run next (flat_map (passes_side role) more))
+          ≡ run_of (project txn next) (sends_and_delivers role 1
+          (length (issued_of (found_or idle (found_by txn_of txn more)))))
+          → project txn (desks_run next (flat_map (passes_side role) more))
+          ≡ run_of (project txn w) (sends_and_delivers role 1
+          (length (issued_of (found_or idle (cond same (Some side) (found_by txn_of txn more))))))
       go true e further =
           let is = same_is txn (txn_of side) e in
-          let none : is_one_of txn (map txn_of more) ≡ false = subst (λ t. is_one_of t (map txn_of more) ≡ false) (sym is) apart.0 in
+          let none : is_one_of txn (map txn_of more) ≡ false =
+          subst (λ t. is_one_of t (map txn_of more) ≡ false) (sym is) apart.0 in
           sides_stay next role more none next_stands
-          ∙ subst (λ t. project txn (desks_run w (map (in_txn t) (sends_and_delivers role 1 (length (issued_of side))))) ≡ run_of (project txn w) (sends_and_delivers role 1 (length (issued_of side)))) is
+          ∙ subst (λ t. project txn (desks_run w (map (in_txn t) (sends_and_delivers role 1 (length (issued_of side)))))
+          ≡ run_of (project txn w) (sends_and_delivers role 1 (length (issued_of side)))) is
           (passes_alike w role 1 (length (issued_of side)) stands)
       go false e further =
           further
-          ∙ ap (λ v. run_of v (sends_and_delivers role 1 (length (issued_of (found_or idle (found_by txn_of txn more)))))) (others_stay (txn_of side) e w role 1 (length (issued_of side)) stands)
+          ∙ ap (λ v. run_of v (sends_and_delivers role 1 (length (issued_of (found_or idle (found_by txn_of txn more))))))
+          (others_stay (txn_of side) e w role 1 (length (issued_of side)) stands)
 
   -- ---- a round
 
   -- No two sides of a desk are of one transaction.
   pub held_apart : (w : DeskParties) (role : Who) → DesksStand w → AreApart (map txn_of (sides_held (party w role).live).sides)
-  held_apart w who.Requester stands = subst AreApart (sym (map-map txn_of (λ (held : DeskEntry). held.side) w.requester.live.held)) stands.counts.0.0
-  held_apart w who.Responder stands = subst AreApart (sym (map-map txn_of (λ (held : DeskEntry). held.side) w.responder.live.held)) stands.counts.2.0
+  held_apart w who.Requester stands =
+      subst AreApart (sym (map-map txn_of (λ (held : DeskEntry). held.side) w.requester.live.held)) stands.counts.0.0
+  held_apart w who.Responder stands =
+      subst AreApart (sym (map-map txn_of (λ (held : DeskEntry). held.side) w.responder.live.held)) stands.counts.2.0
 
   -- The half of a desk is, in the transaction, the half of its side.
-  half_alike : (w : DeskParties) (role : Who) → DesksStand w → project txn (desks_run w (desk_half_of role w)) ≡ run_of (project txn w) (half_of role (project txn w))
+  half_alike : (w : DeskParties) (role : Who) → DesksStand w
+      → project txn (desks_run w (desk_half_of role w)) ≡ run_of (project txn w) (half_of role (project txn w))
   unfolding run_by side_with
-  half_alike w role stands = saved_alike ∙ ap (λ (p : Party). run_of (project txn w) (events.Save role ∷ sends_and_delivers role 1 (length (issued_of p.live)))) (sym (shown txn w role))
+  half_alike w role stands = saved_alike
+      ∙ ap (λ (p : Party). run_of (project txn w) (events.Save role ∷ sends_and_delivers role 1 (length (issued_of p.live))))
+      (sym (shown txn w role))
     where
       live : DeskContents
       live = (party w role).live
@@ -297,14 +341,18 @@ module _ (projects : EachProjects) (reaches : EachReaches) (after : EachStands) 
       saved : DeskParties
       saved = (desks_happen w (desk_events.Save role)).1
 
-      saved_alike : project txn (desks_run w (desk_half_of role w)) ≡ run_of (project txn w) (events.Save role ∷ sends_and_delivers role 1 (length (issued_of (held_for txn live).side)))
+      saved_alike : project txn (desks_run w (desk_half_of role w))
+          ≡ run_of (project txn w) (events.Save role ∷ sends_and_delivers role 1 (length (issued_of (held_for txn live).side)))
       saved_alike =
-          sides_alike saved role idle (idle_issues live.role txn) (sides_held live).sides (held_apart w role stands) (after w (desk_events.Save role) stands)
+          sides_alike saved role idle (idle_issues live.role txn) (sides_held live).sides (held_apart w role stands)
+          (after w (desk_events.Save role) stands)
           ∙ ap (λ side. run_of (project txn saved) (sends_and_delivers role 1 (length (issued_of side)))) (side_of_held txn live)
-          ∙ ap (λ v. run_of v (sends_and_delivers role 1 (length (issued_of (held_for txn live).side)))) (projects txn w (desk_events.Save role) stands).1
+          ∙ ap (λ v. run_of v (sends_and_delivers role 1 (length (issued_of (held_for txn live).side))))
+          (projects txn w (desk_events.Save role) stands).1
 
   -- A round of two desks is a round of both sides in the transaction.
-  pub round_alike : (w : DeskParties) → DesksStand w → project txn (desks_run w (desk_round_of w)) ≡ run_of (project txn w) (round_of (project txn w))
+  pub round_alike : (w : DeskParties) → DesksStand w
+      → project txn (desks_run w (desk_round_of w)) ≡ run_of (project txn w) (round_of (project txn w))
   round_alike w stands =
       let first = desk_half_of who.Requester w in
       let next = desks_run w first in

@@ -31,7 +31,8 @@ desks_line events event =
     let number : 1 + length events ≡ length events + 1 = omega arith in
     let text : two_desks.text (1 + length events) after event ≡ desk_line_after events event =
     ap (λ m. desk_line m event.txn (desks_happen after event.event).0 (desks_happen after event.event).1) number
-    ∙ ap (desk_line (length events + 1) event.txn (desks_happen after event.event).0) (sym (run_more two_desks run_in run_in_none run_in_next first_desks events event)) in
+    ∙ ap (desk_line (length events + 1) event.txn (desks_happen after event.event).0)
+    (sym (run_more two_desks run_in run_in_none run_in_next first_desks events event)) in
     trace_line two_desks run_in run_in_none run_in_next 1 first_desks events event ∙ ap (λ t. desk_trace_of events ++ t) text
 
 pub desks_prefix : (events more : List EventIn) → IsPrefix (desk_trace_of events) (desk_trace_of (events ++ more))

@@ -1,5 +1,6 @@
 -- Why two desks are safe in each transaction.
-use Rattle.std.proofs.Common.{rules, ◌≡◌, ℕ, Bool, true, false, if◌then◌else◌, List, [], ◌∷◌, Option, Some, None, Result, Ok, Err, refl, sym, ap, ◌∙◌, subst}
+use Rattle.std.proofs.Common.{rules, ◌≡◌, ℕ, Bool, true, false, if◌then◌else◌, List, [], ◌∷◌, Option, Some, None, Result, Ok, Err}
+use Rattle.std.proofs.Common.{refl, sym, ap, ◌∙◌, subst}
 use Rattle.ill_values.specs.TxnId.{Qualifiers}
 use Rattle.ill_values.specs.declared.apdu.Apdu.{Apdu}
 use Rattle.ill_core.specs.declared.refusal.Refusal.{Refusal}
@@ -17,15 +18,19 @@ use Rattle.ill_saved.specs.Side.{issued_of, role_of, other, acts, takes, begins}
 use Rattle.ill_saved.specs.Sides.{is_same_role}
 use Rattle.ill_core.specs.Bodies.{is_ill_request}
 use Rattle.ill_saved.specs.Holdings.{DeskEntry}
-use Rattle.ill_saved.specs.ManySides.{held_for, reached, acted as acted_at, acts_reached, took as took_at, takes_reached, is_own, found_by, txn_held}
+use Rattle.ill_saved.specs.ManySides.{held_for, reached, acted as acted_at, acts_reached, took as took_at, takes_reached, is_own}
+use Rattle.ill_saved.specs.ManySides.{found_by, txn_held}
 use Rattle.ill_saved.proofs.Finding.{same_is}
 use Rattle.ill_world.specs.declared.event.Event.{Event}
 use Rattle.ill_world.specs.declared.event.DeskEvent.{DeskEvent}
 use Rattle.ill_world.specs.declared.event.DeskEvent.TheVariants as events
 use Rattle.ill_world.specs.declared.event.Outcome.{Outcome}
 use Rattle.ill_world.specs.declared.event.DeskOutcome.{DeskOutcome}
-use Rattle.ill_world.specs.World.{Parties, sent_message, sends_by, happens_to, happens_at, happens, party, with_party, who_of, run_by, run_of, first_world}
-use Rattle.ill_world.specs.Desks.{DeskParty, DeskParties, Sending, sent_for, plain, desk_decides, desk_sends, desk_receives, desk_happens_to, desks_happen, desks_run, first_desks, party_for, project, concerns, if_reached, is_event_of, events_for, IsSeenAs, Projects}
+use Rattle.ill_world.specs.World.{Parties, sent_message, sends_by, happens_to, happens_at, happens, party, with_party, who_of}
+use Rattle.ill_world.specs.World.{run_by, run_of, first_world}
+use Rattle.ill_world.specs.Desks.{DeskParty, DeskParties, Sending, sent_for, plain, desk_decides, desk_sends, desk_receives}
+use Rattle.ill_world.specs.Desks.{desk_happens_to, desks_happen, desks_run, first_desks, party_for, project, concerns, if_reached}
+use Rattle.ill_world.specs.Desks.{is_event_of, events_for, IsSeenAs, Projects}
 use Rattle.ill_world.specs.Agreement.{KeepsDates}
 use Rattle.ill_world.specs.Invariant.{RequesterSideStands, ResponderSideStands, Invariant}
 use Rattle.ill_world.specs.Changes.{MayChange, OnlyLandedChanges, KeepsSent}
@@ -51,18 +56,22 @@ seen_in f false expected old new outcome seen = ap f seen
 abbrev SeenAt : Qualifiers → DeskParties → Who → DeskEvent → Type 0
 SeenAt txn w role event =
     let after = happens_at w role (λ p partner. desk_happens_to p partner.sent event) in
-    IsSeenAs (if_reached after.0 (concerns txn event)) (happens_at (project txn w) role (λ p partner. happens_to p partner.sent (plain event))) (project txn w) after.0 (project txn after.1)
+    IsSeenAs (if_reached after.0 (concerns txn event))
+    (happens_at (project txn w) role (λ p partner. happens_to p partner.sent (plain event))) (project txn w) after.0
+    (project txn after.1)
 
 -- If the party of `txn` is seen as expected at its desk, so is the projection. The other desk stays as it is.
 seen_at : (txn : Qualifiers) (w : DeskParties) (role : Who) (event : DeskEvent)
     → PartySeen txn (party w role) (party w (other role)).sent event → SeenAt txn w role event
 seen_at txn w who.Requester event seen =
     let after = desk_happens_to w.requester w.responder.sent event in
-    seen_in (with_party (project txn w) who.Requester) (if_reached after.0 (concerns txn event)) (happens_to (party_for txn w.requester) (sent_for txn w.responder.sent) (plain event)) (party_for txn w.requester)
+    seen_in (with_party (project txn w) who.Requester) (if_reached after.0 (concerns txn event))
+    (happens_to (party_for txn w.requester) (sent_for txn w.responder.sent) (plain event)) (party_for txn w.requester)
     (party_for txn after.1) after.0 seen
 seen_at txn w who.Responder event seen =
     let after = desk_happens_to w.responder w.requester.sent event in
-    seen_in (with_party (project txn w) who.Responder) (if_reached after.0 (concerns txn event)) (happens_to (party_for txn w.responder) (sent_for txn w.requester.sent) (plain event)) (party_for txn w.responder)
+    seen_in (with_party (project txn w) who.Responder) (if_reached after.0 (concerns txn event))
+    (happens_to (party_for txn w.responder) (sent_for txn w.requester.sent) (plain event)) (party_for txn w.responder)
     (party_for txn after.1) after.0 seen
 
 -- ---- the roles to which two desks keep
@@ -82,26 +91,32 @@ responders txn (sides.Requester x) partner_sent stands = absurd stands
 -- Each message that a requester's side that stands has issued is of its transaction.
 requesters_txn : (txn : Qualifiers) (side : Side) (partner_sent : List (Option Apdu)) (n : ℕ) (a : Apdu)
     → RequesterSideStands txn side partner_sent → message (issued_of side) n ≡ Some a → txn ≡ a.txn
-requesters_txn txn (sides.Requester x) partner_sent n a stands at = sym (same_is a.txn x.txn (message_number x.txn x.issued n a stands.rules.numbered at).0 ∙ stands.same_txn)
+requesters_txn txn (sides.Requester x) partner_sent n a stands at =
+    sym (same_is a.txn x.txn (message_number x.txn x.issued n a stands.rules.numbered at).0 ∙ stands.same_txn)
 requesters_txn txn (sides.Responder y) partner_sent n a stands at = absurd stands
 
 -- Each message that a responder's side that stands has issued is of its transaction.
 responders_txn : (txn : Qualifiers) (side : Side) (partner_sent : List (Option Apdu)) (n : ℕ) (a : Apdu)
     → ResponderSideStands txn side partner_sent → message (issued_of side) n ≡ Some a → txn ≡ a.txn
-responders_txn txn (sides.Responder y) partner_sent n a stands at = sym (same_is a.txn y.txn (message_number y.txn y.issued n a stands.rules.numbered at).0 ∙ stands.same_txn)
+responders_txn txn (sides.Responder y) partner_sent n a stands at =
+    sym (same_is a.txn y.txn (message_number y.txn y.issued n a stands.rules.numbered at).0 ∙ stands.same_txn)
 responders_txn txn (sides.Requester x) partner_sent n a stands at = absurd stands
 
 -- Each of two desks that stand keeps to its role.
 pub keeps_to : (w : DeskParties) (role : Who) → DesksStand w → KeepsTo role (party w role) (party w (other role)).sent
 keeps_to w who.Requester stands = record {
   role_is = stands.requester.0;
-  role_held = λ txn. requesters txn (held_for txn w.requester.live).side (sent_for txn w.responder.sent) (stands.each txn).requester.live;
-  txn_of_sent = λ txn n a at. let responder = (stands.each txn).responder in responders_txn txn _ _ n a responder.landed (responder.saved.landed n a at);
+  role_held = λ txn. requesters txn (held_for txn w.requester.live).side (sent_for txn w.responder.sent)
+      (stands.each txn).requester.live;
+  txn_of_sent = λ txn n a at. let responder = (stands.each txn).responder in
+      responders_txn txn _ _ n a responder.landed (responder.saved.landed n a at);
 }
 keeps_to w who.Responder stands = record {
   role_is = stands.responder.0;
-  role_held = λ txn. responders txn (held_for txn w.responder.live).side (sent_for txn w.requester.sent) (stands.each txn).responder.live;
-  txn_of_sent = λ txn n a at. let requester = (stands.each txn).requester in requesters_txn txn _ _ n a requester.landed (requester.saved.landed n a at);
+  role_held = λ txn. responders txn (held_for txn w.responder.live).side (sent_for txn w.requester.sent)
+      (stands.each txn).responder.live;
+  txn_of_sent = λ txn n a at. let requester = (stands.each txn).requester in
+      requesters_txn txn _ _ n a requester.landed (requester.saved.landed n a at);
 }
 
 -- By the laws of the rows, `Projects` holds of each event at two desks that stand.
@@ -113,11 +128,13 @@ desk_projects grows rows txn w event stands =
 
 -- ---- a desk keeps its role
 
-acted_role : (role : Who) (p : DeskParty) (held : DeskEntry) (result : Result Side Refusal) → IsDeskOf role p → IsDeskOf role (desk_decides p (acted_at p.live held result)).1
+acted_role : (role : Who) (p : DeskParty) (held : DeskEntry) (result : Result Side Refusal) → IsDeskOf role p
+    → IsDeskOf role (desk_decides p (acted_at p.live held result)).1
 acted_role role p held (Ok new) is = is
 acted_role role p held (Err refusal) is = is
 
-reached_role : (role : Who) (p : DeskParty) (action : Action) (found : Result DeskEntry DeskFault) → IsDeskOf role p → IsDeskOf role (desk_decides p (acts_reached p.live action found)).1
+reached_role : (role : Who) (p : DeskParty) (action : Action) (found : Result DeskEntry DeskFault) → IsDeskOf role p
+    → IsDeskOf role (desk_decides p (acts_reached p.live action found)).1
 reached_role role p action (Ok held) is = acted_role role p held (acts held.side action) is
 reached_role role p action (Err fault) is = is
 
@@ -126,11 +143,13 @@ decided_role : (role : Who) (p : DeskParty) (action : Action) (found : Result De
 decided_role role p action found true is = reached_role role p action found is
 decided_role role p action found false is = is
 
-took_role : (role : Who) (p : DeskParty) (held : DeskEntry) (answer : Result _ Refusal) (new : Side) → IsDeskOf role p → (took_at p.live held (answer, new)).1.role ≡ role
+took_role : (role : Who) (p : DeskParty) (held : DeskEntry) (answer : Result _ Refusal) (new : Side) → IsDeskOf role p
+    → (took_at p.live held (answer, new)).1.role ≡ role
 took_role role p held (Ok _) new is = is.0
 took_role role p held (Err refusal) new is = is.0
 
-takes_role : (role : Who) (p : DeskParty) (a : Apdu) (found : Result DeskEntry DeskFault) → IsDeskOf role p → (takes_reached p.live a found).1.role ≡ role
+takes_role : (role : Who) (p : DeskParty) (a : Apdu) (found : Result DeskEntry DeskFault) → IsDeskOf role p
+    → (takes_reached p.live a found).1.role ≡ role
 takes_role role p a (Ok held) is = took_role role p held (takes held.side a).0 (takes held.side a).1 is
 takes_role role p a (Err fault) is = is.0
 
@@ -139,7 +158,8 @@ pub receives_role : (role : Who) (p : DeskParty) (found : Option Apdu) → IsDes
 receives_role role p None is = is
 receives_role role p (Some a) is = (go (is_own p.live.role a.body), is.1)
   where
-    go : (own : Bool) → (if own then (Err (faults.Core WrongRole), p.live) else takes_reached p.live a (reached p.live a.txn (is_ill_request a.body))).1.role ≡ role
+    go : (own : Bool) → (if own then (Err (faults.Core WrongRole), p.live) else
+        takes_reached p.live a (reached p.live a.txn (is_ill_request a.body))).1.role ≡ role
     go true = is.0
     go false = takes_role role p a (reached p.live a.txn (is_ill_request a.body)) is
 
@@ -150,15 +170,20 @@ sends_role role p after None released is sent = is
 sends_role role p after (Some a) false is sent = is
 sends_role role p after (Some a) true is sent = sent a
 
-send_role : (role : Who) (p : DeskParty) (of : Qualifiers) (n : ℕ) (found : Option DeskEntry) → IsDeskOf role p → IsDeskOf role (desk_sends p of n found).1
+send_role : (role : Who) (p : DeskParty) (of : Qualifiers) (n : ℕ) (found : Option DeskEntry) → IsDeskOf role p
+    → IsDeskOf role (desk_sends p of n found).1
 send_role role p of n None is = is
 send_role role p of n (Some held) is = sends_role role p _ _ _ is (λ a. is)
 
 -- A desk keeps its role at each event.
 role_kept : (role : Who) (p : DeskParty) (partner_sent : List Sending) (event : DeskEvent) → IsDeskOf role p
     → IsDeskOf role (desk_happens_to p partner_sent event).1
-role_kept role p partner_sent (events.Wish of wish) is = decided_role role p (actions.Wish wish) (reached p.live of (begins (actions.Wish wish))) (is_same_role p.live.role who.Requester) is
-role_kept role p partner_sent (events.Deed of deed today) is = decided_role role p (actions.Deed deed today) (reached p.live of (begins (actions.Deed deed today))) (is_same_role p.live.role who.Responder) is
+role_kept role p partner_sent (events.Wish of wish) is =
+    decided_role role p (actions.Wish wish) (reached p.live of (begins (actions.Wish wish)))
+    (is_same_role p.live.role who.Requester) is
+role_kept role p partner_sent (events.Deed of deed today) is =
+    decided_role role p (actions.Deed deed today) (reached p.live of (begins (actions.Deed deed today)))
+    (is_same_role p.live.role who.Responder) is
 role_kept role p partner_sent (events.Save at) is = (is.0, is.0)
 role_kept role p partner_sent (events.SaveFault at true) is = (is.0, is.0)
 role_kept role p partner_sent (events.SaveFault at false) is = is
@@ -170,9 +195,12 @@ role_kept role p partner_sent (events.Restart at) is = (is.1, is.1)
 -- Both desks keep their roles at each event.
 roles_kept : (w : DeskParties) (role : Who) (event : DeskEvent) → IsDeskOf who.Requester w.requester
     → IsDeskOf who.Responder w.responder
-    → let after = (happens_at w role (λ p partner. desk_happens_to p partner.sent event)).1 in IsDeskOf who.Requester after.requester × IsDeskOf who.Responder after.responder
-roles_kept w who.Requester event requester responder = (role_kept who.Requester w.requester w.responder.sent event requester, responder)
-roles_kept w who.Responder event requester responder = (requester, role_kept who.Responder w.responder w.requester.sent event responder)
+    → let after = (happens_at w role (λ p partner. desk_happens_to p partner.sent event)).1 in
+    IsDeskOf who.Requester after.requester × IsDeskOf who.Responder after.responder
+roles_kept w who.Requester event requester responder =
+    (role_kept who.Requester w.requester w.responder.sent event requester, responder)
+roles_kept w who.Responder event requester responder =
+    (requester, role_kept who.Responder w.responder w.requester.sent event responder)
 
 -- ---- worlds
 
@@ -201,7 +229,8 @@ desks_after grows rows after w event stands counts =
       responder = roles.1;
       counts = counts;
       each = λ txn.
-          seen_keeps (Invariant txn) (is_event_of txn w event) (happens (project txn w) (plain event)) (project txn w) _ _ (desk_projects grows rows txn w event stands) (stands.each txn)
+          seen_keeps (Invariant txn) (is_event_of txn w event) (happens (project txn w) (plain event)) (project txn w) _ _
+          (desk_projects grows rows txn w event stands) (stands.each txn)
           (after txn (project txn w) (plain event) (stands.each txn));
     }
 
@@ -238,21 +267,25 @@ run_projects projects after txn w [] stands = refl
 run_projects projects after txn w (event ∷ events) stands =
     let next = (desks_happen w event).1 in
     run_projects projects after txn next events (after w event stands)
-    ∙ leads_on (is_event_of txn w event) (project txn w) (plain event) (events_for txn next events) (project txn next) (desks_happen w event).0 (projects txn w event stands)
+    ∙ leads_on (is_event_of txn w event) (project txn w) (plain event) (events_for txn next events) (project txn next)
+    (desks_happen w event).0 (projects txn w event stands)
 
 -- From two desks on that hold nothing, the projection after events is the world after those of the transaction.
 pub first_run_projects : EachProjects → EachStands → DesksStand first_desks
     → (txn : Qualifiers) (events : List DeskEvent)
     → project txn (desks_run first_desks events) ≡ run_of (first_world txn) (events_for txn first_desks events)
 first_run_projects projects after first txn events =
-    run_projects projects after txn first_desks events first ∙ ap (λ w. run_of w (events_for txn first_desks events)) (first_project txn)
+    run_projects projects after txn first_desks events first
+    ∙ ap (λ w. run_of w (events_for txn first_desks events)) (first_project txn)
 
 -- ---- dates
 
-pub desk_dates : EachProjects → ((txn : Qualifiers) (w : Parties) (event : Event) → Invariant txn w → KeepsDates w event (happens w event).1) → (txn : Qualifiers) (w : DeskParties) (event : DeskEvent) → DesksStand w
+pub desk_dates : EachProjects → ((txn : Qualifiers) (w : Parties) (event : Event) → Invariant txn w
+    → KeepsDates w event (happens w event).1) → (txn : Qualifiers) (w : DeskParties) (event : DeskEvent) → DesksStand w
     → KeepsDates (project txn w) (plain event) (project txn (desks_happen w event).1)
 desk_dates projects stay txn w event stands =
-    seen_keeps (KeepsDates (project txn w) (plain event)) (is_event_of txn w event) (happens (project txn w) (plain event)) (project txn w) _ _ (projects txn w event stands) (same_dates (project txn w) (plain event))
+    seen_keeps (KeepsDates (project txn w) (plain event)) (is_event_of txn w event) (happens (project txn w) (plain event))
+    (project txn w) _ _ (projects txn w event stands) (same_dates (project txn w) (plain event))
     (stay txn (project txn w) (plain event) (stands.each txn))
 
 -- ---- changes
@@ -268,8 +301,10 @@ unchanged : (own : Bool) (expected : Outcome × Parties) (old new : Parties) (ou
     → ((outcome : Outcome) → MayChange OnlyLandedChanges outcome old old) → DeskMayChange outcome old new
 unchanged true expected old new (Plain outcome) seen changes same =
     let is : expected.0 ≡ outcome = sym (same_plain outcome expected.0 seen.0) in
-    subst (λ o. MayChange OnlyLandedChanges o old new) is (subst (MayChange OnlyLandedChanges expected.0 old) (sym seen.1) changes)
-unchanged false expected old new (Plain outcome) seen changes same = subst (MayChange OnlyLandedChanges outcome old) (sym seen) (same outcome)
+    subst (λ o. MayChange OnlyLandedChanges o old new) is
+    (subst (MayChange OnlyLandedChanges expected.0 old) (sym seen.1) changes)
+unchanged false expected old new (Plain outcome) seen changes same =
+    subst (MayChange OnlyLandedChanges outcome old) (sym seen) (same outcome)
 unchanged own expected old new NoSuchTransaction seen changes same = seen
 unchanged own expected old new DeskFull seen changes same = seen
 
@@ -279,11 +314,15 @@ pub desk_changes : EachProjects
     → (txn : Qualifiers) (w : DeskParties) (event : DeskEvent) → DesksStand w
     → DeskMayChange (desks_happen w event).0 (project txn w) (project txn (desks_happen w event).1)
 desk_changes projects changes txn w event stands =
-    unchanged (concerns txn event) (happens (project txn w) (plain event)) (project txn w) (project txn (desks_happen w event).1) (desks_happen w event).0 (projects txn w event stands)
+    unchanged (concerns txn event) (happens (project txn w) (plain event)) (project txn w) (project txn (desks_happen w event).1)
+    (desks_happen w event).0 (projects txn w event stands)
     (changes (project txn w) (plain event)) (same_changes (project txn w))
 
-pub desk_keeps_sent : EachProjects → ((txn : Qualifiers) (w : Parties) (event : Event) → Invariant txn w → KeepsSent w (happens w event).1) → (txn : Qualifiers) (w : DeskParties) (event : DeskEvent) → DesksStand w
+pub desk_keeps_sent : EachProjects
+    → ((txn : Qualifiers) (w : Parties) (event : Event) → Invariant txn w → KeepsSent w (happens w event).1)
+    → (txn : Qualifiers) (w : DeskParties) (event : DeskEvent) → DesksStand w
     → KeepsSent (project txn w) (project txn (desks_happen w event).1)
 desk_keeps_sent projects keeps txn w event stands =
-    seen_keeps (KeepsSent (project txn w)) (is_event_of txn w event) (happens (project txn w) (plain event)) (project txn w) _ _ (projects txn w event stands) (λ of n a was. was)
+    seen_keeps (KeepsSent (project txn w)) (is_event_of txn w event) (happens (project txn w) (plain event)) (project txn w) _ _
+    (projects txn w event stands) (λ of n a was. was)
     (keeps txn (project txn w) (plain event) (stands.each txn))

@@ -1,5 +1,6 @@
 -- The requester's due date, from event to event.
-use Rattle.std.proofs.Common.{rules, ◌≡◌, inl, inr, ℕ, Bool, true, false, nat_le, List, Option, Some, None, is_some, Result, Ok, Err, refl, sym, ap, subst}
+use Rattle.std.proofs.Common.{rules, ◌≡◌, inl, inr, ℕ, Bool, true, false, nat_le, List, Option, Some, None, is_some, Result, Ok}
+use Rattle.std.proofs.Common.{Err, refl, sym, ap, subst}
 use Rattle.ill_values.specs.Day.{Date}
 use Rattle.ill_values.specs.TxnId.{Qualifiers}
 use Rattle.ill_values.specs.declared.apdu.Apdu.{Apdu}
@@ -31,14 +32,16 @@ keeps_on a b c (inr (inl same)) second = subst (λ x. KeepsDue x c) same second
 keeps_on None b c (inr (inr raised)) second = inl refl
 keeps_on (Some x) None c (inr (inr raised)) second = search rules
 keeps_on (Some x) (Some y) c (inr (inr raised)) (inl none) = search rules
-keeps_on (Some x) (Some y) c (inr (inr raised)) (inr (inl same)) = inr (inr (subst (λ z. is_raised (Some x) z ≡ true) (sym same) raised))
+keeps_on (Some x) (Some y) c (inr (inr raised)) (inr (inl same)) =
+    inr (inr (subst (λ z. is_raised (Some x) z ≡ true) (sym same) raised))
 keeps_on (Some x) (Some y) None (inr (inr raised)) (inr (inr again)) = search rules
 keeps_on (Some x) (Some y) (Some z) (inr (inr raised)) (inr (inr again)) = inr (inr (before_on x y z raised again))
 
 -- A wish leaves the requester's due date, and a message that it takes keeps or raises it.
 pub record RowsKeepDue : Type 0 where
   pub acts : (x new : RequesterRecord) (wish : Wish) → requester_actions.acts x wish ≡ Ok new → new.due ≡ x.due
-  pub takes : (x : RequesterRecord) (a : Apdu) → is_some x.due ≡ is_among later x.state → KeepsDue x.due (requester_deliveries.takes x a).1.due
+  pub takes : (x : RequesterRecord) (a : Apdu) → is_some x.due ≡ is_among later x.state
+      → KeepsDue x.due (requester_deliveries.takes x a).1.due
 
 -- A due date that stays is kept.
 stays : (due : Option Date) → KeepsDue due due
@@ -48,13 +51,15 @@ stays due = inr (inl refl)
 made_due : (x : RequesterRecord) (result : Result RequesterRecord Refusal) (new : Side)
     → ((made : RequesterRecord) → result ≡ Ok made → made.due ≡ x.due) → done_by sides.Requester result ≡ Ok new
     → due_date_of new ≡ x.due
-made_due x (Ok made) new keeps e = let is : sides.Requester made ≡ new = search rules in subst (λ side. due_date_of side ≡ x.due) is (keeps made refl)
+made_due x (Ok made) new keeps e = let is : sides.Requester made ≡ new = search rules in
+    subst (λ side. due_date_of side ≡ x.due) is (keeps made refl)
 made_due x (Err refusal) new keeps e = search rules
 
 -- An action that is done leaves the due date of a requester's side.
 acts_due : RowsKeepDue → (txn : Qualifiers) (old new : Side) (action : Action) (partner_sent : List (Option Apdu))
     → acts old action ≡ Ok new → RequesterSideStands txn old partner_sent → due_date_of new ≡ due_date_of old
-acts_due rows txn (sides.Requester x) new (actions.Wish wish) partner_sent e stands = made_due x (requester_actions.acts x wish) new (λ made is. rows.acts x made wish is) e
+acts_due rows txn (sides.Requester x) new (actions.Wish wish) partner_sent e stands =
+    made_due x (requester_actions.acts x wish) new (λ made is. rows.acts x made wish is) e
 acts_due rows txn (sides.Requester x) new (actions.Deed deed today) partner_sent e stands = search rules
 acts_due rows txn (sides.Responder y) new action partner_sent e stands = absurd stands
 
@@ -69,7 +74,8 @@ decides_due : RowsKeepDue
     → (txn : Qualifiers) (p : Party) (partner_sent : List (Option Apdu)) (action : Action) (result : Result Side Refusal)
     → acts p.live action ≡ result → RequesterSideStands txn p.live partner_sent
     → KeepsDue (due_date_of p.live) (due_date_of (decides p result).1.live) × ((decides p result).1.landed ≡ p.landed)
-decides_due rows txn p partner_sent action (Ok new) e stands = (inr (inl (acts_due rows txn p.live new action partner_sent e stands)), refl)
+decides_due rows txn p partner_sent action (Ok new) e stands =
+    (inr (inl (acts_due rows txn p.live new action partner_sent e stands)), refl)
 decides_due rows txn p partner_sent action (Err refusal) e stands = (stays (due_date_of p.live), refl)
 
 -- A delivery keeps or raises the requester's live due date, and leaves its landed side.
@@ -89,26 +95,34 @@ sends_same p n (Some a) true = (refl, refl)
 -- If two parties have equal sides, and one's live due date is the landed one or later, so is the other's.
 same_dates : (p q : Party) → (q.live ≡ p.live) × (q.landed ≡ p.landed)
     → KeepsDue (due_date_of p.landed) (due_date_of p.live) → KeepsDue (due_date_of q.landed) (due_date_of q.live)
-same_dates p q same kept = subst (λ side. KeepsDue (due_date_of side) (due_date_of q.live)) (sym same.1) (subst (λ side. KeepsDue (due_date_of p.landed) (due_date_of side)) (sym same.0) kept)
+same_dates p q same kept = subst (λ side. KeepsDue (due_date_of side) (due_date_of q.live)) (sym same.1)
+    (subst (λ side. KeepsDue (due_date_of p.landed) (due_date_of side)) (sym same.0) kept)
 
 -- Beside an unchanged landed side, a live due date that is kept or raised stays the landed one or later.
 live_kept : (p q : Party) → KeepsDue (due_date_of p.live) (due_date_of q.live) × (q.landed ≡ p.landed)
     → KeepsDue (due_date_of p.landed) (due_date_of p.live) → KeepsDue (due_date_of q.landed) (due_date_of q.live)
-live_kept p q both kept = subst (λ side. KeepsDue (due_date_of side) (due_date_of q.live)) (sym both.1) (keeps_on (due_date_of p.landed) (due_date_of p.live) (due_date_of q.live) kept both.0)
+live_kept p q both kept = subst (λ side. KeepsDue (due_date_of side) (due_date_of q.live)) (sym both.1)
+    (keeps_on (due_date_of p.landed) (due_date_of p.live) (due_date_of q.live) kept both.0)
 
 -- After each event the requester's live due date is the landed one or later, if it was so before.
 pub due_after : RowsKeepDue → (txn : Qualifiers) (p : Party) (partner_sent : List (Option Apdu)) (event : Event)
     → RequesterSideStands txn p.live partner_sent → KeepsDue (due_date_of p.landed) (due_date_of p.live)
     → KeepsDue (due_date_of (happens_to p partner_sent event).1.landed) (due_date_of (happens_to p partner_sent event).1.live)
 due_after rows txn p partner_sent (events.Wish wish) stands kept =
-    live_kept p (happens_to p partner_sent (events.Wish wish)).1 (decides_due rows txn p partner_sent (actions.Wish wish) (acts p.live (actions.Wish wish)) refl stands) kept
+    live_kept p (happens_to p partner_sent (events.Wish wish)).1
+    (decides_due rows txn p partner_sent (actions.Wish wish) (acts p.live (actions.Wish wish)) refl stands) kept
 due_after rows txn p partner_sent (events.Deed deed today) stands kept =
-    live_kept p (happens_to p partner_sent (events.Deed deed today)).1 (decides_due rows txn p partner_sent (actions.Deed deed today) (acts p.live (actions.Deed deed today)) refl stands) kept
+    live_kept p (happens_to p partner_sent (events.Deed deed today)).1
+    (decides_due rows txn p partner_sent (actions.Deed deed today) (acts p.live (actions.Deed deed today)) refl stands) kept
 due_after rows txn p partner_sent (events.Save of) stands kept = stays (due_date_of p.live)
 due_after rows txn p partner_sent (events.SaveFault of true) stands kept = stays (due_date_of p.live)
 due_after rows txn p partner_sent (events.SaveFault of false) stands kept = kept
-due_after rows txn p partner_sent (events.Send of n) stands kept = same_dates p (happens_to p partner_sent (events.Send of n)).1 (sends_same p n (message (issued_of p.live) n) (nat_le n p.released)) kept
-due_after rows txn p partner_sent (events.Deliver of n) stands kept = live_kept p (happens_to p partner_sent (events.Deliver of n)).1 (receives_due rows txn p partner_sent (sent_message partner_sent n) stands) kept
+due_after rows txn p partner_sent (events.Send of n) stands kept =
+    same_dates p (happens_to p partner_sent (events.Send of n)).1
+    (sends_same p n (message (issued_of p.live) n) (nat_le n p.released)) kept
+due_after rows txn p partner_sent (events.Deliver of n) stands kept =
+    live_kept p (happens_to p partner_sent (events.Deliver of n)).1
+    (receives_due rows txn p partner_sent (sent_message partner_sent n) stands) kept
 due_after rows txn p partner_sent (events.Noise of bytes) stands kept = kept
 due_after rows txn p partner_sent (events.Restart of) stands kept = stays (due_date_of p.landed)
 
@@ -117,10 +131,12 @@ same_date : (a b : Side) → b ≡ a → KeepsDue (due_date_of a) (due_date_of b
 same_date a b e = inr (inl (ap due_date_of e))
 
 -- the dates of the requester, at every event
-pub dates_kept : RowsKeepDue → (txn : Qualifiers) (w : Parties) (event : Event) → Invariant txn w → KeepsDates w event (happens w event).1
+pub dates_kept : RowsKeepDue → (txn : Qualifiers) (w : Parties) (event : Event) → Invariant txn w
+    → KeepsDates w event (happens w event).1
 dates_kept rows txn w (events.Wish wish) stands =
     let p = w.requester in
-    let kept = decides_due rows txn p w.responder.sent (actions.Wish wish) (acts p.live (actions.Wish wish)) refl stands.requester.live in
+    let kept = decides_due rows txn p w.responder.sent (actions.Wish wish) (acts p.live (actions.Wish wish)) refl
+    stands.requester.live in
     (kept.0, same_date p.landed _ kept.1)
 dates_kept rows txn w (events.Deed deed today) stands = (stays _, stays _)
 dates_kept rows txn w (events.Save who.Requester) stands = (stays _, stands.due)

@@ -1,5 +1,6 @@
 -- A value found in a list of APDUs is found in one of them.
-use Rattle.std.proofs.Common.{rules, arith, ◌≡◌, ◌⊎◌, inl, inr, ℕ, zero, suc, ◌+◌, ◌≤◌, ◌<◌, Bool, true, false, ◌||◌, ◌==◌, List, [], ◌∷◌, Option, Some, None, if◌then◌else◌, refl, sym, ap, ◌∙◌, subst}
+use Rattle.std.proofs.Common.{rules, arith, ◌≡◌, ◌⊎◌, inl, inr, ℕ, zero, suc, ◌+◌, ◌≤◌, ◌<◌, Bool, true, false, ◌||◌, ◌==◌, List}
+use Rattle.std.proofs.Common.{[], ◌∷◌, Option, Some, None, if◌then◌else◌, refl, sym, ap, ◌∙◌, subst}
 use Rattle.std.specs.Prelude.{slice_get}
 use Rattle.std.specs.List.{list_any, list_all, filter_map, cons_option, last_or}
 use Rattle.std.proofs.lemmas.Bool.{and_parts, eqb-true}
@@ -25,10 +26,13 @@ last_from : {X : Type 0} (f : Apdu → Option X) (o : Option X) (apdus : List Ap
 last_from f o [] x is = inl is
 last_from {X = X} f o (a ∷ apdus) x is = go (f a) refl (λ p. last_from f p apdus x) is
   where
-    go : (found : Option X) → f a ≡ found → ((p : Option X) → last_or p (filter_map f apdus) ≡ Some x → (p ≡ Some x) ⊎ Finds f apdus x) → last_or o (cons_option found (filter_map f apdus)) ≡ Some x
+    go : (found : Option X) → f a ≡ found
+        → ((p : Option X) → last_or p (filter_map f apdus) ≡ Some x → (p ≡ Some x) ⊎ Finds f apdus x)
+        → last_or o (cons_option found (filter_map f apdus)) ≡ Some x
         → (o ≡ Some x) ⊎ Finds f (a ∷ apdus) x
     go None e rest is = elim (rest o is) [ inl before ↦ inl before | inr there ↦ inr (finds_further f a apdus x there) ]
-    go (Some y) e rest is = elim (rest (Some y) is) [ inl here ↦ inr (suc zero, a, refl, e ∙ here) | inr there ↦ inr (finds_further f a apdus x there) ]
+    go (Some y) e rest is = elim (rest (Some y) is)
+        [ inl here ↦ inr (suc zero, a, refl, e ∙ here) | inr there ↦ inr (finds_further f a apdus x there) ]
 
 -- The last value found is found in one of the APDUs.
 pub finds_last : {X : Type 0} (f : Apdu → Option X) (apdus : List Apdu) (x : X) → last_of f apdus ≡ Some x → Finds f apdus x
@@ -40,12 +44,14 @@ pub finds_any : (f : Apdu → Option ℕ) (apdus : List Apdu) (k : ℕ) → list
 finds_any f [] k is = search rules
 finds_any f (a ∷ apdus) k is = go (f a) refl (finds_any f apdus k) is
   where
-    pick : (m : ℕ) (here : Bool) → (m == k) ≡ here → f a ≡ Some m → (list_any (λ i. i == k) (filter_map f apdus) ≡ true → Finds f apdus k)
+    pick : (m : ℕ) (here : Bool) → (m == k) ≡ here → f a ≡ Some m
+        → (list_any (λ i. i == k) (filter_map f apdus) ≡ true → Finds f apdus k)
         → (here || list_any (λ i. i == k) (filter_map f apdus)) ≡ true → Finds f (a ∷ apdus) k
     pick m true e found rest is = (suc zero, a, refl, found ∙ ap Some (eqb-true m k e))
     pick m false e found rest is = finds_further f a apdus k (rest is)
 
-    go : (found : Option ℕ) → f a ≡ found → (list_any (λ i. i == k) (filter_map f apdus) ≡ true → Finds f apdus k) → list_any (λ m. m == k) (cons_option found (filter_map f apdus)) ≡ true
+    go : (found : Option ℕ) → f a ≡ found → (list_any (λ i. i == k) (filter_map f apdus) ≡ true → Finds f apdus k)
+        → list_any (λ m. m == k) (cons_option found (filter_map f apdus)) ≡ true
         → Finds f (a ∷ apdus) k
     go None e rest is = finds_further f a apdus k (rest is)
     go (Some m) e rest is = pick m (m == k) refl e rest is
@@ -62,7 +68,8 @@ all_found f p (b ∷ apdus) (suc zero) a k all at is = go (f b) (ap f (same_apdu
     go (Some m) e all = let same : m ≡ k = search rules in subst (λ i. p i ≡ true) same (and_parts _ _ all).0
 all_found f p (b ∷ apdus) (suc (suc n)) a k all at is = all_found f p apdus (suc n) a k (rest_all (f b) all) at is
   where
-    rest_all : (found : Option ℕ) → list_all p (cons_option found (filter_map f apdus)) ≡ true → list_all p (filter_map f apdus) ≡ true
+    rest_all : (found : Option ℕ) → list_all p (cons_option found (filter_map f apdus)) ≡ true
+        → list_all p (filter_map f apdus) ≡ true
     rest_all None all = all
     rest_all (Some m) all = (and_parts _ _ all).1
 
@@ -112,11 +119,16 @@ last_not_below says txn first o (b ∷ apdus) zero a n numbered at is last =
     let says_b : says b.body ≡ true = subst (λ (c : Apdu). says c.body ≡ true) (sym same) is in
     let parts = and_parts _ _ numbered in
     let number = eqb-true b.number first (and_parts _ _ parts.0).1 in
-    let start : last_or (Some b.number) (filter_map (number_if says) apdus) ≡ Some n = subst (λ (x : Bool). last_or o (cons_option (if x then Some b.number else None) (filter_map (number_if says) apdus)) ≡ Some n) says_b last in
-    subst (λ (c : Apdu). c.number ≤ n) same (last_from_there says txn (first + 1) b.number apdus n parts.1 (omega (arith, number)) start)
-last_not_below says txn first o (b ∷ apdus) (suc i) a n numbered at is last = go (number_if says b) (λ p. last_not_below says txn (first + 1) p apdus i a n (and_parts _ _ numbered).1 at is) last
+    let start : last_or (Some b.number) (filter_map (number_if says) apdus) ≡ Some n =
+    subst (λ (x : Bool). last_or o (cons_option (if x then Some b.number else None) (filter_map (number_if says) apdus))
+    ≡ Some n) says_b last in
+    subst (λ (c : Apdu). c.number ≤ n) same
+    (last_from_there says txn (first + 1) b.number apdus n parts.1 (omega (arith, number)) start)
+last_not_below says txn first o (b ∷ apdus) (suc i) a n numbered at is last =
+    go (number_if says b) (λ p. last_not_below says txn (first + 1) p apdus i a n (and_parts _ _ numbered).1 at is) last
   where
-    go : (found : Option ℕ) → ((p : Option ℕ) → last_or p (filter_map (number_if says) apdus) ≡ Some n → a.number ≤ n) → last_or o (cons_option found (filter_map (number_if says) apdus)) ≡ Some n → a.number ≤ n
+    go : (found : Option ℕ) → ((p : Option ℕ) → last_or p (filter_map (number_if says) apdus) ≡ Some n → a.number ≤ n)
+        → last_or o (cons_option found (filter_map (number_if says) apdus)) ≡ Some n → a.number ≤ n
     go None rest last = rest o last
     go (Some m) rest last = rest (Some m) last
 
@@ -139,7 +151,8 @@ pub has_last : (says : Body → Bool) (o : Option ℕ) (apdus : List Apdu)
 has_last says o [] is = search rules
 has_last says o (a ∷ apdus) is = go (says a.body) (has_last says o apdus) is
   where
-    go : (here : Bool) → (list_any (λ (b : Apdu). says b.body) apdus ≡ true → (n : ℕ) × (last_or o (filter_map (number_if says) apdus) ≡ Some n)) → (here || list_any (λ (b : Apdu). says b.body) apdus) ≡ true
+    go : (here : Bool) → (list_any (λ (b : Apdu). says b.body) apdus ≡ true → (n : ℕ)
+        × (last_or o (filter_map (number_if says) apdus) ≡ Some n)) → (here || list_any (λ (b : Apdu). says b.body) apdus) ≡ true
         → (n : ℕ) × (last_or o (cons_option (if here then Some a.number else None) (filter_map (number_if says) apdus)) ≡ Some n)
     go true rest is = last_some o (filter_map (number_if says) apdus) a.number
     go false rest is = rest is

@@ -12,32 +12,42 @@ module _ {R : Type 0} (take : R → Apdu → R) where
   taking r (a ∷ apdus) = taking (take r a) apdus
 
   -- A fact that each APDU keeps is kept by all.
-  pub keeps_all : (P : R → Type 0) → ((r : R) (a : Apdu) → P r → P (take r a)) → (r : R) (apdus : List Apdu) → P r → P (taking r apdus)
+  pub keeps_all : (P : R → Type 0) → ((r : R) (a : Apdu) → P r → P (take r a)) → (r : R) (apdus : List Apdu) → P r
+      → P (taking r apdus)
   unfolding taking
   keeps_all P keeps r [] holds = holds
   keeps_all P keeps r (a ∷ apdus) holds = keeps_all P keeps (take r a) apdus (keeps r a holds)
 
   -- An APDU is heard at once, and stays heard unless it is reopened: of such records, and of such APDUs.
-  pub record Hears (Is : R → Type 0) (Of : Apdu → Type 0) (has_heard : R → ℕ → Body → Bool) (reopens : Body → Body → Bool) : Type 0 where
+  pub record Hears (Is : R → Type 0) (Of : Apdu → Type 0) (has_heard : R → ℕ → Body → Bool) (reopens : Body → Body → Bool) : Type
+      0 where
     pub keeps : (r : R) (a : Apdu) → Is r → Is (take r a)
     pub takes : (r : R) (a : Apdu) → Is r → Of a → has_heard (take r a) a.number a.body ≡ true
-    pub stays : (r : R) (a : Apdu) (number : ℕ) (body : Body) → reopens a.body body ≡ false → has_heard r number body ≡ true → has_heard (take r a) number body ≡ true
+    pub stays : (r : R) (a : Apdu) (number : ℕ) (body : Body) → reopens a.body body ≡ false → has_heard r number body ≡ true
+        → has_heard (take r a) number body ≡ true
 
-  module _ (Is : R → Type 0) (Of : Apdu → Type 0) (has_heard : R → ℕ → Body → Bool) (reopens : Body → Body → Bool) (hears : Hears Is Of has_heard reopens) where
+  module _ (Is : R → Type 0) (Of : Apdu → Type 0) (has_heard : R → ℕ → Body → Bool) (reopens : Body → Body → Bool)
+      (hears : Hears Is Of has_heard reopens) where
     -- A message stays heard while none reopens it.
-    stays_heard : (r : R) (apdus : List Apdu) (number : ℕ) (body : Body) → ((i : ℕ) (b : Apdu) → slice_get apdus i ≡ Some b → reopens b.body body ≡ false) → has_heard r number body ≡ true
+    stays_heard : (r : R) (apdus : List Apdu) (number : ℕ) (body : Body)
+        → ((i : ℕ) (b : Apdu) → slice_get apdus i ≡ Some b → reopens b.body body ≡ false) → has_heard r number body ≡ true
         → has_heard (taking r apdus) number body ≡ true
     unfolding taking
     stays_heard r [] number body none heard = heard
-    stays_heard r (b ∷ apdus) number body none heard = stays_heard (take r b) apdus number body (λ i c at. none (suc i) c at) (hears.stays r b number body (none zero b refl) heard)
+    stays_heard r (b ∷ apdus) number body none heard =
+        stays_heard (take r b) apdus number body (λ i c at. none (suc i) c at)
+        (hears.stays r b number body (none zero b refl) heard)
 
     -- After a record takes all APDUs, it has heard each that no later one reopens.
     pub heard_later : (r : R) (apdus : List Apdu) (i : ℕ) (a : Apdu) → Is r → slice_get apdus i ≡ Some a → Of a
-        → ((j : ℕ) (b : Apdu) → slice_get apdus j ≡ Some b → i < j → reopens b.body a.body ≡ false) → has_heard (taking r apdus) a.number a.body ≡ true
+        → ((j : ℕ) (b : Apdu) → slice_get apdus j ≡ Some b → i < j → reopens b.body a.body ≡ false)
+        → has_heard (taking r apdus) a.number a.body ≡ true
     unfolding taking
     heard_later r [] i a is at of none = search rules
     heard_later r (b ∷ apdus) zero a is at of none =
         let same : b ≡ a = same_apdu b a at in
-        stays_heard (take r b) apdus a.number a.body (λ j c there. none (suc j) c there (omega arith)) (subst (λ c. has_heard (take r c) a.number a.body ≡ true) (sym same) (hears.takes r a is of))
+        stays_heard (take r b) apdus a.number a.body (λ j c there. none (suc j) c there (omega arith))
+        (subst (λ c. has_heard (take r c) a.number a.body ≡ true) (sym same) (hears.takes r a is of))
     heard_later r (b ∷ apdus) (suc i) a is at of none =
-        heard_later (take r b) apdus i a (hears.keeps r b is) at of (λ j c there later. none (suc j) c there (omega (arith, later)))
+        heard_later (take r b) apdus i a (hears.keeps r b is) at of
+        (λ j c there later. none (suc j) c there (omega (arith, later)))

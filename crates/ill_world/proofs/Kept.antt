@@ -21,14 +21,18 @@ RowsGrow = (old new : Side) → IsStep old new → Grows old new
 
 -- An action keeps `K`, and so do a message that was sent and is taken, and further messages.
 pub record Keeps (K : Side → List (Option Apdu) → Type 0) : Type 0 where
-  pub acts : (old new : Side) (action : Action) (partner_sent : List (Option Apdu)) → acts old action ≡ Ok new → K old partner_sent → K new partner_sent
-  pub more : (side : Side) (partner_sent more : List (Option Apdu)) → ((a : Apdu) → WasSent partner_sent a → WasSent more a) → K side partner_sent → K side more
-  pub takes : (old : Side) (a : Apdu) (partner_sent : List (Option Apdu)) → WasSent partner_sent a → K old partner_sent → K (takes old a).1 partner_sent
+  pub acts : (old new : Side) (action : Action) (partner_sent : List (Option Apdu)) → acts old action ≡ Ok new
+      → K old partner_sent → K new partner_sent
+  pub more : (side : Side) (partner_sent more : List (Option Apdu)) → ((a : Apdu) → WasSent partner_sent a → WasSent more a)
+      → K side partner_sent → K side more
+  pub takes : (old : Side) (a : Apdu) (partner_sent : List (Option Apdu)) → WasSent partner_sent a → K old partner_sent
+      → K (takes old a).1 partner_sent
 
 -- ---- one event
 
 -- A party that stands does so after a decision.
-party_decides : (K : Side → List (Option Apdu) → Type 0) (p : Party) (partner_sent : List (Option Apdu)) (action : Action) (result : Result Side Refusal)
+party_decides : (K : Side → List (Option Apdu) → Type 0) (p : Party) (partner_sent : List (Option Apdu)) (action : Action)
+    (result : Result Side Refusal)
     → RowsGrow → Keeps K → acts p.live action ≡ result
     → PartyStands K p partner_sent → PartyStands K (decides p result).1 partner_sent
 party_decides K p partner_sent action (Ok new) grows keeps e stands = record {
@@ -39,7 +43,8 @@ party_decides K p partner_sent action (Ok new) grows keeps e stands = record {
 party_decides K p partner_sent action (Err refusal) grows keeps e stands = stands
 
 -- A party that stands does so after it receives a message that was sent to it.
-party_receives : (K : Side → List (Option Apdu) → Type 0) (p : Party) (partner_sent : List (Option Apdu)) (n : ℕ) (found : Option Apdu)
+party_receives : (K : Side → List (Option Apdu) → Type 0) (p : Party) (partner_sent : List (Option Apdu)) (n : ℕ)
+    (found : Option Apdu)
     → RowsGrow → Keeps K → sent_message partner_sent n ≡ found
     → PartyStands K p partner_sent → PartyStands K (receives p found).1 partner_sent
 party_receives K p partner_sent n None grows keeps e stands = stands
@@ -52,35 +57,49 @@ party_receives K p partner_sent n (Some a) grows keeps e stands = record {
 -- A party that stands does so after a save that fails.
 party_fails : (K : Side → List (Option Apdu) → Type 0) (p : Party) (partner_sent : List (Option Apdu)) (who : _) (landed : Bool)
     → PartyStands K p partner_sent → PartyStands K (happens_to p partner_sent (events.SaveFault who landed)).1 partner_sent
-party_fails K p partner_sent who true stands = record { saved = saved_by_fault p true stands.saved; live = stands.live; landed = stands.live }
+party_fails K p partner_sent who true stands =
+    record { saved = saved_by_fault p true stands.saved; live = stands.live; landed = stands.live }
 party_fails K p partner_sent who false stands = stands
 
 -- A party that stands does so after a Send.
-party_sends : (K : Side → List (Option Apdu) → Type 0) (p : Party) (partner_sent : List (Option Apdu)) (n : ℕ) (found : Option Apdu) (released : Bool)
+party_sends : (K : Side → List (Option Apdu) → Type 0) (p : Party) (partner_sent : List (Option Apdu)) (n : ℕ)
+    (found : Option Apdu) (released : Bool)
     → message (issued_of p.live) n ≡ found
     → nat_le n p.released ≡ released → PartyStands K p partner_sent → PartyStands K (sends p n found released).1 partner_sent
 party_sends K p partner_sent n None released is e stands = stands
 party_sends K p partner_sent n (Some a) false is e stands = stands
-party_sends K p partner_sent n (Some a) true is e stands = record { saved = saved_by_send p n (Some a) true is e stands.saved; live = stands.live; landed = stands.landed }
+party_sends K p partner_sent n (Some a) true is e stands =
+    record { saved = saved_by_send p n (Some a) true is e stands.saved; live = stands.live; landed = stands.landed }
 
 -- A party that stands does so after each event.
 pub party_kept : (K : Side → List (Option Apdu) → Type 0) (p : Party) (partner_sent : List (Option Apdu)) (event : Event)
     → RowsGrow → Keeps K → PartyStands K p partner_sent
     → PartyStands K (happens_to p partner_sent event).1 partner_sent
-party_kept K p partner_sent (events.Wish wish) grows keeps stands = party_decides K p partner_sent (actions.Wish wish) (acts p.live (actions.Wish wish)) grows keeps refl stands
-party_kept K p partner_sent (events.Deed deed today) grows keeps stands = party_decides K p partner_sent (actions.Deed deed today) (acts p.live (actions.Deed deed today)) grows keeps refl stands
-party_kept K p partner_sent (events.Save who) grows keeps stands = record { saved = saved_now p stands.saved; live = stands.live; landed = stands.live }
+party_kept K p partner_sent (events.Wish wish) grows keeps stands =
+    party_decides K p partner_sent (actions.Wish wish) (acts p.live (actions.Wish wish)) grows keeps refl stands
+party_kept K p partner_sent (events.Deed deed today) grows keeps stands =
+    party_decides K p partner_sent (actions.Deed deed today) (acts p.live (actions.Deed deed today)) grows keeps refl stands
+party_kept K p partner_sent (events.Save who) grows keeps stands =
+    record { saved = saved_now p stands.saved; live = stands.live; landed = stands.live }
 party_kept K p partner_sent (events.SaveFault who landed) grows keeps stands = party_fails K p partner_sent who landed stands
-party_kept K p partner_sent (events.Send who n) grows keeps stands = party_sends K p partner_sent n (message (issued_of p.live) n) (nat_le n p.released) refl refl stands
-party_kept K p partner_sent (events.Deliver who n) grows keeps stands = party_receives K p partner_sent n (sent_message partner_sent n) grows keeps refl stands
+party_kept K p partner_sent (events.Send who n) grows keeps stands =
+    party_sends K p partner_sent n (message (issued_of p.live) n) (nat_le n p.released) refl refl stands
+party_kept K p partner_sent (events.Deliver who n) grows keeps stands =
+    party_receives K p partner_sent n (sent_message partner_sent n) grows keeps refl stands
 party_kept K p partner_sent (events.Noise who bytes) grows keeps stands = stands
-party_kept K p partner_sent (events.Restart who) grows keeps stands = record { saved = saved_at_restart p stands.saved; live = stands.landed; landed = stands.landed }
+party_kept K p partner_sent (events.Restart who) grows keeps stands =
+    record { saved = saved_at_restart p stands.saved; live = stands.landed; landed = stands.landed }
 
 -- A party that stands by `partner_sent` stands by `more`, if each message of `partner_sent` is in `more`.
 pub more_sent : (K : Side → List (Option Apdu) → Type 0) (p : Party) (partner_sent more : List (Option Apdu)) → Keeps K
     → ((a : Apdu) → WasSent partner_sent a → WasSent more a) → PartyStands K p partner_sent
     → PartyStands K p more
-more_sent K p partner_sent more keeps stays stands = record { saved = stands.saved; live = keeps.more p.live partner_sent more stays stands.live; landed = keeps.more p.landed partner_sent more stays stands.landed }
+more_sent K p partner_sent more keeps stays stands =
+    record {
+      saved = stands.saved;
+      live = keeps.more p.live partner_sent more stays stands.live;
+      landed = keeps.more p.landed partner_sent more stays stands.landed;
+    }
 
 -- ---- sent messages
 
@@ -103,12 +122,17 @@ fails_sends p partner_sent who false = refl
 -- A message that a party has sent stays sent, under its number, at each event.
 pub stays_sent : (p : Party) (partner_sent : List (Option Apdu)) (event : Event) → SendsSaved p → (m : ℕ) (a : Apdu)
     → sent_message p.sent m ≡ Some a → sent_message (happens_to p partner_sent event).1.sent m ≡ Some a
-stays_sent p partner_sent (events.Wish wish) saved m a was = subst (λ s. sent_message s m ≡ Some a) (sym (decides_sends p (acts p.live (actions.Wish wish)))) was
-stays_sent p partner_sent (events.Deed deed today) saved m a was = subst (λ s. sent_message s m ≡ Some a) (sym (decides_sends p (acts p.live (actions.Deed deed today)))) was
+stays_sent p partner_sent (events.Wish wish) saved m a was =
+    subst (λ s. sent_message s m ≡ Some a) (sym (decides_sends p (acts p.live (actions.Wish wish)))) was
+stays_sent p partner_sent (events.Deed deed today) saved m a was =
+    subst (λ s. sent_message s m ≡ Some a) (sym (decides_sends p (acts p.live (actions.Deed deed today)))) was
 stays_sent p partner_sent (events.Save who) saved m a was = was
-stays_sent p partner_sent (events.SaveFault who landed) saved m a was = subst (λ s. sent_message s m ≡ Some a) (sym (fails_sends p partner_sent who landed)) was
-stays_sent p partner_sent (events.Send who n) saved m a was = sent_stays p n (message (issued_of p.live) n) (nat_le n p.released) refl refl saved m a was
-stays_sent p partner_sent (events.Deliver who n) saved m a was = subst (λ s. sent_message s m ≡ Some a) (sym (receives_sends p (sent_message partner_sent n))) was
+stays_sent p partner_sent (events.SaveFault who landed) saved m a was =
+    subst (λ s. sent_message s m ≡ Some a) (sym (fails_sends p partner_sent who landed)) was
+stays_sent p partner_sent (events.Send who n) saved m a was =
+    sent_stays p n (message (issued_of p.live) n) (nat_le n p.released) refl refl saved m a was
+stays_sent p partner_sent (events.Deliver who n) saved m a was =
+    subst (λ s. sent_message s m ≡ Some a) (sym (receives_sends p (sent_message partner_sent n))) was
 stays_sent p partner_sent (events.Noise who bytes) saved m a was = was
 stays_sent p partner_sent (events.Restart who) saved m a was = was
 

@@ -1,5 +1,6 @@
 -- The bytes of a message that was sent.
-use Rattle.std.proofs.Common.{rules, arith, ◌≡◌, ◌≤◌, List, [], ◌∷◌, ◌++◌, length, drop, ℕ, Result, Ok, Err, false, refl, sym, ap, ◌∙◌, append-nil}
+use Rattle.std.proofs.Common.{rules, arith, ◌≡◌, ◌≤◌, List, [], ◌∷◌, ◌++◌, length, drop, ℕ, Result, Ok, Err, false, refl, sym, ap}
+use Rattle.std.proofs.Common.{◌∙◌, append-nil}
 use Rattle.std.proofs.lemmas.List.{length-drop}
 use Rattle.ill_values.specs.TxnId.{Qualifiers}
 use Rattle.ill_core.specs.Issued.{is_same_txn}
@@ -24,7 +25,8 @@ apdu_is again bytes a is spelled = ap apdu_of (spelled_whole again bytes a is sp
 -- Bytes that spell an APDU are read as the APDU of them, with none left.
 pub is_whole : ReadAgain → (bytes : List ℕ) (a : Apdu) → IsApdu a → bytes ≡ spelling a
     → apdu_at bytes ≡ Ok (apdu_of (apdu_at bytes), [])
-is_whole again bytes a is spelled = spelled_whole again bytes a is spelled ∙ ap (λ x. Ok (x, [])) (sym (apdu_is again bytes a is spelled))
+is_whole again bytes a is spelled =
+    spelled_whole again bytes a is spelled ∙ ap (λ x. Ok (x, [])) (sym (apdu_is again bytes a is spelled))
 
 -- ---- bytes that are exactly one APDU
 

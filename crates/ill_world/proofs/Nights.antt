@@ -1,5 +1,6 @@
 -- After a night both sides are in step, or at rest.
-use Rattle.std.proofs.Common.{rules, ◌≡◌, ◌⊎◌, inl, inr, Bool, true, false, not, ◌&&◌, ◌||◌, List, [], ◌∷◌, ◌++◌, length, Option, refl, sym, ap, ◌∙◌, subst}
+use Rattle.std.proofs.Common.{rules, ◌≡◌, ◌⊎◌, inl, inr, Bool, true, false, not, ◌&&◌, ◌||◌, List, [], ◌∷◌, ◌++◌, length, Option}
+use Rattle.std.proofs.Common.{refl, sym, ap, ◌∙◌, subst}
 use Rattle.std.proofs.lemmas.Bool.{and_from, or_left, or_right}
 use Rattle.ill_values.specs.TxnId.{Qualifiers}
 use Rattle.ill_values.specs.declared.apdu.Apdu.{Apdu}
@@ -21,7 +22,8 @@ use Rattle.ill_world.specs.World.{Parties, happens, run_by, run_of}
 use Rattle.ill_world.specs.Agreement.{Facing}
 use Rattle.ill_world.specs.Invariant.{RequesterStands, ResponderStands, RequesterSideStands, ResponderSideStands, Invariant}
 use Rattle.ill_world.specs.Round.{sends_and_delivers, half_of, round_of, faced_in, AreInStep}
-use Rattle.ill_world.specs.Night.{is_nobodys, is_over, wants_sending, asks, half_if, night_of, AtRest, AreAtRest, AreInStepOrAtRest}
+use Rattle.ill_world.specs.Night.{is_nobodys, is_over, wants_sending, asks, half_if, night_of, AtRest, AreAtRest}
+use Rattle.ill_world.specs.Night.{AreInStepOrAtRest}
 use Rattle.ill_world.proofs.Claims.{AreIssued, live_issues, cancelled_faces, not_supplied_faces}
 use Rattle.ill_world.proofs.Agreements.{says_true}
 use Rattle.ill_world.proofs.DeskArrivals.{idle_issued}
@@ -53,28 +55,38 @@ rest_in x y s t over at_s at_t ends faces = record {
 
 -- If the loan is over for a requester's record that stands, it is at rest with the responder's.
 records_rest : (txn : Qualifiers) (x : RequesterRecord) (y : ResponderRecord) (requester_sent responder_sent : List (Option Apdu))
-    → RequesterStands txn x requester_sent → ResponderStands txn y responder_sent → AreIssued requester_sent y.issued → AreIssued responder_sent x.issued
+    → RequesterStands txn x requester_sent → ResponderStands txn y responder_sent → AreIssued requester_sent y.issued
+    → AreIssued responder_sent x.issued
     → is_over (sides.Requester x) ≡ true → AtRest x y
 records_rest txn x y requester_sent responder_sent requester_stands responder_stands issued heeded over =
     elim (over_means x.state (is_declined x) x.checked_in requester_stands.rules.parts.role over) [
-      | inl cancelled ↦ rest_in x y states.Cancelled states.Cancelled over cancelled (cancelled_faces txn x y requester_sent responder_sent requester_stands responder_stands issued cancelled) refl refl
-      | inr (inl ended) ↦ rest_in x y states.NotSupplied states.NotSupplied over ended (not_supplied_faces txn x y requester_sent responder_sent requester_stands responder_stands issued ended) refl refl
+      | inl cancelled ↦ rest_in x y states.Cancelled states.Cancelled over cancelled
+          (cancelled_faces txn x y requester_sent responder_sent requester_stands responder_stands issued cancelled) refl refl
+      | inr (inl ended) ↦ rest_in x y states.NotSupplied states.NotSupplied over ended
+          (not_supplied_faces txn x y requester_sent responder_sent requester_stands responder_stands issued ended) refl refl
       | inr (inr (returned, marked)) ↦
-          rest_in x y states.Returned states.CheckedIn over returned ((says_true txn x y requester_sent responder_sent requester_stands responder_stands issued heeded).checked_in marked) refl refl
+          rest_in x y states.Returned states.CheckedIn over returned
+          ((says_true txn x y requester_sent responder_sent requester_stands responder_stands issued heeded).checked_in
+          marked) refl refl
     ]
 
 -- If the loan is over for a requester's side that stands, it is at rest with the responder's.
-sides_rest : (txn : Qualifiers) (x y : Side) (requester_sent responder_sent : List (Option Apdu)) → RequesterSideStands txn x requester_sent
+sides_rest : (txn : Qualifiers) (x y : Side) (requester_sent responder_sent : List (Option Apdu))
+    → RequesterSideStands txn x requester_sent
     → ResponderSideStands txn y responder_sent → AreIssued requester_sent (issued_of y) → AreIssued responder_sent (issued_of x)
     → is_over x ≡ true → Facing AtRest x y
-sides_rest txn (sides.Requester x) (sides.Responder y) requester_sent responder_sent requester_stands responder_stands issued heeded over = records_rest txn x y requester_sent responder_sent requester_stands responder_stands issued heeded over
-sides_rest txn (sides.Responder x) y requester_sent responder_sent requester_stands responder_stands issued heeded over = absurd requester_stands
-sides_rest txn (sides.Requester x) (sides.Requester y) requester_sent responder_sent requester_stands responder_stands issued heeded over = absurd responder_stands
+sides_rest txn (sides.Requester x) (sides.Responder y) requester_sent responder_sent requester_stands responder_stands issued
+    heeded over = records_rest txn x y requester_sent responder_sent requester_stands responder_stands issued heeded over
+sides_rest txn (sides.Responder x) y requester_sent responder_sent requester_stands responder_stands issued heeded over =
+    absurd requester_stands
+sides_rest txn (sides.Requester x) (sides.Requester y) requester_sent responder_sent requester_stands responder_stands issued
+    heeded over = absurd responder_stands
 
 -- Both sides of a world that stands are at rest if the loan is over for the requester.
 pub at_rest : (txn : Qualifiers) (w : Parties) → Invariant txn w → is_over w.requester.live ≡ true → AreAtRest w
 at_rest txn w stands over =
-    sides_rest txn w.requester.live w.responder.live w.responder.sent w.requester.sent stands.requester.live stands.responder.live (live_issues w.responder stands.responder.saved) (live_issues w.requester stands.requester.saved) over
+    sides_rest txn w.requester.live w.responder.live w.responder.sent w.requester.sent stands.requester.live stands.responder.live
+    (live_issues w.responder stands.responder.saved) (live_issues w.requester stands.requester.saved) over
 
 -- If two sides are at rest, the loan is over for the responder's.
 rests_responder : (x y : Side) → Facing AtRest x y → is_over y ≡ true
@@ -112,25 +124,29 @@ unasked_is_open txn (sides.Responder y) responder_sent apdus stands heeded none 
   where
     go : (idle : Bool) → is_among (states.Idle ∷ []) y.state ≡ idle → is_over (sides.Responder y) ≡ false
     go true is = idle_is_open y.state is
-    go false is = let known = stands.knows responder.Requested is in let there = heeded known.0 known.1 in absurd (idle_issued apdus there.0 known.0 none there.1)
+    go false is = let known = stands.knows responder.Requested is in let there = heeded known.0 known.1 in
+        absurd (idle_issued apdus there.0 known.0 none there.1)
 unasked_is_open txn (sides.Requester x) responder_sent apdus stands heeded none = absurd stands
 
 -- ---- the events of a night
 
 -- Returns a night whose first half is `first`.
 abbrev night_from : Parties → List Event → List Event
-night_from w first = first ++ half_if (wants_sending (asks w.requester.live) (run_of w first).responder.live) who.Responder (run_of w first)
+night_from w first = first ++ half_if (wants_sending (asks w.requester.live) (run_of w first).responder.live) who.Responder
+    (run_of w first)
 
 -- The half of a requester that has issued nothing is a save, which leaves the responder.
 nothing_passes : (w : Parties) (apdus : List Apdu) → issued_of w.requester.live ≡ apdus → is_none apdus ≡ true
     → (run_of w (half_of who.Requester w)).responder.live ≡ w.responder.live
 unfolding run_by sends_and_delivers
-nothing_passes w [] is none = ap (λ (l : List Apdu). (run_of w (Save who.Requester ∷ sends_and_delivers who.Requester 1 (length l))).responder.live) is
+nothing_passes w [] is none = ap
+    (λ (l : List Apdu). (run_of w (Save who.Requester ∷ sends_and_delivers who.Requester 1 (length l))).responder.live) is
 nothing_passes w (a ∷ apdus) is none = search rules
 
 module _ (txn : Qualifiers) (after : (w : Parties) (event : Event) → Invariant txn w → Invariant txn (happens w event).1) where
   -- The responder wants sending after the half of a requester that wants it.
-  responder_wants : (w : Parties) → Invariant txn w → is_over w.requester.live ≡ false → wants_sending (asks w.requester.live) (run_of w (half_of who.Requester w)).responder.live ≡ true
+  responder_wants : (w : Parties) → Invariant txn w → is_over w.requester.live ≡ false
+      → wants_sending (asks w.requester.live) (run_of w (half_of who.Requester w)).responder.live ≡ true
   responder_wants w stands is_open = go (is_none (issued_of w.requester.live)) refl
     where
       between : Parties
@@ -139,14 +155,17 @@ module _ (txn : Qualifiers) (after : (w : Parties) (event : Event) → Invariant
       stands_between : Invariant txn between
       stands_between = run_stands txn after w (half_of who.Requester w) stands
 
-      go : (none : Bool) → is_none (issued_of w.requester.live) ≡ none → wants_sending (asks w.requester.live) between.responder.live ≡ true
+      go : (none : Bool) → is_none (issued_of w.requester.live) ≡ none
+          → wants_sending (asks w.requester.live) between.responder.live ≡ true
       go true none =
           open_wants (asks w.requester.live) between.responder.live
           (ap is_over (nothing_passes w (issued_of w.requester.live) refl none)
-          ∙ unasked_is_open txn w.responder.live w.requester.sent (issued_of w.requester.live) stands.responder.live (live_issues w.requester stands.requester.saved) none)
+          ∙ unasked_is_open txn w.responder.live w.requester.sent (issued_of w.requester.live) stands.responder.live
+          (live_issues w.requester stands.requester.saved) none)
       go false some =
           let it_asks : asks w.requester.live ≡ true = and_from _ _ (open_wants false w.requester.live is_open) (ap not some) in
-          ap (λ b. wants_sending b between.responder.live) it_asks ∙ asked_wants txn between.responder.live between.requester.sent stands_between.responder.live
+          ap (λ b. wants_sending b between.responder.live) it_asks
+          ∙ asked_wants txn between.responder.live between.requester.sent stands_between.responder.live
 
   -- A night is a round while the loan is not over for the requester.
   pub night_is_round : (w : Parties) → Invariant txn w → is_over w.requester.live ≡ false → night_of w ≡ round_of w
@@ -156,14 +175,17 @@ module _ (txn : Qualifiers) (after : (w : Parties) (event : Event) → Invariant
       ∙ ap (λ b. first ++ half_if b who.Responder (run_of w first)) (responder_wants w stands is_open)
 
   -- If the loan is over for the requester, and both are at rest, a night is a save of each side.
-  pub night_is_saves : (w : Parties) → AreAtRest w → is_over w.requester.live ≡ true → night_of w ≡ Save who.Requester ∷ Save who.Responder ∷ []
+  pub night_is_saves : (w : Parties) → AreAtRest w → is_over w.requester.live ≡ true
+      → night_of w ≡ Save who.Requester ∷ Save who.Responder ∷ []
   unfolding run_by
   night_is_saves w rest over =
       let silent : wants_sending false w.requester.live ≡ false = over_is_silent w.requester.live over in
       let nothing_asked : asks w.requester.live ≡ false = ap (λ b. b && not (is_none (issued_of w.requester.live))) silent in
       let both_silent : wants_sending (asks w.requester.live) w.responder.live ≡ false =
-      ap (λ b. wants_sending b w.responder.live) nothing_asked ∙ over_is_silent w.responder.live (rests_responder w.requester.live w.responder.live rest) in
-      ap (night_from w) (ap (λ b. half_if b who.Requester w) silent) ∙ ap (λ b. Save who.Requester ∷ half_if b who.Responder (run_of w (Save who.Requester ∷ []))) both_silent
+      ap (λ b. wants_sending b w.responder.live) nothing_asked
+      ∙ over_is_silent w.responder.live (rests_responder w.requester.live w.responder.live rest) in
+      ap (night_from w) (ap (λ b. half_if b who.Requester w) silent)
+      ∙ ap (λ b. Save who.Requester ∷ half_if b who.Responder (run_of w (Save who.Requester ∷ []))) both_silent
 
 -- ---- a night
 

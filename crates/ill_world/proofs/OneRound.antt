@@ -1,5 +1,6 @@
 -- After a round both sides are in step.
-use Rattle.std.proofs.Common.{rules, arith, ◌≡◌, ◌⊎◌, inl, inr, ℕ, zero, suc, ◌≤◌, ◌<◌, Bool, true, false, not, ◌&&◌, ◌||◌, List, [], ◌∷◌, length, Option, Some, refl, sym, ap, ◌∙◌, subst, append-nil}
+use Rattle.std.proofs.Common.{rules, arith, ◌≡◌, ◌⊎◌, inl, inr, ℕ, zero, suc, ◌≤◌, ◌<◌, Bool, true, false, not, ◌&&◌, ◌||◌, List}
+use Rattle.std.proofs.Common.{[], ◌∷◌, length, Option, Some, refl, sym, ap, ◌∙◌, subst, append-nil}
 use Rattle.std.specs.Prelude.{slice_get}
 use Rattle.std.specs.List.{list_all}
 use Rattle.std.proofs.lemmas.Bool.{and_parts, not-true, false_from_ne_true}
@@ -15,7 +16,8 @@ use Rattle.ill_core.specs.declared.state.State.{State}
 use Rattle.ill_core.specs.declared.state.State.TheVariants as states
 use Rattle.ill_core.specs.State.{is_among}
 use Rattle.ill_core.specs.Dates.{is_same_day}
-use Rattle.ill_core.specs.Bodies.{is_ill_request, is_requesters, is_shipped, is_end, is_cancelled, is_unsupplied, names_conditions}
+use Rattle.ill_core.specs.Bodies.{is_ill_request, is_requesters, is_shipped, is_end, is_cancelled, is_unsupplied}
+use Rattle.ill_core.specs.Bodies.{names_conditions}
 use Rattle.ill_core.specs.Issued.{message, has, is_same_txn, next_apdu}
 use Rattle.ill_core.specs.Requester.{RequesterRecord, begins_with_request}
 use Rattle.ill_core.specs.RequesterDeliveries as requester_deliveries
@@ -51,19 +53,24 @@ asks x a = (requester_deliveries.takes x a).1
 abbrev lends : ResponderRecord → Apdu → ResponderRecord
 lends y a = (responder_deliveries.takes y a).1
 
--- A record that takes a message has responder_sent it, until a later one reopens it. While it takes messages, a responder
--- issues nothing but an ILL-Answer unfilled.
+-- A record that takes a message has responder_sent it, until a later one reopens it. While it takes messages, a
+-- responder issues nothing but an ILL-Answer unfilled.
 pub record RowsHear : Type 0 where
   pub requester_txn : (x : RequesterRecord) (a : Apdu) → (asks x a).txn ≡ x.txn
   pub requester_issues : (x : RequesterRecord) (a : Apdu) → (asks x a).issued ≡ x.issued
-  pub requester_takes : (x : RequesterRecord) (a : Apdu) → is_same_txn a.txn x.txn ≡ true → is_requesters a.body ≡ false → notices.has_heard (asks x a) a.number a.body ≡ true
-  pub requester_stays : (x : RequesterRecord) (a : Apdu) (number : ℕ) (body : Body) → notices.reopens a.body body ≡ false → notices.has_heard x number body ≡ true → notices.has_heard (asks x a) number body ≡ true
+  pub requester_takes : (x : RequesterRecord) (a : Apdu) → is_same_txn a.txn x.txn ≡ true → is_requesters a.body ≡ false
+      → notices.has_heard (asks x a) a.number a.body ≡ true
+  pub requester_stays : (x : RequesterRecord) (a : Apdu) (number : ℕ) (body : Body) → notices.reopens a.body body ≡ false
+      → notices.has_heard x number body ≡ true → notices.has_heard (asks x a) number body ≡ true
   pub responder_txn : (y : ResponderRecord) (a : Apdu) → (lends y a).txn ≡ y.txn
   pub responder_issues : (y : ResponderRecord) (a : Apdu) → IssuesUnfilled y a.body (lends y a)
   pub responder_ends : (y : ResponderRecord) (a : Apdu) → Ends y (lends y a)
-  pub responder_final : (y : ResponderRecord) (a : Apdu) → is_among (states.NotSupplied ∷ states.Cancelled ∷ states.CheckedIn ∷ []) y.state ≡ true → (lends y a).state ≡ y.state
-  pub responder_takes : (y : ResponderRecord) (a : Apdu) → is_same_txn a.txn y.txn ≡ true → is_requesters a.body ≡ true → records.has_heard (lends y a) a.number a.body ≡ true
-  pub responder_stays : (y : ResponderRecord) (a : Apdu) (number : ℕ) (body : Body) → records.reopens a.body body ≡ false → records.has_heard y number body ≡ true → records.has_heard (lends y a) number body ≡ true
+  pub responder_final : (y : ResponderRecord) (a : Apdu)
+      → is_among (states.NotSupplied ∷ states.Cancelled ∷ states.CheckedIn ∷ []) y.state ≡ true → (lends y a).state ≡ y.state
+  pub responder_takes : (y : ResponderRecord) (a : Apdu) → is_same_txn a.txn y.txn ≡ true → is_requesters a.body ≡ true
+      → records.has_heard (lends y a) a.number a.body ≡ true
+  pub responder_stays : (y : ResponderRecord) (a : Apdu) (number : ℕ) (body : Body) → records.reopens a.body body ≡ false
+      → records.has_heard y number body ≡ true → records.has_heard (lends y a) number body ≡ true
 
 -- ---- a side and its record
 
@@ -95,7 +102,8 @@ same_responder y z same = search rules
 each : (p : Body → Bool) (apdus : List Apdu) (i : ℕ) (a : Apdu) → list_all (λ b. p b.body) apdus ≡ true
     → slice_get apdus i ≡ Some a → p a.body ≡ true
 each p [] i a all at = search rules
-each p (b ∷ apdus) zero a all at = let same : b ≡ a = search rules in subst (λ (c : Apdu). p c.body ≡ true) same (and_parts _ _ all).0
+each p (b ∷ apdus) zero a all at = let same : b ≡ a = search rules in
+    subst (λ (c : Apdu). p c.body ≡ true) same (and_parts _ _ all).0
 each p (b ∷ apdus) (suc i) a all at = each p apdus i a (and_parts _ _ all).1 at
 
 -- No message says it if the list of APDUs does not.
@@ -114,7 +122,8 @@ first_alone [] j b begins at = search rules
 first_alone (a ∷ apdus) j b begins at = none_there is_ill_request apdus j b (not-true _ (and_parts _ _ begins).1) at
 
 -- A list says all that a prefix of it says.
-has_prefix : (says : Body → Bool) (prefix apdus : List Apdu) → IsPrefix prefix apdus → has says prefix ≡ true → has says apdus ≡ true
+has_prefix : (says : Body → Bool) (prefix apdus : List Apdu) → IsPrefix prefix apdus → has says prefix ≡ true
+    → has says apdus ≡ true
 has_prefix says prefix apdus is there =
     ap (has says) is.1 ∙ (list_any-append (λ (a : Apdu). says a.body) prefix is.0 ∙ ap (λ (b : Bool). b || has says is.0) there)
 
@@ -127,7 +136,8 @@ only_request first second is = refl
 
 -- The first APDU grants a date, and the second is an Overdue for it.
 abbrev GrantsOverdue : Body → Body → Type 0
-GrantsOverdue first second = (c : ℕ) × (due day : Date) × (grant_of first ≡ Some (grant c due)) × (second ≡ types.Overdue day) × (is_same_day day due ≡ true)
+GrantsOverdue first second = (c : ℕ) × (due day : Date) × (grant_of first ≡ Some (grant c due)) × (second ≡ types.Overdue day)
+    × (is_same_day day due ≡ true)
 
 -- A plain APDU is reopened only as a Recall by a Shipped, or as an Overdue by its grant.
 plain_reopens : (first second : Body) → names_conditions second ≡ false
@@ -136,9 +146,11 @@ plain_reopens : (first second : Body) → names_conditions second ≡ false
 plain_reopens (types.CancelReply c false) (types.IllAnswer results.Conditional) plain order dates = search rules
 plain_reopens (types.CancelReply c false) second plain order dates = search rules
 plain_reopens (types.Shipped due) types.Recall plain order dates = absurd (order refl refl)
-plain_reopens (types.Shipped due) (types.Overdue day) plain order dates = false_from_ne_true _ (λ same. dates (0, due, day, refl, refl, same))
+plain_reopens (types.Shipped due) (types.Overdue day) plain order dates =
+    false_from_ne_true _ (λ same. dates (0, due, day, refl, refl, same))
 plain_reopens (types.Shipped due) second plain order dates = search rules
-plain_reopens (types.RenewAnswer c (Some due)) (types.Overdue day) plain order dates = false_from_ne_true _ (λ same. dates (c, due, day, refl, refl, same))
+plain_reopens (types.RenewAnswer c (Some due)) (types.Overdue day) plain order dates =
+    false_from_ne_true _ (λ same. dates (c, due, day, refl, refl, same))
 plain_reopens (types.RenewAnswer c (Some due)) second plain order dates = search rules
 plain_reopens first second plain order dates = search rules
 
@@ -149,18 +161,23 @@ module _ (rows : RowsHear) where
   responder_grows : (y : ResponderRecord) (apdus : List Apdu) → IsPrefix y.issued (taking lends y apdus).issued
   unfolding taking
   responder_grows y [] = prefix_of_itself y.issued
-  responder_grows y (a ∷ apdus) = prefix_of_prefix y.issued (lends y a).issued _ (grown (rows.responder_issues y a)) (responder_grows (lends y a) apdus)
+  responder_grows y (a ∷ apdus) =
+      prefix_of_prefix y.issued (lends y a).issued _ (grown (rows.responder_issues y a)) (responder_grows (lends y a) apdus)
     where
       grown : IssuesUnfilled y a.body (lends y a) → IsPrefix y.issued (lends y a).issued
       grown (inl same) = ([], same ∙ sym (append-nil y.issued))
       grown (inr more) = (next_apdu y.txn y.issued (types.IllAnswer results.Unfilled) ∷ [], more.1)
 
   -- A responder in NOT-SUPPLIED stays there.
-  unsupplied_stays : (y : ResponderRecord) (apdus : List Apdu) → is_among (states.NotSupplied ∷ []) y.state ≡ true → is_among (states.NotSupplied ∷ []) (taking lends y apdus).state ≡ true
+  unsupplied_stays : (y : ResponderRecord) (apdus : List Apdu) → is_among (states.NotSupplied ∷ []) y.state ≡ true
+      → is_among (states.NotSupplied ∷ []) (taking lends y apdus).state ≡ true
   unsupplied_stays y apdus is =
-      keeps_all lends (λ r. is_among (states.NotSupplied ∷ []) r.state ≡ true) (λ r a ended. ap (is_among (states.NotSupplied ∷ [])) (rows.responder_final r a (final_too r.state ended)) ∙ ended) y apdus is
+      keeps_all lends (λ r. is_among (states.NotSupplied ∷ []) r.state ≡ true)
+      (λ r a ended. ap (is_among (states.NotSupplied ∷ [])) (rows.responder_final r a (final_too r.state ended)) ∙ ended) y
+      apdus is
     where
-      final_too : (s : State) → is_among (states.NotSupplied ∷ []) s ≡ true → is_among (states.NotSupplied ∷ states.Cancelled ∷ states.CheckedIn ∷ []) s ≡ true
+      final_too : (s : State) → is_among (states.NotSupplied ∷ []) s ≡ true
+          → is_among (states.NotSupplied ∷ states.Cancelled ∷ states.CheckedIn ∷ []) s ≡ true
       final_too states.NotSupplied is = refl
       final_too s is = search rules
 
@@ -170,12 +187,15 @@ module _ (rows : RowsHear) where
   not_undecided s is undecided = search rules
 
   -- A state that the ILL-Answer unfilled ends in is NOT-SUPPLIED.
-  ends_there : (s : State) → (true && is_among (states.NotSupplied ∷ []) s || (false && is_among (states.Cancelled ∷ []) s || false && is_among later s)) ≡ true → is_among (states.NotSupplied ∷ []) s ≡ true
+  ends_there : (s : State) → (true && is_among (states.NotSupplied ∷ []) s
+      || (false && is_among (states.Cancelled ∷ []) s || false && is_among later s)) ≡ true
+      → is_among (states.NotSupplied ∷ []) s ≡ true
   ends_there states.NotSupplied is = refl
   ends_there s is = search rules
 
   -- A responder that is undecided after it took APDUs has issued nothing meanwhile.
-  issues_nothing : (y : ResponderRecord) (apdus : List Apdu) → is_among records.undecided (taking lends y apdus).state ≡ true → (taking lends y apdus).issued ≡ y.issued
+  issues_nothing : (y : ResponderRecord) (apdus : List Apdu) → is_among records.undecided (taking lends y apdus).state ≡ true
+      → (taking lends y apdus).issued ≡ y.issued
   unfolding taking
   issues_nothing y [] undecided = refl
   issues_nothing y (a ∷ apdus) undecided = issues_nothing (lends y a) apdus undecided ∙ same (rows.responder_issues y a)
@@ -188,7 +208,8 @@ module _ (rows : RowsHear) where
 
   -- ---- both
 
-  module _ (txn : Qualifiers) (x : RequesterRecord) (y : ResponderRecord) (responder_sent requester_sent requester_sent_after : List (Option Apdu)) where
+  module _ (txn : Qualifiers) (x : RequesterRecord) (y : ResponderRecord)
+      (responder_sent requester_sent requester_sent_after : List (Option Apdu)) where
     -- Returns the responder after it takes all messages of the requester.
     abbrev lender_new : ResponderRecord
     lender_new = taking lends y x.issued
@@ -197,29 +218,35 @@ module _ (rows : RowsHear) where
     abbrev borrower_new : RequesterRecord
     borrower_new = taking asks x lender_new.issued
 
-    module _ (borrower : RequesterStands txn x responder_sent) (lender : ResponderStands txn y requester_sent) (lender_after : ResponderStands txn lender_new requester_sent_after) where
+    module _ (borrower : RequesterStands txn x responder_sent) (lender : ResponderStands txn y requester_sent)
+        (lender_after : ResponderStands txn lender_new requester_sent_after) where
       -- The requester has responder_sent message i + 1, unless a later one reopens it.
-      requester_heard : (i : ℕ) (a : Apdu) → slice_get lender_new.issued i ≡ Some a → ((j : ℕ) (b : Apdu) → slice_get lender_new.issued j ≡ Some b → i < j → notices.reopens b.body a.body ≡ false)
+      requester_heard : (i : ℕ) (a : Apdu) → slice_get lender_new.issued i ≡ Some a
+          → ((j : ℕ) (b : Apdu) → slice_get lender_new.issued j ≡ Some b → i < j → notices.reopens b.body a.body ≡ false)
           → notices.has_heard borrower_new a.number a.body ≡ true
       requester_heard i a at none =
-          heard_later asks (λ r. r.txn ≡ txn) (λ b. (is_same_txn b.txn txn ≡ true) × (is_requesters b.body ≡ false)) notices.has_heard notices.reopens (record {
+          heard_later asks (λ r. r.txn ≡ txn) (λ b. (is_same_txn b.txn txn ≡ true) × (is_requesters b.body ≡ false))
+          notices.has_heard notices.reopens (record {
             keeps = λ r b is. rows.requester_txn r b ∙ is;
             takes = λ r b is of. rows.requester_takes r b (subst (λ t. is_same_txn b.txn t ≡ true) (sym is) of.0) of.1;
             stays = rows.requester_stays;
           }) x lender_new.issued i a borrower.same_txn at (
-            subst (λ t. is_same_txn a.txn t ≡ true) lender_after.same_txn (message_number lender_new.txn lender_new.issued (suc i) a lender_after.rules.numbered at).0,
+            subst (λ t. is_same_txn a.txn t ≡ true) lender_after.same_txn
+                (message_number lender_new.txn lender_new.issued (suc i) a lender_after.rules.numbered at).0,
             not-true _ (each (λ body. not (is_requesters body)) lender_new.issued i a lender_after.rules.role at),
           ) none
 
       -- The responder has responder_sent message i + 1 of the requester.
       responder_heard : (i : ℕ) (a : Apdu) → slice_get x.issued i ≡ Some a → records.has_heard lender_new a.number a.body ≡ true
       responder_heard i a at =
-          heard_later lends (λ r. r.txn ≡ txn) (λ b. (is_same_txn b.txn txn ≡ true) × (is_requesters b.body ≡ true)) records.has_heard records.reopens (record {
+          heard_later lends (λ r. r.txn ≡ txn) (λ b. (is_same_txn b.txn txn ≡ true) × (is_requesters b.body ≡ true))
+          records.has_heard records.reopens (record {
             keeps = λ r b is. rows.responder_txn r b ∙ is;
             takes = λ r b is of. rows.responder_takes r b (subst (λ t. is_same_txn b.txn t ≡ true) (sym is) of.0) of.1;
             stays = rows.responder_stays;
           }) y x.issued i a lender.same_txn at (
-            subst (λ t. is_same_txn a.txn t ≡ true) borrower.same_txn (message_number x.txn x.issued (suc i) a borrower.rules.numbered at).0,
+            subst (λ t. is_same_txn a.txn t ≡ true) borrower.same_txn
+                (message_number x.txn x.issued (suc i) a borrower.rules.numbered at).0,
             each is_requesters x.issued i a borrower.rules.role at,
           ) (λ j b there later. later_request j b there later)
         where
@@ -230,7 +257,8 @@ module _ (rows : RowsHear) where
 
       -- The requester has issued nothing meanwhile.
       requester_same : borrower_new.issued ≡ x.issued
-      requester_same = keeps_all asks (λ r. r.issued ≡ x.issued) (λ r a is. rows.requester_issues r a ∙ is) x lender_new.issued refl
+      requester_same = keeps_all asks (λ r. r.issued ≡ x.issued) (λ r a is. rows.requester_issues r a ∙ is) x lender_new.issued
+          refl
 
       -- A responder that has issued an end is not undecided.
       ended_decides : has is_end lender_new.issued ≡ true → is_among records.undecided lender_new.state ≡ true → ⊥
@@ -241,7 +269,9 @@ module _ (rows : RowsHear) where
           at = says_message is_end lender_new.issued ended
 
           -- A state of an end is not undecided.
-          apart : {P : Type 0} (s : State) → (is_among (states.NotSupplied ∷ []) s ≡ true) ⊎ (is_among (states.Cancelled ∷ []) s ≡ true) ⊎ (is_among later s ≡ true) → is_among records.undecided s ≡ true → P
+          apart : {P : Type 0} (s : State)
+              → (is_among (states.NotSupplied ∷ []) s ≡ true) ⊎ (is_among (states.Cancelled ∷ []) s ≡ true) ⊎
+              (is_among later s ≡ true) → is_among records.undecided s ≡ true → P
           apart states.InProcess (inl is) undecided = search rules
           apart states.InProcess (inr (inl is)) undecided = search rules
           apart states.InProcess (inr (inr is)) undecided = search rules
@@ -250,15 +280,23 @@ module _ (rows : RowsHear) where
           apart states.Conditional (inr (inr is)) undecided = search rules
           apart s is undecided = search rules
 
-          go : (unsupplied cancelled shipped : Bool) → is_unsupplied at.1.body ≡ unsupplied → is_cancelled at.1.body ≡ cancelled → is_shipped at.1.body ≡ shipped → (unsupplied || (cancelled || shipped)) ≡ true → ⊥
-          go true cancelled shipped a b c is = apart lender_new.state (inl (sym lender_after.ends.unsupplied ∙ message_says is_unsupplied lender_new.issued at.0 at.1 at.2 a)) undecided
-          go false true shipped a b c is = apart lender_new.state (inr (inl (sym lender_after.ends.cancelled ∙ message_says is_cancelled lender_new.issued at.0 at.1 at.2 b))) undecided
-          go false false true a b c is = apart lender_new.state (inr (inr (sym lender_after.ends.shipped ∙ message_says is_shipped lender_new.issued at.0 at.1 at.2 c))) undecided
+          go : (unsupplied cancelled shipped : Bool) → is_unsupplied at.1.body ≡ unsupplied → is_cancelled at.1.body ≡ cancelled
+              → is_shipped at.1.body ≡ shipped → (unsupplied || (cancelled || shipped)) ≡ true → ⊥
+          go true cancelled shipped a b c is =
+              apart lender_new.state (inl (sym lender_after.ends.unsupplied
+              ∙ message_says is_unsupplied lender_new.issued at.0 at.1 at.2 a)) undecided
+          go false true shipped a b c is =
+              apart lender_new.state (inr (inl
+              (sym lender_after.ends.cancelled ∙ message_says is_cancelled lender_new.issued at.0 at.1 at.2 b))) undecided
+          go false false true a b c is = apart lender_new.state
+              (inr (inr (sym lender_after.ends.shipped ∙ message_says is_shipped lender_new.issued at.0 at.1 at.2 c))) undecided
           go false false false a b c is = search rules
 
       -- If the responder could answer before it took the messages, and is still undecided, it has a number left.
-      number_left : (has is_end y.issued ≡ true) ⊎ (length y.issued < 255) → is_among records.undecided lender_new.state ≡ true → length lender_new.issued < 255
-      number_left (inl ended) undecided = absurd (ended_decides (has_prefix is_end y.issued lender_new.issued (responder_grows y x.issued) ended) undecided)
+      number_left : (has is_end y.issued ≡ true) ⊎ (length y.issued < 255) → is_among records.undecided lender_new.state ≡ true
+          → length lender_new.issued < 255
+      number_left (inl ended) undecided =
+          absurd (ended_decides (has_prefix is_end y.issued lender_new.issued (responder_grows y x.issued) ended) undecided)
       number_left (inr left) undecided = subst (λ l. length l < 255) (sym (issues_nothing y x.issued undecided)) left
 
       -- If the responder could answer before the round, each record has responder_sent all that the other has issued.
@@ -266,65 +304,99 @@ module _ (rows : RowsHear) where
       have_heard can = record { requester = plain_heard; last = last_heard; responder = all_heard; can_answer = number_left can }
         where
           -- The requester has responder_sent each plain message.
-          plain_heard : (n : ℕ) (a : Apdu) → message lender_new.issued n ≡ Some a → names_conditions a.body ≡ false → notices.has_heard borrower_new a.number a.body ≡ true
+          plain_heard : (n : ℕ) (a : Apdu) → message lender_new.issued n ≡ Some a → names_conditions a.body ≡ false
+              → notices.has_heard borrower_new a.number a.body ≡ true
           plain_heard zero a at plain = search rules
           plain_heard (suc i) a at plain =
-              requester_heard i a at (λ j b there later. plain_reopens b.body a.body plain (λ ships recalls. before_itself (lender_after.ships_first (suc j) (suc i) b a there at ships recalls) later)
-              (λ both. before_itself (lender_after.grants_first (suc j) (suc i) both.0 b a both.1 both.2 there at both.3 both.4 both.5) later))
+              requester_heard i a at (λ j b there later.
+              plain_reopens b.body a.body plain
+              (λ ships recalls. before_itself (lender_after.ships_first (suc j) (suc i) b a there at ships recalls) later)
+              (λ both. before_itself (lender_after.grants_first (suc j) (suc i) both.0 b a both.1 both.2 there at both.3 both.4
+              both.5) later))
             where
               before_itself : {i j : ℕ} → suc j < suc i → i < j → ⊥
               before_itself first later = omega (arith, first, later)
 
           -- The requester has responder_sent the last message.
-          last_heard : (a : Apdu) → message lender_new.issued (length lender_new.issued) ≡ Some a → notices.has_heard borrower_new a.number a.body ≡ true
+          last_heard : (a : Apdu) → message lender_new.issued (length lender_new.issued) ≡ Some a
+              → notices.has_heard borrower_new a.number a.body ≡ true
           last_heard a at = go (length lender_new.issued) refl at
             where
-              go : (n : ℕ) → length lender_new.issued ≡ n → message lender_new.issued n ≡ Some a → notices.has_heard borrower_new a.number a.body ≡ true
+              go : (n : ℕ) → length lender_new.issued ≡ n → message lender_new.issued n ≡ Some a
+                  → notices.has_heard borrower_new a.number a.body ≡ true
               go zero is at = search rules
-              go (suc i) is at = requester_heard i a at (λ j b there later. absurd (omega (arith, is, later, slice_get_within lender_new.issued j b there)))
+              go (suc i) is at = requester_heard i a at
+                  (λ j b there later. absurd (omega (arith, is, later, slice_get_within lender_new.issued j b there)))
 
           -- The responder has responder_sent each message.
-          all_heard : (n : ℕ) (a : Apdu) → message borrower_new.issued n ≡ Some a → records.has_heard lender_new a.number a.body ≡ true
+          all_heard : (n : ℕ) (a : Apdu) → message borrower_new.issued n ≡ Some a
+              → records.has_heard lender_new a.number a.body ≡ true
           all_heard zero a at = search rules
           all_heard (suc i) a at = responder_heard i a (subst (λ l. slice_get l i ≡ Some a) requester_same at)
 
   -- ---- worlds
 
   -- A requester that stands has issued at most 255 messages.
-  requester_few : (txn : Qualifiers) (side : Side) (requester_sent : List (Option Apdu)) → RequesterSideStands txn side requester_sent → length (issued_of side) ≤ 255
+  requester_few : (txn : Qualifiers) (side : Side) (requester_sent : List (Option Apdu))
+      → RequesterSideStands txn side requester_sent → length (issued_of side) ≤ 255
   requester_few txn (sides.Requester x) requester_sent stands = stands.few
   requester_few txn (sides.Responder y) requester_sent stands = absurd stands
 
   -- A responder that stands has issued at most 255 messages.
-  responder_few : (txn : Qualifiers) (side : Side) (requester_sent : List (Option Apdu)) → ResponderSideStands txn side requester_sent → length (issued_of side) ≤ 255
+  responder_few : (txn : Qualifiers) (side : Side) (requester_sent : List (Option Apdu))
+      → ResponderSideStands txn side requester_sent → length (issued_of side) ≤ 255
   responder_few txn (sides.Responder y) requester_sent stands = stands.few
   responder_few txn (sides.Requester x) requester_sent stands = absurd stands
 
   -- If each side has taken all messages of the other, and the responder could answer, the two are in step.
-  sides_in_step : (txn : Qualifiers) (requester responder requester_after responder_after : Side) (responder_sent requester_sent responder_sent_after requester_sent_after : List (Option Apdu)) → RequesterSideStands txn requester responder_sent
-      → ResponderSideStands txn responder requester_sent → RequesterSideStands txn requester_after responder_sent_after → ResponderSideStands txn responder_after requester_sent_after → AreIssued responder_sent_after (issued_of responder_after)
-      → AreIssued requester_sent_after (issued_of requester_after) → CanAnswer responder → responder_after ≡ takes_all responder (issued_of requester) → requester_after ≡ takes_all requester (issued_of responder_after)
+  sides_in_step : (txn : Qualifiers) (requester responder requester_after responder_after : Side)
+      (responder_sent requester_sent responder_sent_after requester_sent_after : List (Option Apdu))
+      → RequesterSideStands txn requester responder_sent
+      → ResponderSideStands txn responder requester_sent → RequesterSideStands txn requester_after responder_sent_after
+      → ResponderSideStands txn responder_after requester_sent_after
+      → AreIssued responder_sent_after (issued_of responder_after)
+      → AreIssued requester_sent_after (issued_of requester_after) → CanAnswer responder
+      → responder_after ≡ takes_all responder (issued_of requester)
+      → requester_after ≡ takes_all requester (issued_of responder_after)
       → Facing InStep requester_after responder_after
-  sides_in_step txn (sides.Requester x) (sides.Responder y) (sides.Requester x_after) (sides.Responder y_after) responder_sent requester_sent responder_sent_after requester_sent_after borrower lender borrower_after lender_after issued heeded can lends_it asks_it =
+  sides_in_step txn (sides.Requester x) (sides.Responder y) (sides.Requester x_after) (sides.Responder y_after) responder_sent
+      requester_sent responder_sent_after requester_sent_after borrower lender borrower_after lender_after issued heeded can
+      lends_it asks_it =
       let y_is : y_after ≡ taking lends y x.issued = same_responder _ _ (lends_it ∙ responder_taking y x.issued) in
       let x_is : x_after ≡ taking asks x y_after.issued = same_requester _ _ (asks_it ∙ requester_taking x y_after.issued) in
-      let x_too : x_after ≡ taking asks x (taking lends y x.issued).issued = x_is ∙ ap (λ (r : ResponderRecord). taking asks x r.issued) y_is in
-      let hear = have_heard txn x y responder_sent requester_sent requester_sent_after borrower lender (subst (λ r. ResponderStands txn r requester_sent_after) y_is lender_after) can in
-      let hear_after : HaveHeard x_after y_after = subst (HaveHeard x_after) (sym y_is) (subst (λ r. HaveHeard r (taking lends y x.issued)) (sym x_too) hear) in
+      let x_too : x_after ≡ taking asks x (taking lends y x.issued).issued =
+      x_is ∙ ap (λ (r : ResponderRecord). taking asks x r.issued) y_is in
+      let hear = have_heard txn x y responder_sent requester_sent requester_sent_after borrower lender
+      (subst (λ r. ResponderStands txn r requester_sent_after) y_is lender_after) can in
+      let hear_after : HaveHeard x_after y_after =
+      subst (HaveHeard x_after) (sym y_is) (subst (λ r. HaveHeard r (taking lends y x.issued)) (sym x_too) hear) in
       in_step txn x_after y_after responder_sent_after requester_sent_after borrower_after lender_after issued heeded hear_after
-  sides_in_step txn (sides.Responder y) responder requester_after responder_after responder_sent requester_sent responder_sent_after requester_sent_after borrower lender borrower_after lender_after issued heeded can lends_it asks_it = absurd borrower
-  sides_in_step txn (sides.Requester x) (sides.Requester z) requester_after responder_after responder_sent requester_sent responder_sent_after requester_sent_after borrower lender borrower_after lender_after issued heeded can lends_it asks_it = absurd lender
-  sides_in_step txn (sides.Requester x) (sides.Responder y) (sides.Responder z) responder_after responder_sent requester_sent responder_sent_after requester_sent_after borrower lender borrower_after lender_after issued heeded can lends_it asks_it = absurd borrower_after
-  sides_in_step txn (sides.Requester x) (sides.Responder y) (sides.Requester x_after) (sides.Requester z) responder_sent requester_sent responder_sent_after requester_sent_after borrower lender borrower_after lender_after issued heeded can lends_it asks_it = absurd lender_after
+  sides_in_step txn (sides.Responder y) responder requester_after responder_after responder_sent requester_sent
+      responder_sent_after requester_sent_after borrower lender borrower_after lender_after issued heeded can lends_it asks_it =
+      absurd borrower
+  sides_in_step txn (sides.Requester x) (sides.Requester z) requester_after responder_after responder_sent requester_sent
+      responder_sent_after requester_sent_after borrower lender borrower_after lender_after issued heeded can lends_it asks_it =
+      absurd lender
+  sides_in_step txn (sides.Requester x) (sides.Responder y) (sides.Responder z) responder_after responder_sent requester_sent
+      responder_sent_after requester_sent_after borrower lender borrower_after lender_after issued heeded can lends_it asks_it =
+      absurd borrower_after
+  sides_in_step txn (sides.Requester x) (sides.Responder y) (sides.Requester x_after) (sides.Requester z) responder_sent
+      requester_sent responder_sent_after requester_sent_after borrower lender borrower_after lender_after issued heeded can
+      lends_it asks_it = absurd lender_after
 
   -- Both sides of a world that stands are in step after a round.
-  pub one_round : (txn : Qualifiers) → ((w : Parties) (event : Event) → Invariant txn w → Invariant txn (happens w event).1) → (w : Parties) → Invariant txn w → CanAnswer w.responder.live → AreInStep (run_of w (round_of w))
+  pub one_round : (txn : Qualifiers) → ((w : Parties) (event : Event) → Invariant txn w → Invariant txn (happens w event).1)
+      → (w : Parties) → Invariant txn w → CanAnswer w.responder.live → AreInStep (run_of w (round_of w))
   one_round txn after w stands can =
       let between : Parties = run_of w (half_of who.Requester w) in
       let new : Parties = run_of w (round_of w) in
       let stands_between : Invariant txn between = run_stands txn after w (half_of who.Requester w) stands in
       let stands_new : Invariant txn new = run_stands txn after w (round_of w) stands in
-      let rounds = round_passes w (requester_few txn w.requester.live w.responder.sent stands.requester.live) stands.requester.saved.places
-      (responder_few txn between.responder.live between.requester.sent stands_between.responder.live) stands_between.responder.saved.places in
-      sides_in_step txn w.requester.live w.responder.live new.requester.live new.responder.live w.responder.sent w.requester.sent new.responder.sent new.requester.sent stands.requester.live stands.responder.live
-      stands_new.requester.live stands_new.responder.live (live_issues new.responder stands_new.responder.saved) (live_issues new.requester stands_new.requester.saved) can rounds.responder rounds.requester
+      let rounds = round_passes w (requester_few txn w.requester.live w.responder.sent stands.requester.live)
+      stands.requester.saved.places
+      (responder_few txn between.responder.live between.requester.sent stands_between.responder.live)
+      stands_between.responder.saved.places in
+      sides_in_step txn w.requester.live w.responder.live new.requester.live new.responder.live w.responder.sent w.requester.sent
+      new.responder.sent new.requester.sent stands.requester.live stands.responder.live
+      stands_new.requester.live stands_new.responder.live (live_issues new.responder stands_new.responder.saved)
+      (live_issues new.requester stands_new.requester.saved) can rounds.responder rounds.requester

@@ -6,7 +6,8 @@ use Rattle.ill_core.specs.declared.state.State.TheVariants as states
 use Rattle.ill_core.specs.State.{is_among}
 use Rattle.ill_core.specs.Requester.{RequesterRecord}
 use Rattle.ill_core.specs.Responder.{ResponderRecord}
-use Rattle.ill_world.specs.Round.{faced_in, facing_in, InStep, OutOfStep, unfaced, declined, unmarked, unreceived, not_yet_checked_in, checked_in_early, due_apart}
+use Rattle.ill_world.specs.Round.{faced_in, facing_in, InStep, OutOfStep, unfaced, declined, unmarked, unreceived}
+use Rattle.ill_world.specs.Round.{not_yet_checked_in, checked_in_early, due_apart}
 
 -- A state is faced in each state that it faces.
 pub faces_back : (s t : State) → is_among (faced_in s) t ≡ true → is_among (facing_in t) s ≡ true
@@ -20,9 +21,11 @@ checked_in_only t is = search rules
 -- No two records that are out of step are in step.
 pub none_in_step : (x : RequesterRecord) (y : ResponderRecord) → OutOfStep x y → InStep x y → ⊥
 none_in_step x y (unfaced apart) step = true≢false (sym (faces_back x.state y.state step.faced) ∙ apart)
-none_in_step x y (declined is refused) step = true≢false (sym (and_from _ _ (ap (is_among (states.Conditional ∷ [])) is) refused) ∙ step.undeclined)
+none_in_step x y (declined is refused) step =
+    true≢false (sym (and_from _ _ (ap (is_among (states.Conditional ∷ [])) is) refused) ∙ step.undeclined)
 none_in_step x y (unmarked out has_it unknown) step = true≢false (sym has_it ∙ sym (step.received out) ∙ unknown)
 none_in_step x y (unreceived out lacks_it known) step = true≢false (sym known ∙ step.received out ∙ lacks_it)
-none_in_step x y (not_yet_checked_in is is_unmarked) step = true≢false (sym (ap (is_among (states.CheckedIn ∷ [])) is) ∙ sym step.checked_in ∙ is_unmarked)
+none_in_step x y (not_yet_checked_in is is_unmarked) step =
+    true≢false (sym (ap (is_among (states.CheckedIn ∷ [])) is) ∙ sym step.checked_in ∙ is_unmarked)
 none_in_step x y (checked_in_early apart is_marked) step = apart (checked_in_only y.state (sym step.checked_in ∙ is_marked))
 none_in_step x y (due_apart out apart) step = apart (step.due out)

@@ -1,5 +1,6 @@
 -- Only some outcomes can come of an event.
-use Rattle.std.proofs.Common.{rules, ◌≡◌, ℕ, zero, suc, Bool, true, false, cond, not, List, [], ◌∷◌, Option, Some, None, Result, Ok, Err, refl, subst}
+use Rattle.std.proofs.Common.{rules, ◌≡◌, ℕ, zero, suc, Bool, true, false, cond, not, List, [], ◌∷◌, Option, Some, None, Result}
+use Rattle.std.proofs.Common.{Ok, Err, refl, subst}
 use Rattle.std.specs.List.{list_all}
 use Rattle.std.proofs.lemmas.Bool.{and_parts}
 use Rattle.ill_values.specs.Day.{Date}
@@ -63,12 +64,14 @@ deed_line y deed today = search rules
 number_seen : (apdus : List Apdu) → is_seen (next_number apdus) ≡ true
 number_seen apdus = search rules
 
-wish_done : (x : RequesterRecord) (line : Result requester_actions.Line Refusal) (number : Result ℕ Refusal) → is_seen line ≡ true → is_seen number ≡ true → is_seen (requester_actions.acts_by x line number) ≡ true
+wish_done : (x : RequesterRecord) (line : Result requester_actions.Line Refusal) (number : Result ℕ Refusal) → is_seen line ≡ true
+    → is_seen number ≡ true → is_seen (requester_actions.acts_by x line number) ≡ true
 wish_done x (Err refusal) number first second = first
 wish_done x (Ok line) (Err refusal) first second = second
 wish_done x (Ok line) (Ok number) first second = refl
 
-deed_done : (y : ResponderRecord) (line : Result responder_actions.Line Refusal) (number : Result ℕ Refusal) → is_seen line ≡ true → is_seen number ≡ true → is_seen (responder_actions.acts_by y line number) ≡ true
+deed_done : (y : ResponderRecord) (line : Result responder_actions.Line Refusal) (number : Result ℕ Refusal) → is_seen line ≡ true
+    → is_seen number ≡ true → is_seen (responder_actions.acts_by y line number) ≡ true
 deed_done y (Err refusal) number first second = first
 deed_done y (Ok line) (Err refusal) first second = second
 deed_done y (Ok line) (Ok number) first second = refl
@@ -100,7 +103,8 @@ yes_answer false false false y new = refl
 -- A responder has no refusal of a message but one that can be an outcome.
 responder_answer : (y : ResponderRecord) (a : Apdu) (body : Body) → is_seen (responder_deliveries.take_message y a body).0 ≡ true
 responder_answer y a (types.ConditionalReply c true) =
-    yes_answer (is_the c (outstanding_number y)) (is_the c y.accepted) (was names_conditions y.issued c) y (record y { state = InProcess; accepted = Some c })
+    yes_answer (is_the c (outstanding_number y)) (is_the c y.accepted) (was names_conditions y.issued c) y
+    (record y { state = InProcess; accepted = Some c })
 responder_answer y a (types.ConditionalReply c false) = search (rules, no_answer y (next_number y.issued) (number_seen y.issued))
 responder_answer y a body = search rules
 
@@ -122,13 +126,16 @@ done_seen make (Err refusal) seen = seen
 -- A requester's side that stands has no refusal of a wish but one that can be an outcome.
 wish_seen : (txn : Qualifiers) (side : Side) (partner_sent : List (Option Apdu)) (wish : Wish)
     → RequesterSideStands txn side partner_sent → is_seen (acts side (actions.Wish wish)) ≡ true
-wish_seen txn (sides.Requester x) partner_sent wish stands = done_seen sides.Requester (requester_actions.acts x wish) (wish_done x _ _ (wish_line x wish) (number_seen x.issued))
+wish_seen txn (sides.Requester x) partner_sent wish stands =
+    done_seen sides.Requester (requester_actions.acts x wish) (wish_done x _ _ (wish_line x wish) (number_seen x.issued))
 wish_seen txn (sides.Responder y) partner_sent wish stands = absurd stands
 
 -- A responder's side that stands has no refusal of a deed but one that can be an outcome.
 deed_seen : (txn : Qualifiers) (side : Side) (partner_sent : List (Option Apdu)) (deed : Deed) (today : Date)
     → ResponderSideStands txn side partner_sent → is_seen (acts side (actions.Deed deed today)) ≡ true
-deed_seen txn (sides.Responder y) partner_sent deed today stands = done_seen sides.Responder (responder_actions.acts y deed today) (deed_done y _ _ (deed_line y deed today) (number_seen y.issued))
+deed_seen txn (sides.Responder y) partner_sent deed today stands =
+    done_seen sides.Responder (responder_actions.acts y deed today)
+    (deed_done y _ _ (deed_line y deed today) (number_seen y.issued))
 deed_seen txn (sides.Requester x) partner_sent deed today stands = absurd stands
 
 -- If all APDUs of a list pass a test, each message passes it.
@@ -136,8 +143,10 @@ message_passes : (test : Apdu → Bool) (apdus : List Apdu) (n : ℕ) (a : Apdu)
     → list_all test apdus ≡ true → test a ≡ true
 message_passes test apdus zero a at all = search rules
 message_passes test [] (suc n) a at all = search rules
-message_passes test (b ∷ apdus) (suc zero) a at all = let same : b ≡ a = search rules in subst (λ x. test x ≡ true) same (and_parts (test b) (list_all test apdus) all).0
-message_passes test (b ∷ apdus) (suc (suc n)) a at all = message_passes test apdus (suc n) a at (and_parts (test b) (list_all test apdus) all).1
+message_passes test (b ∷ apdus) (suc zero) a at all = let same : b ≡ a = search rules in
+    subst (λ x. test x ≡ true) same (and_parts (test b) (list_all test apdus) all).0
+message_passes test (b ∷ apdus) (suc (suc n)) a at all =
+    message_passes test apdus (suc n) a at (and_parts (test b) (list_all test apdus) all).1
 
 -- If `not b` is true, b is false.
 opposite : (b : Bool) → not b ≡ true → b ≡ false
@@ -152,26 +161,30 @@ negated false is = search rules
 -- Each message that a responder's side that stands has issued is of no type of a requester.
 pub responders_own : (txn : Qualifiers) (side : Side) (partner_sent : List (Option Apdu)) (n : ℕ) (a : Apdu)
     → ResponderSideStands txn side partner_sent → message (issued_of side) n ≡ Some a → is_requesters a.body ≡ false
-responders_own txn (sides.Responder y) partner_sent n a stands at = opposite (is_requesters a.body) (message_passes (λ a. not (is_requesters a.body)) y.issued n a at stands.rules.role)
+responders_own txn (sides.Responder y) partner_sent n a stands at =
+    opposite (is_requesters a.body) (message_passes (λ a. not (is_requesters a.body)) y.issued n a at stands.rules.role)
 responders_own txn (sides.Requester x) partner_sent n a stands at = absurd stands
 
 -- Each message that a requester's side that stands has issued is of a requester's type.
 pub requesters_own : (txn : Qualifiers) (side : Side) (partner_sent : List (Option Apdu)) (n : ℕ) (a : Apdu)
     → RequesterSideStands txn side partner_sent → message (issued_of side) n ≡ Some a → is_requesters a.body ≡ true
-requesters_own txn (sides.Requester x) partner_sent n a stands at = message_passes (λ a. is_requesters a.body) x.issued n a at stands.rules.role
+requesters_own txn (sides.Requester x) partner_sent n a stands at =
+    message_passes (λ a. is_requesters a.body) x.issued n a at stands.rules.role
 requesters_own txn (sides.Responder y) partner_sent n a stands at = absurd stands
 
 -- The answer of a requester's side that stands to a responder's message can be an outcome.
 asking_seen : (txn : Qualifiers) (side : Side) (partner_sent : List (Option Apdu)) (a : Apdu)
     → RequesterSideStands txn side partner_sent → is_requesters a.body ≡ false → is_seen (takes side a).0 ≡ true
-asking_seen txn (sides.Requester x) partner_sent a stands others = not_own (is_same_txn a.txn x.txn) (is_requesters a.body) x _ others (requester_answer x a a.body)
+asking_seen txn (sides.Requester x) partner_sent a stands others =
+    not_own (is_same_txn a.txn x.txn) (is_requesters a.body) x _ others (requester_answer x a a.body)
 asking_seen txn (sides.Responder y) partner_sent a stands others = absurd stands
 
 -- The answer of a responder's side that stands to a requester's message can be an outcome.
 asked_seen : (txn : Qualifiers) (side : Side) (partner_sent : List (Option Apdu)) (a : Apdu)
     → ResponderSideStands txn side partner_sent → is_requesters a.body ≡ true → is_seen (takes side a).0 ≡ true
 asked_seen txn (sides.Responder y) partner_sent a stands others =
-    not_own (is_same_txn a.txn y.txn) (not (is_requesters a.body)) y _ (negated (is_requesters a.body) others) (responder_answer y a a.body)
+    not_own (is_same_txn a.txn y.txn) (not (is_requesters a.body)) y _ (negated (is_requesters a.body) others)
+    (responder_answer y a a.body)
 asked_seen txn (sides.Requester x) partner_sent a stands others = absurd stands
 
 -- ---- events
@@ -204,22 +217,31 @@ noise_seen p (Ok (a, [])) = one_of_two (is_same_txn a.txn (txn_of p.live)) Forge
 noise_seen p (Ok (a, byte ∷ rest)) = refl
 noise_seen p (Err fault) = refl
 
-asking_receives : (txn : Qualifiers) (w : Parties) (n : ℕ) (found : Option Apdu) → Invariant txn w → sent_message w.responder.sent n ≡ found → can_be_seen (receives w.requester found).0 ≡ true
+asking_receives : (txn : Qualifiers) (w : Parties) (n : ℕ) (found : Option Apdu) → Invariant txn w
+    → sent_message w.responder.sent n ≡ found → can_be_seen (receives w.requester found).0 ≡ true
 asking_receives txn w n None stands e = refl
 asking_receives txn w n (Some a) stands e =
     answer_seen (takes w.requester.live a).0
-    (asking_seen txn w.requester.live w.responder.sent a stands.requester.live (responders_own txn w.responder.landed w.requester.sent n a stands.responder.landed (stands.responder.saved.landed n a e)))
+    (asking_seen txn w.requester.live w.responder.sent a stands.requester.live
+    (responders_own txn w.responder.landed w.requester.sent n a stands.responder.landed
+    (stands.responder.saved.landed n a e)))
 
-asked_receives : (txn : Qualifiers) (w : Parties) (n : ℕ) (found : Option Apdu) → Invariant txn w → sent_message w.requester.sent n ≡ found → can_be_seen (receives w.responder found).0 ≡ true
+asked_receives : (txn : Qualifiers) (w : Parties) (n : ℕ) (found : Option Apdu) → Invariant txn w
+    → sent_message w.requester.sent n ≡ found → can_be_seen (receives w.responder found).0 ≡ true
 asked_receives txn w n None stands e = refl
 asked_receives txn w n (Some a) stands e =
     answer_seen (takes w.responder.live a).0
-    (asked_seen txn w.responder.live w.requester.sent a stands.responder.live (requesters_own txn w.requester.landed w.responder.sent n a stands.requester.landed (stands.requester.saved.landed n a e)))
+    (asked_seen txn w.responder.live w.requester.sent a stands.responder.live
+    (requesters_own txn w.requester.landed w.responder.sent n a stands.requester.landed
+    (stands.requester.saved.landed n a e)))
 
 pub outcome_seen : (txn : Qualifiers) (w : Parties) (event : Event) → Invariant txn w → can_be_seen (happens w event).0 ≡ true
-outcome_seen txn w (events.Wish wish) stands = decision_seen w.requester (acts w.requester.live (actions.Wish wish)) (wish_seen txn w.requester.live w.responder.sent wish stands.requester.live)
+outcome_seen txn w (events.Wish wish) stands =
+    decision_seen w.requester (acts w.requester.live (actions.Wish wish))
+    (wish_seen txn w.requester.live w.responder.sent wish stands.requester.live)
 outcome_seen txn w (events.Deed deed today) stands =
-    decision_seen w.responder (acts w.responder.live (actions.Deed deed today)) (deed_seen txn w.responder.live w.requester.sent deed today stands.responder.live)
+    decision_seen w.responder (acts w.responder.live (actions.Deed deed today))
+    (deed_seen txn w.responder.live w.requester.sent deed today stands.responder.live)
 outcome_seen txn w (events.Save of) stands = refl
 outcome_seen txn w (events.SaveFault of landed) stands = refl
 outcome_seen txn w (events.Send of n) stands = send_seen (party w of) n _ _

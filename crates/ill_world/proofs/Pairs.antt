@@ -1,8 +1,10 @@
 -- Why the two records are in step once each has responder_sent all messages of the other.
-use Rattle.std.proofs.Common.{rules, arith, ◌≡◌, ◌⊎◌, inl, inr, ℕ, zero, suc, ◌≤◌, ◌<◌, Bool, true, false, not, ◌&&◌, nat_lt, List, [], ◌∷◌, length, Option, Some, None, is_some, refl, sym, ap, ◌∙◌, subst}
+use Rattle.std.proofs.Common.{rules, arith, ◌≡◌, ◌⊎◌, inl, inr, ℕ, zero, suc, ◌≤◌, ◌<◌, Bool, true, false, not, ◌&&◌, nat_lt}
+use Rattle.std.proofs.Common.{List, [], ◌∷◌, length, Option, Some, None, is_some, refl, sym, ap, ◌∙◌, subst}
 use Rattle.std.specs.Prelude.{◌==◌}
 use Rattle.std.specs.List.{list_any, filter_map}
-use Rattle.std.proofs.lemmas.Bool.{and_parts, and_from, not-true, false_from_ne_true, true_from_ne_false, both_ways, leb-true, le-leb}
+use Rattle.std.proofs.lemmas.Bool.{and_parts, and_from, not-true, false_from_ne_true, true_from_ne_false, both_ways, leb-true}
+use Rattle.std.proofs.lemmas.Bool.{le-leb}
 use Rattle.std.proofs.lemmas.Option.{same_Some, slice_get_within}
 use Rattle.ill_values.specs.Day.{Date}
 use Rattle.ill_values.specs.TxnId.{Qualifiers}
@@ -16,9 +18,11 @@ use Rattle.ill_core.specs.State.{is_among}
 use Rattle.ill_core.specs.Dates.{is_same_day, is_due_on, is_before, is_after_due}
 use Rattle.ill_core.specs.Rules.{implies}
 use Rattle.ill_core.specs.Numbers.{is_the, is_at_most, is_below}
-use Rattle.ill_core.specs.Bodies.{is_ill_request, is_cancel, is_received, is_renew, is_returned, is_shipped, is_checked_in, is_cancelled, is_unsupplied, is_end, is_renewal, grant_in, names_conditions, declines, accepts}
+use Rattle.ill_core.specs.Bodies.{is_ill_request, is_cancel, is_received, is_renew, is_returned, is_shipped, is_checked_in}
+use Rattle.ill_core.specs.Bodies.{is_cancelled, is_unsupplied, is_end, is_renewal, grant_in, names_conditions, declines, accepts}
 use Rattle.ill_core.specs.Issued.{message, has, was, is_there, is_none, last_of, accepted_in, granted_day}
-use Rattle.ill_core.specs.Requester.{RequesterRecord, later, begins_with_request, is_declined, is_received_by, accepted_number, last_cancel, last_renew}
+use Rattle.ill_core.specs.Requester.{RequesterRecord, later, begins_with_request, is_declined, is_received_by, accepted_number}
+use Rattle.ill_core.specs.Requester.{last_cancel, last_renew}
 use Rattle.ill_core.specs.RequesterEvidence as requester
 use Rattle.ill_core.specs.RequesterNotices as notices
 use Rattle.ill_core.specs.RequesterNotices.{awaits, awaits_cancel, is_due_after, in_time, undecided, lent}
@@ -33,14 +37,16 @@ use Rattle.ill_core.proofs.MessageLemmas.{message_says, says_message}
 use Rattle.ill_core.proofs.GrantLemmas.{same_itself, itself_not_before, granted_not_later}
 use Rattle.ill_world.proofs.Uniqueness.{message_number, same_apdu, found_among, answers_once, one_end}
 use Rattle.ill_world.proofs.Finds.{Finds, finds_last, finds_any, all_found, number_if, was_last, not_above_last, has_last}
-use Rattle.ill_world.proofs.Claims.{AreIssued, has_issued, is_in_cancelled, is_in_not_supplied, cancelled_faces, not_supplied_faces, shipped_by, ships_before, tells_grant}
+use Rattle.ill_world.proofs.Claims.{AreIssued, has_issued, is_in_cancelled, is_in_not_supplied, cancelled_faces}
+use Rattle.ill_world.proofs.Claims.{not_supplied_faces, shipped_by, ships_before, tells_grant}
 use Rattle.ill_world.proofs.Agreements.{says_true, cancel_is_open, cancels_with, tells_cancel, tells_refused, at_most_one}
 use Rattle.ill_world.proofs.Arrivals.{not_none}
 
--- Each record has responder_sent what the other has issued: a requester all but conditions, of which it has responder_sent the last
--- message alone; and the responder can answer a no.
+-- Each record has responder_sent what the other has issued: a requester all but conditions, of which it has
+-- responder_sent the last message alone; and the responder can answer a no.
 pub record HaveHeard (x : RequesterRecord) (y : ResponderRecord) : Type 0 where
-  pub requester : (n : ℕ) (a : Apdu) → message y.issued n ≡ Some a → names_conditions a.body ≡ false → notices.has_heard x a.number a.body ≡ true
+  pub requester : (n : ℕ) (a : Apdu) → message y.issued n ≡ Some a → names_conditions a.body ≡ false
+      → notices.has_heard x a.number a.body ≡ true
   pub last : (a : Apdu) → message y.issued (length y.issued) ≡ Some a → notices.has_heard x a.number a.body ≡ true
   pub responder : (n : ℕ) (a : Apdu) → message x.issued n ≡ Some a → records.has_heard y a.number a.body ≡ true
   pub can_answer : is_among records.undecided y.state ≡ true → length y.issued < 255
@@ -113,7 +119,8 @@ no_heard y n body is responder_sent is_open = search rules
 -- A responder that has responder_sent a Conditional-Reply yes does not wait for an answer to those conditions.
 yes_heard : (y : ResponderRecord) (n c : ℕ) (body : Body) → accepts body ≡ Some c → records.has_heard y n body ≡ true
     → is_the c (outstanding_number y) ≡ false
-yes_heard y n c (types.ConditionalReply k true) is responder_sent = let same : k ≡ c = search rules in subst (λ i. is_the i (outstanding_number y) ≡ false) same (not-true _ responder_sent)
+yes_heard y n c (types.ConditionalReply k true) is responder_sent = let same : k ≡ c = search rules in
+    subst (λ i. is_the i (outstanding_number y) ≡ false) same (not-true _ responder_sent)
 yes_heard y n c (types.ConditionalReply k false) is responder_sent = search rules
 yes_heard y n c body is responder_sent = search rules
 
@@ -132,7 +139,8 @@ checked_in_heard x n body is responder_sent back = search rules
 -- A requester that has responder_sent an answer to a Cancel does not wait for it.
 cancel_reply_heard : (x : RequesterRecord) (n c : ℕ) (body : Body) → answered_number MayCancel body ≡ Some c
     → notices.has_heard x n body ≡ true → awaits_cancel x c ≡ false
-cancel_reply_heard x n c (types.CancelReply k is_yes) is responder_sent = let same : k ≡ c = search rules in subst (λ i. awaits_cancel x i ≡ false) same (not-true _ responder_sent)
+cancel_reply_heard x n c (types.CancelReply k is_yes) is responder_sent = let same : k ≡ c = search rules in
+    subst (λ i. awaits_cancel x i ≡ false) same (not-true _ responder_sent)
 cancel_reply_heard x n c body is responder_sent = search rules
 
 -- ---- states
@@ -146,10 +154,12 @@ record StatesFit (s t : State) : Type 0 where
   unsupplied : is_among (states.NotSupplied ∷ []) s ≡ is_among (states.NotSupplied ∷ []) t
   cancel_waits : is_among (states.CancelPending ∷ []) s ≡ is_among (states.CancelPending ∷ []) t
   shipped : is_among later s ≡ is_among shipped_states t
-  renew_waits : is_among (states.RenewPending ∷ states.RenewOverdue ∷ []) s ≡ is_among (states.RenewPending ∷ states.RenewOverdue ∷ []) t
+  renew_waits : is_among (states.RenewPending ∷ states.RenewOverdue ∷ []) s
+      ≡ is_among (states.RenewPending ∷ states.RenewOverdue ∷ []) t
   recalled : is_among (states.Recall ∷ []) s ≡ is_among (states.Recall ∷ []) t
   returned : is_among (states.Returned ∷ []) s ≡ is_among (states.Returned ∷ states.CheckedIn ∷ []) t
-  overdue : is_among (states.NotReceivedOverdue ∷ states.Overdue ∷ states.RenewOverdue ∷ []) s ≡ is_among (states.Overdue ∷ states.RenewOverdue ∷ []) t
+  overdue : is_among (states.NotReceivedOverdue ∷ states.Overdue ∷ states.RenewOverdue ∷ []) s
+      ≡ is_among (states.Overdue ∷ states.RenewOverdue ∷ []) t
   conditions : is_among (states.Conditional ∷ []) t ≡ true → is_among (states.Conditional ∷ []) s ≡ true
 
 -- ---- kinds of messages
@@ -183,7 +193,8 @@ cancel_reply_is_plain body c is = search rules
 -- An answer to a Renew is a Renew-Answer.
 renew_answer : (body : Body) (c : ℕ) → answered_number MayRenew body ≡ Some c
     → (granted : Option Date) × (body ≡ types.RenewAnswer c granted)
-renew_answer (types.RenewAnswer k granted) c is = let same : k ≡ c = search rules in (granted, ap (λ i. types.RenewAnswer i granted) same)
+renew_answer (types.RenewAnswer k granted) c is = let same : k ≡ c = search rules in
+    (granted, ap (λ i. types.RenewAnswer i granted) same)
 renew_answer body c is = search rules
 
 -- A message that tells of the request is an ILL-Request.
@@ -234,7 +245,8 @@ waits_left s may cancelled = search rules
 
 -- A responder in SHIPPED or later is in none of IDLE, CANCELLED and NOT-SUPPLIED.
 out : (t : State) → is_among shipped_states t ≡ true
-    → (is_among (states.Idle ∷ []) t ≡ false) × (is_among (states.Cancelled ∷ []) t ≡ false) × (is_among (states.NotSupplied ∷ []) t ≡ false)
+    → (is_among (states.Idle ∷ []) t ≡ false) × (is_among (states.Cancelled ∷ []) t ≡ false)
+    × (is_among (states.NotSupplied ∷ []) t ≡ false)
 out t is = search rules
 
 -- A requester in none of IDLE, CANCELLED, NOT-SUPPLIED and the undecided states is in SHIPPED or later.
@@ -258,7 +270,8 @@ given_up t is = search rules
 
 -- A side in CANCEL-PENDING has an open Cancel, and is in no other state.
 waiting : (s : State) → is_among (states.CancelPending ∷ []) s ≡ true
-    → (is_among (states.Idle ∷ []) s ≡ false) × (is_among (states.Cancelled ∷ []) s ≡ false) × (is_among (states.NotSupplied ∷ []) s ≡ false) × (is_among later s ≡ false) × (is_among shipped_states s ≡ false)
+    → (is_among (states.Idle ∷ []) s ≡ false) × (is_among (states.Cancelled ∷ []) s ≡ false)
+    × (is_among (states.NotSupplied ∷ []) s ≡ false) × (is_among later s ≡ false) × (is_among shipped_states s ≡ false)
     × (is_among (states.CancelPending ∷ states.Cancelled ∷ []) s ≡ true)
 waiting states.CancelPending is = (refl, refl, refl, refl, refl, refl)
 waiting s is = search rules
@@ -294,7 +307,8 @@ renew_left t shipped recalled returned settled = search rules
 
 -- A side with a waiting Renew is in SHIPPED or later, and in none of RECALL, RETURNED, CHECKED-IN.
 renewing : (s : State) → is_among (states.RenewPending ∷ states.RenewOverdue ∷ []) s ≡ true
-    → (is_among later s ≡ true) × (is_among shipped_states s ≡ true) × (is_among (states.Recall ∷ []) s ≡ false) × (is_among (states.Returned ∷ []) s ≡ false)
+    → (is_among later s ≡ true) × (is_among shipped_states s ≡ true) × (is_among (states.Recall ∷ []) s ≡ false)
+    × (is_among (states.Returned ∷ []) s ≡ false)
     × (is_among (states.Returned ∷ states.CheckedIn ∷ []) s ≡ false) × (is_among (states.Recall ∷ states.Returned ∷ []) s ≡ false)
 renewing states.RenewPending is = (refl, refl, refl, refl, refl, refl)
 renewing states.RenewOverdue is = (refl, refl, refl, refl, refl, refl)
@@ -314,7 +328,8 @@ returned_is_out s is = search rules
 
 -- A side in RECALL is in SHIPPED or later, and in neither RETURNED nor CHECKED-IN.
 recalled_is_out : (s : State) → is_among (states.Recall ∷ []) s ≡ true
-    → (s ≡ states.Recall) × (is_among later s ≡ true) × (is_among shipped_states s ≡ true) × (is_among (states.Returned ∷ []) s ≡ false) × (is_among (states.Returned ∷ states.CheckedIn ∷ []) s ≡ false)
+    → (s ≡ states.Recall) × (is_among later s ≡ true) × (is_among shipped_states s ≡ true)
+    × (is_among (states.Returned ∷ []) s ≡ false) × (is_among (states.Returned ∷ states.CheckedIn ∷ []) s ≡ false)
 recalled_is_out states.Recall is = (refl, refl, refl, refl, refl)
 recalled_is_out s is = search rules
 
@@ -332,7 +347,8 @@ recall_at s shipped returned home = search rules
 
 -- A responder in CONDITIONAL is in no other state.
 conditional : (t : State) → is_among (states.Conditional ∷ []) t ≡ true
-    → (is_among (states.Idle ∷ []) t ≡ false) × (is_among (states.Cancelled ∷ []) t ≡ false) × (is_among (states.NotSupplied ∷ []) t ≡ false) × (is_among (states.CancelPending ∷ []) t ≡ false)
+    → (is_among (states.Idle ∷ []) t ≡ false) × (is_among (states.Cancelled ∷ []) t ≡ false)
+    × (is_among (states.NotSupplied ∷ []) t ≡ false) × (is_among (states.CancelPending ∷ []) t ≡ false)
     × (is_among shipped_states t ≡ false)
 conditional states.Conditional is = (refl, refl, refl, refl, refl)
 conditional t is = search rules
@@ -403,7 +419,8 @@ last_names : (apdus : List Apdu) → was names_conditions apdus (length apdus) �
     → (a : Apdu) × (message apdus (length apdus) ≡ Some a) × (names_conditions a.body ≡ true)
 last_names apdus is = go (message apdus (length apdus)) refl is
   where
-    go : (found : Option Apdu) → message apdus (length apdus) ≡ found → is_there names_conditions found ≡ true → (a : Apdu) × (message apdus (length apdus) ≡ Some a) × (names_conditions a.body ≡ true)
+    go : (found : Option Apdu) → message apdus (length apdus) ≡ found → is_there names_conditions found ≡ true → (a : Apdu)
+        × (message apdus (length apdus) ≡ Some a) × (names_conditions a.body ≡ true)
     go None e is = search rules
     go (Some a) e is = (a, e, is)
 
@@ -476,7 +493,8 @@ first_false a b none is = search rules
 -- A requester that has responder_sent an Overdue for its due date is not in time.
 overdue_heard : (x : RequesterRecord) (n : ℕ) (due : Date) (body : Body) → is_overdue_of due body ≡ true
     → x.due ≡ Some due → notices.has_heard x n body ≡ true → is_among in_time x.state ≡ false
-overdue_heard x n due (types.Overdue day) is its responder_sent = first_false _ _ (not-true _ responder_sent) (subst (λ o. is_due_on day o ≡ true) (sym its) is)
+overdue_heard x n due (types.Overdue day) is its responder_sent =
+    first_false _ _ (not-true _ responder_sent) (subst (λ o. is_due_on day o ≡ true) (sym its) is)
 overdue_heard x n due body is its responder_sent = search rules
 
 -- An Overdue names no conditions.
@@ -486,7 +504,8 @@ overdue_is_plain due body is = search rules
 
 -- A requester that is overdue is in SHIPPED or later, and in neither RECALL nor RETURNED.
 overdue_is_out : (s : State) → is_among (states.NotReceivedOverdue ∷ states.Overdue ∷ states.RenewOverdue ∷ []) s ≡ true
-    → (is_among later s ≡ true) × (is_among (states.Recall ∷ states.Returned ∷ []) s ≡ false) × (is_among (states.Recall ∷ []) s ≡ false) × (is_among (states.Returned ∷ []) s ≡ false)
+    → (is_among later s ≡ true) × (is_among (states.Recall ∷ states.Returned ∷ []) s ≡ false)
+    × (is_among (states.Recall ∷ []) s ≡ false) × (is_among (states.Returned ∷ []) s ≡ false)
 overdue_is_out states.NotReceivedOverdue is = (refl, refl, refl, refl)
 overdue_is_out states.Overdue is = (refl, refl, refl, refl)
 overdue_is_out states.RenewOverdue is = (refl, refl, refl, refl)
@@ -494,7 +513,8 @@ overdue_is_out s is = search rules
 
 -- A responder that is overdue is in SHIPPED or later, and in none of RECALL, RETURNED, CHECKED-IN.
 late_is_out : (t : State) → is_among (states.Overdue ∷ states.RenewOverdue ∷ []) t ≡ true
-    → (is_among shipped_states t ≡ true) × (is_among (states.Recall ∷ []) t ≡ false) × (is_among (states.Returned ∷ states.CheckedIn ∷ []) t ≡ false)
+    → (is_among shipped_states t ≡ true) × (is_among (states.Recall ∷ []) t ≡ false)
+    × (is_among (states.Returned ∷ states.CheckedIn ∷ []) t ≡ false)
 late_is_out states.Overdue is = (refl, refl, refl)
 late_is_out states.RenewOverdue is = (refl, refl, refl)
 late_is_out t is = search rules
@@ -519,12 +539,14 @@ overdue_at s shipped recalled returned late = search rules
 
 -- ---- a requester's record and a responder's
 
-module _ (txn : Qualifiers) (x : RequesterRecord) (y : ResponderRecord) (requester_sent responder_sent : List (Option Apdu)) (borrower : RequesterStands txn x requester_sent) (lender : ResponderStands txn y responder_sent)
+module _ (txn : Qualifiers) (x : RequesterRecord) (y : ResponderRecord) (requester_sent responder_sent : List (Option Apdu))
+    (borrower : RequesterStands txn x requester_sent) (lender : ResponderStands txn y responder_sent)
     (issued : AreIssued requester_sent y.issued) (heeded : AreIssued responder_sent x.issued) (hear : HaveHeard x y) where
   -- ---- IDLE
 
   -- The first message of a requester that has begun is an ILL-Request.
-  first_request : (apdus : List Apdu) → is_none apdus ≡ false → begins_with_request apdus ≡ true → (a : Apdu) × (message apdus 1 ≡ Some a) × (is_ill_request a.body ≡ true)
+  first_request : (apdus : List Apdu) → is_none apdus ≡ false → begins_with_request apdus ≡ true → (a : Apdu)
+      × (message apdus 1 ≡ Some a) × (is_ill_request a.body ≡ true)
   first_request [] some begins = search rules
   first_request (a ∷ apdus) some begins = (a, refl, (and_parts _ _ begins).0)
 
@@ -538,18 +560,22 @@ module _ (txn : Qualifiers) (x : RequesterRecord) (y : ResponderRecord) (request
   was_asked : is_among (states.Idle ∷ []) y.state ≡ false → is_among (states.Idle ∷ []) x.state ≡ false
   was_asked is =
       let known = lender.knows responder.Requested is in
-      sym borrower.rules.issued.idle ∙ not_none is_ill_request x.issued (has_issued x.issued responder_sent is_ill_request known.0 heeded known.1 (tells_requested known.0.number known.0.body known.2))
+      sym borrower.rules.issued.idle ∙ not_none is_ill_request x.issued
+      (has_issued x.issued responder_sent is_ill_request known.0 heeded known.1
+      (tells_requested known.0.number known.0.body known.2))
 
   -- The requester is in IDLE exactly if the responder is.
   idle_alike : is_among (states.Idle ∷ []) x.state ≡ is_among (states.Idle ∷ []) y.state
   idle_alike =
-      alike _ _ (λ is. true_from_ne_false _ (λ is_not. both_ways _ (was_asked is_not) is)) (λ is. true_from_ne_false _ (λ is_not. both_ways _ (begun is_not) is))
+      alike _ _ (λ is. true_from_ne_false _ (λ is_not. both_ways _ (was_asked is_not) is))
+      (λ is. true_from_ne_false _ (λ is_not. both_ways _ (begun is_not) is))
 
   -- ---- CANCELLED
 
   -- The responder is in CANCELLED if the requester is.
   cancelled_there : is_among (states.Cancelled ∷ []) x.state ≡ true → is_among (states.Cancelled ∷ []) y.state ≡ true
-  cancelled_there is = ap (is_among (states.Cancelled ∷ [])) (cancelled_faces txn x y requester_sent responder_sent borrower lender issued (is_in_cancelled x.state is))
+  cancelled_there is = ap (is_among (states.Cancelled ∷ []))
+      (cancelled_faces txn x y requester_sent responder_sent borrower lender issued (is_in_cancelled x.state is))
 
   -- The requester is in CANCELLED if the responder is.
   cancelled_here : is_among (states.Cancelled ∷ []) y.state ≡ true → is_among (states.Cancelled ∷ []) x.state ≡ true
@@ -558,7 +584,9 @@ module _ (txn : Qualifiers) (x : RequesterRecord) (y : ResponderRecord) (request
       let by = cancels_with at.1.body at.3 in
       let is_open = cancel_is_open txn x y requester_sent responder_sent borrower lender issued heeded at.0 by.0 at.1 at.2 by.1 in
       let answers : answered_number MayCancel at.1.body ≡ Some by.0 = ap (answered_number MayCancel) by.1 in
-      cancelled_left x.state _ is_open (cancel_reply_heard x at.1.number by.0 at.1.body answers (hear.requester at.0 at.1 at.2 (cancel_reply_is_plain at.1.body by.0 answers)))
+      cancelled_left x.state _ is_open
+      (cancel_reply_heard x at.1.number by.0 at.1.body answers
+      (hear.requester at.0 at.1 at.2 (cancel_reply_is_plain at.1.body by.0 answers)))
 
   -- The requester is in CANCELLED exactly if the responder is.
   cancelled_alike : is_among (states.Cancelled ∷ []) x.state ≡ is_among (states.Cancelled ∷ []) y.state
@@ -568,18 +596,21 @@ module _ (txn : Qualifiers) (x : RequesterRecord) (y : ResponderRecord) (request
 
   -- The responder is in SHIPPED or later if the requester is.
   later_there : is_among later x.state ≡ true → is_among shipped_states y.state ≡ true
-  later_there is = sym lender.ends.shipped ∙ shipped_by txn x y requester_sent responder_sent x.due borrower lender issued refl (borrower.rules.parts.due ∙ is)
+  later_there is = sym lender.ends.shipped
+      ∙ shipped_by txn x y requester_sent responder_sent x.due borrower lender issued refl (borrower.rules.parts.due ∙ is)
 
   -- The responder is in NOT-SUPPLIED if the requester is.
   unsupplied_there : is_among (states.NotSupplied ∷ []) x.state ≡ true → is_among (states.NotSupplied ∷ []) y.state ≡ true
-  unsupplied_there is = ap (is_among (states.NotSupplied ∷ [])) (not_supplied_faces txn x y requester_sent responder_sent borrower lender issued (is_in_not_supplied x.state is))
+  unsupplied_there is = ap (is_among (states.NotSupplied ∷ []))
+      (not_supplied_faces txn x y requester_sent responder_sent borrower lender issued (is_in_not_supplied x.state is))
 
   -- The requester is in SHIPPED or later if the responder is.
   later_here : is_among shipped_states y.state ≡ true → is_among later x.state ≡ true
   later_here is =
       let at = says_message is_shipped y.issued (lender.ends.shipped ∙ is) in
       let no = out y.state is in
-      later_left x.state borrower.rules.parts.role (idle_alike ∙ no.0) (cancelled_alike ∙ no.1) (false_from_ne_true _ (λ ended. both_ways _ no.2 (unsupplied_there ended)))
+      later_left x.state borrower.rules.parts.role (idle_alike ∙ no.0) (cancelled_alike ∙ no.1)
+      (false_from_ne_true _ (λ ended. both_ways _ no.2 (unsupplied_there ended)))
       (shipped_heard x at.1.number at.1.body at.3 (hear.requester at.0 at.1 at.2 (shipped_is_plain at.1.body at.3)))
 
   -- The requester is in SHIPPED or later exactly if the responder is.
@@ -601,24 +632,30 @@ module _ (txn : Qualifiers) (x : RequesterRecord) (y : ResponderRecord) (request
   -- ---- questions
 
   -- The number of the last question that the requester asked is not below that of the last one that came.
-  asked_last : (question : Question) (says : Body → Bool) (m n : ℕ) → ((body : Body) → responder.asks question body ≡ true → says body ≡ true) → responder.last_asked question y ≡ Some m
+  asked_last : (question : Question) (says : Body → Bool) (m n : ℕ)
+      → ((body : Body) → responder.asks question body ≡ true → says body ≡ true) → responder.last_asked question y ≡ Some m
       → last_of (number_if says) x.issued ≡ Some n → m ≤ n
   asked_last question says m n is_so last own =
       let asked = lender.asked question m (inl last) in
       let at = heeded asked.0 asked.1 in
-      subst (λ k. k ≤ n) asked.3 (not_above_last says x.txn x.issued at.0 n asked.0 borrower.rules.numbered at.1 (is_so asked.0.body asked.2) own)
+      subst (λ k. k ≤ n) asked.3 (not_above_last says x.txn x.issued at.0 n asked.0 borrower.rules.numbered at.1
+      (is_so asked.0.body asked.2) own)
 
   -- The responder has issued an answer to the last question that came, if it left none unanswered.
-  answer_to : (question : Question) (n : ℕ) → responder.last_asked question y ≡ Some n → is_among (records.unanswered question) y.state ≡ false
+  answer_to : (question : Question) (n : ℕ) → responder.last_asked question y ≡ Some n
+      → is_among (records.unanswered question) y.state ≡ false
       → Finds (λ a. answered_number question a.body) y.issued n
-  answer_to question n last left = finds_any (λ a. answered_number question a.body) y.issued n (lender.answered question n last left)
+  answer_to question n last left =
+      finds_any (λ a. answered_number question a.body) y.issued n (lender.answered question n last left)
 
   -- ---- CANCEL-PENDING
 
   -- No Cancel waits that the responder has answered.
-  cancel_answered : (n : ℕ) → is_among (states.CancelPending ∷ []) x.state ≡ true → last_cancel x ≡ Some n → Finds (λ a. answered_number MayCancel a.body) y.issued n → ⊥
+  cancel_answered : (n : ℕ) → is_among (states.CancelPending ∷ []) x.state ≡ true → last_cancel x ≡ Some n
+      → Finds (λ a. answered_number MayCancel a.body) y.issued n → ⊥
   cancel_answered n is last found =
-      both_ways _ (cancel_reply_heard x found.1.number n found.1.body found.3 (hear.requester found.0 found.1 found.2 (cancel_reply_is_plain found.1.body n found.3)))
+      both_ways _ (cancel_reply_heard x found.1.number n found.1.body found.3
+      (hear.requester found.0 found.1 found.2 (cancel_reply_is_plain found.1.body n found.3)))
       (and_from _ _ is (itself n (last_cancel x) last))
 
   -- An undecided responder faces no requester in CANCEL-PENDING.
@@ -626,7 +663,8 @@ module _ (txn : Qualifiers) (x : RequesterRecord) (y : ResponderRecord) (request
   not_open is is_open =
       let own = has_last is_cancel None x.issued (implied _ _ borrower.rules.issued.cancel (waiting x.state is).5) in
       let there = was_last is_cancel x.txn x.issued own.0 borrower.rules.numbered own.1 in
-      let heard_it = most there.0.number y.last_cancel (cancel_heard y there.0.number there.0.body there.2 (hear.responder own.0 there.0 there.1) is_open) in
+      let heard_it = most there.0.number y.last_cancel
+      (cancel_heard y there.0.number there.0.body there.2 (hear.responder own.0 there.0 there.1) is_open) in
       let not_after = asked_last MayCancel is_cancel heard_it.0 own.0 (λ body asks. asks) heard_it.1 own.1 in
       let same : heard_it.0 ≡ own.0 = omega (arith, not_after, heard_it.2, there.3) in
       cancel_answered own.0 is own.1 (answer_to MayCancel own.0 (heard_it.1 ∙ ap Some same) (open_answers y.state is_open))
@@ -635,21 +673,26 @@ module _ (txn : Qualifiers) (x : RequesterRecord) (y : ResponderRecord) (request
   waits_there : is_among (states.CancelPending ∷ []) x.state ≡ true → is_among (states.CancelPending ∷ []) y.state ≡ true
   waits_there is =
       let no = waiting x.state is in
-      cancel_left y.state lender.rules.parts.role (sym idle_alike ∙ no.0) (sym cancelled_alike ∙ no.1) (sym unsupplied_alike ∙ no.2) (sym later_alike ∙ no.3) (false_from_ne_true _ (not_open is))
+      cancel_left y.state lender.rules.parts.role (sym idle_alike ∙ no.0) (sym cancelled_alike ∙ no.1)
+      (sym unsupplied_alike ∙ no.2) (sym later_alike ∙ no.3) (false_from_ne_true _ (not_open is))
 
   -- A Cancel that waits at the responder is open at the requester.
-  cancel_is_waiting : (c : ℕ) → is_among (states.CancelPending ∷ []) y.state ≡ true → y.last_cancel ≡ Some c → requester.is_open x c ≡ true
+  cancel_is_waiting : (c : ℕ) → is_among (states.CancelPending ∷ []) y.state ≡ true → y.last_cancel ≡ Some c
+      → requester.is_open x c ≡ true
   cancel_is_waiting c is last =
       let no = waiting y.state is in
       let known = lender.knows (responder.CancelAsked c) (inl last) in
       let at = heeded known.0 known.1 in
       let says = tells_cancel known.0.number c known.0.body known.2 in
       let number = sym (message_number x.txn x.issued at.0 known.0 borrower.rules.numbered at.1).1 ∙ says.1 in
-      let issued_it : was is_cancel x.issued c ≡ true = ap (is_there is_cancel) (ap (message x.issued) (sym number) ∙ at.1) ∙ says.0 in
+      let issued_it : was is_cancel x.issued c ≡ true =
+      ap (is_there is_cancel) (ap (message x.issued) (sym number) ∙ at.1) ∙ says.0 in
       true_from_ne_false _ (λ closed.
-      let refused = borrower.knows (requester.Refused c) (issued_it, neither x.state (unsupplied_alike ∙ no.2) (later_alike ∙ no.4), closed) in
+      let refused = borrower.knows (requester.Refused c)
+      (issued_it, neither x.state (unsupplied_alike ∙ no.2) (later_alike ∙ no.4), closed) in
       let there = issued refused.0 refused.1 in
-      not_below c y.last_cancel last (all_found (λ a. answered_number MayCancel a.body) (λ n. is_below n y.last_cancel) y.issued there.0 refused.0 c (lender.cancels.below is) there.1
+      not_below c y.last_cancel last (all_found (λ a. answered_number MayCancel a.body) (λ n. is_below n y.last_cancel) y.issued
+      there.0 refused.0 c (lender.cancels.below is) there.1
       (ap (answered_number MayCancel) (tells_refused refused.0.body c refused.2))))
 
   -- The requester is in CANCEL-PENDING if the responder is.
@@ -666,14 +709,18 @@ module _ (txn : Qualifiers) (x : RequesterRecord) (y : ResponderRecord) (request
   -- ---- RETURNED
 
   -- The responder is in RETURNED or CHECKED-IN if the requester is in RETURNED.
-  returned_there : is_among (states.Returned ∷ []) x.state ≡ true → is_among (states.Returned ∷ states.CheckedIn ∷ []) y.state ≡ true
+  returned_there : is_among (states.Returned ∷ []) x.state ≡ true
+      → is_among (states.Returned ∷ states.CheckedIn ∷ []) y.state ≡ true
   returned_there is =
       let at = says_message is_returned x.issued (borrower.rules.issued.returned ∙ is) in
-      returned_left y.state (sym later_alike ∙ returned_is_out x.state is) (returned_heard y at.1.number at.1.body at.3 (hear.responder at.0 at.1 at.2))
+      returned_left y.state (sym later_alike ∙ returned_is_out x.state is)
+      (returned_heard y at.1.number at.1.body at.3 (hear.responder at.0 at.1 at.2))
 
   -- The requester is in RETURNED if the responder is in RETURNED or CHECKED-IN.
-  returned_here : is_among (states.Returned ∷ states.CheckedIn ∷ []) y.state ≡ true → is_among (states.Returned ∷ []) x.state ≡ true
-  returned_here is = ap (is_among (states.Returned ∷ [])) ((says_true txn x y requester_sent responder_sent borrower lender issued heeded).returned is)
+  returned_here : is_among (states.Returned ∷ states.CheckedIn ∷ []) y.state ≡ true
+      → is_among (states.Returned ∷ []) x.state ≡ true
+  returned_here is = ap (is_among (states.Returned ∷ []))
+      ((says_true txn x y requester_sent responder_sent borrower lender issued heeded).returned is)
 
   -- The requester is in RETURNED exactly if the responder is in RETURNED or CHECKED-IN.
   returned_alike : is_among (states.Returned ∷ []) x.state ≡ is_among (states.Returned ∷ states.CheckedIn ∷ []) y.state
@@ -686,14 +733,17 @@ module _ (txn : Qualifiers) (x : RequesterRecord) (y : ResponderRecord) (request
   recalled_there is =
       let no = recalled_is_out x.state is in
       let known = borrower.notices notices.Recalled no.0 in
-      recall_left y.state (lender.recall.after (has_issued y.issued requester_sent is_recall known.0 issued known.1 (attests_recall known.0.number known.0.body known.2))) (sym returned_alike ∙ no.3)
+      recall_left y.state (lender.recall.after
+      (has_issued y.issued requester_sent is_recall known.0 issued known.1
+      (attests_recall known.0.number known.0.body known.2))) (sym returned_alike ∙ no.3)
 
   -- The requester is in RECALL if the responder is.
   recalled_here : is_among (states.Recall ∷ []) y.state ≡ true → is_among (states.Recall ∷ []) x.state ≡ true
   recalled_here is =
       let no = recalled_is_out y.state is in
       let at = says_message is_recall y.issued (lender.recall.issued is) in
-      recall_at x.state (later_alike ∙ no.2) (returned_alike ∙ no.4) (recall_heard x at.1.number at.1.body at.3 (hear.requester at.0 at.1 at.2 (recall_is_plain at.1.body at.3)))
+      recall_at x.state (later_alike ∙ no.2) (returned_alike ∙ no.4)
+      (recall_heard x at.1.number at.1.body at.3 (hear.requester at.0 at.1 at.2 (recall_is_plain at.1.body at.3)))
 
   -- The requester is in RECALL exactly if the responder is.
   recalled_alike : is_among (states.Recall ∷ []) x.state ≡ is_among (states.Recall ∷ []) y.state
@@ -702,22 +752,26 @@ module _ (txn : Qualifiers) (x : RequesterRecord) (y : ResponderRecord) (request
   -- ---- RENEW/PENDING and RENEW/OVERDUE
 
   -- The responder has granted no Renew that waits.
-  not_granted : (n : ℕ) (due granted : Date) (i : ℕ) (a : Apdu) → 0 < n → awaits x n ≡ true → x.due ≡ Some due → message y.issued i ≡ Some a → a.body ≡ types.RenewAnswer n (Some granted) → ⊥
+  not_granted : (n : ℕ) (due granted : Date) (i : ℕ) (a : Apdu) → 0 < n → awaits x n ≡ true → x.due ≡ Some due
+      → message y.issued i ≡ Some a → a.body ≡ types.RenewAnswer n (Some granted) → ⊥
   not_granted n due granted i a some waits is at body =
       let known = borrower.notices (notices.GrantedBefore n due) (is, inl waits) in
       let there = issued known.0 known.1 in
       let before = attests_grant known.0.number n due known.0.body some known.2 in
       let rises = lender.grants there.0 i before.0 n known.0 a due granted there.1 at before.1 (ap grant_of body) before.2 in
-      let unheard : not (awaits x n && is_after_due granted x.due) ≡ true = ap (notices.has_heard x a.number) (sym body) ∙ hear.requester i a at (ap names_conditions body) in
+      let unheard : not (awaits x n && is_after_due granted x.due) ≡ true =
+      ap (notices.has_heard x a.number) (sym body) ∙ hear.requester i a at (ap names_conditions body) in
       both_ways _ (subst (λ o. is_after_due granted o ≡ false) is (second_false _ _ (not-true _ unheard) waits)) rises
 
   -- No Renew waits that the responder has answered.
-  renew_answered : (n : ℕ) (due : Date) → 0 < n → awaits x n ≡ true → x.due ≡ Some due → Finds (λ a. answered_number MayRenew a.body) y.issued n → ⊥
+  renew_answered : (n : ℕ) (due : Date) → 0 < n → awaits x n ≡ true → x.due ≡ Some due
+      → Finds (λ a. answered_number MayRenew a.body) y.issued n → ⊥
   renew_answered n due some waits is (i, a, at, answers) = go (renew_answer a.body n answers)
     where
       go : (granted : Option Date) × (a.body ≡ types.RenewAnswer n granted) → ⊥
       go (None, body) =
-          let unheard : not (awaits x n) ≡ true = ap (notices.has_heard x a.number) (sym body) ∙ hear.requester i a at (ap names_conditions body) in
+          let unheard : not (awaits x n) ≡ true =
+          ap (notices.has_heard x a.number) (sym body) ∙ hear.requester i a at (ap names_conditions body) in
           both_ways _ (not-true _ unheard) waits
       go (Some granted, body) = not_granted n due granted i a some waits is at body
 
@@ -727,53 +781,66 @@ module _ (txn : Qualifiers) (x : RequesterRecord) (y : ResponderRecord) (request
   message_some apdus (suc n) a at = omega arith
 
   -- A responder in SHIPPED or OVERDUE faces no requester with a waiting Renew.
-  not_settled : is_among (states.RenewPending ∷ states.RenewOverdue ∷ []) x.state ≡ true → is_among (states.Shipped ∷ states.Overdue ∷ []) y.state ≡ true → ⊥
+  not_settled : is_among (states.RenewPending ∷ states.RenewOverdue ∷ []) x.state ≡ true
+      → is_among (states.Shipped ∷ states.Overdue ∷ []) y.state ≡ true → ⊥
   not_settled is settled =
       let due = some_of x.due (borrower.rules.parts.due ∙ (renewing x.state is).0) in
       let own = has_last is_renew None x.issued (implied _ _ borrower.rules.issued.renew is) in
       let there = was_last is_renew x.txn x.issued own.0 borrower.rules.numbered own.1 in
-      let heard_it = most there.0.number y.last_renew (renew_heard y there.0.number there.0.body there.2 (hear.responder own.0 there.0 there.1) settled) in
+      let heard_it = most there.0.number y.last_renew
+      (renew_heard y there.0.number there.0.body there.2 (hear.responder own.0 there.0 there.1) settled) in
       let not_after = asked_last MayRenew is_renew heard_it.0 own.0 (λ body asks. asks) heard_it.1 own.1 in
       let same : heard_it.0 ≡ own.0 = omega (arith, not_after, heard_it.2, there.3) in
-      renew_answered own.0 due.0 (message_some x.issued own.0 there.0 there.1) (and_from _ _ is (itself own.0 (last_renew x) own.1)) due.1
+      renew_answered own.0 due.0 (message_some x.issued own.0 there.0 there.1)
+      (and_from _ _ is (itself own.0 (last_renew x) own.1)) due.1
       (answer_to MayRenew own.0 (heard_it.1 ∙ ap Some same) (settled_answers y.state settled))
 
   -- A Renew waits at the responder if one waits at the requester.
-  renew_there : is_among (states.RenewPending ∷ states.RenewOverdue ∷ []) x.state ≡ true → is_among (states.RenewPending ∷ states.RenewOverdue ∷ []) y.state ≡ true
+  renew_there : is_among (states.RenewPending ∷ states.RenewOverdue ∷ []) x.state ≡ true
+      → is_among (states.RenewPending ∷ states.RenewOverdue ∷ []) y.state ≡ true
   renew_there is =
       let no = renewing x.state is in
-      renew_left y.state (sym later_alike ∙ no.0) (sym recalled_alike ∙ no.2) (sym returned_alike ∙ no.3) (false_from_ne_true _ (not_settled is))
+      renew_left y.state (sym later_alike ∙ no.0) (sym recalled_alike ∙ no.2) (sym returned_alike ∙ no.3)
+      (false_from_ne_true _ (not_settled is))
 
   -- A Renew that waits at the responder waits at the requester.
-  renew_is_waiting : (n : ℕ) → is_among (states.RenewPending ∷ states.RenewOverdue ∷ []) y.state ≡ true → y.last_renew ≡ Some n → awaits x n ≡ true
+  renew_is_waiting : (n : ℕ) → is_among (states.RenewPending ∷ states.RenewOverdue ∷ []) y.state ≡ true → y.last_renew ≡ Some n
+      → awaits x n ≡ true
   renew_is_waiting n is last =
       let no = renewing y.state is in
       let due = some_of x.due (borrower.rules.parts.due ∙ (later_alike ∙ no.1)) in
       let asked = lender.asked MayRenew n (inl last) in
       let at = heeded asked.0 asked.1 in
       let number = sym (message_number x.txn x.issued at.0 asked.0 borrower.rules.numbered at.1).1 ∙ asked.3 in
-      let issued_it : was is_renew x.issued n ≡ true = ap (is_there is_renew) (ap (message x.issued) (sym number) ∙ at.1) ∙ asked.2 in
+      let issued_it : was is_renew x.issued n ≡ true =
+      ap (is_there is_renew) (ap (message x.issued) (sym number) ∙ at.1) ∙ asked.2 in
       true_from_ne_false _ (λ over.
-      let not_past : is_due_after due.0 x.due ≡ false = subst (λ o. is_due_after due.0 o ≡ false) (sym due.1) (itself_not_before due.0) in
-      let known = borrower.notices (notices.Answered n due.0) (issued_it, either_gone x.state (recalled_alike ∙ no.2) (returned_alike ∙ no.4), over, not_past) in
+      let not_past : is_due_after due.0 x.due ≡ false =
+      subst (λ o. is_due_after due.0 o ≡ false) (sym due.1) (itself_not_before due.0) in
+      let known = borrower.notices (notices.Answered n due.0)
+      (issued_it, either_gone x.state (recalled_alike ∙ no.2) (returned_alike ∙ no.4), over, not_past) in
       let there = issued known.0 known.1 in
-      not_below n y.last_renew last (all_found (λ a. answered_number MayRenew a.body) (λ k. is_below k y.last_renew) y.issued there.0 known.0 n (lender.renewals.below is) there.1
+      not_below n y.last_renew last (all_found (λ a. answered_number MayRenew a.body) (λ k. is_below k y.last_renew) y.issued
+      there.0 known.0 n (lender.renewals.below is) there.1
       (attests_answered known.0.number n due.0 known.0.body known.2)))
 
   -- A Renew waits at the requester if one waits at the responder.
-  renew_here : is_among (states.RenewPending ∷ states.RenewOverdue ∷ []) y.state ≡ true → is_among (states.RenewPending ∷ states.RenewOverdue ∷ []) x.state ≡ true
+  renew_here : is_among (states.RenewPending ∷ states.RenewOverdue ∷ []) y.state ≡ true
+      → is_among (states.RenewPending ∷ states.RenewOverdue ∷ []) x.state ≡ true
   renew_here is =
       let last = some_of y.last_renew (implied _ _ lender.rules.parts.renew is) in
       (and_parts _ _ (renew_is_waiting last.0 is last.1)).0
 
   -- A Renew waits at the requester exactly if one waits at the responder.
-  renew_alike : is_among (states.RenewPending ∷ states.RenewOverdue ∷ []) x.state ≡ is_among (states.RenewPending ∷ states.RenewOverdue ∷ []) y.state
+  renew_alike : is_among (states.RenewPending ∷ states.RenewOverdue ∷ []) x.state
+      ≡ is_among (states.RenewPending ∷ states.RenewOverdue ∷ []) y.state
   renew_alike = alike _ _ renew_there renew_here
 
   -- ---- due dates
 
   -- The answer to a Renew grants no date after the due date of the requester.
-  answer_not_after : (c : ℕ) (due granted : Date) (j : ℕ) (b : Apdu) → x.due ≡ Some due → is_among (states.Recall ∷ states.Returned ∷ []) x.state ≡ false → message y.issued j ≡ Some b
+  answer_not_after : (c : ℕ) (due granted : Date) (j : ℕ) (b : Apdu) → x.due ≡ Some due
+      → is_among (states.Recall ∷ states.Returned ∷ []) x.state ≡ false → message y.issued j ≡ Some b
       → b.body ≡ types.RenewAnswer c (Some granted) → is_before due granted ≡ false
   answer_not_after c due granted j b is out_there at body =
       let answers : answered_number MayRenew b.body ≡ Some c = ap (answered_number MayRenew) body in
@@ -782,28 +849,39 @@ module _ (txn : Qualifiers) (x : RequesterRecord) (y : ResponderRecord) (request
       let number = sym (message_number x.txn x.issued own.0 asked.0 borrower.rules.numbered own.1).1 ∙ asked.3 in
       let there : message x.issued c ≡ Some asked.0 = ap (message x.issued) (sym number) ∙ own.1 in
       let issued_it : was is_renew x.issued c ≡ true = ap (is_there is_renew) there ∙ asked.2 in
-      let over : awaits x c ≡ false = false_from_ne_true _ (λ waits. renew_answered c due (message_some x.issued c asked.0 there) waits is (j, b, at, answers)) in
+      let over : awaits x c ≡ false =
+      false_from_ne_true _ (λ waits. renew_answered c due (message_some x.issued c asked.0 there) waits is
+      (j, b, at, answers)) in
       let not_past : is_due_after due x.due ≡ false = subst (λ o. is_due_after due o ≡ false) (sym is) (itself_not_before due) in
       let known = borrower.notices (notices.Answered c due) (issued_it, out_there, over, not_past) in
       let issued_at = issued known.0 known.1 in
-      let place : issued_at.0 ≡ j = answers_once (answered_number MayRenew) y.issued lender.renewals.distinct issued_at.0 j c known.0 b issued_at.1 at (attests_answered known.0.number c due known.0.body known.2) answers in
+      let place : issued_at.0 ≡ j = answers_once (answered_number MayRenew) y.issued lender.renewals.distinct issued_at.0 j c
+      known.0 b issued_at.1 at (attests_answered known.0.number c due known.0.body known.2) answers in
       let same : ◌≡◌ {A = Option Apdu} (Some known.0) (Some b) = sym issued_at.1 ∙ ap (message y.issued) place ∙ at in
-      attests_not_after known.0.number c due granted known.0.body (ap (λ (o : Apdu). o.body) (same_apdu known.0 b same) ∙ body) known.2
+      attests_not_after known.0.number c due granted known.0.body (ap (λ (o : Apdu). o.body) (same_apdu known.0 b same) ∙ body)
+      known.2
 
   -- No date that was granted is after the due date of the requester.
-  last_not_after : (due granted : Date) (i j : ℕ) (a b : Apdu) → x.due ≡ Some due → is_among (states.Recall ∷ states.Returned ∷ []) x.state ≡ false → message y.issued i ≡ Some a
-      → grant_in a.body ≡ Some due → message y.issued j ≡ Some b → grant_in b.body ≡ Some granted → is_before granted due ≡ false → is_before due granted ≡ false
-  last_not_after due granted i j a b is out_there at_i is_a at_j is_b not_earlier = go (grant_kind a.body due is_a) (grant_kind b.body granted is_b)
+  last_not_after : (due granted : Date) (i j : ℕ) (a b : Apdu) → x.due ≡ Some due
+      → is_among (states.Recall ∷ states.Returned ∷ []) x.state ≡ false → message y.issued i ≡ Some a
+      → grant_in a.body ≡ Some due → message y.issued j ≡ Some b → grant_in b.body ≡ Some granted → is_before granted due ≡ false
+      → is_before due granted ≡ false
+  last_not_after due granted i j a b is out_there at_i is_a at_j is_b not_earlier =
+      go (grant_kind a.body due is_a) (grant_kind b.body granted is_b)
     where
-      go : (a.body ≡ types.Shipped due) ⊎ ((c : ℕ) × (a.body ≡ types.RenewAnswer c (Some due))) → (b.body ≡ types.Shipped granted) ⊎ ((c : ℕ) × (b.body ≡ types.RenewAnswer c (Some granted)))
+      go : (a.body ≡ types.Shipped due) ⊎ ((c : ℕ) × (a.body ≡ types.RenewAnswer c (Some due)))
+          → (b.body ≡ types.Shipped granted) ⊎ ((c : ℕ) × (b.body ≡ types.RenewAnswer c (Some granted)))
           → is_before due granted ≡ false
       go kind (inr (c, body)) = answer_not_after c due granted j b is out_there at_j body
       go (inl first) (inl last) =
-          let one = one_end y.txn y.issued j b lender.rules.numbered (omega (arith, lender.ends.once, at_most_one (is_among responder.ended y.state))) at_j (ap is_end last) in
-          let two = one_end y.txn y.issued i a lender.rules.numbered (omega (arith, lender.ends.once, at_most_one (is_among responder.ended y.state))) at_i (ap is_end first) in
+          let one = one_end y.txn y.issued j b lender.rules.numbered
+          (omega (arith, lender.ends.once, at_most_one (is_among responder.ended y.state))) at_j (ap is_end last) in
+          let two = one_end y.txn y.issued i a lender.rules.numbered
+          (omega (arith, lender.ends.once, at_most_one (is_among responder.ended y.state))) at_i (ap is_end first) in
           let place : i ≡ j = same_Some i j (sym two ∙ one) in
           let same : ◌≡◌ {A = Option Apdu} (Some a) (Some b) = sym at_i ∙ ap (message y.issued) place ∙ at_j in
-          let dates : due ≡ granted = same_Some due granted (sym is_a ∙ ap (λ (o : Apdu). grant_in o.body) (same_apdu a b same) ∙ is_b) in
+          let dates : due ≡ granted = same_Some due granted
+          (sym is_a ∙ ap (λ (o : Apdu). grant_in o.body) (same_apdu a b same) ∙ is_b) in
           subst (λ d. is_before due d ≡ false) dates (itself_not_before due)
       go (inr (c, body)) (inl last) =
           let answers : answered_number MayRenew a.body ≡ Some c = ap (answered_number MayRenew) body in
@@ -811,7 +889,8 @@ module _ (txn : Qualifiers) (x : RequesterRecord) (y : ResponderRecord) (request
           let own = heeded asked.0 asked.1 in
           let number = sym (message_number x.txn x.issued own.0 asked.0 borrower.rules.numbered own.1).1 ∙ asked.3 in
           let some : 0 < c = subst (λ k. 0 < k) number (message_some x.issued own.0 asked.0 own.1) in
-          absurd (both_ways _ not_earlier (lender.grants j i 0 c b a granted due at_j at_i (ap grant_of last) (ap grant_of body) some))
+          absurd (both_ways _ not_earlier
+          (lender.grants j i 0 c b a granted due at_j at_i (ap grant_of last) (ap grant_of body) some))
 
   -- The due dates of both are equal if the requester is in neither RECALL nor RETURNED.
   same_due : is_among (states.Recall ∷ states.Returned ∷ []) x.state ≡ false → x.due ≡ due_of y
@@ -822,7 +901,8 @@ module _ (txn : Qualifiers) (x : RequesterRecord) (y : ResponderRecord) (request
       nothing None e is = refl
       nothing (Some d) e is =
           let found = finds_last granted_day y.issued d e in
-          let shipped : has is_shipped y.issued ≡ true = grants_shipped y.issued found.0 found.1 d lender.rules.ships_first found.2 found.3 in
+          let shipped : has is_shipped y.issued ≡ true =
+          grants_shipped y.issued found.0 found.1 d lender.rules.ships_first found.2 found.3 in
           let not_some : is_some x.due ≡ true = borrower.rules.parts.due ∙ (later_alike ∙ (sym lender.ends.shipped ∙ shipped)) in
           absurd (both_ways _ (ap is_some is) not_some)
 
@@ -834,23 +914,28 @@ module _ (txn : Qualifiers) (x : RequesterRecord) (y : ResponderRecord) (request
           let grants = tells_grant known.0.body due known.2 in
           let last = granted_not_later y.issued at.0 known.0 due lender.rules.rising at.1 grants in
           let found = finds_last granted_day y.issued last.0 last.1 in
-          let not_after = last_not_after due last.0 at.0 found.0 known.0 found.1 is out_there at.1 grants found.2 found.3 last.2 in
+          let not_after = last_not_after due last.0 at.0 found.0 known.0 found.1 is out_there at.1 grants found.2 found.3
+          last.2 in
           is ∙ (ap Some (same_date due last.0 not_after last.2) ∙ sym last.1)
 
   -- ---- overdue
 
   -- The responder is overdue if the requester is.
-  overdue_there : is_among (states.NotReceivedOverdue ∷ states.Overdue ∷ states.RenewOverdue ∷ []) x.state ≡ true → is_among (states.Overdue ∷ states.RenewOverdue ∷ []) y.state ≡ true
+  overdue_there : is_among (states.NotReceivedOverdue ∷ states.Overdue ∷ states.RenewOverdue ∷ []) x.state ≡ true
+      → is_among (states.Overdue ∷ states.RenewOverdue ∷ []) y.state ≡ true
   overdue_there is =
       let late = overdue_is_out x.state is in
       let due = some_of x.due (borrower.rules.parts.due ∙ late.0) in
       let known = borrower.notices (notices.PastDue due.0) (due.1, is) in
       let of_due : is_overdue_of due.0 known.0.body ≡ true = attests_overdue known.0.number due.0 known.0.body known.2 in
       let its : due_of y ≡ Some due.0 = sym (same_due late.1) ∙ due.1 in
-      overdue_left y.state (lender.overdue.after due.0 its (has_issued y.issued requester_sent (is_overdue_of due.0) known.0 issued known.1 of_due)) (sym recalled_alike ∙ late.2) (sym returned_alike ∙ late.3)
+      overdue_left y.state (lender.overdue.after due.0 its
+      (has_issued y.issued requester_sent (is_overdue_of due.0) known.0 issued known.1 of_due)) (sym recalled_alike ∙ late.2)
+      (sym returned_alike ∙ late.3)
 
   -- The requester is overdue if the responder is.
-  overdue_here : is_among (states.Overdue ∷ states.RenewOverdue ∷ []) y.state ≡ true → is_among (states.NotReceivedOverdue ∷ states.Overdue ∷ states.RenewOverdue ∷ []) x.state ≡ true
+  overdue_here : is_among (states.Overdue ∷ states.RenewOverdue ∷ []) y.state ≡ true
+      → is_among (states.NotReceivedOverdue ∷ states.Overdue ∷ states.RenewOverdue ∷ []) x.state ≡ true
   overdue_here is =
       let late = late_is_out y.state is in
       let out_there = either_gone x.state (recalled_alike ∙ late.1) (returned_alike ∙ late.2) in
@@ -858,10 +943,12 @@ module _ (txn : Qualifiers) (x : RequesterRecord) (y : ResponderRecord) (request
       let its : due_of y ≡ Some due.0 = sym (same_due out_there) ∙ due.1 in
       let at = says_message (is_overdue_of due.0) y.issued (lender.overdue.issued due.0 its is) in
       overdue_at x.state (later_alike ∙ late.0) (recalled_alike ∙ late.1) (returned_alike ∙ late.2)
-      (overdue_heard x at.1.number due.0 at.1.body at.3 due.1 (hear.requester at.0 at.1 at.2 (overdue_is_plain due.0 at.1.body at.3)))
+      (overdue_heard x at.1.number due.0 at.1.body at.3 due.1
+      (hear.requester at.0 at.1 at.2 (overdue_is_plain due.0 at.1.body at.3)))
 
   -- The requester is overdue exactly if the responder is.
-  overdue_alike : is_among (states.NotReceivedOverdue ∷ states.Overdue ∷ states.RenewOverdue ∷ []) x.state ≡ is_among (states.Overdue ∷ states.RenewOverdue ∷ []) y.state
+  overdue_alike : is_among (states.NotReceivedOverdue ∷ states.Overdue ∷ states.RenewOverdue ∷ []) x.state
+      ≡ is_among (states.Overdue ∷ states.RenewOverdue ∷ []) y.state
   overdue_alike = alike _ _ overdue_there overdue_here
 
   -- ---- CONDITIONAL
@@ -871,20 +958,24 @@ module _ (txn : Qualifiers) (x : RequesterRecord) (y : ResponderRecord) (request
   not_accepted is pending =
       let at = last_names y.issued (implied _ _ lender.rules.issued.conditions is) in
       let number = message_number y.txn y.issued (length y.issued) at.0 lender.rules.numbered at.1 in
-      let heard_it = most at.0.number (accepted_number x) (conditions_heard x at.0.number at.0.body at.2 (hear.last at.0 at.1) pending) in
+      let heard_it = most at.0.number (accepted_number x)
+      (conditions_heard x at.0.number at.0.body at.2 (hear.last at.0 at.1) pending) in
       let named = borrower.notices (notices.Named heard_it.0) (inr heard_it.1) in
       let there = issued named.0 named.1 in
       let its = message_number y.txn y.issued there.0 named.0 lender.rules.numbered there.1 in
       let within = message_within y.issued there.0 named.0 there.1 in
-      let same : heard_it.0 ≡ length y.issued = omega (arith, heard_it.2, number.1, its.1, within, attests_named named.0.number heard_it.0 named.0.body named.2) in
+      let same : heard_it.0 ≡ length y.issued =
+      omega (arith, heard_it.2, number.1, its.1, within, attests_named named.0.number heard_it.0 named.0.body named.2) in
       let yes = finds_last accepted_in x.issued heard_it.0 heard_it.1 in
-      both_ways _ (yes_heard y yes.1.number heard_it.0 yes.1.body yes.3 (hear.responder yes.0 yes.1 yes.2)) (waits_outstanding y heard_it.0 is same at.1)
+      both_ways _ (yes_heard y yes.1.number heard_it.0 yes.1.body yes.3 (hear.responder yes.0 yes.1 yes.2))
+      (waits_outstanding y heard_it.0 is same at.1)
 
   -- The requester is in CONDITIONAL if the responder is.
   conditions_here : is_among (states.Conditional ∷ []) y.state ≡ true → is_among (states.Conditional ∷ []) x.state ≡ true
   conditions_here is =
       let no = conditional y.state is in
-      conditional_left x.state borrower.rules.parts.role (idle_alike ∙ no.0) (cancelled_alike ∙ no.1) (unsupplied_alike ∙ no.2) (waits_alike ∙ no.3) (later_alike ∙ no.4)
+      conditional_left x.state borrower.rules.parts.role (idle_alike ∙ no.0) (cancelled_alike ∙ no.1) (unsupplied_alike ∙ no.2)
+      (waits_alike ∙ no.3) (later_alike ∙ no.4)
       (false_from_ne_true _ (not_accepted is))
 
   -- ---- in step
@@ -929,10 +1020,18 @@ module _ (txn : Qualifiers) (x : RequesterRecord) (y : ResponderRecord) (request
   -- The requester has the checked-in mark exactly if the responder is in CHECKED-IN.
   checked : x.checked_in ≡ is_among (states.CheckedIn ∷ []) y.state
   checked =
-      alike _ _ (λ is. ap (is_among (states.CheckedIn ∷ [])) ((says_true txn x y requester_sent responder_sent borrower lender issued heeded).checked_in is)) (λ is.
+      alike _ _ (λ is. ap (is_among (states.CheckedIn ∷ []))
+      ((says_true txn x y requester_sent responder_sent borrower lender issued heeded).checked_in is)) (λ is.
       let at = says_message is_checked_in y.issued (lender.rules.issued.checked_in ∙ is) in
-      checked_in_heard x at.1.number at.1.body at.3 (hear.requester at.0 at.1 at.2 (checked_in_is_plain at.1.body at.3)) (returned_alike ∙ home_is_back y.state is))
+      checked_in_heard x at.1.number at.1.body at.3 (hear.requester at.0 at.1 at.2 (checked_in_is_plain at.1.body at.3))
+      (returned_alike ∙ home_is_back y.state is))
 
   -- The two records are in step.
   pub in_step : InStep x y
-  in_step = record { faced = face; undeclined = false_from_ne_true _ not_declined; received = marked; checked_in = checked; due = same_due }
+  in_step = record {
+    faced = face;
+    undeclined = false_from_ne_true _ not_declined;
+    received = marked;
+    checked_in = checked;
+    due = same_due;
+  }

@@ -1,5 +1,6 @@
 -- Each event of desks is an event of one transaction, or leaves its projection.
-use Rattle.std.proofs.Common.{rules, ◌≡◌, ◌⊎◌, inl, inr, ℕ, nat_le, nat_lt, length, Bool, true, false, cond, if◌then◌else◌, List, Option, Some, None, Result, Ok, Err, refl, ap, sym, subst, ◌∙◌}
+use Rattle.std.proofs.Common.{rules, ◌≡◌, ◌⊎◌, inl, inr, ℕ, nat_le, nat_lt, length, Bool, true, false, cond, if◌then◌else◌, List}
+use Rattle.std.proofs.Common.{Option, Some, None, Result, Ok, Err, refl, ap, sym, subst, ◌∙◌}
 use Rattle.std.specs.Prelude.{option_map}
 use Rattle.ill_values.specs.TxnId.{Qualifiers}
 use Rattle.ill_values.specs.declared.apdu.Apdu.{Apdu}
@@ -20,7 +21,9 @@ use Rattle.ill_saved.specs.declared.side.Action.TheVariants as actions
 use Rattle.ill_saved.specs.Side.{issued_of, txn_of, role_of, idle_side, acts, takes, acted, took, IsStep, role_for, begins}
 use Rattle.ill_saved.specs.Sides.{SidesOf, is_same_role, most_sides, side_with}
 use Rattle.ill_saved.specs.Holdings.{DeskEntry, whole}
-use Rattle.ill_saved.specs.ManySides.{DeskContents, found_by, txn_held, idle_held, found_or, held_for, with_held, side_for, sides_held, whole_of, is_own, held_or_begun, reached, acted as acted_at, acts_reached, desk_acts, took as took_at, takes_reached}
+use Rattle.ill_saved.specs.ManySides.{DeskContents, found_by, txn_held, idle_held, found_or, held_for, with_held, side_for}
+use Rattle.ill_saved.specs.ManySides.{sides_held, whole_of, is_own, held_or_begun, reached, acted as acted_at, acts_reached}
+use Rattle.ill_saved.specs.ManySides.{desk_acts, took as took_at, takes_reached}
 use Rattle.ill_saved.proofs.Finding.{same_is, same_self, found_is, found_put, found_mapped, side_of_held}
 use Rattle.ill_world.specs.declared.event.DeskEvent.{DeskEvent}
 use Rattle.ill_world.specs.declared.event.DeskEvent.TheVariants as events
@@ -28,8 +31,11 @@ use Rattle.ill_world.specs.declared.event.Outcome.{Outcome}
 use Rattle.ill_world.specs.declared.event.Outcome.TheVariants.{Done, Sent, Refused, Answered, NotSent, NoSuchMessage, NotSaved}
 use Rattle.ill_world.specs.declared.event.DeskOutcome.{DeskOutcome}
 use Rattle.ill_world.specs.declared.event.DeskOutcome.TheVariants.{Plain}
-use Rattle.ill_world.specs.World.{Party, nothing_sent, sent_message, with_sent, sends, sends_by, answer_to, receives, decides, saves, restarts, fails_to_save, happens_to, who_of, first_world}
-use Rattle.ill_world.specs.Desks.{Sending, DeskParty, txn_sent, sent_for, with_sent_for, plain, fault_seen, desk_decides, desk_saves, desk_fails_to_save, desk_sends, taking_seen, desk_receives, desk_restarts, desk_happens_to, first_desks, party_for, project, concerns, if_reached, IsSeenAs}
+use Rattle.ill_world.specs.World.{Party, nothing_sent, sent_message, with_sent, sends, sends_by, answer_to, receives, decides}
+use Rattle.ill_world.specs.World.{saves, restarts, fails_to_save, happens_to, who_of, first_world}
+use Rattle.ill_world.specs.Desks.{Sending, DeskParty, txn_sent, sent_for, with_sent_for, plain, fault_seen, desk_decides}
+use Rattle.ill_world.specs.Desks.{desk_saves, desk_fails_to_save, desk_sends, taking_seen, desk_receives, desk_restarts}
+use Rattle.ill_world.specs.Desks.{desk_happens_to, first_desks, party_for, project, concerns, if_reached, IsSeenAs}
 use Rattle.ill_world.specs.DeskChanges.{ProjectsTo}
 use Rattle.ill_world.proofs.Parties.{RowsGrow}
 use Rattle.ill_world.proofs.Changes.{Quiet, quiet}
@@ -48,7 +54,8 @@ found_either true instead new found = refl
 found_either false instead new found = refl
 
 -- once a side was put: it, or what there was of another transaction
-held_after : (txn : Qualifiers) (live : DeskContents) (new : DeskEntry) → held_for txn (with_held live new) ≡ cond (is_same_txn txn (txn_held new)) new (held_for txn live)
+held_after : (txn : Qualifiers) (live : DeskContents) (new : DeskEntry)
+    → held_for txn (with_held live new) ≡ cond (is_same_txn txn (txn_held new)) new (held_for txn live)
 held_after txn live new =
     ap (found_or (idle_held live.role txn)) (found_put txn_held txn new live.held)
     ∙ found_either (is_same_txn txn (txn_held new)) (idle_held live.role txn) new (found_by txn_held txn live.held)
@@ -82,14 +89,16 @@ whole_found role txn None = whole_idle role txn
 whole_for : (txn : Qualifiers) (all : SidesOf) → held_for txn (whole_of all) ≡ whole (side_for txn all)
 unfolding side_with
 whole_for txn all =
-    ap (found_or (idle_held all.role txn)) (found_mapped txn_of txn_held whole (λ side. refl) txn all.sides) ∙ whole_found all.role txn (found_by txn_of txn all.sides)
+    ap (found_or (idle_held all.role txn)) (found_mapped txn_of txn_held whole (λ side. refl) txn all.sides)
+    ∙ whole_found all.role txn (found_by txn_of txn all.sides)
 
 -- An idle side of `txn` is of the transaction `txn`.
 pub idle_txn : (role : Who) (txn : Qualifiers) → txn_of (idle_side role txn) ≡ txn
 idle_txn who.Requester txn = refl
 idle_txn who.Responder txn = refl
 
-found_txn : (role : Who) (txn : Qualifiers) (held : List DeskEntry) (found : Option DeskEntry) → found_by txn_held txn held ≡ found → txn_held (found_or (idle_held role txn) found) ≡ txn
+found_txn : (role : Who) (txn : Qualifiers) (held : List DeskEntry) (found : Option DeskEntry)
+    → found_by txn_held txn held ≡ found → txn_held (found_or (idle_held role txn) found) ≡ txn
 found_txn role txn held (Some there) e = sym (found_is txn_held txn held there e)
 found_txn role txn held None e = idle_txn role txn
 
@@ -105,7 +114,8 @@ row_txn grows old new row =
 pub shows : (p : DeskParty) (txn : Qualifiers) → ProjectsTo p txn (party_for txn p)
 shows p txn = record {
   live = λ held found.
-      let is = ap (found_or (idle_held p.live.role txn)) found in (ap (λ (h : DeskEntry). h.side) is, ap (λ (h : DeskEntry). h.released) is);
+      let is = ap (found_or (idle_held p.live.role txn)) found in
+      (ap (λ (h : DeskEntry). h.side) is, ap (λ (h : DeskEntry). h.released) is);
   landed = λ side found. ap (found_or (idle_side p.landed.role txn)) found;
   sent = λ sending found. ap (λ o. (found_or {X = Sending} (record { txn = txn; sent = nothing_sent }) o).sent) found;
 }
@@ -115,7 +125,8 @@ shows p txn = record {
 -- After an event that names `of`, outcome and party are as expected of `txn` if it is `of`. Otherwise the party stays
 -- as it was.
 abbrev Seen : (Qualifiers → Outcome × Party) → Qualifiers → DeskParty → Qualifiers → DeskOutcome × DeskParty → Type 0
-Seen expected of p txn after = IsSeenAs (if_reached after.0 (is_same_txn txn of)) (expected txn) (party_for txn p) after.0 (party_for txn after.1)
+Seen expected of p txn after = IsSeenAs (if_reached after.0 (is_same_txn txn of)) (expected txn) (party_for txn p) after.0
+    (party_for txn after.1)
 
 -- An event is seen as expected in all transactions, if `of` has the expected party, and each other its old one.
 single : (expected : Qualifiers → Outcome × Party) (of : Qualifiers) (p new : DeskParty) (outcome : Outcome)
@@ -124,9 +135,11 @@ single : (expected : Qualifiers → Outcome × Party) (of : Qualifiers) (p new :
     → Seen expected of p txn (Plain outcome, new)
 single expected of p new outcome here there txn = go (is_same_txn txn of) refl
   where
-    go : (same : Bool) → is_same_txn txn of ≡ same → IsSeenAs same (expected txn) (party_for txn p) (Plain outcome) (party_for txn new)
+    go : (same : Bool) → is_same_txn txn of ≡ same
+        → IsSeenAs same (expected txn) (party_for txn p) (Plain outcome) (party_for txn new)
     go true e =
-        let is : expected txn ≡ (outcome, party_for txn new) = subst (λ t. expected t ≡ (outcome, party_for t new)) (sym (same_is txn of e)) here in
+        let is : expected txn ≡ (outcome, party_for txn new) =
+        subst (λ t. expected t ≡ (outcome, party_for t new)) (sym (same_is txn of e)) here in
         (ap (λ (r : Outcome × Party). Plain r.0) (sym is), ap (λ (r : Outcome × Party). r.1) (sym is))
     go false e = there txn e
 
@@ -146,12 +159,25 @@ goes_on : (expected : Qualifiers → Outcome × Party) (of : Qualifiers) (p : De
 goes_on expected of p new outcome is here =
     let next = next_held (held_for of p.live) new in
     let after : DeskParty = record p { live = with_held p.live next } in
-    let shows : (txn : Qualifiers) → party_for txn after ≡ record (party_for txn p) { live = (cond (is_same_txn txn (txn_held next)) next (held_for txn p.live)).side; released = (cond (is_same_txn txn (txn_held next)) next (held_for txn p.live)).released } =
-    λ txn. ap (λ (h : DeskEntry). record (party_for txn p) { live = h.side; released = h.released }) (held_after txn p.live next) in
-    let at : (txn : Qualifiers) (same : Bool) → is_same_txn txn of ≡ same → is_same_txn txn (txn_held next) ≡ same = λ txn same e. ap (is_same_txn txn) is ∙ e in
+    let shows : (txn : Qualifiers) → party_for txn after
+    ≡ record (party_for txn p) {
+      live = (cond (is_same_txn txn (txn_held next)) next (held_for txn p.live)).side;
+      released = (cond (is_same_txn txn (txn_held next)) next (held_for txn p.live)).released;
+    } =
+    λ txn. ap (λ (h : DeskEntry). record (party_for txn p) { live = h.side; released = h.released })
+    (held_after txn p.live next) in
+    let at : (txn : Qualifiers) (same : Bool) → is_same_txn txn of ≡ same → is_same_txn txn (txn_held next) ≡ same = λ txn same e.
+    ap (is_same_txn txn) is ∙ e in
     single expected of p after outcome
-    (here ∙ ap (λ (q : Party). (outcome, q)) (sym (shows of ∙ ap (λ b. record (party_for of p) { live = (cond b next (held_for of p.live)).side; released = (cond b next (held_for of p.live)).released }) (at of true (same_self of)))))
-    (λ txn another. shows txn ∙ ap (λ b. record (party_for txn p) { live = (cond b next (held_for txn p.live)).side; released = (cond b next (held_for txn p.live)).released }) (at txn false another))
+    (here ∙ ap (λ (q : Party). (outcome, q))
+    (sym (shows of ∙ ap (λ b. record (party_for of p)
+    { live = (cond b next (held_for of p.live)).side; released = (cond b next (held_for of p.live)).released })
+    (at of true (same_self of)))))
+    (λ txn another. shows txn ∙ ap (λ b.
+    record (party_for txn p) {
+      live = (cond b next (held_for txn p.live)).side;
+      released = (cond b next (held_for txn p.live)).released;
+    }) (at txn false another))
 
 -- ---- reaching a side
 
@@ -169,7 +195,8 @@ abbrev Reaches : DeskEntry → Result DeskEntry DeskFault → Type 0
 Reaches held (Ok found) = found ≡ held
 Reaches held (Err fault) = IsNotReached fault
 
-reaches : (may_begin has_room : Bool) (idle : DeskEntry) (found : Option DeskEntry) → Reaches (found_or idle found) (held_or_begun may_begin has_room idle found)
+reaches : (may_begin has_room : Bool) (idle : DeskEntry) (found : Option DeskEntry)
+    → Reaches (found_or idle found) (held_or_begun may_begin has_room idle found)
 reaches may_begin has_room idle (Some held) = refl
 reaches true true idle None = refl
 reaches true false idle None = inr refl
@@ -186,10 +213,13 @@ decides_held : RowsGrow → (p : DeskParty) (of : Qualifiers) (action : Action) 
     → acts (held_for of p.live).side action ≡ result → (txn : Qualifiers)
     → Seen (decided p action) of p txn (desk_decides p (acted_at p.live (held_for of p.live) result))
 decides_held grows p of action (Ok new) e txn =
-    goes_on (decided p action) of p new Done (row_txn grows (held_for of p.live).side new (acted action e) ∙ held_txn of p.live) (ap (decides (party_for of p)) e) txn
-decides_held grows p of action (Err refusal) e txn = nothing_done (decided p action) of p (Refused refusal) (ap (decides (party_for of p)) e) txn
+    goes_on (decided p action) of p new Done (row_txn grows (held_for of p.live).side new (acted action e) ∙ held_txn of p.live)
+    (ap (decides (party_for of p)) e) txn
+decides_held grows p of action (Err refusal) e txn =
+    nothing_done (decided p action) of p (Refused refusal) (ap (decides (party_for of p)) e) txn
 
-decides_reached : RowsGrow → (p : DeskParty) (of : Qualifiers) (action : Action) (found : Result DeskEntry DeskFault) → Reaches (held_for of p.live) found → (txn : Qualifiers)
+decides_reached : RowsGrow → (p : DeskParty) (of : Qualifiers) (action : Action) (found : Result DeskEntry DeskFault)
+    → Reaches (held_for of p.live) found → (txn : Qualifiers)
     → Seen (decided p action) of p txn (desk_decides p (acts_reached p.live action found))
 decides_reached grows p of action (Ok held) is txn =
     subst (λ h. Seen (decided p action) of p txn (desk_decides p (acted_at p.live h (acts h.side action)))) (sym is)
@@ -202,8 +232,11 @@ desk_decides_seen : RowsGrow → (p : DeskParty) (of : Qualifiers) (action : Act
     → Seen (decided p action) of p txn (desk_decides p (desk_acts p.live of action))
 desk_decides_seen grows p of action may txn =
     let found = reached p.live of (begins action) in
-    subst (λ b. Seen (decided p action) of p txn (desk_decides p (if b then acts_reached p.live action found else Err (faults.Core WrongRole)))) (sym may)
-    (decides_reached grows p of action found (reaches (begins action) (nat_lt (length p.live.held) most_sides) (idle_held p.live.role of) (found_by txn_held of p.live.held)) txn)
+    subst (λ b. Seen (decided p action) of p txn
+    (desk_decides p (if b then acts_reached p.live action found else Err (faults.Core WrongRole)))) (sym may)
+    (decides_reached grows p of action found
+    (reaches (begins action) (nat_lt (length p.live.held) most_sides) (idle_held p.live.role of)
+    (found_by txn_held of p.live.held)) txn)
 
 -- ---- messages that come
 
@@ -215,45 +248,62 @@ received p partner_sent n txn = receives (party_for txn p) (sent_message (sent_f
 taken_by : Quiet → (side new : Side) (a : Apdu) (refusal : Refusal) → takes side a ≡ (Err refusal, new) → new ≡ side
 taken_by rows side new a refusal e =
     elim (quiet rows side a) [
-      | inl taken ↦ let no : ◌≡◌ {A = Result Taking Refusal} (Err refusal) (Ok Taken) = sym (ap (λ (r : Result Taking Refusal × Side). r.0) e) ∙ taken in search rules
+      | inl taken ↦ let no : ◌≡◌ {A = Result Taking Refusal} (Err refusal) (Ok Taken) =
+          sym (ap (λ (r : Result Taking Refusal × Side). r.0) e) ∙ taken in search rules
       | inr same ↦ sym (ap (λ (r : Result Taking Refusal × Side). r.1) e) ∙ same
     ]
 
-module _ (grows : RowsGrow) (rows : Quiet) (p : DeskParty) (partner_sent : List Sending) (n : ℕ) (a : Apdu) (was : sent_message (sent_for a.txn partner_sent) n ≡ Some a) where
+module _ (grows : RowsGrow) (rows : Quiet) (p : DeskParty) (partner_sent : List Sending) (n : ℕ) (a : Apdu)
+    (was : sent_message (sent_for a.txn partner_sent) n ≡ Some a) where
   abbrev desk_took : Result Taking DeskFault × DeskContents → DeskOutcome × DeskParty
   desk_took result = (taking_seen result.0, record p { live = result.1 })
 
   -- The party of the transaction of `a` has the expected outcome and side after it receives `a`.
-  here : (answer : Result Taking Refusal) (new : Side) → takes (held_for a.txn p.live).side a ≡ (answer, new) → received p partner_sent n a.txn ≡ (answer_to answer, record (party_for a.txn p) { live = new })
-  here answer new e = ap (receives (party_for a.txn p)) was ∙ ap (λ (r : Result Taking Refusal × Side). (answer_to r.0, record (party_for a.txn p) { live = r.1 })) e
+  here : (answer : Result Taking Refusal) (new : Side) → takes (held_for a.txn p.live).side a ≡ (answer, new)
+      → received p partner_sent n a.txn ≡ (answer_to answer, record (party_for a.txn p) { live = new })
+  here answer new e = ap (receives (party_for a.txn p)) was
+      ∙ ap (λ (r : Result Taking Refusal × Side). (answer_to r.0, record (party_for a.txn p) { live = r.1 })) e
 
   -- A message that the held side takes is seen as expected in all transactions.
-  takes_held : (answer : Result Taking Refusal) (new : Side) → takes (held_for a.txn p.live).side a ≡ (answer, new) → (txn : Qualifiers)
+  takes_held : (answer : Result Taking Refusal) (new : Side) → takes (held_for a.txn p.live).side a ≡ (answer, new)
+      → (txn : Qualifiers)
       → Seen (received p partner_sent n) a.txn p txn (desk_took (took_at p.live (held_for a.txn p.live) (answer, new)))
   takes_held (Ok taking) new e txn =
-      goes_on (received p partner_sent n) a.txn p new (Answered taking) (row_txn grows (held_for a.txn p.live).side new (took a (ap (λ (r : Result Taking Refusal × Side). r.1) e)) ∙ held_txn a.txn p.live) (here (Ok taking) new e) txn
+      goes_on (received p partner_sent n) a.txn p new (Answered taking)
+      (row_txn grows (held_for a.txn p.live).side new (took a (ap (λ (r : Result Taking Refusal × Side). r.1) e))
+      ∙ held_txn a.txn p.live) (here (Ok taking) new e) txn
   takes_held (Err refusal) new e txn =
       nothing_done (received p partner_sent n) a.txn p (Refused refusal)
-      (here (Err refusal) new e ∙ ap (λ side. (Refused refusal, record (party_for a.txn p) { live = side })) (taken_by rows (held_for a.txn p.live).side new a refusal e)) txn
+      (here (Err refusal) new e ∙ ap (λ side. (Refused refusal, record (party_for a.txn p) { live = side }))
+      (taken_by rows (held_for a.txn p.live).side new a refusal e)) txn
 
-  takes_found : (found : Result DeskEntry DeskFault) → Reaches (held_for a.txn p.live) found → (txn : Qualifiers) → Seen (received p partner_sent n) a.txn p txn (desk_took (takes_reached p.live a found))
+  takes_found : (found : Result DeskEntry DeskFault) → Reaches (held_for a.txn p.live) found → (txn : Qualifiers)
+      → Seen (received p partner_sent n) a.txn p txn (desk_took (takes_reached p.live a found))
   takes_found (Ok held) is txn =
       let side = (held_for a.txn p.live).side in
-      subst (λ h. Seen (received p partner_sent n) a.txn p txn (desk_took (took_at p.live h (takes h.side a)))) (sym is) (takes_held (takes side a).0 (takes side a).1 refl txn)
+      subst (λ h. Seen (received p partner_sent n) a.txn p txn (desk_took (took_at p.live h (takes h.side a)))) (sym is)
+      (takes_held (takes side a).0 (takes side a).1 refl txn)
   takes_found (Err fault) is txn = not_reached (received p partner_sent n) a.txn p fault is txn
 
   -- A message is seen as expected in all transactions, if the side refuses what its own role issues.
-  desk_takes_seen : (own : Bool) → is_own p.live.role a.body ≡ own → (own ≡ true → takes (held_for a.txn p.live).side a ≡ (Err WrongRole, (held_for a.txn p.live).side)) → (txn : Qualifiers)
+  desk_takes_seen : (own : Bool) → is_own p.live.role a.body ≡ own
+      → (own ≡ true → takes (held_for a.txn p.live).side a ≡ (Err WrongRole, (held_for a.txn p.live).side)) → (txn : Qualifiers)
       → Seen (received p partner_sent n) a.txn p txn (desk_receives p (Some a))
   desk_takes_seen own e refused txn =
-      subst (λ b. Seen (received p partner_sent n) a.txn p txn (desk_took (if b then (Err (faults.Core WrongRole), p.live) else takes_reached p.live a (reached p.live a.txn (is_ill_request a.body))))) (sym e) (go own refused)
+      subst (λ b. Seen (received p partner_sent n) a.txn p txn
+      (desk_took (if b then (Err (faults.Core WrongRole), p.live) else
+      takes_reached p.live a (reached p.live a.txn (is_ill_request a.body))))) (sym e) (go own refused)
     where
       go : (own : Bool) → (own ≡ true → takes (held_for a.txn p.live).side a ≡ (Err WrongRole, (held_for a.txn p.live).side))
-          → Seen (received p partner_sent n) a.txn p txn (desk_took (if own then (Err (faults.Core WrongRole), p.live) else takes_reached p.live a (reached p.live a.txn (is_ill_request a.body))))
-      go true refused = nothing_done (received p partner_sent n) a.txn p (Refused WrongRole) (here (Err WrongRole) (held_for a.txn p.live).side (refused refl)) txn
+          → Seen (received p partner_sent n) a.txn p txn
+          (desk_took (if own then (Err (faults.Core WrongRole), p.live) else
+          takes_reached p.live a (reached p.live a.txn (is_ill_request a.body))))
+      go true refused = nothing_done (received p partner_sent n) a.txn p (Refused WrongRole)
+          (here (Err WrongRole) (held_for a.txn p.live).side (refused refl)) txn
       go false refused =
           takes_found (reached p.live a.txn (is_ill_request a.body))
-          (reaches (is_ill_request a.body) (nat_lt (length p.live.held) most_sides) (idle_held p.live.role a.txn) (found_by txn_held a.txn p.live.held)) txn
+          (reaches (is_ill_request a.body) (nat_lt (length p.live.held) most_sides) (idle_held p.live.role a.txn)
+          (found_by txn_held a.txn p.live.held)) txn
 
 -- ---- messages that are sent
 
@@ -265,19 +315,29 @@ sent_by p n txn = sends (party_for txn p) n (message (issued_of (party_for txn p
 sends_held : (p : DeskParty) (of : Qualifiers) (n : ℕ) (issued : Option Apdu) (released : Bool)
     → message (issued_of (held_for of p.live).side) n ≡ issued → nat_le n (held_for of p.live).released ≡ released
     → (txn : Qualifiers)
-    → let after = sends_by p (λ a. record p { sent = with_sent_for of p.sent n a }) issued released in Seen (sent_by p n) of p txn (Plain after.0, after.1)
-sends_held p of n None released is may txn = nothing_done (sent_by p n) of p NoSuchMessage (ap (λ o. sends (party_for of p) n o (nat_le n (held_for of p.live).released)) is) txn
+    → let after = sends_by p (λ a. record p { sent = with_sent_for of p.sent n a }) issued released in
+    Seen (sent_by p n) of p txn (Plain after.0, after.1)
+sends_held p of n None released is may txn =
+    nothing_done (sent_by p n) of p NoSuchMessage
+    (ap (λ o. sends (party_for of p) n o (nat_le n (held_for of p.live).released)) is) txn
 sends_held p of n (Some a) false is may txn =
-    nothing_done (sent_by p n) of p NotSaved (ap (λ o. sends (party_for of p) n o (nat_le n (held_for of p.live).released)) is ∙ ap (sends (party_for of p) n (Some a)) may) txn
+    nothing_done (sent_by p n) of p NotSaved
+    (ap (λ o. sends (party_for of p) n o (nat_le n (held_for of p.live).released)) is
+    ∙ ap (sends (party_for of p) n (Some a)) may) txn
 sends_held p of n (Some a) true is may txn =
     let after : DeskParty = record p { sent = with_sent_for of p.sent n a } in
-    let shows : (txn : Qualifiers) (same : Bool) → is_same_txn txn of ≡ same → party_for txn after ≡ record (party_for txn p) { sent = cond same (with_sent (sent_for of p.sent) n a) (sent_for txn p.sent) } =
-    λ txn same e. ap (λ s. record (party_for txn p) { sent = s }) (sent_after txn of p.sent n a ∙ ap (λ b. cond b (with_sent (sent_for of p.sent) n a) (sent_for txn p.sent)) e) in
+    let shows : (txn : Qualifiers) (same : Bool) → is_same_txn txn of ≡ same
+    → party_for txn after ≡ record (party_for txn p)
+    { sent = cond same (with_sent (sent_for of p.sent) n a) (sent_for txn p.sent) } =
+    λ txn same e. ap (λ s. record (party_for txn p) { sent = s })
+    (sent_after txn of p.sent n a ∙ ap (λ b. cond b (with_sent (sent_for of p.sent) n a) (sent_for txn p.sent)) e) in
     single (sent_by p n) of p after Sent
-    (ap (λ o. sends (party_for of p) n o (nat_le n (held_for of p.live).released)) is ∙ ap (sends (party_for of p) n (Some a)) may ∙ ap (λ (q : Party). (Sent, q)) (sym (shows of true (same_self of))))
+    (ap (λ o. sends (party_for of p) n o (nat_le n (held_for of p.live).released)) is ∙ ap (sends (party_for of p) n (Some a)) may
+    ∙ ap (λ (q : Party). (Sent, q)) (sym (shows of true (same_self of))))
     (λ txn another. shows txn false another) txn
 
-desk_sends_seen : (p : DeskParty) (of : Qualifiers) (n : ℕ) (found : Option DeskEntry) → found_by txn_held of p.live.held ≡ found → (txn : Qualifiers) → Seen (sent_by p n) of p txn (desk_sends p of n found)
+desk_sends_seen : (p : DeskParty) (of : Qualifiers) (n : ℕ) (found : Option DeskEntry) → found_by txn_held of p.live.held ≡ found
+    → (txn : Qualifiers) → Seen (sent_by p n) of p txn (desk_sends p of n found)
 desk_sends_seen p of n None e txn = refl
 desk_sends_seen p of n (Some held) e txn =
     let is : held_for of p.live ≡ held = ap (found_or (idle_held p.live.role of)) e in
@@ -289,17 +349,21 @@ desk_sends_seen p of n (Some held) e txn =
 -- After a desk saves, it shows the party that has saved.
 saves_seen : (p : DeskParty) (txn : Qualifiers) → party_for txn (desk_saves p) ≡ saves (party_for txn p)
 saves_seen p txn =
-    ap (λ (h : DeskEntry). record (party_for txn p) { live = h.side; landed = side_for txn (sides_held p.live); released = h.released }) (whole_for txn (sides_held p.live))
-    ∙ ap (λ side. record (party_for txn p) { live = side; landed = side; released = length (issued_of side) }) (side_of_held txn p.live)
+    ap (λ (h : DeskEntry). record (party_for txn p)
+    { live = h.side; landed = side_for txn (sides_held p.live); released = h.released }) (whole_for txn (sides_held p.live))
+    ∙ ap (λ side. record (party_for txn p) { live = side; landed = side; released = length (issued_of side) })
+    (side_of_held txn p.live)
 
 -- After a save of a desk fails, it shows the party whose save has failed.
-fault_of_save : (p : DeskParty) (txn : Qualifiers) (landed : Bool) → party_for txn (desk_fails_to_save p landed) ≡ fails_to_save (party_for txn p) landed
+fault_of_save : (p : DeskParty) (txn : Qualifiers) (landed : Bool)
+    → party_for txn (desk_fails_to_save p landed) ≡ fails_to_save (party_for txn p) landed
 fault_of_save p txn true = ap (λ side. record (party_for txn p) { landed = side }) (side_of_held txn p.live)
 fault_of_save p txn false = refl
 
 -- After a desk restarts, it shows the party that has restarted.
 restarts_seen : (p : DeskParty) (txn : Qualifiers) → party_for txn (desk_restarts p) ≡ restarts (party_for txn p)
-restarts_seen p txn = ap (λ (h : DeskEntry). record (party_for txn p) { live = h.side; released = h.released }) (whole_for txn p.landed)
+restarts_seen p txn = ap (λ (h : DeskEntry). record (party_for txn p) { live = h.side; released = h.released })
+    (whole_for txn p.landed)
 
 -- ---- every event
 
@@ -307,9 +371,11 @@ restarts_seen p txn = ap (λ (h : DeskEntry). record (party_for txn p) { live = 
 abbrev pub PartySeen : Qualifiers → DeskParty → List Sending → DeskEvent → Type 0
 PartySeen txn p partner_sent event =
     let after = desk_happens_to p partner_sent event in
-    IsSeenAs (if_reached after.0 (concerns txn event)) (happens_to (party_for txn p) (sent_for txn partner_sent) (plain event)) (party_for txn p) after.0 (party_for txn after.1)
+    IsSeenAs (if_reached after.0 (concerns txn event)) (happens_to (party_for txn p) (sent_for txn partner_sent) (plain event))
+    (party_for txn p) after.0 (party_for txn after.1)
 
--- A desk keeps to its role, with all its sides. A message that it is partner_sent in a transaction is of this transaction.
+-- A desk keeps to its role, with all its sides. A message that it is partner_sent in a transaction is of this
+-- transaction.
 pub record KeepsTo (role : Who) (p : DeskParty) (partner_sent : List Sending) : Type 0 where
   pub role_is : p.live.role ≡ role
   pub role_held : (txn : Qualifiers) → role_of (held_for txn p.live).side ≡ role
@@ -330,11 +396,15 @@ delivers_seen : RowsGrow → Quiet → (role : Who) (p : DeskParty) (partner_sen
     → (to : Who) (of : Qualifiers) (n : ℕ) (found : Option Apdu) → sent_message (sent_for of partner_sent) n ≡ found
     → (txn : Qualifiers)
     → Seen (received p partner_sent n) of p txn (desk_receives p found)
-delivers_seen grows rows role p partner_sent keeps to of n None e txn = nothing_done (received p partner_sent n) of p NotSent (ap (receives (party_for of p)) e) txn
+delivers_seen grows rows role p partner_sent keeps to of n None e txn =
+    nothing_done (received p partner_sent n) of p NotSent (ap (receives (party_for of p)) e) txn
 delivers_seen grows rows role p partner_sent keeps to of n (Some a) e txn =
     subst (λ t. Seen (received p partner_sent n) t p txn (desk_receives p (Some a))) (sym (keeps.txn_of_sent of n a e))
-    (desk_takes_seen grows rows p partner_sent n a (subst (λ t. sent_message (sent_for t partner_sent) n ≡ Some a) (keeps.txn_of_sent of n a e) e) (is_own p.live.role a.body) refl
-    (λ own. own_refused (held_for a.txn p.live).side a (held_txn a.txn p.live) (ap (λ r. is_own r a.body) (keeps.role_held a.txn ∙ sym keeps.role_is) ∙ own)) txn)
+    (desk_takes_seen grows rows p partner_sent n a
+    (subst (λ t. sent_message (sent_for t partner_sent) n ≡ Some a) (keeps.txn_of_sent of n a e) e)
+    (is_own p.live.role a.body) refl
+    (λ own. own_refused (held_for a.txn p.live).side a (held_txn a.txn p.live)
+    (ap (λ r. is_own r a.body) (keeps.role_held a.txn ∙ sym keeps.role_is) ∙ own)) txn)
 
 -- `is_same_role` holds of a role and itself.
 same_role : (role : Who) → is_same_role role role ≡ true
@@ -348,11 +418,15 @@ may_act p role is = ap (λ r. is_same_role r role) is ∙ same_role role
 -- Each event at a desk that keeps to its role is seen as expected in all transactions.
 pub party_seen : RowsGrow → Quiet → (p : DeskParty) (partner_sent : List Sending) (event : DeskEvent)
     → KeepsTo (who_of (plain event)) p partner_sent → (txn : Qualifiers) → PartySeen txn p partner_sent event
-party_seen grows rows p partner_sent (events.Wish of wish) keeps txn = desk_decides_seen grows p of (actions.Wish wish) (may_act p who.Requester keeps.role_is) txn
-party_seen grows rows p partner_sent (events.Deed of deed today) keeps txn = desk_decides_seen grows p of (actions.Deed deed today) (may_act p who.Responder keeps.role_is) txn
+party_seen grows rows p partner_sent (events.Wish of wish) keeps txn =
+    desk_decides_seen grows p of (actions.Wish wish) (may_act p who.Requester keeps.role_is) txn
+party_seen grows rows p partner_sent (events.Deed of deed today) keeps txn =
+    desk_decides_seen grows p of (actions.Deed deed today) (may_act p who.Responder keeps.role_is) txn
 party_seen grows rows p partner_sent (events.Save role) keeps txn = (refl, saves_seen p txn)
 party_seen grows rows p partner_sent (events.SaveFault role landed) keeps txn = (refl, fault_of_save p txn landed)
-party_seen grows rows p partner_sent (events.Send role of n) keeps txn = desk_sends_seen p of n (found_by txn_held of p.live.held) refl txn
-party_seen grows rows p partner_sent (events.Deliver role of n) keeps txn = delivers_seen grows rows role p partner_sent keeps role of n (sent_message (sent_for of partner_sent) n) refl txn
+party_seen grows rows p partner_sent (events.Send role of n) keeps txn =
+    desk_sends_seen p of n (found_by txn_held of p.live.held) refl txn
+party_seen grows rows p partner_sent (events.Deliver role of n) keeps txn =
+    delivers_seen grows rows role p partner_sent keeps role of n (sent_message (sent_for of partner_sent) n) refl txn
 party_seen grows rows p partner_sent (events.Noise role bytes) keeps txn = refl
 party_seen grows rows p partner_sent (events.Restart role) keeps txn = (refl, restarts_seen p txn)

@@ -1,5 +1,7 @@
 -- The events of a round: each side takes all messages of the other, one after another.
-use Rattle.std.proofs.Common.{rules, arith, ◌≡◌, ℕ, zero, suc, ◌+◌, ◌≤◌, ◌<◌, Bool, true, false, nat_le, List, [], ◌∷◌, ◌++◌, length, Option, Some, None, Result, Ok, Err, refl, sym, ap, ◌∙◌, subst, append_assoc, append-nil, length-append}
+use Rattle.std.proofs.Common.{rules, arith, ◌≡◌, ℕ, zero, suc, ◌+◌, ◌≤◌, ◌<◌, Bool, true, false, nat_le, List, [], ◌∷◌, ◌++◌}
+use Rattle.std.proofs.Common.{length, Option, Some, None, Result, Ok, Err, refl, sym, ap, ◌∙◌, subst, append_assoc, append-nil}
+use Rattle.std.proofs.Common.{length-append}
 use Rattle.std.specs.Prelude.{slice_get}
 use Rattle.std.specs.List.{slice_set}
 use Rattle.std.specs.Option.{option_flatten}
@@ -52,8 +54,14 @@ taken_is q a None is = search rules
 
 -- Returns the world after one party has sent `a` as message n, and it was delivered to the other.
 abbrev passed : Parties → Who → ℕ → Apdu → Parties
-passed w who.Requester n a = record { requester = record w.requester { sent = with_sent w.requester.sent n a }; responder = record w.responder { live = (takes w.responder.live a).1 } }
-passed w who.Responder n a = record { requester = record w.requester { live = (takes w.requester.live a).1 }; responder = record w.responder { sent = with_sent w.responder.sent n a } }
+passed w who.Requester n a = record {
+  requester = record w.requester { sent = with_sent w.requester.sent n a };
+  responder = record w.responder { live = (takes w.responder.live a).1 };
+}
+passed w who.Responder n a = record {
+  requester = record w.requester { live = (takes w.requester.live a).1 };
+  responder = record w.responder { sent = with_sent w.responder.sent n a };
+}
 
 -- If a party may send `a` as message n, its Send and its Deliver lead to `passed`.
 passes : (of : Who) (w : Parties) (n : ℕ) (a : Apdu) → message (issued_of (party w of).live) n ≡ Some a
@@ -64,13 +72,15 @@ passes who.Requester w n a at free there =
     let first : (happens w (events.Send who.Requester n)).1 ≡ record w { requester = record p { sent = with_sent p.sent n a } } =
     ap (λ q. record w { requester = q }) (sent_is p n a (message (issued_of p.live) n) (nat_le n p.released) at free) in
     ap (λ v. (happens v (events.Deliver who.Responder n)).1) first
-    ∙ ap (λ q. record { requester = record p { sent = with_sent p.sent n a }; responder = q }) (taken_is w.responder a (sent_message (with_sent p.sent n a) n) there)
+    ∙ ap (λ q. record { requester = record p { sent = with_sent p.sent n a }; responder = q })
+    (taken_is w.responder a (sent_message (with_sent p.sent n a) n) there)
 passes who.Responder w n a at free there =
     let p = w.responder in
     let first : (happens w (events.Send who.Responder n)).1 ≡ record w { responder = record p { sent = with_sent p.sent n a } } =
     ap (λ q. record w { responder = q }) (sent_is p n a (message (issued_of p.live) n) (nat_le n p.released) at free) in
     ap (λ v. (happens v (events.Deliver who.Requester n)).1) first
-    ∙ ap (λ q. record { requester = q; responder = record p { sent = with_sent p.sent n a } }) (taken_is w.requester a (sent_message (with_sent p.sent n a) n) there)
+    ∙ ap (λ q. record { requester = q; responder = record p { sent = with_sent p.sent n a } })
+    (taken_is w.requester a (sent_message (with_sent p.sent n a) n) there)
 
 -- ---- all messages of a party
 
@@ -89,8 +99,10 @@ pub record HasPassed (of : Who) (old new : Parties) (apdus : List Apdu) : Type 0
 -- After message n was passed, a party may send what it might send before.
 may_still : (of : Who) (w : Parties) (n : ℕ) (a : Apdu) (apdus : List Apdu) → MaySend (party w of) apdus
     → MaySend (party (passed w of n a) of) apdus
-may_still who.Requester w n a apdus may = record { issued = may.issued; released = may.released; few = may.few; places = places_kept w.requester.sent n a ∙ may.places }
-may_still who.Responder w n a apdus may = record { issued = may.issued; released = may.released; few = may.few; places = places_kept w.responder.sent n a ∙ may.places }
+may_still who.Requester w n a apdus may =
+    record { issued = may.issued; released = may.released; few = may.few; places = places_kept w.requester.sent n a ∙ may.places }
+may_still who.Responder w n a apdus may =
+    record { issued = may.issued; released = may.released; few = may.few; places = places_kept w.responder.sent n a ∙ may.places }
 
 -- If `a` and then `apdus` were passed, all of `a ∷ apdus` were passed.
 passed_on : (of : Who) (w new : Parties) (n : ℕ) (a : Apdu) (apdus : List Apdu)
@@ -108,12 +120,18 @@ pass_all of w n prefix (a ∷ rest) is may =
     let p = party w of in
     let size = length-append prefix (a ∷ rest) in
     let place : n ≡ suc (length prefix) = omega (arith, is) in
-    let at : message (issued_of p.live) n ≡ Some a = ap (λ l. message l n) may.issued ∙ ap (message (prefix ++ a ∷ rest)) place ∙ at_prefix prefix rest a in
+    let at : message (issued_of p.live) n ≡ Some a =
+    ap (λ l. message l n) may.issued ∙ ap (message (prefix ++ a ∷ rest)) place ∙ at_prefix prefix rest a in
     let free : nat_le n p.released ≡ true = le-leb n p.released (omega (arith, is, size, may.released)) in
-    let there : sent_message (with_sent p.sent n a) n ≡ Some a = subst (λ k. sent_message (with_sent p.sent k a) k ≡ Some a) (sym place) (put_here p.sent (length prefix) a (omega (arith, size, may.few, may.places))) in
-    let may_more = subst (MaySend (party (passed w of n a) of)) (sym (append_assoc prefix (a ∷ []) rest)) (may_still of w n a (prefix ++ a ∷ rest) may) in
-    let more = pass_all of (passed w of n a) (n + 1) (prefix ++ a ∷ []) rest (omega (arith, is, length-append prefix (a ∷ []))) may_more in
-    subst (λ v. HasPassed of w (run_of v (sends_and_delivers of (n + 1) (length rest))) (a ∷ rest)) (sym (passes of w n a at free there))
+    let there : sent_message (with_sent p.sent n a) n ≡ Some a =
+    subst (λ k. sent_message (with_sent p.sent k a) k ≡ Some a) (sym place)
+    (put_here p.sent (length prefix) a (omega (arith, size, may.few, may.places))) in
+    let may_more = subst (MaySend (party (passed w of n a) of)) (sym (append_assoc prefix (a ∷ []) rest))
+    (may_still of w n a (prefix ++ a ∷ rest) may) in
+    let more = pass_all of (passed w of n a) (n + 1) (prefix ++ a ∷ []) rest (omega (arith, is, length-append prefix (a ∷ [])))
+    may_more in
+    subst (λ v. HasPassed of w (run_of v (sends_and_delivers of (n + 1) (length rest))) (a ∷ rest))
+    (sym (passes of w n a at free there))
     (passed_on of w (run_of (passed w of n a) (sends_and_delivers of (n + 1) (length rest))) n a rest more)
 
 -- ---- a half of a round
@@ -153,7 +171,8 @@ round_passes w few places few_more places_more =
     let whole : run_of w (round_of w) ≡ after = run_both happens w (half_of who.Requester w) (half_of who.Responder between) in
     subst (Rounds w) (sym whole) (record {
       responder = second.live ∙ first.taken;
-      requester = second.taken ∙ (ap (λ side. takes_all side (issued_of between.responder.live)) first.live ∙ ap (λ side. takes_all w.requester.live (issued_of side)) (sym second.live));
+      requester = second.taken ∙ (ap (λ side. takes_all side (issued_of between.responder.live)) first.live
+          ∙ ap (λ side. takes_all w.requester.live (issued_of side)) (sym second.live));
     })
 
 -- ---- the events of a half as a list that grows
@@ -167,9 +186,12 @@ unfolding sends_and_delivers
 passes_grow of partner n number size left before sent delivered all is_other is_n is_size is_sent is_delivered is_all =
     let rest = sends_and_delivers of (n + 1) left in
     let two : delivered ≡ before ++ events.Send of n ∷ events.Deliver (other of) n ∷ [] =
-    is_delivered ∙ ap (λ l. l ++ events.Deliver partner number ∷ []) is_sent ∙ append_assoc before (events.Send of number ∷ []) (events.Deliver partner number ∷ [])
-    ∙ ap (λ k. before ++ events.Send of k ∷ events.Deliver partner k ∷ []) is_n ∙ ap (λ w. before ++ events.Send of n ∷ events.Deliver w n ∷ []) is_other in
-    let whole : before ++ sends_and_delivers of n (suc left) ≡ all = subst (λ k. before ++ sends_and_delivers of n k ≡ all) is_size is_all in
+    is_delivered ∙ ap (λ l. l ++ events.Deliver partner number ∷ []) is_sent
+    ∙ append_assoc before (events.Send of number ∷ []) (events.Deliver partner number ∷ [])
+    ∙ ap (λ k. before ++ events.Send of k ∷ events.Deliver partner k ∷ []) is_n
+    ∙ ap (λ w. before ++ events.Send of n ∷ events.Deliver w n ∷ []) is_other in
+    let whole : before ++ sends_and_delivers of n (suc left) ≡ all =
+    subst (λ k. before ++ sends_and_delivers of n k ≡ all) is_size is_all in
     ap (λ l. l ++ rest) two ∙ append_assoc before (events.Send of n ∷ events.Deliver (other of) n ∷ []) rest ∙ whole
 
 -- Of no message there are no events.
@@ -182,19 +204,26 @@ passes_none before of n (suc count) none = absurd (omega (arith, none))
 
 module _ {W E O M : Type 0} (happening : W → E → O × W) where
   -- Events are performed if memory ran out and the first of them have led here.
-  pub performs_prefix : (events first : List E) (old new : W) (result : Result (Unit {0}) M) → IsErr result → IsPrefix first events → new ≡ run_by happening old first → Performs (run_by happening) events old result new
+  pub performs_prefix : (events first : List E) (old new : W) (result : Result (Unit {0}) M) → IsErr result
+      → IsPrefix first events → new ≡ run_by happening old first → Performs (run_by happening) events old result new
   performs_prefix events first old new (Ok done) failed prefix is = search rules
   performs_prefix events first old new (Err memory) failed prefix is = (first, prefix, is)
 
   -- If `first` has led to a world, and `second` was performed from there, both joined were performed.
-  pub performs_both : (first second : List E) (old between new : W) (result : Result (Unit {0}) M) → between ≡ run_by happening old first → Performs (run_by happening) second between result new
+  pub performs_both : (first second : List E) (old between new : W) (result : Result (Unit {0}) M)
+      → between ≡ run_by happening old first → Performs (run_by happening) second between result new
       → Performs (run_by happening) (first ++ second) old result new
-  performs_both first second old between new (Ok done) led performs = performs ∙ ap (λ w. run_by happening w second) led ∙ sym (run_both happening old first second)
-  performs_both first second old between new (Err memory) led (some, prefix, is) =
-      (first ++ some, (prefix.0, ap (λ l. first ++ l) prefix.1 ∙ sym (append_assoc first some prefix.0)), is ∙ ap (λ w. run_by happening w some) led ∙ sym (run_both happening old first some))
+  performs_both first second old between new (Ok done) led performs =
+      performs ∙ ap (λ w. run_by happening w second) led ∙ sym (run_both happening old first second)
+  performs_both first second old between new (Err memory) led (some, prefix, is) = (
+    first ++ some,
+    (prefix.0, ap (λ l. first ++ l) prefix.1 ∙ sym (append_assoc first some prefix.0)),
+    is ∙ ap (λ w. run_by happening w some) led ∙ sym (run_both happening old first some),
+  )
 
   -- A fact of the world to which events lead holds after they were performed, if memory did not run out.
-  pub performed : (P : W → Type 0) (events : List E) (old new : W) (result : Result (Unit {0}) M) → Performs (run_by happening) events old result new → P (run_by happening old events) → OnOk result (P new)
+  pub performed : (P : W → Type 0) (events : List E) (old new : W) (result : Result (Unit {0}) M)
+      → Performs (run_by happening) events old result new → P (run_by happening old events) → OnOk result (P new)
   performed P events old new (Ok done) performs there = subst P (sym performs) there
   performed P events old new (Err memory) performs there = tt
 

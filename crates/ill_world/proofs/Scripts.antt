@@ -1,10 +1,12 @@
 -- The reading of a script, line by line, for any meaning of its lines.
-use Rattle.std.proofs.Common.{arith, ◌≡◌, ℕ, ◌+◌, ◌<◌, ◌≤◌, Bool, true, false, ◌&&◌, nat_le, if◌then◌else◌, cond, ◌==◌, List, [], ◌∷◌, ◌++◌, length, Some, refl, sym, ap, ◌∙◌, length-append}
+use Rattle.std.proofs.Common.{arith, ◌≡◌, ℕ, ◌+◌, ◌<◌, ◌≤◌, Bool, true, false, ◌&&◌, nat_le, if◌then◌else◌, cond, ◌==◌, List, []}
+use Rattle.std.proofs.Common.{◌∷◌, ◌++◌, length, Some, refl, sym, ap, ◌∙◌, length-append}
 use Rattle.std.specs.List.{onto_first}
 use Rattle.std.proofs.lemmas.Bool.{le-leb, lt-leb}
 use Rattle.ill_world.specs.declared.script.ScriptLine.{ScriptLine}
 use Rattle.ill_world.specs.declared.script.ScriptLine.TheVariants as lines
-use Rattle.ill_world.specs.Play.{Play, Said, says_nothing, is_within, line_at, then_says, ends, breaks_off, says_from, lines_in, says_on}
+use Rattle.ill_world.specs.Play.{Play, Said, says_nothing, is_within, line_at, then_says, ends, breaks_off, says_from, lines_in}
+use Rattle.ill_world.specs.Play.{says_on}
 use Rattle.ill_world.specs.Simulating.{has_lf}
 use Rattle.ill_world.proofs.Texts.{line_first, line_alone, some_line, line_begins}
 
@@ -28,7 +30,8 @@ both_true a b one two = ap (λ (x : Bool). x && b) one ∙ two
 
 -- A line that is neither too long nor too late is within the limits.
 pub within : (n : ℕ) (bytes : List ℕ) → n ≤ 100000 → length bytes ≤ 1024 → is_within n bytes ≡ true
-within n bytes few short = both_true (nat_le n 100000) (nat_le (length bytes) 1024) (le_true n 100000 few) (le_true (length bytes) 1024 short)
+within n bytes few short = both_true (nat_le n 100000) (nat_le (length bytes) 1024) (le_true n 100000 few)
+    (le_true (length bytes) 1024 short)
 
 -- A line of more than 1,024 bytes is beyond the limits.
 too_long : (n : ℕ) (bytes : List ℕ) → 1025 ≤ length bytes → is_within n bytes ≡ false
@@ -50,7 +53,8 @@ breaks_nothing {E = E} c n (byte ∷ bytes) is = ap (λ (b : Bool). if b then sa
 
 module _ {W E C : Type 0} (play : Play W E C) where
   -- The meaning of a line within the limits is that of its bytes.
-  pub line_within : (c : C) (n : ℕ) (bytes : List ℕ) → n ≤ 100000 → length bytes ≤ 1024 → line_at play c n bytes ≡ play.says c bytes
+  pub line_within : (c : C) (n : ℕ) (bytes : List ℕ) → n ≤ 100000 → length bytes ≤ 1024
+      → line_at play c n bytes ≡ play.says c bytes
   line_within c n bytes few short = ap (λ (b : Bool). if b then play.says c bytes else (lines.Bad, c)) (within n bytes few short)
 
   -- A line beyond the limits is bad, and carries its value on.
@@ -61,7 +65,8 @@ module _ {W E C : Type 0} (play : Play W E C) where
 
   -- The reading of two lines or more is that of the first, and then that of the others.
   says_first : (end : C → ℕ → List ℕ → Said E) (c : C) (n : ℕ) (first second : List ℕ) (more : List (List ℕ))
-      → says_from play end c n (first ∷ second ∷ more) ≡ then_says (line_at play c n first).0 n (says_from play end (line_at play c n first).1 (n + 1) (second ∷ more))
+      → says_from play end c n (first ∷ second ∷ more)
+      ≡ then_says (line_at play c n first).0 n (says_from play end (line_at play c n first).1 (n + 1) (second ∷ more))
   unfolding says_from
   says_first end c n first second more = refl
 
@@ -72,19 +77,23 @@ module _ {W E C : Type 0} (play : Play W E C) where
 
   -- The reading of a line that an LF closes is that of the line, and then that of the rest.
   pub says_line : (end : C → ℕ → List ℕ → Said E) (c : C) (n : ℕ) (bytes rest : List ℕ) → has_lf bytes ≡ false
-      → says_on play end c n (bytes ++ 10 ∷ rest) ≡ then_says (line_at play c n bytes).0 n (says_on play end (line_at play c n bytes).1 (n + 1) rest)
+      → says_on play end c n (bytes ++ 10 ∷ rest)
+      ≡ then_says (line_at play c n bytes).0 n (says_on play end (line_at play c n bytes).1 (n + 1) rest)
   says_line end c n bytes rest none =
       let some = some_line rest in
       let line = line_at play c n bytes in
-      ap (says_from play end c n) (line_first bytes rest none ∙ ap (λ parts. bytes ∷ parts) some.2) ∙ says_first end c n bytes some.0 some.1
+      ap (says_from play end c n) (line_first bytes rest none ∙ ap (λ parts. bytes ∷ parts) some.2)
+      ∙ says_first end c n bytes some.0 some.1
       ∙ ap (λ parts. then_says line.0 n (says_from play end line.1 (n + 1) parts)) (sym some.2)
 
   -- The reading of bytes that no LF closes is that of `end`.
-  pub says_rest : (end : C → ℕ → List ℕ → Said E) (c : C) (n : ℕ) (bytes : List ℕ) → has_lf bytes ≡ false → says_on play end c n bytes ≡ end c n bytes
+  pub says_rest : (end : C → ℕ → List ℕ → Said E) (c : C) (n : ℕ) (bytes : List ℕ) → has_lf bytes ≡ false
+      → says_on play end c n bytes ≡ end c n bytes
   says_rest end c n bytes none = ap (says_from play end c n) (line_alone bytes none) ∙ says_last end c n bytes
 
   -- At the end of a text, bytes that are not empty are a line.
-  pub ends_line : (c : C) (n : ℕ) (bytes : List ℕ) → 1 ≤ length bytes → ends play c n bytes ≡ then_says (line_at play c n bytes).0 n says_nothing
+  pub ends_line : (c : C) (n : ℕ) (bytes : List ℕ) → 1 ≤ length bytes
+      → ends play c n bytes ≡ then_says (line_at play c n bytes).0 n says_nothing
   ends_line c n [] some = absurd (omega (arith, some))
   ends_line c n (byte ∷ bytes) some = refl
 
@@ -92,21 +101,26 @@ module _ {W E C : Type 0} (play : Play W E C) where
 
   -- At the end of a text, bytes beyond the limits are a bad line.
   bad_ends : (c : C) (n : ℕ) (bytes : List ℕ) → 1 ≤ length bytes → is_within n bytes ≡ false → ends play c n bytes ≡ only_bad n
-  bad_ends c n bytes some out = ends_line c n bytes some ∙ ap (λ (line : ScriptLine E × C). then_says line.0 n says_nothing) (line_bad c n bytes out)
+  bad_ends c n bytes some out = ends_line c n bytes some
+      ∙ ap (λ (line : ScriptLine E × C). then_says line.0 n says_nothing) (line_bad c n bytes out)
 
   -- A first line beyond the limits is the bad one, if lines follow.
-  bad_first : (c : C) (n : ℕ) (first second : List ℕ) (more : List (List ℕ)) → is_within n first ≡ false → says_from play (ends play) c n (first ∷ second ∷ more) ≡ only_bad n
+  bad_first : (c : C) (n : ℕ) (first second : List ℕ) (more : List (List ℕ)) → is_within n first ≡ false
+      → says_from play (ends play) c n (first ∷ second ∷ more) ≡ only_bad n
   bad_first c n first second more out =
       says_first (ends play) c n first second more
-      ∙ ap (λ (line : ScriptLine E × C). then_says line.0 n (says_from play (ends play) line.1 (n + 1) (second ∷ more))) (line_bad c n first out)
+      ∙ ap (λ (line : ScriptLine E × C). then_says line.0 n (says_from play (ends play) line.1 (n + 1) (second ∷ more)))
+      (line_bad c n first out)
 
   -- A first line beyond the limits, which is not empty, is the bad one.
-  first_bad : (c : C) (n : ℕ) (first : List ℕ) (more : List (List ℕ)) → is_within n first ≡ false → 1 ≤ length first → says_from play (ends play) c n (first ∷ more) ≡ only_bad n
+  first_bad : (c : C) (n : ℕ) (first : List ℕ) (more : List (List ℕ)) → is_within n first ≡ false → 1 ≤ length first
+      → says_from play (ends play) c n (first ∷ more) ≡ only_bad n
   first_bad c n first [] out some = says_last (ends play) c n first ∙ bad_ends c n first some out
   first_bad c n first (second ∷ more) out some = bad_first c n first second more out
 
   -- Bytes without LF that are too long for a line are a bad line, with anything after them.
-  pub says_too_long : (c : C) (n : ℕ) (bytes rest : List ℕ) → has_lf bytes ≡ false → 1025 ≤ length bytes → says_on play (ends play) c n (bytes ++ rest) ≡ only_bad n
+  pub says_too_long : (c : C) (n : ℕ) (bytes rest : List ℕ) → has_lf bytes ≡ false → 1025 ≤ length bytes
+      → says_on play (ends play) c n (bytes ++ rest) ≡ only_bad n
   says_too_long c n bytes rest none long =
       let some = some_line rest in
       let longer : 1025 ≤ length (bytes ++ some.0) = omega (arith, long, length-append bytes some.0) in
@@ -119,7 +133,8 @@ module _ {W E C : Type 0} (play : Play W E C) where
     where
       go : (is_lf : Bool) → ((first : List ℕ) × (more : List (List ℕ)) × (lines_in text ≡ first ∷ more))
           → says_from play (ends play) c n (cond is_lf ([] ∷ lines_in text) (onto_first byte (lines_in text))) ≡ only_bad n
-      go true some = ap (λ parts. says_from play (ends play) c n ([] ∷ parts)) some.2 ∙ bad_first c n [] some.0 some.1 (too_many n [] many)
+      go true some = ap (λ parts. says_from play (ends play) c n ([] ∷ parts)) some.2
+          ∙ bad_first c n [] some.0 some.1 (too_many n [] many)
       go false some =
           ap (λ parts. says_from play (ends play) c n (onto_first byte parts)) some.2
           ∙ first_bad c n (byte ∷ some.0) some.1 (too_many n (byte ∷ some.0) many) (omega arith)

@@ -1,5 +1,7 @@
 -- The messages that a party has issued, saved and sent.
-use Rattle.std.proofs.Common.{rules, arith, ◌≡◌, ◌⊎◌, inl, inr, ℕ, zero, suc, ◌+◌, ◌≤◌, Bool, true, false, nat_le, List, [], ◌∷◌, ◌++◌, length, Option, Some, None, refl, sym, ap, ◌∙◌, subst, append_assoc, append-nil, length-append}
+use Rattle.std.proofs.Common.{rules, arith, ◌≡◌, ◌⊎◌, inl, inr, ℕ, zero, suc, ◌+◌, ◌≤◌, Bool, true, false, nat_le, List, [], ◌∷◌}
+use Rattle.std.proofs.Common.{◌++◌, length, Option, Some, None, refl, sym, ap, ◌∙◌, subst, append_assoc, append-nil}
+use Rattle.std.proofs.Common.{length-append}
 use Rattle.std.specs.Prelude.{slice_get}
 use Rattle.std.specs.List.{slice_set}
 use Rattle.std.specs.Option.{option_flatten}
@@ -21,7 +23,8 @@ put_there [] i j a b e = inr e
 put_there (slot ∷ slots) zero zero a b e = inl (refl, search rules)
 put_there (slot ∷ slots) zero (suc j) a b e = inr e
 put_there (slot ∷ slots) (suc i) zero a b e = inr e
-put_there (slot ∷ slots) (suc i) (suc j) a b e = elim (put_there slots i j a b e) [ inl here ↦ inl (ap suc here.0, here.1) | inr before ↦ inr before ]
+put_there (slot ∷ slots) (suc i) (suc j) a b e =
+    elim (put_there slots i j a b e) [ inl here ↦ inl (ap suc here.0, here.1) | inr before ↦ inr before ]
 
 -- Message b stays at place j after `a` is put at place i, if `a` is b when i is j.
 still_there : (slots : List (Option Apdu)) (i j : ℕ) (a b : Apdu) → option_flatten (slice_get slots j) ≡ Some b
@@ -57,17 +60,21 @@ get_within (b ∷ prefix) more zero a less e = e
 get_within (b ∷ prefix) more (suc i) a less e = get_within prefix more i a (omega (arith, less)) e
 
 -- a message of the prefix is that of the whole
-pub prefix_message : (prefix apdus : List Apdu) (n : ℕ) (a : Apdu) → IsPrefix prefix apdus → message prefix n ≡ Some a → message apdus n ≡ Some a
+pub prefix_message : (prefix apdus : List Apdu) (n : ℕ) (a : Apdu) → IsPrefix prefix apdus → message prefix n ≡ Some a
+    → message apdus n ≡ Some a
 prefix_message prefix apdus zero a is e = search rules
 prefix_message prefix apdus (suc n) a is e = subst (λ l. slice_get l n ≡ Some a) (sym is.1) (get_prefix prefix is.0 n a e)
 
 -- and a message of the whole that of the prefix, where it is as long
-within_prefix : (prefix apdus : List Apdu) (n : ℕ) (a : Apdu) → IsPrefix prefix apdus → n ≤ length prefix → message apdus n ≡ Some a → message prefix n ≡ Some a
+within_prefix : (prefix apdus : List Apdu) (n : ℕ) (a : Apdu) → IsPrefix prefix apdus → n ≤ length prefix
+    → message apdus n ≡ Some a → message prefix n ≡ Some a
 within_prefix prefix apdus zero a is few e = search rules
-within_prefix prefix apdus (suc n) a is few e = get_within prefix is.0 n a (omega (arith, few)) (subst (λ l. slice_get l n ≡ Some a) is.1 e)
+within_prefix prefix apdus (suc n) a is few e =
+    get_within prefix is.0 n a (omega (arith, few)) (subst (λ l. slice_get l n ≡ Some a) is.1 e)
 
 pub prefix_of_prefix : (a b c : List Apdu) → IsPrefix a b → IsPrefix b c → IsPrefix a c
-prefix_of_prefix a b c first second = (first.0 ++ second.0, second.1 ∙ ap (λ l. l ++ second.0) first.1 ∙ append_assoc a first.0 second.0)
+prefix_of_prefix a b c first second =
+    (first.0 ++ second.0, second.1 ∙ ap (λ l. l ++ second.0) first.1 ∙ append_assoc a first.0 second.0)
 
 pub prefix_of_itself : (a : List Apdu) → IsPrefix a a
 prefix_of_itself a = ([], sym (append-nil a))
@@ -81,7 +88,8 @@ some_is a b e = search rules
 
 -- ---- a party
 
-pub live_grows : (p : Party) (new : Side) → IsPrefix (issued_of p.live) (issued_of new) → SendsSaved p → SendsSaved (record p { live = new })
+pub live_grows : (p : Party) (new : Side) → IsPrefix (issued_of p.live) (issued_of new) → SendsSaved p
+    → SendsSaved (record p { live = new })
 live_grows p new grows saved = record {
   landed = saved.landed;
   prefix = prefix_of_prefix (issued_of p.landed) (issued_of p.live) (issued_of new) saved.prefix grows;
@@ -110,19 +118,23 @@ saved_by_fault p false saved = saved
 
 -- A party still sends only what it has saved, after a restart.
 pub saved_at_restart : (p : Party) → SendsSaved p → SendsSaved (restarts p)
-saved_at_restart p saved = record { landed = saved.landed; prefix = prefix_of_itself (issued_of p.landed); released = omega arith; places = saved.places }
+saved_at_restart p saved = record
+    { landed = saved.landed; prefix = prefix_of_itself (issued_of p.landed); released = omega arith; places = saved.places }
 
 -- A message that is issued and released has landed.
 sent_landed : (p : Party) (n : ℕ) (a : Apdu) → SendsSaved p → message (issued_of p.live) n ≡ Some a
     → nat_le n p.released ≡ true → message (issued_of p.landed) n ≡ Some a
-sent_landed p n a saved is released = within_prefix (issued_of p.landed) (issued_of p.live) n a saved.prefix (omega (arith, leb-true n p.released released, saved.released)) is
+sent_landed p n a saved is released =
+    within_prefix (issued_of p.landed) (issued_of p.live) n a saved.prefix
+    (omega (arith, leb-true n p.released released, saved.released)) is
 
 -- A message among those sent, after `a` was sent as message n, is `a` as message n, or was sent before.
 sent_with : (sent : List (Option Apdu)) (n m : ℕ) (a b : Apdu) → sent_message (with_sent sent n a) m ≡ Some b
     → ((m ≡ n) × (b ≡ a)) ⊎ (sent_message sent m ≡ Some b)
 sent_with sent zero m a b e = inr e
 sent_with sent (suc n) zero a b e = inr e
-sent_with sent (suc n) (suc m) a b e = elim (put_there sent n m a b e) [ inl here ↦ inl (ap suc here.0, here.1) | inr before ↦ inr before ]
+sent_with sent (suc n) (suc m) a b e =
+    elim (put_there sent n m a b e) [ inl here ↦ inl (ap suc here.0, here.1) | inr before ↦ inr before ]
 
 -- Message b stays sent under m after `a` is sent as message n, if `a` is b when n is m.
 sent_still : (sent : List (Option Apdu)) (n m : ℕ) (a b : Apdu) → sent_message sent m ≡ Some b → (m ≡ n → a ≡ b)
@@ -139,7 +151,8 @@ saved_by_send p n (Some a) false is e saved = saved
 saved_by_send p n (Some a) true is e saved = record {
   landed =
       λ m b was. elim (sent_with p.sent n m a b was) [
-        | inl here ↦ subst (λ x. message (issued_of p.landed) m ≡ Some x) (sym here.1) (subst (λ k. message (issued_of p.landed) k ≡ Some a) (sym here.0) (sent_landed p n a saved is e))
+        | inl here ↦ subst (λ x. message (issued_of p.landed) m ≡ Some x) (sym here.1)
+            (subst (λ k. message (issued_of p.landed) k ≡ Some a) (sym here.0) (sent_landed p n a saved is e))
         | inr before ↦ saved.landed m b before
       ];
   prefix = saved.prefix;
@@ -154,4 +167,5 @@ pub sent_stays : (p : Party) (n : ℕ) (found : Option Apdu) (released : Bool) �
 sent_stays p n None released is e saved m b was = was
 sent_stays p n (Some a) false is e saved m b was = was
 sent_stays p n (Some a) true is e saved m b was =
-    sent_still p.sent n m a b was (λ at. some_is a b (sym (sent_landed p n a saved is e) ∙ ap (message (issued_of p.landed)) (sym at) ∙ saved.landed m b was))
+    sent_still p.sent n m a b was (λ at.
+    some_is a b (sym (sent_landed p n a saved is e) ∙ ap (message (issued_of p.landed)) (sym at) ∙ saved.landed m b was))

@@ -1,5 +1,6 @@
 -- Why all events of a night of the desks of a group have their home there.
-use Rattle.std.proofs.Common.{◌≡◌, ℕ, Bool, true, false, cond, if◌then◌else◌, List, [], ◌∷◌, ◌++◌, length, map, refl, sym, ap, ◌∙◌, subst, true≢false}
+use Rattle.std.proofs.Common.{◌≡◌, ℕ, Bool, true, false, cond, if◌then◌else◌, List, [], ◌∷◌, ◌++◌, length, map, refl, sym, ap}
+use Rattle.std.proofs.Common.{◌∙◌, subst, true≢false}
 use Rattle.std.specs.Prelude.{bytes_eq, filter, flat_map}
 use Rattle.std.proofs.lemmas.Bool.{or_parts}
 use Rattle.std.proofs.lemmas.Slice.Eq.{bytes_eq-Decides}
@@ -42,7 +43,8 @@ module _ (group : List ℕ) where
   all_at [] at = refl
   all_at (event ∷ more) at =
       let others = events_at group (said_in group more) in
-      ap (λ b. if b then event ∷ others else others) ((bytes_eq-Decides group (group_of group event)).1 (sym at.0)) ∙ ap (λ l. event ∷ l) (all_at more at.1)
+      ap (λ b. if b then event ∷ others else others) ((bytes_eq-Decides group (group_of group event)).1 (sym at.0))
+      ∙ ap (λ l. event ∷ l) (all_at more at.1)
 
   -- If two lists of events have their home at the group, so has the list of both.
   both_at : (first second : List DeskEvent) → AllAt first → AllAt second → AllAt (first ++ second)
@@ -75,7 +77,9 @@ module _ (group : List ℕ) where
   -- The events that pass on the messages of sides of the group have their home there.
   passes_at : (role : Who) (all : List Side) → AllOf all → AllAt (flat_map (passes_side role) all)
   passes_at role [] of = tt
-  passes_at role (side ∷ more) of = both_at (passes_side role side) (flat_map (passes_side role) more) (txn_at (txn_of side) (sends_and_delivers role 1 (length (issued_of side))) of.0) (passes_at role more of.1)
+  passes_at role (side ∷ more) of =
+      both_at (passes_side role side) (flat_map (passes_side role) more)
+      (txn_at (txn_of side) (sends_and_delivers role 1 (length (issued_of side))) of.0) (passes_at role more of.1)
 
   -- If sides are of the group, so are those of them that want sending.
   wanted_of : (wants : Side → Bool) (all : List Side) → AllOf all → AllOf (filter wants all)
@@ -87,17 +91,24 @@ module _ (group : List ℕ) where
       go false rest = rest
 
   -- Sides that a desk holds are of the group, if it lacks each transaction of another.
-  held_of : (held : List DeskEntry) → ((txn : Qualifiers) → (txn.group ≡ group → ⊥) → is_one_of txn (map txn_held held) ≡ false) → AllOf (map (λ (h : DeskEntry). h.side) held)
+  held_of : (held : List DeskEntry) → ((txn : Qualifiers) → (txn.group ≡ group → ⊥) → is_one_of txn (map txn_held held) ≡ false)
+      → AllOf (map (λ (h : DeskEntry). h.side) held)
   held_of [] lacks = tt
-  held_of (h ∷ more) lacks =
-      (go (bytes_eq (txn_held h).group group) refl, held_of more (λ txn apart. (or_parts (is_same_txn txn (txn_held h)) (is_one_of txn (map txn_held more)) (lacks txn apart)).1))
+  held_of (h ∷ more) lacks = (
+    go (bytes_eq (txn_held h).group group) refl,
+    held_of more (λ txn apart. (or_parts (is_same_txn txn (txn_held h)) (is_one_of txn (map txn_held more))
+        (lacks txn apart)).1),
+  )
     where
       here : ((txn_held h).group ≡ group → ⊥) → is_same_txn (txn_held h) (txn_held h) ≡ false
-      here apart = (or_parts (is_same_txn (txn_held h) (txn_held h)) (is_one_of (txn_held h) (map txn_held more)) (lacks (txn_held h) apart)).0
+      here apart = (or_parts (is_same_txn (txn_held h) (txn_held h)) (is_one_of (txn_held h) (map txn_held more))
+          (lacks (txn_held h) apart)).0
 
       go : (same : Bool) → bytes_eq (txn_held h).group group ≡ same → (txn_held h).group ≡ group
       go true same = (bytes_eq-Decides (txn_held h).group group).0 same
-      go false same = absurd (true≢false (sym (same_self (txn_held h)) ∙ here (λ is. true≢false (sym ((bytes_eq-Decides (txn_held h).group group).1 is) ∙ same))))
+      go false same = absurd (true≢false
+          (sym (same_self (txn_held h)) ∙ here
+          (λ is. true≢false (sym ((bytes_eq-Decides (txn_held h).group group).1 is) ∙ same))))
 
   -- ---- a night
 
@@ -108,9 +119,17 @@ module _ (group : List ℕ) where
   -- The half of such a desk has its home at the group.
   half_at : (wants : Side → Bool) (role : Who) (w : DeskParties) → LackOthers w → AllAt (desk_half_if wants role w)
   half_at wants who.Requester w lack =
-      let all = (sides_held w.requester.live).sides in (refl, passes_at who.Requester (filter wants all) (wanted_of wants all (held_of w.requester.live.held (λ txn apart. (lack txn apart).0.0))))
+      let all = (sides_held w.requester.live).sides in (
+        refl,
+        passes_at who.Requester (filter wants all)
+            (wanted_of wants all (held_of w.requester.live.held (λ txn apart. (lack txn apart).0.0))),
+      )
   half_at wants who.Responder w lack =
-      let all = (sides_held w.responder.live).sides in (refl, passes_at who.Responder (filter wants all) (wanted_of wants all (held_of w.responder.live.held (λ txn apart. (lack txn apart).1.0))))
+      let all = (sides_held w.responder.live).sides in (
+        refl,
+        passes_at who.Responder (filter wants all)
+            (wanted_of wants all (held_of w.responder.live.held (λ txn apart. (lack txn apart).1.0))),
+      )
 
   -- All events of a night of the desks of a group, said with the group, have their home there.
   pub night_at : RowsGrow → EachStands → DesksStand first_desks → (all : List ShelfEvent)
@@ -119,11 +138,15 @@ module _ (group : List ℕ) where
       let w = desks_run first_desks (events_at group all) in
       let asking = desk_asking_half w in
       let asking_at : AllAt asking = half_at (wants_sending false) who.Requester w (lack all) in
-      let longer : events_at group (all ++ said_in group asking) ≡ events_at group all ++ asking = group_in_order group all (said_in group asking) ∙ ap (λ l. events_at group all ++ l) (all_at asking asking_at) in
-      let next : desks_run first_desks (events_at group (all ++ said_in group asking)) ≡ desks_run w asking = ap (desks_run first_desks) longer ∙ run_both desks_happen first_desks (events_at group all) asking in
+      let longer : events_at group (all ++ said_in group asking) ≡ events_at group all ++ asking =
+      group_in_order group all (said_in group asking) ∙ ap (λ l. events_at group all ++ l) (all_at asking asking_at) in
+      let next : desks_run first_desks (events_at group (all ++ said_in group asking)) ≡ desks_run w asking =
+      ap (desks_run first_desks) longer ∙ run_both desks_happen first_desks (events_at group all) asking in
       all_at (desk_night_of w)
-      (both_at asking (desk_half_if (λ side. wants_sending (is_asked_by w side) side) who.Responder (desks_run w asking)) asking_at
-      (half_at (λ side. wants_sending (is_asked_by w side) side) who.Responder (desks_run w asking) (subst LackOthers next (lack (all ++ said_in group asking)))))
+      (both_at asking (desk_half_if (λ side. wants_sending (is_asked_by w side) side) who.Responder (desks_run w asking))
+      asking_at
+      (half_at (λ side. wants_sending (is_asked_by w side) side) who.Responder (desks_run w asking)
+      (subst LackOthers next (lack (all ++ said_in group asking)))))
     where
       lack : (all : List ShelfEvent) → LackOthers (desks_run first_desks (events_at group all))
       lack all txn apart = (lack_elsewhere grows after first txn group all apart).1

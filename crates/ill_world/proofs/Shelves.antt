@@ -1,5 +1,6 @@
 -- Why each group of two shelves has two desks of its own.
-use Rattle.std.proofs.Common.{◌≡◌, ℕ, Bool, true, false, if◌then◌else◌, List, [], ◌∷◌, ◌++◌, Option, Some, None, is_some, refl, sym, ap, ◌∙◌, subst, true≢false}
+use Rattle.std.proofs.Common.{◌≡◌, ℕ, Bool, true, false, if◌then◌else◌, List, [], ◌∷◌, ◌++◌, Option, Some, None, is_some, refl}
+use Rattle.std.proofs.Common.{sym, ap, ◌∙◌, subst, true≢false}
 use Rattle.std.specs.Prelude.{bytes_eq}
 use Rattle.std.proofs.lemmas.Slice.Eq.{bytes_eq-Decides}
 use Rattle.ill_values.specs.TxnId.{Qualifiers}
@@ -16,7 +17,8 @@ use Rattle.ill_world.specs.declared.event.Outcome.{Outcome}
 use Rattle.ill_world.specs.declared.event.DeskOutcome.{DeskOutcome}
 use Rattle.ill_world.specs.declared.event.DeskOutcome.TheVariants.{Plain, NoSuchTransaction, DeskFull}
 use Rattle.ill_world.specs.World.{Parties, party, happens, happens_at, first_world, sent_message, run_by, who_of}
-use Rattle.ill_world.specs.Desks.{DeskParty, DeskParties, Sending, sent_for, plain, first_desks, desk_happens_to, desks_happen, desks_run, project, concerns, if_reached, IsSeenAs}
+use Rattle.ill_world.specs.Desks.{DeskParty, DeskParties, Sending, sent_for, plain, first_desks, desk_happens_to, desks_happen}
+use Rattle.ill_world.specs.Desks.{desks_run, project, concerns, if_reached, IsSeenAs}
 use Rattle.ill_world.specs.DeskCounts.{is_one_of, live_txns, landed_txns}
 use Rattle.ill_world.specs.DeskSafety.{DesksStand}
 use Rattle.ill_world.specs.BadDesks.{Names}
@@ -47,15 +49,19 @@ whole_home e none = whole_group e.group e.event none
 pub group_in_order : (group : List ℕ) (before after : List ShelfEvent)
     → events_at group (before ++ after) ≡ events_at group before ++ events_at group after
 group_in_order group [] after = refl
-group_in_order group (e ∷ before) after = joined (bytes_eq group (home e)) e.event (events_at group before) (events_at group after) (events_at group (before ++ after)) (group_in_order group before after)
+group_in_order group (e ∷ before) after =
+    joined (bytes_eq group (home e)) e.event (events_at group before) (events_at group after) (events_at group (before ++ after))
+    (group_in_order group before after)
 
 -- ---- runs
 
 -- An event leads the desks of a group on if it is one of theirs.
 one_on : (w : Shelves) (group at : List ℕ) (event : DeskEvent) (more : List DeskEvent) (same : Bool) → bytes_eq group at ≡ same
-    → desks_run (if same then (desks_happen (w at) event).1 else w group) more ≡ desks_run (w group) (if same then event ∷ more else more)
+    → desks_run (if same then (desks_happen (w at) event).1 else w group) more
+    ≡ desks_run (w group) (if same then event ∷ more else more)
 unfolding run_by
-one_on w group at event more true same = ap (λ g. desks_run (desks_happen (w g) event).1 more) (sym ((bytes_eq-Decides group at).0 same))
+one_on w group at event more true same =
+    ap (λ g. desks_run (desks_happen (w g) event).1 more) (sym ((bytes_eq-Decides group at).0 same))
 one_on w group at event more false same = refl
 
 -- The desks of a group after events are two desks after the events of the group.
@@ -64,7 +70,8 @@ pub shelves_run_at : (w : Shelves) (group : List ℕ) (all : List ShelfEvent)
 unfolding run_by
 shelves_run_at w group [] = refl
 shelves_run_at w group (e ∷ more) =
-    shelves_run_at (shelves_happen w e).1 group more ∙ one_on w group (home e) e.event (events_at group more) (bytes_eq group (home e)) refl
+    shelves_run_at (shelves_happen w e).1 group more
+    ∙ one_on w group (home e) e.event (events_at group more) (bytes_eq group (home e)) refl
 
 -- ---- transactions of another group
 
@@ -85,10 +92,14 @@ lacks_still : (txn : Qualifiers) (live landed new_live new_landed : List Qualifi
     → Leads (IsOther txn) live landed new_live new_landed
     → (is_one_of txn live ≡ false) × (is_one_of txn landed ≡ false)
     → (is_one_of txn new_live ≡ false) × (is_one_of txn new_landed ≡ false)
-lacks_still txn live landed new_live new_landed (stays is there) lacks = (ap (is_one_of txn) is ∙ lacks.0, ap (is_one_of txn) there ∙ lacks.1)
-lacks_still txn live landed new_live new_landed (begun of none room may is there) lacks = (ap (is_one_of txn) is ∙ has_not txn of live lacks.0 may, ap (is_one_of txn) there ∙ lacks.1)
-lacks_still txn live landed new_live new_landed (lands is there) lacks = (ap (is_one_of txn) is ∙ lacks.0, ap (is_one_of txn) there ∙ lacks.0)
-lacks_still txn live landed new_live new_landed (returns is there) lacks = (ap (is_one_of txn) is ∙ lacks.1, ap (is_one_of txn) there ∙ lacks.1)
+lacks_still txn live landed new_live new_landed (stays is there) lacks =
+    (ap (is_one_of txn) is ∙ lacks.0, ap (is_one_of txn) there ∙ lacks.1)
+lacks_still txn live landed new_live new_landed (begun of none room may is there) lacks =
+    (ap (is_one_of txn) is ∙ has_not txn of live lacks.0 may, ap (is_one_of txn) there ∙ lacks.1)
+lacks_still txn live landed new_live new_landed (lands is there) lacks =
+    (ap (is_one_of txn) is ∙ lacks.0, ap (is_one_of txn) there ∙ lacks.0)
+lacks_still txn live landed new_live new_landed (returns is there) lacks =
+    (ap (is_one_of txn) is ∙ lacks.1, ap (is_one_of txn) there ∙ lacks.1)
 
 -- An event names another transaction than this one, or none.
 abbrev NamesOther : Qualifiers → DeskEvent → Type 0
@@ -104,7 +115,8 @@ permits_other : (txn : Qualifiers) (partner_sent : List Sending) (event : DeskEv
     → NamesOther txn event
     → Permits (IsOther txn) partner_sent event
 permits_other txn partner_sent (events.Wish of wish) txn_of_sent names = names
-permits_other txn partner_sent (events.Deliver role of n) txn_of_sent names = λ a sent. subst (IsOther txn) (txn_of_sent of n a sent) names
+permits_other txn partner_sent (events.Deliver role of n) txn_of_sent names = λ a sent.
+    subst (IsOther txn) (txn_of_sent of n a sent) names
 permits_other txn partner_sent event txn_of_sent names = tt
 
 -- Two desks that lack a transaction lack it after an event of another.
@@ -114,14 +126,16 @@ lack_at : RowsGrow → (txn : Qualifiers) (w : DeskParties) (event : DeskEvent) 
 lack_at grows txn w event stands names lack who.Requester =
     let new = (desk_happens_to w.requester w.responder.sent event).1 in (
       lacks_still txn (live_txns w.requester) (landed_txns w.requester) (live_txns new) (landed_txns new)
-          (event_leads grows (IsOther txn) w.requester w.responder.sent event (permits_other txn w.responder.sent event (keeps_to w who.Requester stands).txn_of_sent names)) lack.0,
+          (event_leads grows (IsOther txn) w.requester w.responder.sent event
+          (permits_other txn w.responder.sent event (keeps_to w who.Requester stands).txn_of_sent names)) lack.0,
       lack.1,
     )
 lack_at grows txn w event stands names lack who.Responder =
     let new = (desk_happens_to w.responder w.requester.sent event).1 in (
       lack.0,
       lacks_still txn (live_txns w.responder) (landed_txns w.responder) (live_txns new) (landed_txns new)
-          (event_leads grows (IsOther txn) w.responder w.requester.sent event (permits_other txn w.requester.sent event (keeps_to w who.Responder stands).txn_of_sent names)) lack.1,
+          (event_leads grows (IsOther txn) w.responder w.requester.sent event
+          (permits_other txn w.requester.sent event (keeps_to w who.Responder stands).txn_of_sent names)) lack.1,
     )
 
 -- A transaction of another group is not the one of an event at these desks.
@@ -150,7 +164,8 @@ unfolding run_by
 kept_at P group keeps w [] holds = holds
 kept_at P group keeps w (e ∷ more) holds = go (λ v. kept_at P group keeps v more) (bytes_eq group (home e)) refl
   where
-    go : ((v : DeskParties) → P v → P (desks_run v (events_at group more))) → (same : Bool) → bytes_eq group (home e) ≡ same → P (desks_run w (if same then e.event ∷ events_at group more else events_at group more))
+    go : ((v : DeskParties) → P v → P (desks_run v (events_at group more))) → (same : Bool) → bytes_eq group (home e) ≡ same
+        → P (desks_run w (if same then e.event ∷ events_at group more else events_at group more))
     go further true same = further (desks_happen w e.event).1 (keeps w e (sym ((bytes_eq-Decides group (home e)).0 same)) holds)
     go further false same = further w holds
 
@@ -164,7 +179,11 @@ pub lack_elsewhere : RowsGrow → EachStands → DesksStand first_desks
     → StandWithout txn (desks_run first_desks (events_at group all))
 lack_elsewhere grows after first txn group all apart =
     kept_at (StandWithout txn) group
-    (λ w e is holds. (after w e.event holds.0, lack_at grows txn w e.event holds.0 (names_other txn e.group group e.event apart is) holds.1 (who_of (plain e.event)))) first_desks all (first, ((refl, refl), (refl, refl)))
+    (λ w e is holds. (
+      after w e.event holds.0,
+      lack_at grows txn w e.event holds.0 (names_other txn e.group group e.event apart is) holds.1 (who_of (plain e.event)),
+    ))
+    first_desks all (first, ((refl, refl), (refl, refl)))
 
 -- A desk that lacks a transaction holds no side of it.
 none_held : (txn : Qualifiers) (p : DeskParty) → Lacks txn p → found_by txn_held txn p.live.held ≡ None
@@ -185,7 +204,9 @@ pub none_elsewhere : RowsGrow → EachStands → DesksStand first_desks
     → (txn : Qualifiers) (group : List ℕ) (all : List ShelfEvent) (role : Who) → (txn.group ≡ group → ⊥)
     → found_by txn_held txn (party (shelves_run first_shelves all group) role).live.held ≡ None
 none_elsewhere grows after first txn group all role apart =
-    neither_holds txn (shelves_run first_shelves all group) role (subst (BothLack txn) (sym (shelves_run_at first_shelves group all)) (lack_elsewhere grows after first txn group all apart).1)
+    neither_holds txn (shelves_run first_shelves all group) role
+    (subst (BothLack txn) (sym (shelves_run_at first_shelves group all))
+    (lack_elsewhere grows after first txn group all apart).1)
 
 -- ---- sides of a transaction of another group
 
@@ -223,7 +244,8 @@ StandIdle txn w = DesksStand w × (project txn w ≡ first_world txn)
 idle_on : EachProjects → (txn : Qualifiers) (w : DeskParties) (event : DeskEvent) → NamesOther txn event
     → StandIdle txn w → project txn (desks_happen w event).1 ≡ first_world txn
 idle_on projects txn w event names holds =
-    seen_idle (concerns txn event) (happens (project txn w) (plain event)) (project txn w) (project txn (desks_happen w event).1) (first_world txn) (desks_happen w event).0 (projects txn w event holds.0)
+    seen_idle (concerns txn event) (happens (project txn w) (plain event)) (project txn w) (project txn (desks_happen w event).1)
+    (first_world txn) (desks_happen w event).0 (projects txn w event holds.0)
     (λ own. ap (λ v. (happens v (plain event)).1) holds.1 ∙ whole_idle txn event names own) holds.1
 
 -- The desks of a group show idle sides of each transaction of another group.
@@ -232,5 +254,9 @@ pub idle_elsewhere : EachProjects → EachStands → DesksStand first_desks
     → project txn (shelves_run first_shelves all group) ≡ first_world txn
 idle_elsewhere projects after first txn group all apart =
     let shown = kept_at (StandIdle txn) group
-    (λ w e is holds. (after w e.event holds.0, idle_on projects txn w e.event (names_other txn e.group group e.event apart is) holds)) first_desks all (first, first_project txn) in
+    (λ w e is holds. (
+      after w e.event holds.0,
+      idle_on projects txn w e.event (names_other txn e.group group e.event apart is) holds,
+    )) first_desks all
+    (first, first_project txn) in
     subst (λ w. project txn w ≡ first_world txn) (sym (shelves_run_at first_shelves group all)) shown.1

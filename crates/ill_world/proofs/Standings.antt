@@ -1,5 +1,6 @@
 -- The invariant holds of the first world, and each event keeps it.
-use Rattle.std.proofs.Common.{rules, arith, ◌≡◌, replicate, ℕ, zero, suc, Bool, true, false, ◌||◌, ◌==◌, List, [], ◌∷◌, Option, Some, None, is_some, Result, Ok, Err, refl, subst, inl}
+use Rattle.std.proofs.Common.{rules, arith, ◌≡◌, replicate, ℕ, zero, suc, Bool, true, false, ◌||◌, ◌==◌, List, [], ◌∷◌, Option}
+use Rattle.std.proofs.Common.{Some, None, is_some, Result, Ok, Err, refl, subst, inl}
 use Rattle.std.specs.Prelude.{slice_get}
 use Rattle.std.specs.Option.{option_flatten}
 use Rattle.ill_values.specs.Day.{Date}
@@ -32,7 +33,8 @@ use Rattle.ill_world.specs.World.{Parties, first_party, first_world, with_party,
 use Rattle.ill_saved.specs.declared.role.Role.{Role as Who}
 use Rattle.ill_saved.specs.declared.role.Role.TheVariants as who
 use Rattle.ill_world.specs.declared.event.Event.{Event}
-use Rattle.ill_world.specs.Invariant.{WasSent, RequesterStands, ResponderStands, RequesterSideStands, ResponderSideStands, PartyStands, Invariant}
+use Rattle.ill_world.specs.Invariant.{WasSent, RequesterStands, ResponderStands, RequesterSideStands, ResponderSideStands}
+use Rattle.ill_world.specs.Invariant.{PartyStands, Invariant}
 use Rattle.ill_world.proofs.DueDates.{RowsKeepDue, due_after}
 use Rattle.ill_world.proofs.Sendings.{prefix_of_itself}
 use Rattle.ill_world.proofs.Kept.{RowsGrow, Keeps, party_kept, more_sent, was_sent_still}
@@ -59,7 +61,8 @@ question_is_there y rules MayRenew = rules.parts.renew
 
 -- ---- before the first message
 
-requester_shows_nothing : (txn : Qualifiers) (fact : requester.Fact) → requester.Claims (requester_of txn Idle None false None []) fact → ⊥
+requester_shows_nothing : (txn : Qualifiers) (fact : requester.Fact)
+    → requester.Claims (requester_of txn Idle None false None []) fact → ⊥
 requester_shows_nothing txn requester.Cancelled shows = search rules
 requester_shows_nothing txn requester.Ended shows = search rules
 requester_shows_nothing txn (requester.Granted due) shows = search rules
@@ -67,7 +70,8 @@ requester_shows_nothing txn (requester.Refused zero) shows = search rules
 requester_shows_nothing txn (requester.Refused (suc n)) shows = search rules
 requester_shows_nothing txn requester.GivenBack shows = search rules
 
-responder_shows_nothing : (txn : Qualifiers) (fact : responder.Fact) → responder.Claims (responder_of txn Idle None None None false None []) fact → ⊥
+responder_shows_nothing : (txn : Qualifiers) (fact : responder.Fact)
+    → responder.Claims (responder_of txn Idle None None None false None []) fact → ⊥
 responder_shows_nothing txn responder.Requested shows = search rules
 responder_shows_nothing txn (responder.Accepted conditions) shows = search rules
 responder_shows_nothing txn (responder.CancelAsked cancel) shows = search rules
@@ -152,21 +156,25 @@ responder_first txn sent = record {
 
 -- A wish that is done leads a requester's record that stands to one that stands.
 abbrev pub RequesterActs : Type 0
-RequesterActs = (txn : Qualifiers) (x new : RequesterRecord) (wish : Wish) (sent : List (Option Apdu)) → requester_actions.acts x wish ≡ Ok new → RequesterStands txn x sent → RequesterStands txn new sent
+RequesterActs = (txn : Qualifiers) (x new : RequesterRecord) (wish : Wish) (sent : List (Option Apdu))
+    → requester_actions.acts x wish ≡ Ok new → RequesterStands txn x sent → RequesterStands txn new sent
 
 -- If a requester's record stands, it stands after it takes a message that was sent.
 abbrev pub RequesterTakes : Type 0
-RequesterTakes = (txn : Qualifiers) (x : RequesterRecord) (a : Apdu) (sent : List (Option Apdu)) → WasSent sent a → RequesterStands txn x sent
+RequesterTakes = (txn : Qualifiers) (x : RequesterRecord) (a : Apdu) (sent : List (Option Apdu)) → WasSent sent a
+    → RequesterStands txn x sent
     → RequesterStands txn (requester_deliveries.takes x a).1 sent
 
 -- A deed that is done leads a responder's record that stands to one that stands.
 abbrev pub ResponderActs : Type 0
-ResponderActs = (txn : Qualifiers) (y new : ResponderRecord) (deed : Deed) (today : Date) (sent : List (Option Apdu)) → responder_actions.acts y deed today ≡ Ok new → ResponderStands txn y sent
+ResponderActs = (txn : Qualifiers) (y new : ResponderRecord) (deed : Deed) (today : Date) (sent : List (Option Apdu))
+    → responder_actions.acts y deed today ≡ Ok new → ResponderStands txn y sent
     → ResponderStands txn new sent
 
 -- If a responder's record stands, it stands after it takes a message that was sent.
 abbrev pub ResponderTakes : Type 0
-ResponderTakes = (txn : Qualifiers) (y : ResponderRecord) (a : Apdu) (sent : List (Option Apdu)) → WasSent sent a → ResponderStands txn y sent
+ResponderTakes = (txn : Qualifiers) (y : ResponderRecord) (a : Apdu) (sent : List (Option Apdu)) → WasSent sent a
+    → ResponderStands txn y sent
     → ResponderStands txn (responder_deliveries.takes y a).1 sent
 
 -- If `done_by make` gives a side, `result` gives a record from which `make` makes it.
@@ -230,7 +238,8 @@ responder_more txn (sides.Responder y) partner_sent more stays stands = record {
   cancels = stands.cancels;
   renewals = stands.renewals;
   knows = λ fact shows. let known = stands.knows fact shows in (known.0, stays known.0 known.1, known.2);
-  asked = λ question number was. let known = stands.asked question number was in (known.0, stays known.0 known.1, known.2, known.3);
+  asked = λ question number was. let known = stands.asked question number was in
+      (known.0, stays known.0 known.1, known.2, known.3);
   answered = stands.answered;
   recall = stands.recall;
   ships_first = stands.ships_first;
@@ -243,11 +252,13 @@ responder_more txn (sides.Requester x) partner_sent more stays stands = absurd s
 
 -- If `RequesterActs` and `RequesterTakes` hold, rows and further messages keep `RequesterSideStands`.
 pub requester_keeps : RequesterActs → RequesterTakes → (txn : Qualifiers) → Keeps (RequesterSideStands txn)
-requester_keeps acted took txn = record { acts = requester_acts acted txn; more = requester_more txn; takes = requester_takes took txn }
+requester_keeps acted took txn =
+    record { acts = requester_acts acted txn; more = requester_more txn; takes = requester_takes took txn }
 
 -- If `ResponderActs` and `ResponderTakes` hold, rows and further messages keep `ResponderSideStands`.
 pub responder_keeps : ResponderActs → ResponderTakes → (txn : Qualifiers) → Keeps (ResponderSideStands txn)
-responder_keeps acted took txn = record { acts = responder_acts acted txn; more = responder_more txn; takes = responder_takes took txn }
+responder_keeps acted took txn =
+    record { acts = responder_acts acted txn; more = responder_more txn; takes = responder_takes took txn }
 
 -- ---- a world
 
@@ -283,20 +294,25 @@ world_first txn = record {
   due = inl refl;
 }
 
-world_kept : RowsKeepDue → (txn : Qualifiers) (w : Parties) (of : Who) (event : Event) → RowsGrow → Keeps (RequesterSideStands txn) → Keeps (ResponderSideStands txn) → Invariant txn w
+world_kept : RowsKeepDue → (txn : Qualifiers) (w : Parties) (of : Who) (event : Event) → RowsGrow
+    → Keeps (RequesterSideStands txn) → Keeps (ResponderSideStands txn) → Invariant txn w
     → Invariant txn (with_party w of (happens_to (party w of) (party w (other of)).sent event).1)
 world_kept rows txn w who.Requester event grows requester_kept responder_kept stands = record {
   requester = party_kept (RequesterSideStands txn) w.requester w.responder.sent event grows requester_kept stands.requester;
   responder =
-      more_sent (ResponderSideStands txn) w.responder w.requester.sent _ responder_kept (was_sent_still w.requester w.responder.sent event stands.requester.saved) stands.responder;
+      more_sent (ResponderSideStands txn) w.responder w.requester.sent _ responder_kept
+      (was_sent_still w.requester w.responder.sent event stands.requester.saved) stands.responder;
   due = due_after rows txn w.requester w.responder.sent event stands.requester.live stands.due;
 }
 world_kept rows txn w who.Responder event grows requester_kept responder_kept stands = record {
   requester =
-      more_sent (RequesterSideStands txn) w.requester w.responder.sent _ requester_kept (was_sent_still w.responder w.requester.sent event stands.responder.saved) stands.requester;
+      more_sent (RequesterSideStands txn) w.requester w.responder.sent _ requester_kept
+      (was_sent_still w.responder w.requester.sent event stands.responder.saved) stands.requester;
   responder = party_kept (ResponderSideStands txn) w.responder w.requester.sent event grows responder_kept stands.responder;
   due = stands.due;
 }
 
-pub world_after : RowsKeepDue → (txn : Qualifiers) (w : Parties) (event : Event) → RowsGrow → Keeps (RequesterSideStands txn) → Keeps (ResponderSideStands txn) → Invariant txn w → Invariant txn (happens w event).1
-world_after rows txn w event grows requester_kept responder_kept stands = world_kept rows txn w (who_of event) event grows requester_kept responder_kept stands
+pub world_after : RowsKeepDue → (txn : Qualifiers) (w : Parties) (event : Event) → RowsGrow → Keeps (RequesterSideStands txn)
+    → Keeps (ResponderSideStands txn) → Invariant txn w → Invariant txn (happens w event).1
+world_after rows txn w event grows requester_kept responder_kept stands =
+    world_kept rows txn w (who_of event) event grows requester_kept responder_kept stands

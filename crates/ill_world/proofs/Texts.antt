@@ -1,5 +1,7 @@
 -- The bytes of lines.
-use Rattle.std.proofs.Common.{rules, arith, ◌≡◌, ℕ, suc, ◌+◌, ◌-◌, ◌<◌, ◌≤◌, min, Bool, true, false, ◌||◌, ◌==◌, cond, List, [], ◌∷◌, ◌++◌, length, take, drop, Option, Some, None, Ok, refl, sym, ap, ◌∙◌, subst, add-one, eqb-true, take_all, take-append-drop, drop_of_length-le, length-append, length-take}
+use Rattle.std.proofs.Common.{rules, arith, ◌≡◌, ℕ, suc, ◌+◌, ◌-◌, ◌<◌, ◌≤◌, min, Bool, true, false, ◌||◌, ◌==◌, cond, List, []}
+use Rattle.std.proofs.Common.{◌∷◌, ◌++◌, length, take, drop, Option, Some, None, Ok, refl, sym, ap, ◌∙◌, subst, add-one, eqb-true}
+use Rattle.std.proofs.Common.{take_all, take-append-drop, drop_of_length-le, length-append, length-take}
 use Rattle.std.specs.List.{onto_first, position_from}
 use Rattle.ill_world.specs.declared.lines.Found.TheVariants as found
 use Rattle.ill_world.specs.Play.{lines_in}
@@ -11,7 +13,8 @@ use Rattle.ill_world.specs.Simulating.{has_lf, lf_place, TakesPart}
 abbrev FirstLf : List ℕ → List ℕ → ℕ → Option ℕ → Type 0
 FirstLf bytes rest from None = has_lf bytes ≡ false
 FirstLf bytes rest from (Some at) =
-    (k : ℕ) × (at ≡ from + k) × (k < length bytes) × (has_lf (take k bytes) ≡ false) × (bytes ++ rest ≡ take k bytes ++ 10 ∷ drop (suc k) (bytes ++ rest))
+    (k : ℕ) × (at ≡ from + k) × (k < length bytes) × (has_lf (take k bytes) ≡ false)
+    × (bytes ++ rest ≡ take k bytes ++ 10 ∷ drop (suc k) (bytes ++ rest))
 
 -- `FirstLf` holds of the place that `position_from` finds.
 lf_stands : (bytes rest : List ℕ) (from : ℕ) (place : Option ℕ) → position_from (λ b. b == 10) from bytes ≡ place
@@ -20,8 +23,10 @@ lf_stands [] rest from None is = refl
 lf_stands [] rest from (Some at) is = search rules
 lf_stands (byte ∷ bytes) rest from place is = go (byte == 10) place refl is (lf_stands bytes rest (from + 1))
   where
-    go : (is_lf : Bool) (place : Option ℕ) → (byte == 10) ≡ is_lf → cond is_lf (Some from) (position_from (λ b. b == 10) (from + 1) bytes) ≡ place
-        → ((later : Option ℕ) → position_from (λ b. b == 10) (from + 1) bytes ≡ later → FirstLf bytes rest (from + 1) later) → FirstLf (byte ∷ bytes) rest from place
+    go : (is_lf : Bool) (place : Option ℕ) → (byte == 10) ≡ is_lf
+        → cond is_lf (Some from) (position_from (λ b. b == 10) (from + 1) bytes) ≡ place
+        → ((later : Option ℕ) → position_from (λ b. b == 10) (from + 1) bytes ≡ later → FirstLf bytes rest (from + 1) later)
+        → FirstLf (byte ∷ bytes) rest from place
     go true None is_lf is after = search rules
     go true (Some at) is_lf is after =
         let here : at ≡ from + 0 = search (arith, rules) in
@@ -38,13 +43,19 @@ lf_stands (byte ∷ bytes) rest from place is = go (byte == 10) place refl is (l
 
 -- The place of the first LF is within `bytes`, no LF stands before it, and the rest follows it.
 first_lf : (bytes rest : List ℕ) (at : ℕ) → lf_place bytes ≡ Some at
-    → (at < length bytes) × (has_lf (take at bytes) ≡ false) × (bytes ++ rest ≡ take at bytes ++ 10 ∷ drop (at + 1) (bytes ++ rest))
+    → (at < length bytes) × (has_lf (take at bytes) ≡ false)
+    × (bytes ++ rest ≡ take at bytes ++ 10 ∷ drop (at + 1) (bytes ++ rest))
 first_lf bytes rest at is =
     let stands = lf_stands bytes rest 0 (Some at) is in
     let k = stands.0 in
     let same : k ≡ at = omega (arith, stands.1) in
-    subst (λ (n : ℕ). (n < length bytes) × (has_lf (take n bytes) ≡ false) × (bytes ++ rest ≡ take n bytes ++ 10 ∷ drop (n + 1) (bytes ++ rest))) same
-    (stands.2, stands.3, subst (λ (n : ℕ). bytes ++ rest ≡ take k bytes ++ 10 ∷ drop n (bytes ++ rest)) (sym (add-one k)) stands.4)
+    subst (λ (n : ℕ). (n < length bytes) × (has_lf (take n bytes) ≡ false)
+    × (bytes ++ rest ≡ take n bytes ++ 10 ∷ drop (n + 1) (bytes ++ rest))) same (
+      stands.2,
+      stands.3,
+      subst (λ (n : ℕ). bytes ++ rest ≡ take k bytes ++ 10 ∷ drop n (bytes ++ rest)) (sym (add-one k))
+          stands.4,
+    )
 
 -- If there is no place of an LF, `bytes` have no LF.
 no_lf : (bytes : List ℕ) → lf_place bytes ≡ None → has_lf bytes ≡ false
@@ -53,15 +64,18 @@ no_lf bytes is = lf_stands bytes [] 0 None is
 -- ---- a part of a line
 
 -- up to its LF
-pub takes_line : (before ahead prefix line : List ℕ) (most at : ℕ) → length prefix ≤ 1024 → most ≤ 1025 - length prefix → lf_place (take most before) ≡ Some at
-    → line ≡ prefix ++ take at (take most before) → ahead ≡ drop (at + 1) before → TakesPart before ahead prefix line (Ok (Some found.Line))
+pub takes_line : (before ahead prefix line : List ℕ) (most at : ℕ) → length prefix ≤ 1024 → most ≤ 1025 - length prefix
+    → lf_place (take most before) ≡ Some at
+    → line ≡ prefix ++ take at (take most before) → ahead ≡ drop (at + 1) before
+    → TakesPart before ahead prefix line (Ok (Some found.Line))
 takes_line before ahead prefix line most at few within is line_is ahead_is =
     let part = take most before in
     let first = first_lf part (drop most before) at is in
     let whole : part ++ drop most before ≡ before = take-append-drop most before in
     let bytes = take at part in
     let parts = subst (λ l. l ≡ bytes ++ 10 ∷ drop (at + 1) l) whole first.2 in
-    let size : length (prefix ++ bytes) ≤ 1024 = omega (arith, length-append prefix bytes, length-take at part, length-take most before, first.0, few, within) in
+    let size : length (prefix ++ bytes) ≤ 1024 =
+    omega (arith, length-append prefix bytes, length-take at part, length-take most before, first.0, few, within) in
     (bytes, parts ∙ ap (λ l. bytes ++ 10 ∷ l) (sym ahead_is), first.1, line_is, subst (λ l. length l ≤ 1024) (sym line_is) size)
 
 -- If no LF is within the limit, and more bytes are ahead, the line is too long.
@@ -70,7 +84,8 @@ pub takes_too_long : (before ahead prefix line : List ℕ) (most : ℕ) → leng
     → lf_place (take most before) ≡ None → ahead ≡ drop most before → TakesPart before ahead prefix line (Ok (Some found.TooLong))
 takes_too_long before ahead prefix line most few most_is long is ahead_is =
     let bytes = take most before in
-    let size : length (prefix ++ bytes) ≡ 1025 = omega (arith, length-append prefix bytes, length-take most before, few, most_is, long) in
+    let size : length (prefix ++ bytes) ≡ 1025 =
+    omega (arith, length-append prefix bytes, length-take most before, few, most_is, long) in
     (bytes, sym (take-append-drop most before) ∙ ap (λ l. bytes ++ l) (sym ahead_is), no_lf bytes is, size)
 
 -- If the bytes ahead are within the limit, and have no LF, all of them join the line.
@@ -82,8 +97,12 @@ takes_all before ahead prefix line most few most_is short is line_is ahead_is =
     let all : length before ≤ most = omega (arith, most_is, short) in
     let same : take most before ≡ before = take_all most before all in
     let line_all : line ≡ prefix ++ before = line_is ∙ ap (λ l. prefix ++ l) same in
-    let size : length (prefix ++ before) ≤ 1024 = omega (arith, length-append prefix before, few, all, short) in
-    (ahead_is ∙ drop_of_length-le before all, ap has_lf (sym same) ∙ no_lf (take most before) is, line_all, subst (λ l. length l ≤ 1024) (sym line_all) size)
+    let size : length (prefix ++ before) ≤ 1024 = omega (arith, length-append prefix before, few, all, short) in (
+      ahead_is ∙ drop_of_length-le before all,
+      ap has_lf (sym same) ∙ no_lf (take most before) is,
+      line_all,
+      subst (λ l. length l ≤ 1024) (sym line_all) size,
+    )
 
 -- ---- the lines of a text
 
@@ -109,14 +128,16 @@ pub line_alone : (bytes : List ℕ) → has_lf bytes ≡ false → lines_in byte
 line_alone [] none = refl
 line_alone (byte ∷ bytes) none =
     let first = no_lf_first byte bytes none in
-    ap (λ (b : Bool). cond b ([] ∷ lines_in bytes) (onto_first byte (lines_in bytes))) first.0 ∙ ap (onto_first byte) (line_alone bytes first.1)
+    ap (λ (b : Bool). cond b ([] ∷ lines_in bytes) (onto_first byte (lines_in bytes))) first.0
+    ∙ ap (onto_first byte) (line_alone bytes first.1)
 
 -- A text has at least one line, which may be empty.
 pub some_line : (text : List ℕ) → (first : List ℕ) × (more : List (List ℕ)) × (lines_in text ≡ first ∷ more)
 some_line [] = ([], [], refl)
 some_line (byte ∷ text) = begun byte (byte == 10) (lines_in text) (some_line text)
   where
-    begun : (byte : ℕ) (is_lf : Bool) (parts : List (List ℕ)) → ((first : List ℕ) × (more : List (List ℕ)) × (parts ≡ first ∷ more))
+    begun : (byte : ℕ) (is_lf : Bool) (parts : List (List ℕ))
+        → ((first : List ℕ) × (more : List (List ℕ)) × (parts ≡ first ∷ more))
         → (first : List ℕ) × (more : List (List ℕ)) × (cond is_lf ([] ∷ parts) (onto_first byte parts) ≡ first ∷ more)
     begun byte true parts some = ([], parts, refl)
     begun byte false parts some = (byte ∷ some.0, some.1, ap (onto_first byte) some.2)

@@ -1,5 +1,6 @@
 -- The facts that hold of one APDU of a list at most.
-use Rattle.std.proofs.Common.{rules, arith, ◌≡◌, ℕ, zero, suc, ◌+◌, ◌≤◌, Bool, true, false, not, ◌||◌, ◌==◌, cond, List, [], ◌∷◌, Option, Some, None, if◌then◌else◌, refl, sym, ap, ◌∙◌, subst}
+use Rattle.std.proofs.Common.{rules, arith, ◌≡◌, ℕ, zero, suc, ◌+◌, ◌≤◌, Bool, true, false, not, ◌||◌, ◌==◌, cond, List, [], ◌∷◌}
+use Rattle.std.proofs.Common.{Option, Some, None, if◌then◌else◌, refl, sym, ap, ◌∙◌, subst}
 use Rattle.std.specs.Prelude.{slice_get}
 use Rattle.std.specs.List.{list_any, filter_map, cons_option, last_or, count_by}
 use Rattle.std.proofs.lemmas.List.Sums.{sum_by-cons}
@@ -23,9 +24,11 @@ at_number txn first [] i a numbered e = search rules
 at_number txn first (b ∷ apdus) zero a numbered e =
     let is : b ≡ a = search rules in
     let parts = and_parts _ _ (and_parts _ _ numbered).0 in
-    subst (λ x. (is_same_txn x.txn txn ≡ true) × (x.number ≡ first + 0)) is (parts.0, omega (arith, eqb-true b.number first parts.1))
+    subst (λ x. (is_same_txn x.txn txn ≡ true) × (x.number ≡ first + 0)) is
+    (parts.0, omega (arith, eqb-true b.number first parts.1))
 at_number txn first (b ∷ apdus) (suc i) a numbered e =
-    let rest : (is_same_txn a.txn txn ≡ true) × (a.number ≡ first + 1 + i) = at_number txn (first + 1) apdus i a (and_parts _ _ numbered).1 e in
+    let rest : (is_same_txn a.txn txn ≡ true) × (a.number ≡ first + 1 + i) =
+    at_number txn (first + 1) apdus i a (and_parts _ _ numbered).1 e in
     (rest.0, omega (arith, rest.1))
 
 -- In a numbered list, message n is of `txn`, and has the number n.
@@ -44,7 +47,8 @@ found_tail (Some m) ks k is = or_right (m == k) _ is
 
 -- A number that an option has is in the list with this option before it.
 found_head : (o : Option ℕ) (ks : List ℕ) (k : ℕ) → o ≡ Some k → list_any (λ m. m == k) (cons_option o ks) ≡ true
-found_head o ks k is = subst (λ x. list_any (λ m. m == k) (cons_option x ks) ≡ true) (sym is) (ap (λ (r : Bool). r || list_any (λ m. m == k) ks) (eq-eqb k k refl))
+found_head o ks k is = subst (λ x. list_any (λ m. m == k) (cons_option x ks) ≡ true) (sym is)
+    (ap (λ (r : Bool). r || list_any (λ m. m == k) ks) (eq-eqb k k refl))
 
 -- Two options that are equal have equal APDUs.
 pub same_apdu : (a b : Apdu) → ◌≡◌ {A = Option Apdu} (Some a) (Some b) → a ≡ b
@@ -83,9 +87,11 @@ distinct_places : (f : Apdu → Option ℕ) (apdus : List Apdu) (i j k : ℕ) (a
 distinct_places f [] i j k a b distinct at_i at_j is_a is_b = search rules
 distinct_places f (c ∷ apdus) zero zero k a b distinct at_i at_j is_a is_b = refl
 distinct_places f (c ∷ apdus) zero (suc j) k a b distinct at_i at_j is_a is_b =
-    absurd (not_twice (f c) (filter_map f apdus) k (ap f (same_apdu c a at_i) ∙ is_a) distinct (found_among f apdus j b k at_j is_b))
+    absurd (not_twice (f c) (filter_map f apdus) k (ap f (same_apdu c a at_i) ∙ is_a) distinct
+    (found_among f apdus j b k at_j is_b))
 distinct_places f (c ∷ apdus) (suc i) zero k a b distinct at_i at_j is_a is_b =
-    absurd (not_twice (f c) (filter_map f apdus) k (ap f (same_apdu c b at_j) ∙ is_b) distinct (found_among f apdus i a k at_i is_a))
+    absurd (not_twice (f c) (filter_map f apdus) k (ap f (same_apdu c b at_j) ∙ is_b) distinct
+    (found_among f apdus i a k at_i is_a))
 distinct_places f (c ∷ apdus) (suc i) (suc j) k a b distinct at_i at_j is_a is_b =
     ap suc (distinct_places f apdus i j k a b (rest_distinct (f c) (filter_map f apdus) distinct) at_i at_j is_a is_b)
 
@@ -94,7 +100,8 @@ pub answers_once : (answered : Body → Option ℕ) (apdus : List Apdu)
     → are_distinct (filter_map (λ a. answered a.body) apdus) ≡ true → AnswersOnce answered (message apdus)
 answers_once answered apdus distinct zero n k a b at_m at_n is_a is_b = search rules
 answers_once answered apdus distinct (suc m) zero k a b at_m at_n is_a is_b = search rules
-answers_once answered apdus distinct (suc m) (suc n) k a b at_m at_n is_a is_b = ap suc (distinct_places (λ x. answered x.body) apdus m n k a b distinct at_m at_n is_a is_b)
+answers_once answered apdus distinct (suc m) (suc n) k a b at_m at_n is_a is_b =
+    ap suc (distinct_places (λ x. answered x.body) apdus m n k a b distinct at_m at_n is_a is_b)
 
 -- ---- the end
 
@@ -115,7 +122,8 @@ count_first a apdus = sum_by-cons (λ (x : Apdu). cond (is_end x.body) 1 0) a ap
 -- A list without an end has no number of an end.
 none_found : (apdus : List Apdu) → ends_in apdus ≡ 0 → filter_map number_of_end apdus ≡ []
 none_found [] none = refl
-none_found (a ∷ apdus) none = none_go (is_end a.body) a.number (filter_map number_of_end apdus) (ends_in apdus) (sym (count_first a apdus) ∙ none) (none_found apdus)
+none_found (a ∷ apdus) none = none_go (is_end a.body) a.number (filter_map number_of_end apdus) (ends_in apdus)
+    (sym (count_first a apdus) ∙ none) (none_found apdus)
 
 -- If the first APDU ends the request, and no other, its number is the last found.
 head_go : (ends : Bool) (n : ℕ) (rest : List ℕ) (o : Option ℕ) → ends ≡ true → rest ≡ []
@@ -144,11 +152,13 @@ one_last (b ∷ apdus) zero a o most e is =
     let none = none_found apdus (one_more_end (is_end b.body) (ends_in apdus) ends (omega (arith, most, count_first b apdus))) in
     head_go (is_end b.body) b.number (filter_map number_of_end apdus) o ends none ∙ ap (λ (x : Apdu). Some x.number) same
 one_last (b ∷ apdus) (suc i) a o most e is =
-    tail_go (is_end b.body) b.number a.number (filter_map number_of_end apdus) o (λ p. one_last apdus i a p (omega (arith, most, count_first b apdus)) e is)
+    tail_go (is_end b.body) b.number a.number (filter_map number_of_end apdus) o
+    (λ p. one_last apdus i a p (omega (arith, most, count_first b apdus)) e is)
 
 -- In a numbered list with one end at most, a message n that ends the request has the last number found.
 pub one_end : (txn : Qualifiers) (apdus : List Apdu) (n : ℕ) (a : Apdu) → are_numbered txn 1 apdus ≡ true
     → ends_in apdus ≤ 1 → message apdus n ≡ Some a → is_end a.body ≡ true
     → last_of number_of_end apdus ≡ Some n
 one_end txn apdus zero a numbered most e is = search rules
-one_end txn apdus (suc i) a numbered most e is = one_last apdus i a None most e is ∙ ap Some (message_number txn apdus (suc i) a numbered e).1
+one_end txn apdus (suc i) a numbered most e is =
+    one_last apdus i a None most e is ∙ ap Some (message_number txn apdus (suc i) a numbered e).1

@@ -7,7 +7,8 @@ use Rattle.ill_saved.specs.declared.role.Role.TheVariants as who
 use Rattle.ill_world.specs.declared.event.Event.{Event}
 use Rattle.ill_world.specs.declared.event.Event.TheVariants as events
 use Rattle.ill_world.specs.declared.event.Outcome.{Outcome}
-use Rattle.ill_world.specs.World.{Party, Parties, TwoOf, happens_at, first_party, first_world, party, with_party, who_of, happens_to, happens}
+use Rattle.ill_world.specs.World.{Party, Parties, TwoOf, happens_at, first_party, first_world, party, with_party, who_of}
+use Rattle.ill_world.specs.World.{happens_to, happens}
 use Rattle.ill_saved.specs.Side.{idle_side, other}
 use Rattle.ill_world.specs.PartyRefinement.{GivesOutcome}
 use Rattle.ill_world.specs.Invariant.{Invariant}
@@ -25,7 +26,8 @@ pub first_is : (txn t u : Qualifiers) (x y : Side) (p q : Party) → t ≡ txn �
     → p ≡ first_party x → q ≡ first_party y → ◌≡◌ {A = Parties} (record { requester = p; responder = q }) (first_world txn)
 first_is txn t u x y p q copied again idle_x idle_y new_x new_y =
     ap (λ p. record { requester = p; responder = q }) (first_side who.Requester txn t x p copied idle_x new_x)
-    ∙ ap (λ q. record { requester = (first_world txn).requester; responder = q }) (first_side who.Responder txn u y q again idle_y new_y)
+    ∙ ap (λ q. record { requester = (first_world txn).requester; responder = q })
+    (first_side who.Responder txn u y q again idle_y new_y)
 
 -- ---- one event of the world, by one of a party
 
@@ -36,27 +38,37 @@ stays_whole w who.Responder = refl
 
 -- If a call gives the expected outcome and party, it gives the expected outcome and world.
 pub both_give : {M O P : Type 0} (happening : P → P → O × P) (w : TwoOf P) (at of : Who) (result : Result O M) (new : P) → at ≡ of
-    → GivesOutcome (happening (party w of) (party w (other of))) (party w of) result new → GivesOutcome (happens_at w at happening) w result (with_party w of new)
-both_give {O = O} {P = P} happening w at of (Ok outcome) new is gives = ap (λ o. happens_at w o happening) is ∙ ap (λ (after : O × P). (after.0, with_party w of after.1)) gives
+    → GivesOutcome (happening (party w of) (party w (other of))) (party w of) result new
+    → GivesOutcome (happens_at w at happening) w result (with_party w of new)
+both_give {O = O} {P = P} happening w at of (Ok outcome) new is gives =
+    ap (λ o. happens_at w o happening) is ∙ ap (λ (after : O × P). (after.0, with_party w of after.1)) gives
 both_give happening w at of (Err memory) new is same = ap (with_party w of) same ∙ stays_whole w of
 
-pub world_gives : {M : Type 0} → (w : Parties) (event : Event) (of : Who) (result : Result Outcome M) (new : Party) → who_of event ≡ of
-    → GivesOutcome (happens_to (party w of) (party w (other of)).sent event) (party w of) result new → GivesOutcome (happens w event) w result (with_party w of new)
-world_gives w event of result new is gives = both_give (λ (p : Party) (partner : Party). happens_to p partner.sent event) w (who_of event) of result new is gives
+pub world_gives : {M : Type 0} → (w : Parties) (event : Event) (of : Who) (result : Result Outcome M) (new : Party)
+    → who_of event ≡ of
+    → GivesOutcome (happens_to (party w of) (party w (other of)).sent event) (party w of) result new
+    → GivesOutcome (happens w event) w result (with_party w of new)
+world_gives w event of result new is gives =
+    both_give (λ (p : Party) (partner : Party). happens_to p partner.sent event) w (who_of event) of result new is gives
 
 -- what held before holds after, where it does after what is given
-pub given_keeps : {M O P : Type 0} (F : P → Type 0) (expected : O × P) (old new : P) (result : Result O M) → GivesOutcome expected old result new → F old → F expected.1 → F new
+pub given_keeps : {M O P : Type 0} (F : P → Type 0) (expected : O × P) (old new : P) (result : Result O M)
+    → GivesOutcome expected old result new → F old → F expected.1 → F new
 given_keeps {O = O} {P = P} F expected old new (Ok outcome) gives before after = subst (λ (x : O × P). F x.1) gives after
 given_keeps F expected old new (Err memory) same before after = subst F (sym same) before
 
-pub still_stands : {M : Type 0} → (txn : Qualifiers) (w new : Parties) (event : Event) (result : Result Outcome M) → ((w : Parties) (event : Event) → Invariant txn w → Invariant txn (happens w event).1)
+pub still_stands : {M : Type 0} → (txn : Qualifiers) (w new : Parties) (event : Event) (result : Result Outcome M)
+    → ((w : Parties) (event : Event) → Invariant txn w → Invariant txn (happens w event).1)
     → GivesOutcome (happens w event) w result new → Invariant txn w → Invariant txn new
-still_stands txn w new event result after gives stands = given_keeps (Invariant txn) (happens w event) w new result gives stands (after w event stands)
+still_stands txn w new event result after gives stands =
+    given_keeps (Invariant txn) (happens w event) w new result gives stands (after w event stands)
 
 -- A world that stays as it is keeps the requester's due dates.
 pub same_dates : (w : Parties) (event : Event) → KeepsDates w event w
 same_dates w (events.Restart who.Requester) = (tt, inr (inl refl))
 same_dates w event = (inr (inl refl), inr (inl refl))
 
-pub dates_of : {M : Type 0} → (w new : Parties) (event : Event) (result : Result Outcome M) → KeepsDates w event (happens w event).1 → GivesOutcome (happens w event) w result new → KeepsDates w event new
-dates_of w new event result keeps gives = given_keeps (KeepsDates w event) (happens w event) w new result gives (same_dates w event) keeps
+pub dates_of : {M : Type 0} → (w new : Parties) (event : Event) (result : Result Outcome M)
+    → KeepsDates w event (happens w event).1 → GivesOutcome (happens w event) w result new → KeepsDates w event new
+dates_of w new event result keeps gives =
+    given_keeps (KeepsDates w event) (happens w event) w new result gives (same_dates w event) keeps

@@ -1,6 +1,7 @@
 -- The model of two desks (this profile's own). Each holds sides of many transactions, has landed sides, and has sent
 -- messages in each. Of one transaction a desk shows a party of the two-party model.
-use Rattle.std.specs.Prelude.{◌≡◌, ℕ, nat_le, Bool, true, false, if◌then◌else◌, List, [], ◌∷◌, Option, Some, None, Result, Ok, Err}
+use Rattle.std.specs.Prelude.{◌≡◌, ℕ, nat_le, Bool, true, false, if◌then◌else◌, List, [], ◌∷◌, Option, Some, None, Result, Ok}
+use Rattle.std.specs.Prelude.{Err}
 use Rattle.ill_values.specs.declared.apdu.Apdu.{Apdu}
 use Rattle.ill_values.specs.TxnId.{Qualifiers}
 use Rattle.ill_der.specs.declared.fault.DerFault.{DerFault}
@@ -15,16 +16,19 @@ use Rattle.ill_saved.specs.declared.role.Role.TheVariants.{Requester, Responder}
 use Rattle.ill_saved.specs.Side.{issued_of}
 use Rattle.ill_saved.specs.Sides.{SidesOf}
 use Rattle.ill_saved.specs.Holdings.{DeskEntry}
-use Rattle.ill_saved.specs.ManySides.{DeskContents, found_by, put_by, txn_held, found_or, held_for, side_for, sides_held, whole_of, desk_acts, desk_takes}
+use Rattle.ill_saved.specs.ManySides.{DeskContents, found_by, put_by, txn_held, found_or, held_for, side_for, sides_held}
+use Rattle.ill_saved.specs.ManySides.{whole_of, desk_acts, desk_takes}
 use Rattle.ill_world.specs.declared.event.Event.{Event}
 use Rattle.ill_world.specs.declared.event.Event.TheVariants as events
 use Rattle.ill_world.specs.declared.event.DeskEvent.{DeskEvent}
 use Rattle.ill_world.specs.declared.event.DeskEvent.TheVariants.{Wish, Deed, Save, SaveFault, Send, Deliver, Noise, Restart}
 use Rattle.ill_world.specs.declared.event.Outcome.{Outcome}
-use Rattle.ill_world.specs.declared.event.Outcome.TheVariants.{Done, Saved, Faulted, Answered, Refused, NotSent, Garbled, Forged, Restarted}
+use Rattle.ill_world.specs.declared.event.Outcome.TheVariants.{Done, Saved, Faulted, Answered, Refused, NotSent, Garbled, Forged}
+use Rattle.ill_world.specs.declared.event.Outcome.TheVariants.{Restarted}
 use Rattle.ill_world.specs.declared.event.DeskOutcome.{DeskOutcome}
 use Rattle.ill_world.specs.declared.event.DeskOutcome.TheVariants.{Plain, NoSuchTransaction, DeskFull}
-use Rattle.ill_world.specs.World.{Party, TwoOf, Parties, nothing_sent, sent_message, with_sent, sends_by, who_of, happens, happens_at, run_by}
+use Rattle.ill_world.specs.World.{Party, TwoOf, Parties, nothing_sent, sent_message, with_sent, sends_by, who_of, happens}
+use Rattle.ill_world.specs.World.{happens_at, run_by}
 
 -- ---- the desks
 

@@ -13,7 +13,8 @@ use Rattle.ill_core.specs.RequesterEvidence.{KeepsDue}
 use Rattle.ill_core.specs.RequesterNotices.{Notice, Reflects, Attests}
 use Rattle.ill_core.specs.ResponderEvidence as responder
 use Rattle.ill_core.specs.ResponderEvidence.{Question, asks}
-use Rattle.ill_core.specs.ResponderNotices.{WasAsked, HasAnsweredLast, RecallFits, ShipsBeforeRecall, GrantsRise, OverdueFits, GrantsBeforeOverdue}
+use Rattle.ill_core.specs.ResponderNotices.{WasAsked, HasAnsweredLast, RecallFits, ShipsBeforeRecall, GrantsRise, OverdueFits}
+use Rattle.ill_core.specs.ResponderNotices.{GrantsBeforeOverdue}
 use Rattle.ill_saved.specs.declared.side.Side.{Side}
 use Rattle.ill_saved.specs.declared.side.Side.TheVariants as sides
 use Rattle.ill_saved.specs.Side.{issued_of, due_date_of, IsPrefix}

@@ -1,5 +1,6 @@
 -- The meaning of a line of a script (this profile's own).
-use Rattle.std.specs.Prelude.{ℕ, Bool, false, not, ◌==◌, if◌then◌else◌, List, [], ◌∷◌, length, bytes_eq, codes, Option, Some, None, option_map}
+use Rattle.std.specs.Prelude.{ℕ, Bool, false, not, ◌==◌, if◌then◌else◌, List, [], ◌∷◌, length, bytes_eq, codes, Option, Some}
+use Rattle.std.specs.Prelude.{None, option_map}
 use Rattle.std.specs.List.{slice_split, filter}
 use Rattle.ill_saved.specs.declared.role.Role.{Role as Who}
 use Rattle.ill_world.specs.declared.event.Event.{Event}

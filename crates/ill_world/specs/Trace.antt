@@ -10,7 +10,8 @@ use Rattle.ill_core.specs.State.{state_name}
 use Rattle.ill_saved.specs.declared.side.Side.{Side}
 use Rattle.ill_saved.specs.Side.{shown_of}
 use Rattle.ill_world.specs.declared.event.Outcome.{Outcome}
-use Rattle.ill_world.specs.declared.event.Outcome.TheVariants.{Done, Saved, Faulted, Sent, Answered, Refused, NoSuchMessage, NotSaved, NotSent, Garbled, Forged, Restarted}
+use Rattle.ill_world.specs.declared.event.Outcome.TheVariants.{Done, Saved, Faulted, Sent, Answered, Refused, NoSuchMessage}
+use Rattle.ill_world.specs.declared.event.Outcome.TheVariants.{NotSaved, NotSent, Garbled, Forged, Restarted}
 use Rattle.ill_world.specs.declared.event.DeskOutcome.{DeskOutcome}
 use Rattle.ill_world.specs.declared.event.DeskOutcome.TheVariants.{Plain, NoSuchTransaction, DeskFull}
 use Rattle.ill_saved.specs.declared.shown.Shown.{Shown}

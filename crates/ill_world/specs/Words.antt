@@ -1,5 +1,6 @@
 -- The words of a script and of a command line (this profile's own): the meaning of one word, of a wish, and of a deed.
-use Rattle.std.specs.Prelude.{ℕ, ◌+◌, ◌-◌, ◌*◌, ◌&&◌, fold, nat_le, Bool, true, false, if◌then◌else◌, ◌==◌, List, [], ◌∷◌, ◌++◌, length, flat_map, bytes_eq, codes, Option, Some, None, option_map}
+use Rattle.std.specs.Prelude.{ℕ, ◌+◌, ◌-◌, ◌*◌, ◌&&◌, fold, nat_le, Bool, true, false, if◌then◌else◌, ◌==◌, List, [], ◌∷◌, ◌++◌}
+use Rattle.std.specs.Prelude.{length, flat_map, bytes_eq, codes, Option, Some, None, option_map}
 use Rattle.std.specs.List.{list_all}
 use Rattle.std.specs.Result.{result_ok}
 use Rattle.std.specs.Char.{is_ascii_digit}
@@ -10,7 +11,8 @@ use Rattle.ill_values.specs.Results.{result_named}
 use Rattle.ill_core.specs.declared.requester.Wish.{Wish}
 use Rattle.ill_core.specs.declared.requester.Wish.TheVariants.{Request, Cancel, Reply, Receive, Renew, Return}
 use Rattle.ill_core.specs.declared.responder.Deed.{Deed}
-use Rattle.ill_core.specs.declared.responder.Deed.TheVariants.{Answer, CancelReply, Ship, RenewAnswer, Overdue, Recall, CheckIn, Expire}
+use Rattle.ill_core.specs.declared.responder.Deed.TheVariants.{Answer, CancelReply, Ship, RenewAnswer, Overdue, Recall, CheckIn}
+use Rattle.ill_core.specs.declared.responder.Deed.TheVariants.{Expire}
 use Rattle.ill_saved.specs.declared.role.Role.{Role as Who}
 use Rattle.ill_saved.specs.declared.role.Role.TheVariants.{Requester, Responder}
 

@@ -1,6 +1,7 @@
 -- The two-party model: two sides, what has landed of each, and what each has sent (this profile's
 -- own). It knows no bytes but those of noise, and no stores.
-use Rattle.std.specs.Prelude.{ℕ, zero, suc, Bool, true, false, nat_le, List, [], ◌∷◌, length, replicate, slice_get, Option, Some, None, Result, Ok, Err, if◌then◌else◌}
+use Rattle.std.specs.Prelude.{ℕ, zero, suc, Bool, true, false, nat_le, List, [], ◌∷◌, length, replicate, slice_get, Option, Some}
+use Rattle.std.specs.Prelude.{None, Result, Ok, Err, if◌then◌else◌}
 use Rattle.std.specs.List.{slice_set}
 use Rattle.std.specs.Option.{option_flatten}
 use Rattle.ill_values.specs.declared.apdu.Apdu.{Apdu}
@@ -19,7 +20,8 @@ use Rattle.ill_saved.specs.declared.role.Role.TheVariants.{Requester, Responder}
 use Rattle.ill_world.specs.declared.event.Event.{Event}
 use Rattle.ill_world.specs.declared.event.Event.TheVariants.{Wish, Deed, Save, SaveFault, Send, Deliver, Noise, Restart}
 use Rattle.ill_world.specs.declared.event.Outcome.{Outcome}
-use Rattle.ill_world.specs.declared.event.Outcome.TheVariants.{Done, Saved, Faulted, Sent, Answered, Refused, NoSuchMessage, NotSaved, NotSent, Garbled, Forged, Restarted}
+use Rattle.ill_world.specs.declared.event.Outcome.TheVariants.{Done, Saved, Faulted, Sent, Answered, Refused, NoSuchMessage}
+use Rattle.ill_world.specs.declared.event.Outcome.TheVariants.{NotSaved, NotSent, Garbled, Forged, Restarted}
 
 -- ---- the world
 

@@ -13,7 +13,7 @@ use crate::desk_script::{DeskLine, read_desk_line};
 use crate::desk_world::DeskWorld;
 use crate::event::Event;
 use crate::fault::SimFault;
-use crate::performer::{Performer, LineEffect};
+use crate::performer::{LineEffect, Performer};
 use crate::script::ScriptLine;
 use crate::simulation::Simulation;
 use ill_values::{OutOfMemory, TxnId};

@@ -14,7 +14,7 @@ use crate::ahead::Ahead;
 use crate::fault::SimFault;
 use crate::laws;
 use crate::lines::{Found, next_line};
-use crate::performer::{Performer, LineEffect};
+use crate::performer::{LineEffect, Performer};
 use crate::script::{ScriptLine, read_line};
 use crate::world::World;
 use ill_der::write_bytes;

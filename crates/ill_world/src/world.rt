@@ -186,7 +186,11 @@ fn half_of_round(alloc: Global, who: Who, count: u8) -> Result<Vec<Event>, OutOf
 }
 
 /// Returns the events by which the first `count` messages of a side are sent and delivered, one after another.
-pub(crate) fn sends_and_delivers(alloc: Global, who: Who, count: u8) -> Result<Vec<Event>, OutOfMemory>
+pub(crate) fn sends_and_delivers(
+    alloc: Global,
+    who: Who,
+    count: u8,
+) -> Result<Vec<Event>, OutOfMemory>
     ensures { IfOk result (λ events. events.items ≡ sends_and_delivers who 1 count) }
 {
     let mut events = Vec::new(alloc);

@@ -1,5 +1,6 @@
 -- Answers the contract of `shipped` (`src/main.rt`).
-use Rattle.std.proofs.Common.{◌≡◌, ℕ, zero, suc, ◌+◌, ◌++◌, List, [], ◌∷◌, map, drop, Bor, refl, ap, sym, ◌∙◌, append_assoc, add-one}
+use Rattle.std.proofs.Common.{◌≡◌, ℕ, zero, suc, ◌+◌, ◌++◌, List, [], ◌∷◌, map, drop, Bor, refl, ap, sym, ◌∙◌, append_assoc}
+use Rattle.std.proofs.Common.{add-one}
 use Rattle.std.specs.Prelude.{slice_get}
 use Rattle.std.specs.Option.{option_to_list}
 use Rattle.std.proofs.lemmas.List.Elements.{filter-append}
@@ -23,5 +24,7 @@ loop-place-preserved c =
     let here = option_to_list (slice_get sides place) in
     let left = drop (place + 1) sides in
     let further : here ++ left ≡ drop place sides = ap (λ n. here ++ drop n sides) (add-one place) ∙ one_item sides place in
-    let split : shipped here ++ shipped left ≡ shipped (drop place sides) = sym (filter-append _ here left) ∙ ap shipped further in
-    record { all = ap (λ items. items ++ shipped left) c.in_ok-push_shipped.ensures ∙ append_assoc so_far (shipped here) (shipped left) ∙ ap (λ items. so_far ++ items) split ∙ c.loop-place.invariant.all }
+    let split : shipped here ++ shipped left ≡ shipped (drop place sides) =
+        sym (filter-append _ here left) ∙ ap shipped further in
+    record { all = ap (λ items. items ++ shipped left) c.in_ok-push_shipped.ensures
+        ∙ append_assoc so_far (shipped here) (shipped left) ∙ ap (λ items. so_far ++ items) split ∙ c.loop-place.invariant.all }

@@ -5,11 +5,15 @@ use Rattle.ill_core.proofs.issued.are_numbered.Goals as goal
 
 pub returns-then-not-is_message-clause-value : goal.returns-then-not-is_message-clause-value
 returns-then-not-is_message-clause-value c =
-    sym (c.loop-index.invariant.rest ∙ numbered_at _ _ _ c.index-apdus-index.result false c.loop-index-test.true c.index-apdus-index.is c.if-not-is_message.ensures.value)
+    sym (c.loop-index.invariant.rest
+    ∙ numbered_at _ _ _ c.index-apdus-index.result false c.loop-index-test.true c.index-apdus-index.is
+    c.if-not-is_message.ensures.value)
 
 pub loop-index-preserved : goal.loop-index-preserved
 loop-index-preserved c = record {
-  rest = c.loop-index.invariant.rest ∙ numbered_at _ _ _ c.index-apdus-index.result true c.loop-index-test.true c.index-apdus-index.is c.if-not-is_message.ensures.value;
+  rest = c.loop-index.invariant.rest
+      ∙ numbered_at _ _ _ c.index-apdus-index.result true c.loop-index-test.true c.index-apdus-index.is
+      c.if-not-is_message.ensures.value;
   few = c.if-not-is_message.ensures.few refl;
 }
 

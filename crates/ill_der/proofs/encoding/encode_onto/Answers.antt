@@ -26,7 +26,9 @@ returns-in_err-push_head-clause-prefix c =
     let apdu = c.args.apdu.now in
     let middle = c.push_start.new.bytes.items in
     let start : middle ≡ c.args.bytes.now.items ++ start_of apdu = search rules in
-    at_err c.from_residual-in_err-push_head.result (adds_second _ middle _ (start_of apdu) (contents_of apdu) start (adds_first _ _ (head_of apdu) (spell_body apdu.body) c.in_err-push_head.ensures.prefix))
+    at_err c.from_residual-in_err-push_head.result
+    (adds_second _ middle _ (start_of apdu) (contents_of apdu) start
+    (adds_first _ _ (head_of apdu) (spell_body apdu.body) c.in_err-push_head.ensures.prefix))
 
 pub returns-clause-prefix : goal.returns-clause-prefix
 unfolding spelling element
@@ -36,4 +38,6 @@ returns-clause-prefix c =
     let first = c.push_start.new.bytes.items in
     let second = c.push_head.new.bytes.items in
     let start : first ≡ c.args.bytes.now.items ++ start_of apdu = search rules in
-    adds_last result _ first _ (start_of apdu) (contents_of apdu) start (adds_last result first second _ (head_of apdu) (spell_body apdu.body) c.in_ok-push_head.ensures.bytes c.push_body.ensures.prefix)
+    adds_last result _ first _ (start_of apdu) (contents_of apdu) start
+    (adds_last result first second _ (head_of apdu) (spell_body apdu.body) c.in_ok-push_head.ensures.bytes
+    c.push_body.ensures.prefix)

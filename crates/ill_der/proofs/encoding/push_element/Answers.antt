@@ -8,4 +8,5 @@ pub returns-in_err-push_start-clause-prefix : goal.returns-in_err-push_start-cla
 unfolding element
 returns-in_err-push_start-clause-prefix c =
     let contents = c.args.contents.now in
-    at_err c.from_residual.result (adds_first _ _ (c.args.identifier ∷ length_octets (length contents)) contents c.in_err-push_start.ensures.prefix)
+    at_err c.from_residual.result (adds_first _ _ (c.args.identifier ∷ length_octets (length contents)) contents
+    c.in_err-push_start.ensures.prefix)

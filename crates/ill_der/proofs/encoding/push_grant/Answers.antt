@@ -14,7 +14,8 @@ returns-in_err-push_reply-clause-prefix c =
     let yes = element 132 (yes_no.spell (is_some c.args.granted)) in
     let day = (optional 133 date).spell c.args.granted in
     let prefix : AddsPrefix old new (answers ++ yes) = search rules in
-    at_err c.from_residual.result (subst (AddsPrefix old new) (append_assoc answers yes day) (adds_first old new (answers ++ yes) day prefix))
+    at_err c.from_residual.result (subst (AddsPrefix old new) (append_assoc answers yes day)
+    (adds_first old new (answers ++ yes) day prefix))
 
 pub returns-clause-prefix : goal.returns-clause-prefix
 returns-clause-prefix c =
@@ -26,4 +27,5 @@ returns-clause-prefix c =
     let yes = element 132 (yes_no.spell (is_some c.args.granted)) in
     let day = (optional 133 date).spell c.args.granted in
     let all : middle ≡ old ++ (answers ++ yes) = search rules in
-    subst (λ text. OnErr result (AddsPrefix old new text)) (append_assoc answers yes day) (adds_last result old middle new (answers ++ yes) day all c.push_optional_date.ensures.prefix)
+    subst (λ text. OnErr result (AddsPrefix old new text)) (append_assoc answers yes day)
+    (adds_last result old middle new (answers ++ yes) day all c.push_optional_date.ensures.prefix)

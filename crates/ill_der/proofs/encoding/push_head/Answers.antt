@@ -22,13 +22,15 @@ number_field apdu = element 130 (number_octets apdu.number)
 pub returns-in_err-push_element-clause-prefix : goal.returns-in_err-push_element-clause-prefix
 returns-in_err-push_element-clause-prefix c =
     let apdu = c.args.apdu.now in
-    at_err c.from_residual.result (adds_first _ _ version_field (txn_field apdu ++ number_field apdu) c.in_err-push_element.ensures.prefix)
+    at_err c.from_residual.result (adds_first _ _ version_field (txn_field apdu ++ number_field apdu)
+    c.in_err-push_element.ensures.prefix)
 
 pub returns-in_err-push_id-clause-prefix : goal.returns-in_err-push_id-clause-prefix
 returns-in_err-push_id-clause-prefix c =
     let apdu = c.args.apdu.now in
     at_err c.from_residual-in_err-push_id.result
-    (adds_second _ _ _ version_field (txn_field apdu ++ number_field apdu) c.in_ok-push_element.ensures.bytes (adds_first _ _ (txn_field apdu) (number_field apdu) c.in_err-push_id.ensures.prefix))
+    (adds_second _ _ _ version_field (txn_field apdu ++ number_field apdu) c.in_ok-push_element.ensures.bytes
+    (adds_first _ _ (txn_field apdu) (number_field apdu) c.in_err-push_id.ensures.prefix))
 
 pub returns-clause-prefix : goal.returns-clause-prefix
 returns-clause-prefix c =

@@ -28,7 +28,9 @@ returns-in_err-push_element-clause-prefix c =
     let middle = c.push_start.new.bytes.items in
     let start : middle ≡ c.args.bytes.now.items ++ start_of id = search rules in
     let group : AddsPrefix middle c.push_element.new.bytes.items (element 129 id.group) = search rules in
-    at_err c.from_residual-in_err-push_element.result (adds_second _ middle _ (start_of id) (qualifiers_of id) start (adds_first _ _ (element 129 id.group) (element 130 id.transaction) group))
+    at_err c.from_residual-in_err-push_element.result
+    (adds_second _ middle _ (start_of id) (qualifiers_of id) start
+    (adds_first _ _ (element 129 id.group) (element 130 id.transaction) group))
 
 pub returns-clause-prefix : goal.returns-clause-prefix
 unfolding element
@@ -39,5 +41,7 @@ returns-clause-prefix c =
     let second = c.push_element.new.bytes.items in
     let start : first ≡ c.args.bytes.now.items ++ start_of id = search rules in
     let group : second ≡ first ++ element 129 id.group = search rules in
-    let transaction : OnErr result (AddsPrefix second c.push_element-2.new.bytes.items (element 130 id.transaction)) = search rules in
-    adds_last result _ first _ (start_of id) (qualifiers_of id) start (adds_last result first second _ (element 129 id.group) (element 130 id.transaction) group transaction)
+    let transaction : OnErr result (AddsPrefix second c.push_element-2.new.bytes.items (element 130 id.transaction)) =
+    search rules in
+    adds_last result _ first _ (start_of id) (qualifiers_of id) start
+    (adds_last result first second _ (element 129 id.group) (element 130 id.transaction) group transaction)

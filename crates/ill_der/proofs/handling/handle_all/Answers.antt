@@ -10,14 +10,18 @@ loop-size-preserved g c =
     let handles = g.H.Handler.handles in
     let bytes = c.args.bytes.now in
     let first =
-    subst (λ (r : Result ℕ DerFault). HandlesFirst handles (take (length bytes - c.loop-size.at) (drop c.loop-size.at bytes)) (c.loop-size.handler, c.loop-size.context) (Ok r) (c.handle_first.new.handler, c.handle_first.new.context))
+    subst (λ (r : Result ℕ DerFault).
+    HandlesFirst handles (take (length bytes - c.loop-size.at) (drop c.loop-size.at bytes))
+    (c.loop-size.handler, c.loop-size.context) (Ok r) (c.handle_first.new.handler, c.handle_first.new.context))
     c.in-Ok-Ok.field-0-is c.in-Ok-Ok.ensures in
     let more =
-    one_more_handled handles bytes c.loop-size.at c.in-Ok-Ok.size (c.args.handler.now, c.args.context.now) (c.loop-size.handler, c.loop-size.context) (c.handle_first.new.handler, c.handle_first.new.context)
+    one_more_handled handles bytes c.loop-size.at c.in-Ok-Ok.size (c.args.handler.now, c.args.context.now)
+    (c.loop-size.handler, c.loop-size.context) (c.handle_first.new.handler, c.handle_first.new.context)
     c.loop-size.invariant.within c.loop-size.invariant.so_far first in
     record { within = more.0; so_far = more.1 }
 
 pub returns-in-Err : goal.returns-in-Err
 returns-in-Err g c =
-    fails_after g.H.Handler.handles c.args.bytes.now c.loop-size.at (c.args.handler.now, c.args.context.now) (c.loop-size.handler, c.loop-size.context)
+    fails_after g.H.Handler.handles c.args.bytes.now c.loop-size.at (c.args.handler.now, c.args.context.now)
+    (c.loop-size.handler, c.loop-size.context)
     (c.handle_first.new.handler, c.handle_first.new.context) c.in-Err.fault c.loop-size.invariant.so_far c.in-Err.ensures

@@ -8,5 +8,10 @@ returns-in-Ok-handle g c =
     let bytes = c.args.bytes.now in (
       c.in-Ok.ensures.some,
       c.in-Ok.ensures.read.0,
-      (c.in-Ok.apdu, begins_one c.prefix_or_fault.ensures bytes c.in-Ok.apdu _ (λ i. omega (arith, c.type_inv.bytes i)) c.in-Ok.ensures.read.1, c.in-Ok-handle.ensures),
+      (
+        c.in-Ok.apdu,
+        begins_one c.prefix_or_fault.ensures bytes c.in-Ok.apdu _ (λ i. omega (arith, c.type_inv.bytes i))
+            c.in-Ok.ensures.read.1,
+        c.in-Ok-handle.ensures,
+      ),
     )

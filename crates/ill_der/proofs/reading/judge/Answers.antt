@@ -13,7 +13,8 @@ returns c =
       qualifier_size = c.text_sizes.ensures.qualifier;
       item_size = c.text_sizes.ensures.item;
     } in
-    spelled_exactly values c.args.bytes.now (c.in_ok-apdu.apdu, c.in_ok-apdu.field-0-1) (λ i. omega (arith, c.type_inv.bytes i)) c.requires.unfinished c.in_ok-apdu.ensures.read
+    spelled_exactly values c.args.bytes.now (c.in_ok-apdu.apdu, c.in_ok-apdu.field-0-1) (λ i. omega (arith, c.type_inv.bytes i))
+    c.requires.unfinished c.in_ok-apdu.ensures.read
 
 pub returns-in_err-apdu : goal.returns-in_err-apdu
 returns-in_err-apdu c =
@@ -23,4 +24,5 @@ returns-in_err-apdu c =
       qualifier_size = c.text_sizes.ensures.qualifier;
       item_size = c.text_sizes.ensures.item;
     } in
-    handed_on values c.args.bytes.now c.in_err-apdu.field-0.0 c.from_residual.result (λ i. omega (arith, c.type_inv.bytes i)) c.requires.unfinished c.requires.enough c.in_err-apdu.ensures.read c.from_residual.ensures.1
+    handed_on values c.args.bytes.now c.in_err-apdu.field-0.0 c.from_residual.result (λ i. omega (arith, c.type_inv.bytes i))
+    c.requires.unfinished c.requires.enough c.in_err-apdu.ensures.read c.from_residual.ensures.1

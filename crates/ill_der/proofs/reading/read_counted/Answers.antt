@@ -21,7 +21,8 @@ slice_bounds-bytes-end-in-loop g c =
     let is = c.loop.invariant in
     let long = length-take-le c.loop.size c.loop.bytes (omega (arith, is.room, is.size)) in
     let most = most_missing prefix (omega (arith, c.missing-missing.ensures, c.if-missing-eq0.false)) in
-    let within : c.loop.size + c.missing-missing.result ≤ length c.loop.bytes = omega (arith, most, long, c.missing-missing.ensures, is.room) in
+    let within : c.loop.size + c.missing-missing.result ≤ length c.loop.bytes =
+    omega (arith, most, long, c.missing-missing.ensures, is.room) in
     omega arith
 
 pub returns-in-Ok-eq0-2-clause-read : goal.returns-in-Ok-eq0-2-clause-read
@@ -32,7 +33,8 @@ returns-in-Ok-eq0-2-clause-read g c =
     let long = length-take-le c.loop.size c.loop.bytes (omega (arith, is.room, is.size)) in
     let room : length c.read_once.new.buffer ≡ c.missing-missing.result = search rules in
     let alone = unfinished_alone prefix (omega (arith, c.missing-missing.ensures, c.if-missing-eq0.false)) in
-    let taken = subst (λ (n : ℕ). Consumes (remaining c.loop.reader) (remaining c.read_once.new.self) (take n c.read_once.new.buffer)) c.in-Ok-eq0.field-0-test c.in-Ok-eq0.ensures.bytes.0 in (
+    let taken = subst (λ (n : ℕ). Consumes (remaining c.loop.reader) (remaining c.read_once.new.self)
+    (take n c.read_once.new.buffer)) c.in-Ok-eq0.field-0-test c.in-Ok-eq0.ensures.bytes.0 in (
       prefix,
       consumes_nothing _ _ _ prefix is.read taken,
       (
@@ -60,7 +62,8 @@ loop-preserved g c =
     let few : count ≤ length c.read_once.new.buffer = search rules in
     let some : count ≡ 0 → ⊥ = search rules in
     let most = most_missing prefix (omega (arith, c.missing-missing.ensures, c.if-missing-eq0.false)) in
-    let now = filled c.loop.size (c.loop.size + c.missing-missing.result - c.loop.size) count c.loop.bytes c.read_once.new.buffer (omega (arith, is.room, is.size)) few in
+    let now = filled c.loop.size (c.loop.size + c.missing-missing.result - c.loop.size) count c.loop.bytes c.read_once.new.buffer
+    (omega (arith, is.room, is.size)) few in
     record {
       room =
           filled_length c.loop.size (c.loop.size + c.missing-missing.result - c.loop.size) c.loop.bytes c.read_once.new.buffer
@@ -68,6 +71,9 @@ loop-preserved g c =
       size = omega (arith, most, long, room, few, c.missing-missing.ensures);
       turns = omega (arith, is.turns, some);
       ticks = omega (arith, c.read_once.ensures.count, is.ticks);
-      read = subst (Consumes (remaining c.args.reader.now) (remaining c.read_once.new.self)) (sym now) (Consumes-trans _ _ _ prefix more is.read c.in-Ok.ensures.bytes.0);
-      unfinished = subst AreUnfinished (sym now) (read_on prefix more is.unfinished (omega (arith, length-take-le count c.read_once.new.buffer few, few, room, c.missing-missing.ensures)));
+      read = subst (Consumes (remaining c.args.reader.now) (remaining c.read_once.new.self)) (sym now)
+          (Consumes-trans _ _ _ prefix more is.read c.in-Ok.ensures.bytes.0);
+      unfinished = subst AreUnfinished (sym now)
+          (read_on prefix more is.unfinished
+          (omega (arith, length-take-le count c.read_once.new.buffer few, few, room, c.missing-missing.ensures)));
     }

@@ -6,4 +6,5 @@ pub returns-clause-value : goal.returns-clause-value
 returns-clause-value c =
     let group = rw c.group.ensures.value at c.element_size.ensures.value in
     let transaction = rw c.transaction.ensures.value at c.element_size-2.ensures.value in
-    qualifiers_length c.args.id.now.group c.args.id.now.transaction c.element_size.result c.element_size-2.result group transaction
+    qualifiers_length c.args.id.now.group c.args.id.now.transaction c.element_size.result c.element_size-2.result group
+    transaction

@@ -11,7 +11,9 @@ loop-preserved g c =
     let written = c.loop.written in
     let count = c.in-Ok.count in
     let rest = whole_rest written bytes in
-    let taken = subst (λ (x : List ℕ). Appends (g.W.CountedWrite.contents c.loop.writer) (g.W.CountedWrite.contents c.write_once.new.self) (take count x)) rest c.in-Ok.ensures.bytes in
+    let taken = subst (λ (x : List ℕ).
+    Appends (g.W.CountedWrite.contents c.loop.writer) (g.W.CountedWrite.contents c.write_once.new.self) (take count x)) rest
+    c.in-Ok.ensures.bytes in
     record {
       prefix = omega (arith, c.in-Ok.ensures.bound, ap length rest, length-drop written bytes);
       turns = omega arith;

@@ -9,19 +9,27 @@ use Rattle.ill_saved.proofs.decoding.read_apdus.Goals as goal
 pub returns-in_err-apdu : goal.returns-in_err-apdu
 returns-in_err-apdu c =
     let whole = read_all apdu c.args.count c.args.cursor.now in
-    let stays = none_more apdu c.loop.apdus.items c.args.count c.loop.counter c.loop.cursor whole c.loop.invariant.read (omega (arith, c.loop-test.true)) in
-    search (rules, fault_stays (λ a. a) (λ (apdus : Vec Apdu Global). apdus.items) c.in_err-apdu.field-0.0 c.apdu.new.self c.apdu.new.self (apdu.read c.loop.cursor) whole stays c.in_err-apdu.ensures.read)
+    let stays = none_more apdu c.loop.apdus.items c.args.count c.loop.counter c.loop.cursor whole c.loop.invariant.read
+    (omega (arith, c.loop-test.true)) in
+    search (
+      rules,
+      fault_stays (λ a. a) (λ (apdus : Vec Apdu Global). apdus.items) c.in_err-apdu.field-0.0 c.apdu.new.self
+          c.apdu.new.self (apdu.read c.loop.cursor) whole stays c.in_err-apdu.ensures.read,
+    )
 
 -- One more APDU keeps the invariant.
 pub loop-preserved : goal.loop-preserved
 loop-preserved c =
-    let next = one_more apdu c.loop.apdus.items c.args.count c.loop.counter c.loop.cursor (read_all apdu c.args.count c.args.cursor.now) c.loop.invariant.read (omega (arith, c.loop-test.true)) in
+    let next = one_more apdu c.loop.apdus.items c.args.count c.loop.counter c.loop.cursor
+    (read_all apdu c.args.count c.args.cursor.now) c.loop.invariant.read (omega (arith, c.loop-test.true)) in
     record {
       turns = omega (arith, c.loop-test.true);
       room = omega (arith, c.loop.invariant.room, c.in_ok-apdu.ensures.near);
-      read = ap (λ vs. after vs (read_all apdu (c.args.count - (c.loop.counter + 1)) c.apdu.new.self)) c.in_ok-push.ensures.items ∙ next c.in_ok-apdu.field-0 c.apdu.new.self c.in_ok-apdu.ensures.read;
+      read = ap (λ vs. after vs (read_all apdu (c.args.count - (c.loop.counter + 1)) c.apdu.new.self)) c.in_ok-push.ensures.items
+          ∙ next c.in_ok-apdu.field-0 c.apdu.new.self c.in_ok-apdu.ensures.read;
     }
 
 -- After `count` APDUs, the list is the one that is read.
 pub returns : goal.returns
-returns c = all_there apdu c.loop.apdus.items c.args.count c.loop.counter c.loop.cursor (read_all apdu c.args.count c.args.cursor.now) c.loop.invariant.read (omega arith)
+returns c = all_there apdu c.loop.apdus.items c.args.count c.loop.counter c.loop.cursor
+    (read_all apdu c.args.count c.args.cursor.now) c.loop.invariant.read (omega arith)

@@ -10,7 +10,8 @@ use Rattle.ill_saved.proofs.decoding.requester.Goals as goal
 pub returns-in-None : goal.returns-in-None
 returns-in-None c =
     let x : RequesterRecord =
-    requester_of c.in_ok-txn.txn c.in_ok-state.state c.in_ok-held.held c.in_ok-checked_in.checked_in c.in_ok-due.due c.in_ok-issued.issued.items in
+    requester_of c.in_ok-txn.txn c.in_ok-state.state c.in_ok-held.held c.in_ok-checked_in.checked_in c.in_ok-due.due
+    c.in_ok-issued.issued.items in
     let read : all_of (read_requester c.args.cursor.now) ≡ Ok (sides.Requester x) = search rules in
     let breaks : IsRequester x → ⊥ = search rules in
     sym (judged_not (all_of (read_requester c.args.cursor.now)) (sides.Requester x) read breaks)

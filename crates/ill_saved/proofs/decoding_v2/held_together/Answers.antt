@@ -9,5 +9,10 @@ returns-in_err-put c =
     let held = c.loop-side.sides in
     let rest = c.next.new.self.rest.items in
     let prefix : c.loop-side.side-iterator.rest.items ≡ c.in-Some.side ∷ rest = search rules in
-    let all : held.sides ++ c.in-Some.side ∷ rest ≡ c.args.read.items = ap (λ sides. held.sides ++ sides) (sym prefix) ∙ c.loop-side.invariant.all in
-    search (rules, put_fails c.args.role c.args.read.items held c.in-Some.side rest c.in_err-put.field-0.0 c.put.new.sides c.loop-side.invariant.role all c.requires.few c.in_err-put.ensures)
+    let all : held.sides ++ c.in-Some.side ∷ rest ≡ c.args.read.items =
+    ap (λ sides. held.sides ++ sides) (sym prefix) ∙ c.loop-side.invariant.all in
+    search (
+      rules,
+      put_fails c.args.role c.args.read.items held c.in-Some.side rest c.in_err-put.field-0.0 c.put.new.sides
+          c.loop-side.invariant.role all c.requires.few c.in_err-put.ensures,
+    )

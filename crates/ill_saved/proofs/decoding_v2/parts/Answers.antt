@@ -10,20 +10,33 @@ use Rattle.ill_saved.proofs.decoding_v2.parts.Goals as goal
 pub returns-in_err-part-clause-read : goal.returns-in_err-part-clause-read
 returns-in_err-part-clause-read c =
     let whole = read_all part c.args.count c.args.cursor.now in
-    let stays = none_more part c.loop.sides.items c.args.count c.loop.counter c.loop.cursor whole c.loop.invariant.read (omega (arith, c.loop-test.true)) in
-    search (rules, fault_stays (λ a. a) (λ (sides : Vec Side Global). sides.items) c.in_err-part.field-0.0 c.part.new.cursor c.part.new.cursor (part.read c.loop.cursor) whole stays c.in_err-part.ensures.read)
+    let stays = none_more part c.loop.sides.items c.args.count c.loop.counter c.loop.cursor whole c.loop.invariant.read
+    (omega (arith, c.loop-test.true)) in
+    search (
+      rules,
+      fault_stays (λ a. a) (λ (sides : Vec Side Global). sides.items) c.in_err-part.field-0.0 c.part.new.cursor
+          c.part.new.cursor (part.read c.loop.cursor) whole stays c.in_err-part.ensures.read,
+    )
 
 -- One more part keeps the invariant.
 pub loop-preserved : goal.loop-preserved
 loop-preserved c =
-    let next = one_more part c.loop.sides.items c.args.count c.loop.counter c.loop.cursor (read_all part c.args.count c.args.cursor.now) c.loop.invariant.read (omega (arith, c.loop-test.true)) in
+    let next = one_more part c.loop.sides.items c.args.count c.loop.counter c.loop.cursor
+    (read_all part c.args.count c.args.cursor.now) c.loop.invariant.read (omega (arith, c.loop-test.true)) in
     record {
       turns = omega (arith, c.loop-test.true);
-      so_many = omega (arith, ap length c.in_ok-push.ensures.items, length-append c.loop.sides.items (c.in_ok-part.field-0 ∷ []), c.loop.invariant.so_many);
+      so_many = omega (
+        arith,
+        ap length c.in_ok-push.ensures.items,
+        length-append c.loop.sides.items (c.in_ok-part.field-0 ∷ []),
+        c.loop.invariant.so_many,
+      );
       room = omega (arith, c.loop.invariant.room, c.in_ok-part.ensures.near);
-      read = ap (λ vs. after vs (read_all part (c.args.count - (c.loop.counter + 1)) c.part.new.cursor)) c.in_ok-push.ensures.items ∙ next c.in_ok-part.field-0 c.part.new.cursor c.in_ok-part.ensures.read;
+      read = ap (λ vs. after vs (read_all part (c.args.count - (c.loop.counter + 1)) c.part.new.cursor))
+          c.in_ok-push.ensures.items ∙ next c.in_ok-part.field-0 c.part.new.cursor c.in_ok-part.ensures.read;
     }
 
 -- After `count` parts, the list is the one that is read.
 pub returns-clause-read : goal.returns-clause-read
-returns-clause-read c = all_there part c.loop.sides.items c.args.count c.loop.counter c.loop.cursor (read_all part c.args.count c.args.cursor.now) c.loop.invariant.read (omega arith)
+returns-clause-read c = all_there part c.loop.sides.items c.args.count c.loop.counter c.loop.cursor
+    (read_all part c.args.count c.args.cursor.now) c.loop.invariant.read (omega arith)

@@ -15,8 +15,10 @@ loop-apdu-preserved c =
     let pushed = c.in_ok-encode_onto.ensures in
     record {
       bytes = ap (λ bytes. bytes ++ spell_all spelling (drop (index + 1) apdus)) pushed.spelled
-          ∙ (one_spelled spelling c.loop-apdu.bytes.items apdus index a c.loop-apdu-test.true c.apdu-item.is ∙ c.loop-apdu.invariant.bytes);
-      range = λ others. c.loop-apdu.invariant.range (one_each IsApdu apdus index a c.loop-apdu-test.true c.apdu-item.is pushed.range others);
+          ∙ (one_spelled spelling c.loop-apdu.bytes.items apdus index a c.loop-apdu-test.true c.apdu-item.is
+          ∙ c.loop-apdu.invariant.bytes);
+      range = λ others. c.loop-apdu.invariant.range
+          (one_each IsApdu apdus index a c.loop-apdu-test.true c.apdu-item.is pushed.range others);
     }
 
 -- After the last APDU, the encodings of all are appended.

@@ -24,7 +24,8 @@ loop-place-preserved c =
           record {
             bytes = ap (λ bytes. bytes ++ spell_all part.spell (drop (place + 1) held)) pushed
                 ∙ (one_spelled part.spell c.loop-place.bytes.items held place side inside there ∙ c.loop-place.invariant.bytes);
-            sides = λ others. c.loop-place.invariant.sides (one_each IsSide held place side inside there w.in_ok-push_part.ensures.side others);
+            sides = λ others. c.loop-place.invariant.sides
+                (one_each IsSide held place side inside there w.in_ok-push_part.ensures.side others);
           }
       | in_default w ↦ absurd (none_past held place inside (search rules))
     ]

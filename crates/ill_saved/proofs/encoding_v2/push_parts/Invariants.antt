@@ -8,6 +8,7 @@ use Rattle.ill_saved.proofs.encoding_v2.push_parts.Given as goal
 -- If the sides from `place` on are in range, all are.
 abbrev pub invariant-loop-place : goal.invariant-loop-place
 invariant-loop-place l = record {
-  bytes : l.bytes.items ++ spell_all part.spell (drop l.place l.sides.sides) ≡ l.fn.bytes.items ++ spell_all part.spell l.sides.sides;
+  bytes : l.bytes.items ++ spell_all part.spell (drop l.place l.sides.sides)
+      ≡ l.fn.bytes.items ++ spell_all part.spell l.sides.sides;
   sides : Each IsSide (drop l.place l.sides.sides) → Each IsSide l.sides.sides;
 }

@@ -5,5 +5,9 @@ use Rattle.ill_saved.proofs.laws.rows_begin.Goals as goal
 -- A side that is not idle is not idle after a row.
 pub returns-clause-stays : goal.returns-clause-stays
 returns-clause-stays c =
-    rows_stay (record { wish = c.requester_has_begun.ensures.acts; deed = c.responder_has_begun.ensures.acts; message = c.requester_has_begun.ensures.takes })
+    rows_stay (record {
+      wish = c.requester_has_begun.ensures.acts;
+      deed = c.responder_has_begun.ensures.acts;
+      message = c.requester_has_begun.ensures.takes;
+    })
     c.rows_keep_request.ensures

@@ -4,4 +4,8 @@ use Rattle.ill_saved.proofs.laws.sides_read_again.Goals as goal
 
 -- Sides that may be saved are read again from their encoding.
 pub returns : goal.returns
-returns c = read_again (record { spelled = c.spelled.ensures.side; again = c.read_again.ensures; short = c.record_is_short.ensures })
+returns c = read_again (record {
+  spelled = c.spelled.ensures.side;
+  again = c.read_again.ensures;
+  short = c.record_is_short.ensures;
+})

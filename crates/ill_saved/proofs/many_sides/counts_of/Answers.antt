@@ -19,7 +19,11 @@ loop-place-preserved c =
           let side = w.in-Some.side.now in
           let found : slice_get held place ≡ Some side = search rules in
           let there = sym (get_or_from_slice_get held place side side found) in
-          let pushed = ap (λ b. b.items) w.counts-is ∙ w.in_ok-push.ensures.items ∙ ap (λ n. c.loop-place.counts.items ++ n ∷ []) w.issued_count.ensures in
-          record { counted = ap (λ ns. ns ++ counts (drop (place + 1) held)) pushed ∙ (one_counted c.loop-place.counts.items held place side inside there ∙ c.loop-place.invariant.counted) }
+          let pushed = ap (λ b. b.items) w.counts-is ∙ w.in_ok-push.ensures.items
+          ∙ ap (λ n. c.loop-place.counts.items ++ n ∷ []) w.issued_count.ensures in
+          record {
+            counted = ap (λ ns. ns ++ counts (drop (place + 1) held)) pushed
+                ∙ (one_counted c.loop-place.counts.items held place side inside there ∙ c.loop-place.invariant.counted);
+          }
       | in_default w ↦ absurd (none_past held place inside (search rules))
     ]

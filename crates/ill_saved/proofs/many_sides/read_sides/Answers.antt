@@ -10,16 +10,22 @@ use Rattle.ill_saved.proofs.many_sides.read_sides.Goals as goal
 pub whole-requires : goal.whole-requires
 whole-requires c =
     let bytes = c.args.bytes.now in
-    record { rules = read_consistent c.spelled.ensures.side c.sides_spelled.ensures bytes c.in_ok-sides.sides (λ i. omega (arith, c.type_inv.bytes i)) (sym c.in_ok-sides.ensures) }
+    record {
+      rules = read_consistent c.spelled.ensures.side c.sides_spelled.ensures bytes c.in_ok-sides.sides
+          (λ i. omega (arith, c.type_inv.bytes i)) (sym c.in_ok-sides.ensures);
+    }
 
 -- All messages are released.
 pub returns-clause-whole : goal.returns-clause-whole
 returns-clause-whole c =
-    subst (λ held. held ≡ whole_of (sides_held held)) (sym c.in_ok-whole.ensures) (ap whole_of (sym (sides_of_whole c.in_ok-sides.sides)))
+    subst (λ held. held ≡ whole_of (sides_held held)) (sym c.in_ok-whole.ensures)
+    (ap whole_of (sym (sides_of_whole c.in_ok-sides.sides)))
 
 -- The sides that were read back themselves.
 pub returns-clause-backed : goal.returns-clause-backed
 returns-clause-backed c =
     let bytes = c.args.bytes.now in
-    let each : Each IsConsistent c.in_ok-sides.sides.sides = read_consistent c.spelled.ensures.side c.sides_spelled.ensures bytes c.in_ok-sides.sides (λ i. omega (arith, c.type_inv.bytes i)) (sym c.in_ok-sides.ensures) in
+    let each : Each IsConsistent c.in_ok-sides.sides.sides =
+    read_consistent c.spelled.ensures.side c.sides_spelled.ensures bytes c.in_ok-sides.sides
+    (λ i. omega (arith, c.type_inv.bytes i)) (sym c.in_ok-sides.ensures) in
     subst (λ held. ManyBack held held) (sym c.in_ok-whole.ensures) (whole_back c.in_ok-sides.sides each)

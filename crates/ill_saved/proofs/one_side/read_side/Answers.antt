@@ -10,5 +10,6 @@ returns c =
     let bytes = c.args.bytes.now in
     record {
       decodes = c.decode_record.ensures;
-      spelled = decodes_spelled bytes (begins_as_record bytes) c.decode_record.result (λ side read. c.spelled.ensures.side bytes side (λ i. omega (arith, c.type_inv.bytes i)) read) c.decode_record.ensures;
+      spelled = decodes_spelled bytes (begins_as_record bytes) c.decode_record.result
+          (λ side read. c.spelled.ensures.side bytes side (λ i. omega (arith, c.type_inv.bytes i)) read) c.decode_record.ensures;
     }

@@ -6,4 +6,5 @@ use Rattle.ill_saved.proofs.sides.insert_new.Goals as goal
 
 -- Under a new key, the entry comes after the others.
 pub returns-in-Ok-clause-done : goal.returns-in-Ok-clause-done
-returns-in-Ok-clause-done g c = c.in-Ok.ensures.entries ∙ insert_entry-new is_same_txn c.args.map.now c.args.key c.args.value c.requires.new
+returns-in-Ok-clause-done g c =
+    c.in-Ok.ensures.entries ∙ insert_entry-new is_same_txn c.args.map.now c.args.key c.args.value c.requires.new

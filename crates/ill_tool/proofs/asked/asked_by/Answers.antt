@@ -15,5 +15,10 @@ loop-place-preserved g c =
     let so_far = c.loop-place.asked.items in
     let here = asks_at live (slice_get mails place) (slice_get verdicts place) in
     let left = asked_by live (zip (drop (place + 1) mails) (drop (place + 1) verdicts)) in
-    let further : here ++ left ≡ asked_by live (zip (drop place mails) (drop place verdicts)) = ap (λ n. here ++ asked_by live (zip (drop n mails) (drop n verdicts))) (add-one place) ∙ one_asking live mails verdicts place in
-    record { there = ap (λ items. items ++ left) c.in_ok-push_asking_at.ensures ∙ append_assoc so_far here left ∙ ap (λ items. so_far ++ items) further ∙ c.loop-place.invariant.there }
+    let further : here ++ left ≡ asked_by live (zip (drop place mails) (drop place verdicts)) =
+    ap (λ n. here ++ asked_by live (zip (drop n mails) (drop n verdicts))) (add-one place)
+    ∙ one_asking live mails verdicts place in
+    record {
+      there = ap (λ items. items ++ left) c.in_ok-push_asking_at.ensures ∙ append_assoc so_far here left
+          ∙ ap (λ items. so_far ++ items) further ∙ c.loop-place.invariant.there;
+    }

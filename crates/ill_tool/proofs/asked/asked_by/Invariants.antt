@@ -7,5 +7,6 @@ use Rattle.ill_tool.proofs.asked.asked_by.Given as goal
 -- The bytes so far, with those of the mails that are left, are all that ask.
 abbrev pub invariant-loop-place : goal.invariant-loop-place
 invariant-loop-place g l = record {
-  there : l.asked.items ++ asked_by l.desk.live (zip (drop l.place l.mails) (drop l.place l.verdicts)) ≡ asked_by l.desk.live (zip l.mails l.verdicts);
+  there : l.asked.items ++ asked_by l.desk.live (zip (drop l.place l.mails) (drop l.place l.verdicts))
+      ≡ asked_by l.desk.live (zip l.mails l.verdicts);
 }

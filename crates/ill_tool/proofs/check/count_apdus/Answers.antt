@@ -6,5 +6,7 @@ use Rattle.ill_tool.proofs.check.count_apdus.Goals as goal
 
 pub returns : goal.returns
 returns g c =
-    reads_as (λ (s : Passing × Unit {0}) apdu r (t : Passing × Unit {0}). passes tt apdu r tt) passes (λ s. tt) (λ s t apdu r h. h) _ _
-    (c.new.result.handler, c.handle_input.new.context) (c.handle_input.new.counted.handler, c.handle_input.new.context) c.handle_input.result c.handle_input.ensures
+    reads_as (λ (s : Passing × Unit {0}) apdu r (t : Passing × Unit {0}). passes tt apdu r tt) passes (λ s. tt)
+    (λ s t apdu r h. h) _ _
+    (c.new.result.handler, c.handle_input.new.context) (c.handle_input.new.counted.handler, c.handle_input.new.context)
+    c.handle_input.result c.handle_input.ensures

@@ -15,5 +15,9 @@ loop-place-preserved c =
     let so_far = c.loop-place.dues.items in
     let here = option_to_list (due_at which today (slice_get sides place)) in
     let left = all_due which today (drop (place + 1) sides) in
-    let further : here ++ left ≡ all_due which today (drop place sides) = ap (λ n. here ++ all_due which today (drop n sides)) (add-one place) ∙ sym (one_further which today sides place) in
-    record { all = ap (λ items. items ++ left) c.in_ok-push_due_at.ensures ∙ append_assoc so_far here left ∙ ap (λ items. so_far ++ items) further ∙ c.loop-place.invariant.all }
+    let further : here ++ left ≡ all_due which today (drop place sides) =
+    ap (λ n. here ++ all_due which today (drop n sides)) (add-one place) ∙ sym (one_further which today sides place) in
+    record {
+      all = ap (λ items. items ++ left) c.in_ok-push_due_at.ensures ∙ append_assoc so_far here left
+          ∙ ap (λ items. so_far ++ items) further ∙ c.loop-place.invariant.all;
+    }

@@ -12,4 +12,5 @@ returns g c =
     let line = deed_line g.H.Holdings.effects c.args.desk.now.live in
     let done = c.args.done.now in
     let all = take_all c.loop-due.due-index done c.loop-due-test.false in
-    c.loop-due.invariant.told ∙ ap (flat_map (λ (due : Bor Due). line due.now)) all ∙ sym (flat_map-map line (λ (due : Bor Due). due.now) done)
+    c.loop-due.invariant.told ∙ ap (flat_map (λ (due : Bor Due). line due.now)) all
+    ∙ sym (flat_map-map line (λ (due : Bor Due). due.now) done)

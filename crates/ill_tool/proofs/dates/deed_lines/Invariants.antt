@@ -8,5 +8,6 @@ use Rattle.ill_tool.proofs.dates.deed_lines.Given as goal
 -- The lines are those of the deeds so far.
 abbrev pub invariant-loop-due : goal.invariant-loop-due
 invariant-loop-due g l = record {
-  told : l.lines.items ≡ flat_map (λ (due : Bor Due). deed_line g.H.Holdings.effects l.desk.live due.now) (take l.due-index l.done);
+  told : l.lines.items ≡ flat_map (λ (due : Bor Due). deed_line g.H.Holdings.effects l.desk.live due.now)
+      (take l.due-index l.done);
 }

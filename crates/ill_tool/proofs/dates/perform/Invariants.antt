@@ -8,6 +8,7 @@ use Rattle.ill_tool.proofs.dates.perform.Given as goal
 -- The deeds so far were performed, and nothing has been saved.
 abbrev pub invariant-loop-due : goal.invariant-loop-due
 invariant-loop-due g l = record {
-  performed : doing l.desk.live (map (λ (due : Bor Due). due.now) l.done.items) ≡ fold (after_deed g.H.Holdings.effects l.today) (doing l.initial.desk.live []) (take l.due-index l.dues);
+  performed : doing l.desk.live (map (λ (due : Bor Due). due.now) l.done.items)
+      ≡ fold (after_deed g.H.Holdings.effects l.today) (doing l.initial.desk.live []) (take l.due-index l.dues);
   store : l.desk.store ≡ l.initial.desk.store;
 }

@@ -5,9 +5,11 @@ use Rattle.ill_tool.proofs.EscapeLemmas.{first_of_two_stays, last_stays}
 use Rattle.ill_tool.proofs.escape.acting_prefix.Goals as goal
 
 pub returns-in_default : goal.returns-in_default
-returns-in_default c = last_stays c.args._escaping c.args.first c.args.after.now (nil_from_length c.args.after.now c.in_default.ensures.cases)
+returns-in_default c = last_stays c.args._escaping c.args.first c.args.after.now
+    (nil_from_length c.args.after.now c.in_default.ensures.cases)
 
 pub returns-in_default-split_first : goal.returns-in_default-split_first
 returns-in_default-split_first c =
     let none = nil_from_length c.in-Some.rest.now c.in_default-split_first.ensures.cases in
-    first_of_two_stays c.args._escaping c.args.first c.in-Some.second.now c.args.after.now c.in-Some.rest.now c.in-Some.ensures.cases.0 none (sym c.two_act.ensures ∙ c.if-two_act.false)
+    first_of_two_stays c.args._escaping c.args.first c.in-Some.second.now c.args.after.now c.in-Some.rest.now
+    c.in-Some.ensures.cases.0 none (sym c.two_act.ensures ∙ c.if-two_act.false)

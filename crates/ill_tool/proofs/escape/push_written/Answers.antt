@@ -7,5 +7,6 @@ use Rattle.ill_tool.proofs.escape.push_written.Goals as goal
 
 pub returns : goal.returns
 returns c =
-    none_left c.args.escaping c.loop-first.text.items (c.args.text.now.items ++ written c.args.escaping c.args.item.now) c.loop-first.rest.now c.loop-first.invariant.shown
+    none_left c.args.escaping c.loop-first.text.items (c.args.text.now.items ++ written c.args.escaping c.args.item.now)
+    c.loop-first.rest.now c.loop-first.invariant.shown
     (nil_from_length c.loop-first.rest.now c.in_default.ensures.cases)

@@ -12,7 +12,9 @@ returns-in-Ok g c =
     let before = g.W.Write.contents c.args.writer.now in
     let after = g.W.Write.contents c.run_desk_inbox-run.new.writer in
     let waiting = c.in_ok-found.found.waiting in
-    let runs = subst (λ (mails : List Mail). RunsInbox many_sides mails waiting None None before after (view c.args.desk.now) (Ok c.in-Ok.verdicts.items) (view c.run_desk_inbox-run.new.desk)) c.deref.ensures.value c.in-Ok.ensures.runs in
+    let runs = subst (λ (mails : List Mail).
+    RunsInbox many_sides mails waiting None None before after (view c.args.desk.now) (Ok c.in-Ok.verdicts.items)
+    (view c.run_desk_inbox-run.new.desk)) c.deref.ensures.value c.in-Ok.ensures.runs in
     inr (c.in_ok-found.found.mails.items, waiting, Ok c.in-Ok.verdicts.items, runs, c.conclude.ensures)
 
 pub returns : goal.returns

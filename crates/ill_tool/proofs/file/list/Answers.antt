@@ -8,5 +8,7 @@ pub returns : goal.returns
 returns g c =
     let before = g.W.Write.contents c.args.writer.now in
     let after = g.W.Write.contents c.list_files.new.writer in
-    let listed = subst (λ (files : List _). ListsDesks c.args.form c.args.wanted.now (map (λ file. string_bytes file) files) before after c.list_files.result) c.deref.ensures.value c.list_files.ensures in
+    let listed = subst (λ (files : List _).
+    ListsDesks c.args.form c.args.wanted.now (map (λ file. string_bytes file) files) before after c.list_files.result)
+    c.deref.ensures.value c.list_files.ensures in
     inr (map (λ file. string_bytes file) c.in-Ok.files.items, (c.list_files.result, listed, c.all_well.ensures))

@@ -14,6 +14,9 @@ loop-place-preserved g c =
     let before = g.W.Write.contents c.args.writer.now in
     let between = g.W.Write.contents c.loop-place.writer in
     let after = g.W.Write.contents c.list_file.new.writer in
-    let at = ap (λ file. string_bytes file) c.index-files-place.is ∙ sym (get_or-map (λ file. string_bytes file) c.args.files.now place c.index-files-place.result (string_bytes c.index-files-place.result) c.loop-place-test.true) in
+    let at = ap (λ file. string_bytes file) c.index-files-place.is
+    ∙ sym (get_or-map (λ file. string_bytes file) c.args.files.now place c.index-files-place.result
+    (string_bytes c.index-files-place.result) c.loop-place-test.true) in
     let found = subst (λ (file : List ℕ). file ≡ get_or names place file) (sym c.as_str.ensures.value) at in
-    one_more c.args.form c.args.wanted.now names c.loop-place.invariant.0 place _ _ _ before between after _ within found (ap (λ (n : ℕ). nat_lt 1 n) (sym count)) refl c.loop-place.invariant.1 c.loop-place.invariant.2 c.in_default.ensures
+    one_more c.args.form c.args.wanted.now names c.loop-place.invariant.0 place _ _ _ before between after _ within found
+    (ap (λ (n : ℕ). nat_lt 1 n) (sym count)) refl c.loop-place.invariant.1 c.loop-place.invariant.2 c.in_default.ensures

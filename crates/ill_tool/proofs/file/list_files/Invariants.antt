@@ -10,5 +10,7 @@ use Rattle.ill_tool.proofs.file.list_files.Given as goal
 -- The desks so far were listed.
 abbrev pub invariant-loop-place : goal.invariant-loop-place
 invariant-loop-place g l =
-    (desks : List (List ℕ × List Side)) × (map (λ (desk : List ℕ × List Side). desk.0) desks ≡ take l.place (map (λ file. string_bytes file) l.files))
-    × Appends (g.W.Write.contents l.fn.writer) (g.W.Write.contents l.writer) (listed_desks l.form (are_several (map (λ file. string_bytes file) l.files)) l.wanted desks)
+    (desks : List (List ℕ × List Side))
+    × (map (λ (desk : List ℕ × List Side). desk.0) desks ≡ take l.place (map (λ file. string_bytes file) l.files))
+    × Appends (g.W.Write.contents l.fn.writer) (g.W.Write.contents l.writer)
+    (listed_desks l.form (are_several (map (λ file. string_bytes file) l.files)) l.wanted desks)

@@ -11,5 +11,6 @@ returns g c =
     let lines = list_lines c.args.wanted.now (sides_held c.args.desk.now.live).sides in
     let before = g.W.Write.contents c.args.writer.now in
     let after = g.W.Write.contents c.run_desk_list.new.writer in
-    let text = ap (λ heading. heading ++ lines) (c.deref.ensures.value ∙ c.in_ok-heading.ensures) ∙ append_assoc (gap listed.is_first) (heading listed.is_headed listed.path.now) lines in
+    let text = ap (λ heading. heading ++ lines) (c.deref.ensures.value ∙ c.in_ok-heading.ensures)
+    ∙ append_assoc (gap listed.is_first) (heading listed.is_headed listed.path.now) lines in
     subst (λ (text : List ℕ). WritesText before after text c.run_desk_list.result) text c.run_desk_list.ensures

@@ -13,5 +13,7 @@ returns g c =
     let begun = c.in_ok-push_head.ensures ∙ ap (λ start. start ++ head) c.new-page.ensures.items in
     let told = subst (λ (before : List ℕ). AddsDesks today before page) begun c.in_ok-push_files.ensures.told in
     let whole = whole_page today page told in
-    let written = subst (λ (text : List ℕ). WritesText (g.W.Write.contents c.args.writer.now) (g.W.Write.contents c.end_page.new.writer) text c.end_page.result) whole.1 c.end_page.ensures in
+    let written = subst (λ (text : List ℕ).
+    WritesText (g.W.Write.contents c.args.writer.now) (g.W.Write.contents c.end_page.new.writer) text c.end_page.result)
+    whole.1 c.end_page.ensures in
     inr (whole.0, (c.end_page.result, written, c.all_well.ensures))

@@ -10,4 +10,5 @@ returns g c =
     let before = g.W.Write.contents c.args.writer.now in
     let after = g.W.Write.contents c.take_told-taken.new.writer in
     let taken : TakesAtFile false c.args.is_long left rest before after c.release.result = search rules in
-    subst (λ (is_kept : Bool). TakesAtFile is_kept c.args.is_long left rest before after c.release.result) (sym c.if-is_kept.false) taken
+    subst (λ (is_kept : Bool). TakesAtFile is_kept c.args.is_long left rest before after c.release.result)
+    (sym c.if-is_kept.false) taken

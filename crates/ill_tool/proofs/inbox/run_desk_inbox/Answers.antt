@@ -6,5 +6,7 @@ use Rattle.ill_tool.proofs.inbox.run_desk_inbox.Goals as goal
 pub returns-clause-ended : goal.returns-clause-ended
 returns-clause-ended g c =
     let view = view_of g.S.Store.state in
-    ended_if_ok (λ verdicts. verdicts.items) c.args.mails.now c.args.waiting (g.F.Write.contents c.args.came.now) (g.F.Write.contents c.run_inbox.new.came) (g.W.Write.contents c.args.writer.now)
-    (g.W.Write.contents c.run_inbox.new.writer) (view c.args.desk.now) (view c.run_inbox.new.desk) c.run_inbox.result c.run_inbox.ensures.runs
+    ended_if_ok (λ verdicts. verdicts.items) c.args.mails.now c.args.waiting (g.F.Write.contents c.args.came.now)
+    (g.F.Write.contents c.run_inbox.new.came) (g.W.Write.contents c.args.writer.now)
+    (g.W.Write.contents c.run_inbox.new.writer) (view c.args.desk.now) (view c.run_inbox.new.desk) c.run_inbox.result
+    c.run_inbox.ensures.runs

@@ -7,6 +7,7 @@ use Rattle.ill_tool.proofs.inbox.sort_mails.Given as goal
 -- The mails so far are sorted, and nothing has been saved.
 abbrev pub invariant-loop-mail : goal.invariant-loop-mail
 invariant-loop-mail g l = record {
-  sorted : sorting_of l.desk.live l.sorted ≡ fold (after_mail g.H.Holdings.effects) (unsorted l.initial.desk.live) (take l.mail-index l.mails);
+  sorted : sorting_of l.desk.live l.sorted
+      ≡ fold (after_mail g.H.Holdings.effects) (unsorted l.initial.desk.live) (take l.mail-index l.mails);
   store : l.desk.store ≡ l.initial.desk.store;
 }

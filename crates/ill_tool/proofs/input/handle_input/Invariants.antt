@@ -7,7 +7,8 @@ use Rattle.ill_tool.proofs.input.handle_input.Given as goal
 abbrev pub invariant-loop-feed : goal.invariant-loop-feed
 invariant-loop-feed g l = record {
   size : length l.piece ≡ 4096;
-  so_far : ReadSoFar g.H.Handler.handles (g.R.Read.remaining l.initial.reader) (g.R.Read.remaining l.reader) (l.initial.counted.handler, l.initial.context) l.counted.count l.feed
+  so_far : ReadSoFar g.H.Handler.handles (g.R.Read.remaining l.initial.reader) (g.R.Read.remaining l.reader)
+      (l.initial.counted.handler, l.initial.context) l.counted.count l.feed
       (l.counted.handler, l.context);
 }
 

@@ -13,12 +13,15 @@ loop-field-preserved c =
     let place = c.loop-field.field-index in
     let item = c.field-item.result in
     record {
-      shown = ap (λ shown. shown ++ joined text (codes ",") (drop (place + 1) fields)) (c.in_ok-push_member.ensures ∙ ap (λ shown. shown ++ text item) c.in_ok-extend_from_slice.ensures.items)
-          ∙ (one_joined text c.loop-field.before.now c.loop-field.text.items fields place item (from_place fields place item c.loop-field-test.true c.field-item.is) ∙ c.loop-field.invariant.shown);
+      shown = ap (λ shown. shown ++ joined text (codes ",") (drop (place + 1) fields))
+          (c.in_ok-push_member.ensures ∙ ap (λ shown. shown ++ text item) c.in_ok-extend_from_slice.ensures.items)
+          ∙ (one_joined text c.loop-field.before.now c.loop-field.text.items fields place item
+          (from_place fields place item c.loop-field-test.true c.field-item.is) ∙ c.loop-field.invariant.shown);
     }
 
 pub returns : goal.returns
 returns c =
     let text : Bor (List ℕ) × Value → List ℕ = λ field. member (field.0.now, value_text field.1) in
     let all : length c.args.fields.now ≤ c.loop-field.field-index = omega (arith, c.loop-field-test.false) in
-    sym (all_joined text c.loop-field.before.now c.loop-field.text.items c.args.fields.now c.loop-field.field-index all) ∙ c.loop-field.invariant.shown
+    sym (all_joined text c.loop-field.before.now c.loop-field.text.items c.args.fields.now c.loop-field.field-index all)
+    ∙ c.loop-field.invariant.shown

@@ -6,5 +6,6 @@ use Rattle.ill_tool.proofs.json.push_members.Given as goal
 -- The text so far, with the fields that are left, has all fields.
 abbrev pub invariant-loop-field : goal.invariant-loop-field
 invariant-loop-field l = record {
-  shown : l.text.items ++ joined (λ field. member (field.0.now, value_text field.1)) l.before (drop l.field-index l.fields) ≡ l.fn.text.items ++ joined (λ field. member (field.0.now, value_text field.1)) l.fn.before l.fields;
+  shown : l.text.items ++ joined (λ field. member (field.0.now, value_text field.1)) l.before (drop l.field-index l.fields)
+      ≡ l.fn.text.items ++ joined (λ field. member (field.0.now, value_text field.1)) l.fn.before l.fields;
 }

@@ -15,8 +15,12 @@ loop-word-preserved c =
     let set = c.extend_from_slice.new.self.items in
     let left = joined text (codes ",") (drop (place + 1) words) in
     record {
-      shown = ap (λ shown. shown ++ left) (c.in_ok-push_quoted.ensures ∙ ap (λ word. set ++ quoted word) c.as_bytes.ensures.value ∙ ap (λ shown. shown ++ quoted item.now) c.in_ok-extend_from_slice.ensures.items)
-          ∙ (one_joined text c.loop-word.before.now c.loop-word.text.items words place item (drop_more words place (record { ref_ptr = (0, 0); now = [] }) c.loop-word-test.true) ∙ c.loop-word.invariant.shown);
+      shown = ap (λ shown. shown ++ left)
+          (c.in_ok-push_quoted.ensures ∙ ap (λ word. set ++ quoted word) c.as_bytes.ensures.value
+          ∙ ap (λ shown. shown ++ quoted item.now) c.in_ok-extend_from_slice.ensures.items)
+          ∙ (one_joined text c.loop-word.before.now c.loop-word.text.items words place item
+          (drop_more words place (record { ref_ptr = (0, 0); now = [] }) c.loop-word-test.true)
+          ∙ c.loop-word.invariant.shown);
     }
 
 pub returns : goal.returns
@@ -24,8 +28,12 @@ returns c =
     let text : Bor (List ℕ) → List ℕ = λ word. quoted word.now in
     let words = c.args.words.now in
     let all : length words ≤ c.loop-word.word-index = omega (arith, c.loop-word-test.false) in
-    let shown = sym (all_joined text c.loop-word.before.now c.loop-word.text.items words c.loop-word.word-index all) ∙ c.loop-word.invariant.shown in
+    let shown = sym (all_joined text c.loop-word.before.now c.loop-word.text.items words c.loop-word.word-index all)
+    ∙ c.loop-word.invariant.shown in
     let mapped = joined_map quoted (λ (word : Bor (List ℕ)). word.now) [] words in
     c.in_ok-push-2.ensures.items
-    ∙ ap (λ shown. shown ++ 93 ∷ []) (shown ∙ ap (λ prefix. prefix ++ joined text [] words) c.in_ok-push.ensures.items ∙ append_assoc c.args.text.now.items (91 ∷ []) (joined text [] words) ∙ ap (λ texts. c.args.text.now.items ++ 91 ∷ texts) mapped)
+    ∙ ap (λ shown. shown ++ 93 ∷ [])
+    (shown ∙ ap (λ prefix. prefix ++ joined text [] words) c.in_ok-push.ensures.items
+    ∙ append_assoc c.args.text.now.items (91 ∷ []) (joined text [] words)
+    ∙ ap (λ texts. c.args.text.now.items ++ 91 ∷ texts) mapped)
     ∙ append_assoc c.args.text.now.items (91 ∷ joined quoted [] _) (93 ∷ [])

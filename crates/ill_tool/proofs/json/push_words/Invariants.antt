@@ -6,5 +6,6 @@ use Rattle.ill_tool.proofs.json.push_words.Given as goal
 -- The text so far, with the words that are left, has all words.
 abbrev pub invariant-loop-word : goal.invariant-loop-word
 invariant-loop-word l = record {
-  shown : l.text.items ++ joined (λ word. quoted word.now) l.before (drop l.word-index l.words) ≡ l.initial.text.items ++ joined (λ word. quoted word.now) [] l.words;
+  shown : l.text.items ++ joined (λ word. quoted word.now) l.before (drop l.word-index l.words)
+      ≡ l.initial.text.items ++ joined (λ word. quoted word.now) [] l.words;
 }

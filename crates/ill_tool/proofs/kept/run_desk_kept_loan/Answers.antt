@@ -18,8 +18,10 @@ returns-in-Some g c =
     let after = g.W.Write.contents c.write_kept.new.writer in
     let there : side_with txn (sides_held live).sides ≡ Some side = search rules in
     let counted : c.released.result ≡ (held_for txn live).released = search rules in
-    subst (λ (found : Option DeskEntry). RunsKeptLoan (kept_text c.args.form) found bytes before after c.write_kept.result) (sym (held_there live txn side there))
-    (subst (λ (released : ℕ). WritesKept (kept_text c.args.form (record { side = side; released = released })) (txn_of side) bytes before after c.write_kept.result) counted c.write_kept.ensures)
+    subst (λ (found : Option DeskEntry). RunsKeptLoan (kept_text c.args.form) found bytes before after c.write_kept.result)
+    (sym (held_there live txn side there))
+    (subst (λ (released : ℕ). WritesKept (kept_text c.args.form (record { side = side; released = released })) (txn_of side) bytes
+    before after c.write_kept.result) counted c.write_kept.ensures)
 
 pub returns-in-None : goal.returns-in-None
 returns-in-None g c =

@@ -7,6 +7,7 @@ use Rattle.ill_tool.proofs.list.push_list.Goals as goal
 pub returns : goal.returns
 returns c =
     subst
-    (λ (sides : List Side). OnOk c.push_ordered.result (c.push_ordered.new.lines.items ≡ c.args.lines.now.items ++ ordered_lines c.args.wanted.now sides))
+    (λ (sides : List Side). OnOk c.push_ordered.result
+    (c.push_ordered.new.lines.items ≡ c.args.lines.now.items ++ ordered_lines c.args.wanted.now sides))
     (ap (map (λ (side : Bor Side). side.now)) c.deref.ensures.value ∙ c.in_ok-sides.ensures)
     c.push_ordered.ensures

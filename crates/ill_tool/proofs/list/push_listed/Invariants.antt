@@ -8,5 +8,6 @@ use Rattle.ill_tool.proofs.list.push_listed.Given as goal
 -- The loans of the turns so far are there.
 abbrev pub invariant-loop-turn : goal.invariant-loop-turn
 invariant-loop-turn l = record {
-  listed : l.text.items ≡ l.initial.text.items ++ flat_map (rows_of (row_text l.rows) l.wanted (map (λ (side : Bor Side). side.now) l.sides)) (take l.turn-index l.turns);
+  listed : l.text.items ≡ l.initial.text.items
+      ++ flat_map (rows_of (row_text l.rows) l.wanted (map (λ (side : Bor Side). side.now) l.sides)) (take l.turn-index l.turns);
 }

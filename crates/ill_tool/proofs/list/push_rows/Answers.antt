@@ -20,4 +20,5 @@ returns c =
     let apart =
     kept_apart (text turn) (is_listed wanted turn) (map (λ (side : Bor Side). side.now) sides)
     ∙ flat_map-map (λ (side : Side). rows_of text wanted (side ∷ []) turn) (λ (side : Bor Side). side.now) sides in
-    c.loop-side.invariant.listed ∙ ap (λ (shown : _). c.args.text.now.items ++ each shown) all ∙ ap (λ lines. c.args.text.now.items ++ lines) (sym apart)
+    c.loop-side.invariant.listed ∙ ap (λ (shown : _). c.args.text.now.items ++ each shown) all
+    ∙ ap (λ lines. c.args.text.now.items ++ lines) (sym apart)

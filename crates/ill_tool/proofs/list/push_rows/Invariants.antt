@@ -8,5 +8,6 @@ use Rattle.ill_tool.proofs.list.push_rows.Given as goal
 -- The loans of the sides so far are there.
 abbrev pub invariant-loop-side : goal.invariant-loop-side
 invariant-loop-side l = record {
-  listed : l.text.items ≡ l.initial.text.items ++ flat_map (λ (side : Bor Side). rows_of (row_text l.rows) l.wanted (side.now ∷ []) l.turn) (take l.side-index l.sides);
+  listed : l.text.items ≡ l.initial.text.items
+      ++ flat_map (λ (side : Bor Side). rows_of (row_text l.rows) l.wanted (side.now ∷ []) l.turn) (take l.side-index l.sides);
 }

@@ -11,7 +11,8 @@ use Rattle.ill_tool.proofs.list.run_desk_list.Goals as goal
 text_written : (before after : Option (List ℕ)) (bytes : List ℕ) (result : Result (Unit {0}) ToolFault)
     → WritesPrefix before after bytes result → WritesText before after bytes result
 text_written before after bytes (Ok done) written = written
-text_written before after bytes (Err fault) (is, prefix) = subst (λ (fault : ToolFault). WritesText before after bytes (Err fault)) (sym is) prefix
+text_written before after bytes (Err fault) (is, prefix) =
+    subst (λ (fault : ToolFault). WritesText before after bytes (Err fault)) (sym is) prefix
 
 pub returns : goal.returns
 returns g c =
@@ -20,5 +21,6 @@ returns g c =
     let before = g.W.Write.contents c.args.writer.now in
     let after = g.W.Write.contents c.write_whole.new.writer in
     let text : c.deref.result.now ≡ heading ++ list (sides_held c.args.desk.now.live) =
-    c.deref.ensures.value ∙ c.in_ok-push_list.ensures ∙ ap (λ lines. lines ++ list c.sides.result.now) c.in_ok-lines.ensures.items ∙ ap (λ (held : SidesOf). heading ++ list held) c.sides.ensures.value in
+    c.deref.ensures.value ∙ c.in_ok-push_list.ensures ∙ ap (λ lines. lines ++ list c.sides.result.now) c.in_ok-lines.ensures.items
+    ∙ ap (λ (held : SidesOf). heading ++ list held) c.sides.ensures.value in
     subst (λ text. WritesText before after text c.write_whole.result) text (text_written before after _ _ c.write_whole.ensures)

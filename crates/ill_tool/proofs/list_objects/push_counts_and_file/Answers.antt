@@ -7,4 +7,5 @@ use Rattle.ill_tool.proofs.list_objects.push_counts_and_file.Goals as goal
 pub returns : goal.returns
 returns c =
     subst (λ (shown : List ℕ). OnOk c.push_file.result (c.push_file.new.text.items ≡ shown))
-    (joined_further member [] c.args.text.now.items c.push_counts_fields.new.text.items _ _ _ c.in_ok-push_counts_fields.ensures) c.push_file.ensures
+    (joined_further member [] c.args.text.now.items c.push_counts_fields.new.text.items _ _ _ c.in_ok-push_counts_fields.ensures)
+    c.push_file.ensures

@@ -12,10 +12,12 @@ loop-apdu-preserved c =
     let place = c.loop-apdu.apdu-index in
     record {
       shown = ap (λ lines. lines ++ flat_map text (drop (place + 1) apdus)) c.in_ok-push_message.ensures
-          ∙ (one_shown text c.loop-apdu.lines.items apdus place c.apdu-item.result c.loop-apdu-test.true c.apdu-item.is ∙ c.loop-apdu.invariant.shown);
+          ∙ (one_shown text c.loop-apdu.lines.items apdus place c.apdu-item.result c.loop-apdu-test.true c.apdu-item.is
+          ∙ c.loop-apdu.invariant.shown);
     }
 
 pub returns : goal.returns
 returns c =
     let all : length c.args.apdus.now ≤ c.loop-apdu.apdu-index = omega (arith, c.loop-apdu-test.false) in
-    sym (all_shown (message_lines c.args.released) c.loop-apdu.lines.items c.args.apdus.now c.loop-apdu.apdu-index all) ∙ c.loop-apdu.invariant.shown
+    sym (all_shown (message_lines c.args.released) c.loop-apdu.lines.items c.args.apdus.now c.loop-apdu.apdu-index all)
+    ∙ c.loop-apdu.invariant.shown

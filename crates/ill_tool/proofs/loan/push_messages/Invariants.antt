@@ -7,5 +7,6 @@ use Rattle.ill_tool.proofs.loan.push_messages.Given as goal
 -- The lines so far, with those of the messages that are left, are all lines.
 abbrev pub invariant-loop-apdu : goal.invariant-loop-apdu
 invariant-loop-apdu l = record {
-  shown : l.lines.items ++ flat_map (message_lines l.released) (drop l.apdu-index l.apdus) ≡ l.fn.lines.items ++ flat_map (message_lines l.released) l.apdus;
+  shown : l.lines.items ++ flat_map (message_lines l.released) (drop l.apdu-index l.apdus)
+      ≡ l.fn.lines.items ++ flat_map (message_lines l.released) l.apdus;
 }

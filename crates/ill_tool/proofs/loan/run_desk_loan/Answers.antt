@@ -18,7 +18,8 @@ returns-in-Some g c =
     let there : side_with txn (sides_held live).sides ≡ Some side = search rules in
     let counted : c.released.result ≡ (held_for txn live).released = search rules in
     subst (λ (found : Option DeskEntry). RunsLoan found before after c.write_loan.result) (sym (held_there live txn side there))
-    (subst (λ (released : ℕ). WritesText before after (loan_lines side released) c.write_loan.result) counted c.write_loan.ensures)
+    (subst (λ (released : ℕ). WritesText before after (loan_lines side released) c.write_loan.result) counted
+    c.write_loan.ensures)
 
 pub returns-in-None : goal.returns-in-None
 returns-in-None g c =

@@ -5,10 +5,13 @@ use Rattle.ill_tool.proofs.long_lines.push_indented.Goals as goal
 
 pub loop-byte-preserved : goal.loop-byte-preserved
 loop-byte-preserved c =
-    let lt : c.loop-byte.byte-index < length c.args.text.now = omega (arith, c.loop-byte-test.true, c.loop-byte.auto.byte-index-end) in
+    let lt : c.loop-byte.byte-index < length c.args.text.now =
+    omega (arith, c.loop-byte-test.true, c.loop-byte.auto.byte-index-end) in
     let on =
-    one_byte_further c.args.text.now c.loop-byte.byte-index c.loop-byte.begins c.loop-byte.lines.items c.extend_from_slice.new.self.items c.push.new.self.items lt
-    (c.in_ok-extend_from_slice.ensures.items ∙ ap (λ bytes. c.loop-byte.lines.items ++ bytes) c.indent.ensures) c.in_ok-push.ensures.items in
+    one_byte_further c.args.text.now c.loop-byte.byte-index c.loop-byte.begins c.loop-byte.lines.items
+    c.extend_from_slice.new.self.items c.push.new.self.items lt
+    (c.in_ok-extend_from_slice.ensures.items ∙ ap (λ bytes. c.loop-byte.lines.items ++ bytes) c.indent.ensures)
+    c.in_ok-push.ensures.items in
     record { shown = on ∙ c.loop-byte.invariant.shown }
 
 pub returns : goal.returns

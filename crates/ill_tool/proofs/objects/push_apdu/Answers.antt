@@ -7,4 +7,5 @@ use Rattle.ill_tool.proofs.objects.push_apdu.Goals as goal
 pub returns : goal.returns
 returns c =
     subst (λ (shown : List ℕ). OnOk c.push_body.result (c.push_body.new.text.items ≡ shown))
-    (joined_further member [] c.args.text.now.items c.push_head.new.text.items _ _ _ c.in_ok-push_head.ensures) c.push_body.ensures
+    (joined_further member [] c.args.text.now.items c.push_head.new.text.items _ _ _ c.in_ok-push_head.ensures)
+    c.push_body.ensures

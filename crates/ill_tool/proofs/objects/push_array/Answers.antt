@@ -13,8 +13,10 @@ loop-apdu-preserved c =
     let place = c.loop-apdu.apdu-index in
     let apdu = c.apdu-item.result in
     record {
-      shown = ap (λ shown. shown ++ joined text (codes ",") (drop (place + 1) apdus)) (c.in_ok-push_message.ensures ∙ ap (λ shown. shown ++ text apdu) c.in_ok-extend_from_slice.ensures.items)
-          ∙ (one_joined text c.loop-apdu.before.now c.loop-apdu.text.items apdus place apdu (from_place apdus place apdu c.loop-apdu-test.true c.apdu-item.is) ∙ c.loop-apdu.invariant.shown);
+      shown = ap (λ shown. shown ++ joined text (codes ",") (drop (place + 1) apdus))
+          (c.in_ok-push_message.ensures ∙ ap (λ shown. shown ++ text apdu) c.in_ok-extend_from_slice.ensures.items)
+          ∙ (one_joined text c.loop-apdu.before.now c.loop-apdu.text.items apdus place apdu
+          (from_place apdus place apdu c.loop-apdu-test.true c.apdu-item.is) ∙ c.loop-apdu.invariant.shown);
     }
 
 pub returns : goal.returns
@@ -23,7 +25,10 @@ returns c =
     let old = c.args.text.now.items in
     let apdus = c.args.apdus.now in
     let all : length apdus ≤ c.loop-apdu.apdu-index = omega (arith, c.loop-apdu-test.false) in
-    let shown = sym (all_joined text c.loop-apdu.before.now c.loop-apdu.text.items apdus c.loop-apdu.apdu-index all) ∙ c.loop-apdu.invariant.shown in
+    let shown = sym (all_joined text c.loop-apdu.before.now c.loop-apdu.text.items apdus c.loop-apdu.apdu-index all)
+    ∙ c.loop-apdu.invariant.shown in
     c.in_ok-push-2.ensures.items
-    ∙ ap (λ shown. shown ++ 93 ∷ []) (shown ∙ ap (λ prefix. prefix ++ joined text [] apdus) c.in_ok-push.ensures.items ∙ append_assoc old (91 ∷ []) (joined text [] apdus))
+    ∙ ap (λ shown. shown ++ 93 ∷ [])
+    (shown ∙ ap (λ prefix. prefix ++ joined text [] apdus) c.in_ok-push.ensures.items
+    ∙ append_assoc old (91 ∷ []) (joined text [] apdus))
     ∙ append_assoc old (91 ∷ joined text [] apdus) (93 ∷ [])

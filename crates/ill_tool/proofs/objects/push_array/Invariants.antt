@@ -7,5 +7,6 @@ use Rattle.ill_tool.proofs.objects.push_array.Given as goal
 -- The text so far, with the messages that are left, has all messages.
 abbrev pub invariant-loop-apdu : goal.invariant-loop-apdu
 invariant-loop-apdu l = record {
-  shown : l.text.items ++ joined (message_object l.released) l.before (drop l.apdu-index l.apdus) ≡ l.initial.text.items ++ joined (message_object l.released) [] l.apdus;
+  shown : l.text.items ++ joined (message_object l.released) l.before (drop l.apdu-index l.apdus)
+      ≡ l.initial.text.items ++ joined (message_object l.released) [] l.apdus;
 }

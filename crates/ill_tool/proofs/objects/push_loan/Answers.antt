@@ -11,9 +11,12 @@ returns c =
     let old = c.args.text.now.items in
     let side = c.args.side.now in
     let released = c.args.released in
-    let turn = c.in_ok-push_turn.ensures ∙ joined_further member [] old c.push_status.new.text.items _ _ _ c.in_ok-push_status.ensures in
+    let turn = c.in_ok-push_turn.ensures
+    ∙ joined_further member [] old c.push_status.new.text.items _ _ _ c.in_ok-push_status.ensures in
     let taken = c.in_ok-push_taken.ensures ∙ joined_further member [] old c.push_turn.new.text.items _ _ _ turn in
     let all =
     joined_further member [] old c.push_taken.new.text.items _ _ _ taken
-    ∙ ap (λ (apdus : List Apdu). old ++ joined member [] (status_fields side released ++ turn_fields side (names_of side) ++ taken_fields side ++ sent_fields released apdus)) c.all_issued.ensures.value in
+    ∙ ap (λ (apdus : List Apdu). old
+    ++ joined member [] (status_fields side released ++ turn_fields side (names_of side) ++ taken_fields side
+    ++ sent_fields released apdus)) c.all_issued.ensures.value in
     subst (λ (shown : List ℕ). OnOk c.push_messages.result (c.push_messages.new.text.items ≡ shown)) all c.push_messages.ensures

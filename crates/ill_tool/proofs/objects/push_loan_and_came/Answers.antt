@@ -7,4 +7,5 @@ use Rattle.ill_tool.proofs.objects.push_loan_and_came.Goals as goal
 pub returns : goal.returns
 returns c =
     subst (λ (shown : List ℕ). OnOk c.push_messages.result (c.push_messages.new.text.items ≡ shown))
-    (joined_further member [] c.args.text.now.items c.push_loan.new.text.items _ _ _ c.in_ok-push_loan.ensures) c.push_messages.ensures
+    (joined_further member [] c.args.text.now.items c.push_loan.new.text.items _ _ _ c.in_ok-push_loan.ensures)
+    c.push_messages.ensures

@@ -11,5 +11,6 @@ returns g c =
     let before = g.W.Write.contents c.args.writer.now in
     let after = g.W.Write.contents c.visit_all-answer.new.writer in
     let answer = c.visit_all-answer.result in
-    let visited = subst (λ dates. VisitsAll true (ExchangesAtFile dates) paths before after answer) c.at_each.ensures c.visit_all-answer.ensures in
+    let visited = subst (λ dates. VisitsAll true (ExchangesAtFile dates) paths before after answer) c.at_each.ensures
+    c.visit_all-answer.ensures in
     inr (paths, answer, c.end_night-further.result, visited, c.end_night-further.ensures, c.graver.ensures)

@@ -4,4 +4,11 @@ use Rattle.std.specs.Prelude.{string_bytes}
 use Rattle.ill_tool.proofs.on_shelf.inbox_of_shelf.Goals as goal
 
 pub returns : goal.returns
-returns g c = inr (map (λ path. string_bytes path) c.deref.result.now, c.visit_all-answer.result, c.waiting.result, c.visit_all-answer.ensures, c.waiting.ensures, c.graver.ensures)
+returns g c = inr (
+  map (λ path. string_bytes path) c.deref.result.now,
+  c.visit_all-answer.result,
+  c.waiting.result,
+  c.visit_all-answer.ensures,
+  c.waiting.ensures,
+  c.graver.ensures,
+)

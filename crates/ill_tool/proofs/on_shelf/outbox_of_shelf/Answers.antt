@@ -5,4 +5,11 @@ use Rattle.ill_tool.proofs.ShelfLemmas.{graver_well}
 use Rattle.ill_tool.proofs.on_shelf.outbox_of_shelf.Goals as goal
 
 pub returns : goal.returns
-returns g c = inr (map (λ path. string_bytes path) c.deref.result.now, c.visit_all.result, Ok true, c.visit_all.ensures, refl, graver_well c.visit_all.result)
+returns g c = inr (
+  map (λ path. string_bytes path) c.deref.result.now,
+  c.visit_all.result,
+  Ok true,
+  c.visit_all.ensures,
+  refl,
+  graver_well c.visit_all.result,
+)

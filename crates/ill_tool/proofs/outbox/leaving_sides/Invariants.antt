@@ -6,5 +6,6 @@ use Rattle.ill_tool.proofs.outbox.leaving_sides.Given as goal
 -- The messages so far, with those of the sides that are left, are all messages.
 abbrev pub invariant-loop-held : goal.invariant-loop-held
 invariant-loop-held l = record {
-  there : map issue_of l.leaving.items ++ leaving_desk l.asking (map held_of (drop l.held-index l.sides)) ≡ leaving_desk l.asking (map held_of l.sides);
+  there : map issue_of l.leaving.items ++ leaving_desk l.asking (map held_of (drop l.held-index l.sides))
+      ≡ leaving_desk l.asking (map held_of l.sides);
 }

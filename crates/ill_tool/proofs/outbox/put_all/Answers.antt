@@ -20,5 +20,10 @@ pub returns : goal.returns
 returns g c =
     let leaving = c.args.leaving.now in
     let before = g.O.Outgoing.mails c.args.out.now in
-    let all : take c.loop-message.message-index leaving ≡ leaving = take_all c.loop-message.message-index leaving c.loop-message-test.false in
-    (sym (length-map (map issue_of leaving) letter_of ∙ length-map leaving issue_of), c.loop-message.invariant.there ∙ ap (λ messages. fold (λ there message. after_one g.O.Outgoing.after there (letter_of (issue_of message))) before messages) all ∙ sym (each_put g.O.Outgoing.after leaving before))
+    let all : take c.loop-message.message-index leaving ≡ leaving =
+    take_all c.loop-message.message-index leaving c.loop-message-test.false in (
+      sym (length-map (map issue_of leaving) letter_of ∙ length-map leaving issue_of),
+      c.loop-message.invariant.there ∙ ap
+          (λ messages. fold (λ there message. after_one g.O.Outgoing.after there (letter_of (issue_of message))) before messages)
+          all ∙ sym (each_put g.O.Outgoing.after leaving before),
+    )

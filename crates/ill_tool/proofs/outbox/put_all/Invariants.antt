@@ -7,5 +7,7 @@ use Rattle.ill_tool.proofs.outbox.put_all.Given as goal
 -- The messages so far were put there.
 abbrev pub invariant-loop-message : goal.invariant-loop-message
 invariant-loop-message g l = record {
-  there : g.O.Outgoing.mails l.out ≡ fold (λ there message. after_one g.O.Outgoing.after there (letter_of (issue_of message))) (g.O.Outgoing.mails l.initial.out) (take l.message-index l.leaving);
+  there : g.O.Outgoing.mails l.out
+      ≡ fold (λ there message. after_one g.O.Outgoing.after there (letter_of (issue_of message)))
+      (g.O.Outgoing.mails l.initial.out) (take l.message-index l.leaving);
 }

@@ -10,5 +10,6 @@ returns-in_default g c =
     let bytes = c.args.bytes.now in
     let before = g.W.Write.contents c.args.writer.now in
     let after = g.W.Write.contents c.flush.new.self in
-    let all = Appends-kept before (g.W.Write.contents c.write_whole.new.writer) after bytes c.in_ok-write_whole.ensures c.flush.ensures.bytes in
+    let all = Appends-kept before (g.W.Write.contents c.write_whole.new.writer) after bytes c.in_ok-write_whole.ensures
+    c.flush.ensures.bytes in
     (refl, (length bytes, subst (λ kept. Appends before after kept) (sym (take_all (length bytes) bytes (omega arith))) all))

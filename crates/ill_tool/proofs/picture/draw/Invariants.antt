@@ -7,5 +7,6 @@ use Rattle.ill_tool.proofs.picture.draw.Given as goal
 -- The own messages so far are drawn, with those of theirs that stand among them.
 abbrev pub invariant-loop-apdu : goal.invariant-loop-apdu
 invariant-loop-apdu l = record {
-  drawn : record { lines = l.lines.items; left = l.left } ≡ fold with_own (record { lines = opening; left = l.theirs }) (take l.apdu-index l.own);
+  drawn : record { lines = l.lines.items; left = l.left }
+      ≡ fold with_own (record { lines = opening; left = l.theirs }) (take l.apdu-index l.own);
 }

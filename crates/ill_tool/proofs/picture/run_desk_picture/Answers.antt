@@ -16,7 +16,8 @@ returns-in-Some g c =
     let before = g.W.Write.contents c.args.writer.now in
     let after = g.W.Write.contents c.write_picture.new.writer in
     let there : side_with txn (sides_held live).sides ≡ Some side = search rules in
-    subst (λ (found : Option DeskEntry). RunsKeptLoan picture found c.args.came.now before after c.write_picture.result) (sym (held_there live txn side there)) c.write_picture.ensures
+    subst (λ (found : Option DeskEntry). RunsKeptLoan picture found c.args.came.now before after c.write_picture.result)
+    (sym (held_there live txn side there)) c.write_picture.ensures
 
 pub returns-in-None : goal.returns-in-None
 returns-in-None g c =

@@ -7,6 +7,7 @@ use Rattle.ill_tool.proofs.picture.through.Given as goal
 -- The last of the messages so far that is linked is found.
 abbrev pub invariant-loop-place : goal.invariant-loop-place
 invariant-loop-place l = record {
-  reached : record { place = l.place; last = l.last } ≡ fold (reach l.link l.own) (record { place = 0; last = 0 }) (take l.place l.theirs);
+  reached : record { place = l.place; last = l.last }
+      ≡ fold (reach l.link l.own) (record { place = 0; last = 0 }) (take l.place l.theirs);
   within : l.last ≤ l.place;
 }

@@ -16,5 +16,7 @@ returns c =
     let sides = c.args.sides.now in
     let each = flat_map (λ (side : Bor Side). loans_text today turns fields (side.now ∷ [])) in
     let all = take_all c.loop-side.side-index sides c.loop-side-test.false in
-    let apart = kept_apart (loan_text today fields) (is_on today turns) (map (λ (side : Bor Side). side.now) sides) ∙ flat_map-map (λ (side : Side). loans_text today turns fields (side ∷ [])) (λ (side : Bor Side). side.now) sides in
-    c.loop-side.invariant.told ∙ ap (λ (told : _). c.args.page.now.items ++ each told) all ∙ ap (λ text. c.args.page.now.items ++ text) (sym apart)
+    let apart = kept_apart (loan_text today fields) (is_on today turns) (map (λ (side : Bor Side). side.now) sides)
+    ∙ flat_map-map (λ (side : Side). loans_text today turns fields (side ∷ [])) (λ (side : Bor Side). side.now) sides in
+    c.loop-side.invariant.told ∙ ap (λ (told : _). c.args.page.now.items ++ each told) all
+    ∙ ap (λ text. c.args.page.now.items ++ text) (sym apart)

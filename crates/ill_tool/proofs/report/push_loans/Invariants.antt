@@ -8,5 +8,7 @@ use Rattle.ill_tool.proofs.report.push_loans.Given as goal
 -- The loans so far that have a turn of the section are on the page.
 abbrev pub invariant-loop-side : goal.invariant-loop-side
 invariant-loop-side l = record {
-  told : l.page.items ≡ l.initial.page.items ++ flat_map (λ (side : Bor Side). loans_text l.today l.section.turns.now l.section.fields.now (side.now ∷ [])) (take l.side-index l.sides);
+  told : l.page.items ≡ l.initial.page.items
+      ++ flat_map (λ (side : Bor Side). loans_text l.today l.section.turns.now l.section.fields.now (side.now ∷ []))
+      (take l.side-index l.sides);
 }

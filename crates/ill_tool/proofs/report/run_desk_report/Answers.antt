@@ -14,6 +14,8 @@ returns g c =
     let desk = desk_text today (c.args.file.now, (sides_held c.args.desk.now.live).sides) in
     let begun = c.in_ok-push_head.ensures ∙ ap (λ start. start ++ head) c.new-page.ensures.items in
     let shown = ap (λ sides. desk_text today (c.args.file.now, sides.sides)) c.sides.ensures.value in
-    let told = c.in_ok-push_desk.ensures ∙ ap (λ more. c.push_head.new.page.items ++ more) shown ∙ ap (λ prefix. prefix ++ desk) begun ∙ ap (λ more. head ++ more) (sym (append-nil desk)) in
-    subst (λ (text : List ℕ). WritesText (g.W.Write.contents c.args.writer.now) (g.W.Write.contents c.end_page.new.writer) (text ++ END.now) c.end_page.result)
+    let told = c.in_ok-push_desk.ensures ∙ ap (λ more. c.push_head.new.page.items ++ more) shown
+    ∙ ap (λ prefix. prefix ++ desk) begun ∙ ap (λ more. head ++ more) (sym (append-nil desk)) in
+    subst (λ (text : List ℕ). WritesText (g.W.Write.contents c.args.writer.now) (g.W.Write.contents c.end_page.new.writer)
+    (text ++ END.now) c.end_page.result)
     told c.end_page.ensures

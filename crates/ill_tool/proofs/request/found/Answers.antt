@@ -7,5 +7,6 @@ use Rattle.ill_tool.proofs.request.found.Goals as goal
 
 pub returns-in-Some : goal.returns-in-Some
 returns-in-Some c =
-    let met = met_with c.args.matches.now c.in-Some.word.now (rows_of (found_of c.in-Some.matches.now)) c.in-Some.ensures.name c.in-Some.ensures.rows in
+    let met = met_with c.args.matches.now c.in-Some.word.now (rows_of (found_of c.in-Some.matches.now)) c.in-Some.ensures.name
+    c.in-Some.ensures.rows in
     subst (λ (said : Option (Text × List Row)). ReadsValue asked (asked_in said) c.named.result) (sym met) c.named.ensures

@@ -5,7 +5,10 @@ use Rattle.ill_tool.proofs.RequestLemmas.{text_said}
 use Rattle.ill_tool.proofs.request.is_set.Goals as goal
 
 pub returns-in-Some : goal.returns-in-Some
-returns-in-Some c = c.eq.ensures ∙ sym (ap is_true (text_said c.args.matches.now c.id.result.now c.args.flag (Some c.in-Some.text.now) c.id.ensures c.in-Some.ensures))
+returns-in-Some c = c.eq.ensures
+    ∙ sym (ap is_true (text_said c.args.matches.now c.id.result.now c.args.flag (Some c.in-Some.text.now) c.id.ensures
+    c.in-Some.ensures))
 
 pub returns-in-None : goal.returns-in-None
-returns-in-None c = sym (ap is_true (text_said c.args.matches.now c.id.result.now c.args.flag None c.id.ensures c.in-None.ensures))
+returns-in-None c = sym (ap is_true
+    (text_said c.args.matches.now c.id.result.now c.args.flag None c.id.ensures c.in-None.ensures))

@@ -4,7 +4,9 @@ use Rattle.ill_tool.proofs.RequestLemmas.{text_said, none_said}
 use Rattle.ill_tool.proofs.request.text.Goals as goal
 
 pub returns-in-Some : goal.returns-in-Some
-returns-in-Some c = text_said c.args.matches.now c.id.result.now c.args.argument (Some c.in-Some.text.now) c.id.ensures c.in-Some.ensures
+returns-in-Some c = text_said c.args.matches.now c.id.result.now c.args.argument (Some c.in-Some.text.now) c.id.ensures
+    c.in-Some.ensures
 
 pub returns-in-None : goal.returns-in-None
-returns-in-None c = none_said c.args.matches.now c.id.result.now c.args.argument c.unknown.result c.id.ensures c.in-None.ensures c.unknown.ensures
+returns-in-None c = none_said c.args.matches.now c.id.result.now c.args.argument c.unknown.result c.id.ensures c.in-None.ensures
+    c.unknown.ensures

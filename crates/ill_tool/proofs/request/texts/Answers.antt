@@ -5,8 +5,10 @@ use Rattle.ill_tool.proofs.request.texts.Goals as goal
 
 pub returns-in-Ok : goal.returns-in-Ok
 returns-in-Ok c =
-    texts_said c.args.matches.now _ c.args.argument (Some (map (λ (text : Bor (List ℕ)). text.now) c.in-Some.texts.now)) c.id.ensures c.in-Some.ensures
+    texts_said c.args.matches.now _ c.args.argument (Some (map (λ (text : Bor (List ℕ)). text.now) c.in-Some.texts.now))
+    c.id.ensures c.in-Some.ensures
     ∙ ap (λ (items : List (Bor (List ℕ))). Some (map (λ (text : Bor (List ℕ)). text.now) items)) (sym c.in-Ok.ensures.items)
 
 pub returns-in-None : goal.returns-in-None
-returns-in-None c = no_texts_said c.args.matches.now _ c.args.argument c.unknown.result c.id.ensures c.in-None.ensures c.unknown.ensures
+returns-in-None c = no_texts_said c.args.matches.now _ c.args.argument c.unknown.result c.id.ensures c.in-None.ensures
+    c.unknown.ensures

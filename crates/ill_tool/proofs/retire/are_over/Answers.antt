@@ -8,4 +8,5 @@ use Rattle.ill_tool.proofs.retire.are_over.Goals as goal
 pub returns : goal.returns
 returns c =
     c.are_each_over.ensures ∙ ap (λ sides. list_all (λ side. is_over side.now) sides) c.deref.ensures.value
-    ∙ sym (list_all-map is_over (λ side. side.now) c.in_ok-all.all.items) ∙ ap (λ sides. list_all is_over sides) c.in_ok-all.ensures
+    ∙ sym (list_all-map is_over (λ side. side.now) c.in_ok-all.all.items)
+    ∙ ap (λ sides. list_all is_over sides) c.in_ok-all.ensures

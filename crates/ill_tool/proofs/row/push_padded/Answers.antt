@@ -9,7 +9,8 @@ pub loop-preserved : goal.loop-preserved
 loop-preserved c =
     let before = c.loop.lines.items in
     let left = replicate {A = ℕ} (c.args.width - (c.loop.counter + 1)) 32 in
-    let one_more = append_assoc before (32 ∷ []) left ∙ ap (λ more. before ++ more) (sym (one_space c.args.width c.loop.counter c.loop-test.true)) in
+    let one_more = append_assoc before (32 ∷ []) left
+    ∙ ap (λ more. before ++ more) (sym (one_space c.args.width c.loop.counter c.loop-test.true)) in
     record { filled = ap (λ items. items ++ left) c.in_ok-push.ensures.items ∙ one_more ∙ c.loop.invariant.filled }
 
 pub returns : goal.returns
@@ -19,4 +20,5 @@ returns c =
     let spaces = replicate {A = ℕ} (c.args.width - length c.args.text.now) 32 in
     let none : c.args.width - c.loop.counter ≡ 0 = omega (arith, c.loop-test.false) in
     sym (append-nil filled) ∙ ap (λ n. filled ++ replicate {A = ℕ} n 32) (sym none) ∙ c.loop.invariant.filled
-    ∙ ap (λ items. items ++ spaces) c.in_ok-extend_from_slice.ensures.items ∙ append_assoc c.args.lines.now.items c.args.text.now spaces
+    ∙ ap (λ items. items ++ spaces) c.in_ok-extend_from_slice.ensures.items
+    ∙ append_assoc c.args.lines.now.items c.args.text.now spaces

@@ -11,5 +11,6 @@ returns c =
     let text : Bor (List ℕ) → List ℕ = λ name. name.now in
     let verbs = verbs_of c.args.side.now in
     let named = c.in_ok-names.ensures ∙ ap (map verb_name) c.verbs.ensures.value in
-    c.in_ok-join.ensures.ok ∙ ap (join_by text (44 ∷ [])) c.deref.ensures.value ∙ joined_as_texts text (44 ∷ []) c.in_ok-names.field-0.items
+    c.in_ok-join.ensures.ok ∙ ap (join_by text (44 ∷ [])) c.deref.ensures.value
+    ∙ joined_as_texts text (44 ∷ []) c.in_ok-names.field-0.items
     ∙ ap (join_by (λ (t : List ℕ). t) (44 ∷ [])) named ∙ sym (joined_as_texts verb_name (44 ∷ []) verbs)

@@ -14,4 +14,7 @@ loop-place-preserved g c =
     let here = option_to_list (slice_get held place) in
     let left = drop (place + 1) held in
     let further : here ++ left ≡ drop place held = ap (λ n. here ++ drop n held) (add-one place) ∙ one_item held place in
-    record { all = ap (λ items. items ++ left) c.in_ok-push_held_at.ensures ∙ append_assoc so_far here left ∙ ap (λ items. so_far ++ items) further ∙ c.loop-place.invariant.all }
+    record {
+      all = ap (λ items. items ++ left) c.in_ok-push_held_at.ensures ∙ append_assoc so_far here left
+          ∙ ap (λ items. so_far ++ items) further ∙ c.loop-place.invariant.all;
+    }

@@ -14,4 +14,7 @@ loop-place-preserved c =
     let here = option_to_list (slice_get sides place) in
     let left = drop (place + 1) sides in
     let further : here ++ left ≡ drop place sides = ap (λ n. here ++ drop n sides) (add-one place) ∙ one_item sides place in
-    record { all = ap (λ items. items ++ left) c.in_ok-push_at.ensures ∙ append_assoc so_far here left ∙ ap (λ items. so_far ++ items) further ∙ c.loop-place.invariant.all }
+    record {
+      all = ap (λ items. items ++ left) c.in_ok-push_at.ensures ∙ append_assoc so_far here left
+          ∙ ap (λ items. so_far ++ items) further ∙ c.loop-place.invariant.all;
+    }

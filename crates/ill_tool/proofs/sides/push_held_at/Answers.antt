@@ -16,11 +16,19 @@ returns-in_ok-push g c =
     let side = c.in-Some.side.now in
     let there : slice_get (sides_held live).sides c.args.place ≡ Some side = search rules in
     let counted : c.released-released.result ≡ (held_for (txn_of side) live).released = search rules in
-    let pushed : map held_of c.push.new.self.items ≡ map held_of c.args.all.now.items ++ record { side = side; released = c.released-released.result } ∷ [] = ap (map held_of) c.in_ok-push.ensures.items ∙ map-append held_of c.args.all.now.items (record { side = c.in-Some.side; released = c.released-released.result } ∷ []) in
-    subst (λ (found : Option DeskEntry). map held_of c.push.new.self.items ≡ map held_of c.args.all.now.items ++ option_to_list found) (sym (held_there live c.args.place side c.released-released.result c.requires.apart there counted)) pushed
+    let pushed : map held_of c.push.new.self.items
+    ≡ map held_of c.args.all.now.items ++ record { side = side; released = c.released-released.result } ∷ [] =
+    ap (map held_of) c.in_ok-push.ensures.items
+    ∙ map-append held_of c.args.all.now.items
+    (record { side = c.in-Some.side; released = c.released-released.result } ∷ []) in
+    subst (λ (found : Option DeskEntry).
+    map held_of c.push.new.self.items ≡ map held_of c.args.all.now.items ++ option_to_list found)
+    (sym (held_there live c.args.place side c.released-released.result c.requires.apart there counted)) pushed
 
 pub returns-in_default : goal.returns-in_default
 returns-in_default g c =
     let live = c.args.desk.now.live in
     let none : slice_get (sides_held live).sides c.args.place ≡ None = search rules in
-    subst (λ (found : Option DeskEntry). map held_of c.args.all.now.items ≡ map held_of c.args.all.now.items ++ option_to_list found) (sym (none_there live c.args.place none)) (sym (append-nil (map held_of c.args.all.now.items)))
+    subst (λ (found : Option DeskEntry).
+    map held_of c.args.all.now.items ≡ map held_of c.args.all.now.items ++ option_to_list found)
+    (sym (none_there live c.args.place none)) (sym (append-nil (map held_of c.args.all.now.items)))

@@ -10,4 +10,5 @@ pub returns-in-Ok : goal.returns-in-Ok
 returns-in-Ok g c = performed _ _ _ _ _ _ (Ok c.in-Ok.count) c.in_ok-txn.ensures c.in-Ok.ensures.simulates
 
 pub returns : goal.returns
-returns g c = performed_until _ _ _ _ _ _ c.in-Err.fault c.into.result c.in_ok-txn.ensures c.in-Err.ensures.simulates c.into.ensures
+returns g c = performed_until _ _ _ _ _ _ c.in-Err.fault c.into.result c.in_ok-txn.ensures c.in-Err.ensures.simulates
+    c.into.ensures

@@ -12,7 +12,10 @@ loop-place-preserved g c =
     let here = text_of_one c.args.form (slice_get held place) in
     let left = status_of_desk c.args.form (drop (place + 1) held) in
     let shown = c.loop-place.lines.items in
-    let further : here ++ left ≡ status_of_desk c.args.form (drop place held) = ap (λ n. here ++ status_of_desk c.args.form (drop n held)) (add-one place) ∙ sym (one_further c.args.form held place) in
-    let pushed : c.push_status_at.new.lines.items ++ left ≡ shown ++ (here ++ left) = ap (λ lines. lines ++ left) c.in_ok-push_status_at.ensures ∙ append_assoc shown here left in
-    let on : c.push_status_at.new.lines.items ++ left ≡ shown ++ status_of_desk c.args.form (drop place held) = pushed ∙ ap (λ lines. shown ++ lines) further in
+    let further : here ++ left ≡ status_of_desk c.args.form (drop place held) =
+    ap (λ n. here ++ status_of_desk c.args.form (drop n held)) (add-one place) ∙ sym (one_further c.args.form held place) in
+    let pushed : c.push_status_at.new.lines.items ++ left ≡ shown ++ (here ++ left) =
+    ap (λ lines. lines ++ left) c.in_ok-push_status_at.ensures ∙ append_assoc shown here left in
+    let on : c.push_status_at.new.lines.items ++ left ≡ shown ++ status_of_desk c.args.form (drop place held) =
+    pushed ∙ ap (λ lines. shown ++ lines) further in
     record { shown = on ∙ c.loop-place.invariant.shown }

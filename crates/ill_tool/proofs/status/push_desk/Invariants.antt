@@ -6,5 +6,6 @@ use Rattle.ill_tool.proofs.status.push_desk.Given as goal
 -- The lines so far, with those of the sides that are left, are all lines.
 abbrev pub invariant-loop-place : goal.invariant-loop-place
 invariant-loop-place g l = record {
-  shown : l.lines.items ++ status_of_desk l.form (drop l.place l.desk.live.held) ≡ l.initial.lines.items ++ status_of_desk l.form l.desk.live.held;
+  shown : l.lines.items ++ status_of_desk l.form (drop l.place l.desk.live.held)
+      ≡ l.initial.lines.items ++ status_of_desk l.form l.desk.live.held;
 }

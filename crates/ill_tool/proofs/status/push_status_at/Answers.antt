@@ -13,10 +13,12 @@ returns-in-Some g c =
     let side = c.in-Some.side.now in
     let there : slice_get (sides_held live).sides c.args.place ≡ Some side = search rules in
     let counted : c.released.result ≡ (held_for (txn_of side) live).released = search rules in
-    subst (λ (lines : List ℕ). OnOk c.push_status_as.result (c.push_status_as.new.lines.items ≡ c.args.lines.now.items ++ lines)) (lines_there c.args.form live c.args.place side c.released.result c.requires.apart there counted) c.push_status_as.ensures
+    subst (λ (lines : List ℕ). OnOk c.push_status_as.result (c.push_status_as.new.lines.items ≡ c.args.lines.now.items ++ lines))
+    (lines_there c.args.form live c.args.place side c.released.result c.requires.apart there counted) c.push_status_as.ensures
 
 pub returns-in-None : goal.returns-in-None
 returns-in-None g c =
     let live = c.args.desk.now.live in
     let none : slice_get (sides_held live).sides c.args.place ≡ None = search rules in
-    sym (append-nil c.args.lines.now.items) ∙ ap (λ lines. c.args.lines.now.items ++ lines) (no_lines_there c.args.form live c.args.place none)
+    sym (append-nil c.args.lines.now.items)
+    ∙ ap (λ lines. c.args.lines.now.items ++ lines) (no_lines_there c.args.form live c.args.place none)

@@ -11,6 +11,7 @@ returns c =
     let some : (length words == 0) ≡ false = search (rules, c.is_empty.ensures, c.if-is_empty.false) in
     let joined = c.in_ok-text.ensures.ok ∙ joined_by_spaces text words some in
     subst
-    (λ (shown : List ℕ). OnOk c.push_line-2.result (c.push_line-2.new.lines.items ≡ c.args.lines.now.items ++ line c.args.label.now shown))
+    (λ (shown : List ℕ). OnOk c.push_line-2.result
+    (c.push_line-2.new.lines.items ≡ c.args.lines.now.items ++ line c.args.label.now shown))
     (c.as_bytes.ensures.value ∙ joined)
     c.push_line-2.ensures

@@ -8,22 +8,38 @@ use Rattle.ill_tool.proofs.take_home.take_on_shelf.Goals as goal
 
 pub returns-in-Ok : goal.returns-in-Ok
 returns-in-Ok g c =
-    let view : TakesHome _ _ _ × _ → ShelfTaking = λ s. record { is_kept = s.0.is_kept; is_long = s.0.is_long; all_fine = s.0.all_fine; written = g.W.Write.contents s.1 } in
+    let view : TakesHome _ _ _ × _ → ShelfTaking = λ s.
+    record { is_kept = s.0.is_kept; is_long = s.0.is_long; all_fine = s.0.all_fine; written = g.W.Write.contents s.1 } in
     let begun : TakesHome _ _ _ × _ = (c.new-taken.result.handler, c.args.writer.now) in
     let ended : TakesHome _ _ _ × _ = (c.handle_input.new.counted.handler, c.handle_input.new.context) in
     let left = g.R.Read.remaining c.args.reader.now in
     let rest = g.R.Read.remaining c.handle_input.new.reader in
     let taken = taken_home view left rest begun ended (Ok c.in-Ok.field-0) c.in-Ok.ensures in
-    let start : view begun ≡ shelf_taking c.args.is_kept c.args.is_long (g.W.Write.contents c.args.writer.now) = ap (λ (taking : TakesHome _ _ _). view (taking, c.args.writer.now)) c.new-taken.ensures.handler in
-    inr (Ok c.in-Ok.field-0, view ended, subst (λ (first : ShelfTaking). ReadsInput takes_home left rest first (Ok c.in-Ok.field-0) (view ended)) start taken, refl, refl)
+    let start : view begun ≡ shelf_taking c.args.is_kept c.args.is_long (g.W.Write.contents c.args.writer.now) =
+    ap (λ (taking : TakesHome _ _ _). view (taking, c.args.writer.now)) c.new-taken.ensures.handler in
+    inr (
+      Ok c.in-Ok.field-0,
+      view ended,
+      subst (λ (first : ShelfTaking). ReadsInput takes_home left rest first (Ok c.in-Ok.field-0) (view ended)) start taken,
+      refl,
+      refl,
+    )
 
 pub returns-in-Err : goal.returns-in-Err
 returns-in-Err g c =
-    let view : TakesHome _ _ _ × _ → ShelfTaking = λ s. record { is_kept = s.0.is_kept; is_long = s.0.is_long; all_fine = s.0.all_fine; written = g.W.Write.contents s.1 } in
+    let view : TakesHome _ _ _ × _ → ShelfTaking = λ s.
+    record { is_kept = s.0.is_kept; is_long = s.0.is_long; all_fine = s.0.all_fine; written = g.W.Write.contents s.1 } in
     let begun : TakesHome _ _ _ × _ = (c.new-taken.result.handler, c.args.writer.now) in
     let ended : TakesHome _ _ _ × _ = (c.handle_input.new.counted.handler, c.handle_input.new.context) in
     let left = g.R.Read.remaining c.args.reader.now in
     let rest = g.R.Read.remaining c.handle_input.new.reader in
     let taken = taken_home view left rest begun ended (Err c.in-Err.fault) c.in-Err.ensures in
-    let start : view begun ≡ shelf_taking c.args.is_kept c.args.is_long (g.W.Write.contents c.args.writer.now) = ap (λ (taking : TakesHome _ _ _). view (taking, c.args.writer.now)) c.new-taken.ensures.handler in
-    inr (Err c.in-Err.fault, view ended, subst (λ (first : ShelfTaking). ReadsInput takes_home left rest first (Err c.in-Err.fault) (view ended)) start taken, refl, refl)
+    let start : view begun ≡ shelf_taking c.args.is_kept c.args.is_long (g.W.Write.contents c.args.writer.now) =
+    ap (λ (taking : TakesHome _ _ _). view (taking, c.args.writer.now)) c.new-taken.ensures.handler in
+    inr (
+      Err c.in-Err.fault,
+      view ended,
+      subst (λ (first : ShelfTaking). ReadsInput takes_home left rest first (Err c.in-Err.fault) (view ended)) start taken,
+      refl,
+      refl,
+    )

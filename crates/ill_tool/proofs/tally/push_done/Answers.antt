@@ -14,5 +14,7 @@ pub returns : goal.returns
 unfolding done_text
 returns c =
     let tally = c.args.tally.now in
-    let joined = ten_joined (codes "taken ") (decimal tally.taken) (codes ", repeat ") (decimal tally.repeat) (codes ", stale ") (decimal tally.stale) (codes ", conflict ") (decimal tally.conflict) (codes ", unknown ") (decimal tally.unknown) in
-    c.in_ok-extend_from_slice.ensures.items ∙ ap (λ text. c.args.lines.now.items ++ text) (c.as_bytes.ensures.value ∙ c.in_ok-text.ensures.ok ∙ joined)
+    let joined = ten_joined (codes "taken ") (decimal tally.taken) (codes ", repeat ") (decimal tally.repeat) (codes ", stale ")
+    (decimal tally.stale) (codes ", conflict ") (decimal tally.conflict) (codes ", unknown ") (decimal tally.unknown) in
+    c.in_ok-extend_from_slice.ensures.items
+    ∙ ap (λ text. c.args.lines.now.items ++ text) (c.as_bytes.ensures.value ∙ c.in_ok-text.ensures.ok ∙ joined)

@@ -12,11 +12,17 @@ loop-place-preserved g c =
     let place = c.loop-place.place in
     let count = length-map c.args.paths.now (λ path. string_bytes path) in
     let within = subst (λ (n : ℕ). place < n) (sym count) c.loop-place-test.true in
-    let at = ap (λ path. string_bytes path) c.index-paths-place.is ∙ sym (get_or-map (λ path. string_bytes path) c.args.paths.now place c.index-paths-place.result (string_bytes c.index-paths-place.result) c.loop-place-test.true) in
+    let at = ap (λ path. string_bytes path) c.index-paths-place.is
+    ∙ sym (get_or-map (λ path. string_bytes path) c.args.paths.now place c.index-paths-place.result
+    (string_bytes c.index-paths-place.result) c.loop-place-test.true) in
     let found = subst (λ (path : List ℕ). path ≡ get_or names place path) (sym c.as_str.ensures.value) at in
-    let visited = one_more_visit (is_headed c.args.visit.now) (RunsVisit c.args.visit.now) names place _ (g.W.Write.contents c.args.writer.now) (g.W.Write.contents c.loop-place.writer)
-    (g.W.Write.contents c.visit_desk-next.new.writer) c.loop-place.answer c.visit_desk-next.result within found c.loop-place.invariant c.visit_desk-next.ensures in
-    subst (λ answer. VisitsAll (is_headed c.args.visit.now) (RunsVisit c.args.visit.now) (take (place + 1) names) (g.W.Write.contents c.args.writer.now) (g.W.Write.contents c.visit_desk-next.new.writer) answer) (sym c.graver-answer.ensures) visited
+    let visited = one_more_visit (is_headed c.args.visit.now) (RunsVisit c.args.visit.now) names place _
+    (g.W.Write.contents c.args.writer.now) (g.W.Write.contents c.loop-place.writer)
+    (g.W.Write.contents c.visit_desk-next.new.writer) c.loop-place.answer c.visit_desk-next.result within found
+    c.loop-place.invariant c.visit_desk-next.ensures in
+    subst (λ answer. VisitsAll (is_headed c.args.visit.now) (RunsVisit c.args.visit.now) (take (place + 1) names)
+    (g.W.Write.contents c.args.writer.now) (g.W.Write.contents c.visit_desk-next.new.writer) answer)
+    (sym c.graver-answer.ensures) visited
 
 pub loop-place-init : goal.loop-place-init
 loop-place-init g c = no_visit (is_headed c.args.visit.now) (RunsVisit c.args.visit.now) (g.W.Write.contents c.args.writer.now)

@@ -7,5 +7,6 @@ use Rattle.ill_tool.proofs.visit.visit_all.Given as goal
 -- The desks so far were visited.
 abbrev pub invariant-loop-place : goal.invariant-loop-place
 invariant-loop-place g l =
-    VisitsAll (is_headed l.visit) (RunsVisit l.visit) (take l.place (map (λ path. string_bytes path) l.paths)) (g.W.Write.contents l.fn.writer)
+    VisitsAll (is_headed l.visit) (RunsVisit l.visit) (take l.place (map (λ path. string_bytes path) l.paths))
+    (g.W.Write.contents l.fn.writer)
     (g.W.Write.contents l.writer) l.answer

@@ -8,11 +8,13 @@ use Rattle.ill_tool.proofs.words.run.Goals as goal
 pub returns-in-Send : goal.returns-in-Send
 returns-in-Send g c =
     let left = g.R.Read.remaining c.args.reader.now in
-    subst (λ (request : Request). Runs (asked request) left left (g.W.Write.contents c.args.writer.now) (g.W.Write.contents c.send.new.writer) c.send.result)
+    subst (λ (request : Request). Runs (asked request) left left (g.W.Write.contents c.args.writer.now)
+    (g.W.Write.contents c.send.new.writer) c.send.result)
     (sym c.in-Send.is) (refl, c.send.ensures)
 
 pub returns-in-Loan : goal.returns-in-Loan
 returns-in-Loan g c =
     let left = g.R.Read.remaining c.args.reader.now in
-    subst (λ (request : Request). Runs (asked request) left left (g.W.Write.contents c.args.writer.now) (g.W.Write.contents c.loan.new.writer) c.loan.result)
+    subst (λ (request : Request). Runs (asked request) left left (g.W.Write.contents c.args.writer.now)
+    (g.W.Write.contents c.loan.new.writer) c.loan.result)
     (sym c.in-Loan.is) (refl, c.loan.ensures)

@@ -15,13 +15,15 @@ is_there text None = refl
 pub returns-in-Send : goal.returns-in-Send
 returns-in-Send g c =
     let left = g.R.Read.remaining c.args.reader.now in
-    subst (λ (request : Request). RunsShelf (asked request) left left (g.W.Write.contents c.args.writer.now) (g.W.Write.contents c.send_on_shelf.new.writer) c.send_on_shelf.result)
+    subst (λ (request : Request). RunsShelf (asked request) left left (g.W.Write.contents c.args.writer.now)
+    (g.W.Write.contents c.send_on_shelf.new.writer) c.send_on_shelf.result)
     (sym c.in-Send.is) (refl, c.send_on_shelf.ensures)
 
 pub returns-in-Status : goal.returns-in-Status
 returns-in-Status g c =
     let left = g.R.Read.remaining c.args.reader.now in
-    subst (λ (request : Request). RunsShelf (asked request) left left (g.W.Write.contents c.args.writer.now) (g.W.Write.contents c.status_of_shelf.new.writer) c.status_of_shelf.result)
+    subst (λ (request : Request). RunsShelf (asked request) left left (g.W.Write.contents c.args.writer.now)
+    (g.W.Write.contents c.status_of_shelf.new.writer) c.status_of_shelf.result)
     (sym c.in-Status.is) (refl, c.status_of_shelf.ensures)
 
 pub returns-in-Outbox : goal.returns-in-Outbox
@@ -30,11 +32,13 @@ returns-in-Outbox g c =
     let before = g.W.Write.contents c.args.writer.now in
     let after = g.W.Write.contents c.outbox_of_shelf.new.writer in
     let result = c.outbox_of_shelf.result in
-    let sent = subst (λ (has_folder : Bool). VisitsShelf has_folder (OutboxAtFile has_folder) before after result) (is_there (λ text. text.now) c.in-Outbox.folder) c.outbox_of_shelf.ensures in
+    let sent = subst (λ (has_folder : Bool). VisitsShelf has_folder (OutboxAtFile has_folder) before after result)
+    (is_there (λ text. text.now) c.in-Outbox.folder) c.outbox_of_shelf.ensures in
     subst (λ (request : Request). RunsShelf (asked request) left left before after result) (sym c.in-Outbox.is) (refl, sent)
 
 pub returns-in-Exchange : goal.returns-in-Exchange
 returns-in-Exchange g c =
     let left = g.R.Read.remaining c.args.reader.now in
-    subst (λ (request : Request). RunsShelf (asked request) left left (g.W.Write.contents c.args.writer.now) (g.W.Write.contents c.exchange_of_shelf.new.writer) c.exchange_of_shelf.result)
+    subst (λ (request : Request). RunsShelf (asked request) left left (g.W.Write.contents c.args.writer.now)
+    (g.W.Write.contents c.exchange_of_shelf.new.writer) c.exchange_of_shelf.result)
     (sym c.in-Exchange.is) (refl, c.exchange_of_shelf.ensures)

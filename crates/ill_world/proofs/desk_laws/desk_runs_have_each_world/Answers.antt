@@ -10,7 +10,8 @@ pub returns-clause-safe : goal.returns-clause-safe
 returns-clause-safe c = λ w before after txn each. run_prefix desks_happen (λ v. Safe (project txn v)) w before after (each txn)
 
 pub returns-clause-agrees : goal.returns-clause-agrees
-returns-clause-agrees c = λ w before after txn each. run_prefix desks_happen (λ v. Agrees (project txn v)) w before after (each txn)
+returns-clause-agrees c = λ w before after txn each.
+    run_prefix desks_happen (λ v. Agrees (project txn v)) w before after (each txn)
 
 pub returns-clause-next : goal.returns-clause-next
 returns-clause-next c = runs_go_on

@@ -12,5 +12,7 @@ returns-clause-first c = desks_first first_counts c.world_stands.ensures.first
 pub returns-clause-after : goal.returns-clause-after
 returns-clause-after c =
     λ w event stands.
-    desks_after c.rows_grow.ensures (record { requester = c.requester_is_quiet.ensures; responder = c.responder_is_quiet.ensures }) c.world_stands.ensures.after w event stands
+    desks_after c.rows_grow.ensures
+    (record { requester = c.requester_is_quiet.ensures; responder = c.responder_is_quiet.ensures })
+    c.world_stands.ensures.after w event stands
     (count_at c.rows_grow.ensures w event stands (who_of (plain event)) refl)

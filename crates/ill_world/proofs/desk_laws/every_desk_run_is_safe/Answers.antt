@@ -7,4 +7,5 @@ use Rattle.ill_world.proofs.desk_laws.every_desk_run_is_safe.Goals as goal
 pub returns : goal.returns
 returns c =
     λ events txn n.
-    subst Safe (sym (c.desk_runs_are_runs.ensures (take n events) txn)) (c.every_world_is_safe.ensures txn (events_for txn first_desks (take n events)))
+    subst Safe (sym (c.desk_runs_are_runs.ensures (take n events) txn))
+    (c.every_world_is_safe.ensures txn (events_for txn first_desks (take n events)))

@@ -7,14 +7,17 @@ use Rattle.ill_world.proofs.DeskNights.{night_alike}
 use Rattle.ill_world.proofs.desk_laws.one_desk_night_is_enough.Goals as goal
 
 pub returns-clause-each : goal.returns-clause-each
-returns-clause-each c = night_alike c.desk_events_are_events.ensures c.desks_reach_what_they_hold.ensures c.desks_stand.ensures.after
+returns-clause-each c = night_alike c.desk_events_are_events.ensures c.desks_reach_what_they_hold.ensures
+    c.desks_stand.ensures.after
 
 pub returns-clause-in_step : goal.returns-clause-in_step
 returns-clause-in_step c =
     λ txn w stands can.
-    subst AreInStepOrAtRest (sym (returns-clause-each c txn w stands)) (c.one_night_is_enough.ensures.stands txn (project txn w) (stands.each txn) can)
+    subst AreInStepOrAtRest (sym (returns-clause-each c txn w stands))
+    (c.one_night_is_enough.ensures.stands txn (project txn w) (stands.each txn) can)
 
 pub returns-clause-run : goal.returns-clause-run
 returns-clause-run c =
     λ txn events can.
-    returns-clause-in_step c txn (desks_run first_desks events) (desks_stand_on c.desks_stand.ensures.after first_desks events c.desks_stand.ensures.first) can
+    returns-clause-in_step c txn (desks_run first_desks events)
+    (desks_stand_on c.desks_stand.ensures.after first_desks events c.desks_stand.ensures.first) can

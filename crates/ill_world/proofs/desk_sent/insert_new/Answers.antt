@@ -5,4 +5,5 @@ use Rattle.ill_core.specs.Issued.{is_same_txn}
 use Rattle.ill_world.proofs.desk_sent.insert_new.Goals as goal
 
 pub returns-in-Ok-clause-done : goal.returns-in-Ok-clause-done
-returns-in-Ok-clause-done g c = c.in-Ok.ensures.entries ∙ insert_entry-new is_same_txn c.args.map.now c.args.key c.args.value c.requires.new
+returns-in-Ok-clause-done g c =
+    c.in-Ok.ensures.entries ∙ insert_entry-new is_same_txn c.args.map.now c.args.key c.args.value c.requires.new

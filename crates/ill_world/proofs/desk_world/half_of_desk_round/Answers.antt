@@ -12,4 +12,5 @@ loop-place-preserved c =
     let side = c.in-Some.side.now in
     let place = c.loop-place.place in
     let found : slice_get sides place ≡ Some side = search rules in
-    flat_map_grows (passes_side c.args.who) sides place side (Save c.args.who) c.loop-place.events.items c.push_passes.new.events.items found c.in_ok-push_passes.ensures c.loop-place.invariant
+    flat_map_grows (passes_side c.args.who) sides place side (Save c.args.who) c.loop-place.events.items
+    c.push_passes.new.events.items found c.in_ok-push_passes.ensures c.loop-place.invariant

@@ -8,4 +8,5 @@ use Rattle.ill_world.proofs.desk_world.push_passes.Given as goal
 -- The events so far, and those that are left, are the old events and those of the side.
 abbrev pub invariant-loop-event : goal.invariant-loop-event
 invariant-loop-event l =
-    l.events.items ++ map (in_txn (txn_of l.fn.side)) l.event-iterator.rest.items ≡ l.fn.events.items ++ passes_side l.fn.who l.fn.side
+    l.events.items ++ map (in_txn (txn_of l.fn.side)) l.event-iterator.rest.items
+    ≡ l.fn.events.items ++ passes_side l.fn.who l.fn.side

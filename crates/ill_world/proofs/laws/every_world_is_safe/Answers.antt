@@ -8,4 +8,8 @@ returns c =
     λ txn events.
     let world = run_of (first_world txn) events in
     let stands = run_stands txn (c.world_stands.ensures.after txn) (first_world txn) events (c.world_stands.ensures.first txn) in
-    record { ends = c.ends_alike.ensures txn world stands; shipped = c.was_shipped.ensures txn world stands; granted = c.was_granted.ensures txn world stands }
+    record {
+      ends = c.ends_alike.ensures txn world stands;
+      shipped = c.was_shipped.ensures txn world stands;
+      granted = c.was_granted.ensures txn world stands;
+    }

@@ -7,4 +7,5 @@ returns-clause-open c = λ txn w stands is_open. night_is_round txn (c.world_sta
 
 pub returns-clause-over : goal.returns-clause-over
 returns-clause-over c =
-    λ txn w stands over. night_is_saves txn (c.world_stands.ensures.after txn) w (c.requester_is_over_last.ensures txn w stands over) over
+    λ txn w stands over. night_is_saves txn (c.world_stands.ensures.after txn) w
+    (c.requester_is_over_last.ensures txn w stands over) over

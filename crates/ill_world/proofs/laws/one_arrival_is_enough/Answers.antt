@@ -5,4 +5,9 @@ use Rattle.ill_world.proofs.laws.one_arrival_is_enough.Goals as goal
 pub returns : goal.returns
 returns c =
     let requester = c.requester_follows.ensures in
-    arrives (record { shipped = requester.shipped; ended = requester.ended; cancelled = requester.cancelled; returned = c.responder_follows.ensures })
+    arrives (record {
+      shipped = requester.shipped;
+      ended = requester.ended;
+      cancelled = requester.cancelled;
+      returned = c.responder_follows.ensures;
+    })

@@ -7,10 +7,12 @@ use Rattle.ill_world.proofs.laws.one_night_is_enough.Goals as goal
 pub returns-clause-stands : goal.returns-clause-stands
 returns-clause-stands c =
     λ txn w stands can.
-    one_night w (c.nights_are_rounds.ensures.open txn w stands) (c.nights_are_rounds.ensures.over txn w stands) (c.requester_is_over_last.ensures txn w stands)
+    one_night w (c.nights_are_rounds.ensures.open txn w stands) (c.nights_are_rounds.ensures.over txn w stands)
+    (c.requester_is_over_last.ensures txn w stands)
     (c.one_round_is_enough.ensures.stands txn w stands can)
 
 pub returns-clause-run : goal.returns-clause-run
 returns-clause-run c =
     λ txn events can.
-    returns-clause-stands c txn _ (run_stands txn (c.world_stands.ensures.after txn) (first_world txn) events (c.world_stands.ensures.first txn)) can
+    returns-clause-stands c txn _ (run_stands txn (c.world_stands.ensures.after txn) (first_world txn) events
+    (c.world_stands.ensures.first txn)) can

@@ -23,4 +23,5 @@ returns-clause-stands c =
 pub returns-clause-run : goal.returns-clause-run
 returns-clause-run c =
     λ txn events can.
-    returns-clause-stands c txn _ (run_stands txn (c.world_stands.ensures.after txn) (first_world txn) events (c.world_stands.ensures.first txn)) can
+    returns-clause-stands c txn _ (run_stands txn (c.world_stands.ensures.after txn) (first_world txn) events
+    (c.world_stands.ensures.first txn)) can

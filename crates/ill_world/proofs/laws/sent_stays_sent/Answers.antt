@@ -8,4 +8,5 @@ returns-clause-event c = event_keeps_sent
 
 pub returns-clause-run : goal.returns-clause-run
 returns-clause-run c =
-    λ txn events more. run_keeps_sent txn (c.world_stands.ensures.after txn) (first_world txn) events more (c.world_stands.ensures.first txn)
+    λ txn events more. run_keeps_sent txn (c.world_stands.ensures.after txn) (first_world txn) events more
+    (c.world_stands.ensures.first txn)

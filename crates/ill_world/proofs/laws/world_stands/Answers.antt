@@ -8,5 +8,6 @@ returns-clause-first c = world_first
 pub returns-clause-after : goal.returns-clause-after
 returns-clause-after c =
     λ txn w event stands.
-    world_after (record { acts = c.requester_keeps_due.ensures.acts; takes = c.requester_keeps_due.ensures.takes }) txn w event c.rows_grow.ensures (requester_keeps c.requester_stands.ensures.acts c.requester_stands.ensures.takes txn)
+    world_after (record { acts = c.requester_keeps_due.ensures.acts; takes = c.requester_keeps_due.ensures.takes }) txn w event
+    c.rows_grow.ensures (requester_keeps c.requester_stands.ensures.acts c.requester_stands.ensures.takes txn)
     (responder_keeps c.responder_stands.ensures.acts c.responder_stands.ensures.takes txn) stands

@@ -8,7 +8,8 @@ use Rattle.ill_world.proofs.lines.next_line.Given as goal
 abbrev pub invariant-loop-ahead : goal.invariant-loop-ahead
 invariant-loop-ahead g l =
     IsLine l.line.items
-    × Consumes (prepend_known l.initial.ahead (g.R.Read.remaining l.initial.reader)) (prepend_known l.ahead (g.R.Read.remaining l.reader)) l.line.items
+    × Consumes (prepend_known l.initial.ahead (g.R.Read.remaining l.initial.reader))
+    (prepend_known l.ahead (g.R.Read.remaining l.reader)) l.line.items
 
 -- The count of the bytes that may still come falls.
 abbrev pub decreases-loop-ahead : goal.decreases-loop-ahead

@@ -4,10 +4,15 @@ use Rattle.ill_world.proofs.Texts.{takes_line, takes_too_long, takes_all}
 use Rattle.ill_world.proofs.lines.take_part.Goals as goal
 
 pub returns-in_ok-extend_from_slice-in-Some : goal.returns-in_ok-extend_from_slice-in-Some
-returns-in_ok-extend_from_slice-in-Some c = takes_line c.args.ahead.now c.skip.new.self c.args.line.now.items c.extend_from_slice.new.self.items c.min-most.result c.in-Some.at (search (arith, rules)) (search (arith, rules)) (search rules) (search rules) (search rules)
+returns-in_ok-extend_from_slice-in-Some c =
+    takes_line c.args.ahead.now c.skip.new.self c.args.line.now.items c.extend_from_slice.new.self.items c.min-most.result
+    c.in-Some.at (search (arith, rules)) (search (arith, rules)) (search rules) (search rules) (search rules)
 
 pub returns-in-None : goal.returns-in-None
-returns-in-None c = takes_too_long c.args.ahead.now c.skip-in-None.new.self c.args.line.now.items c.args.line.now.items c.min-most.result (search (arith, rules)) (search (arith, rules)) (search rules) (search rules) (search rules)
+returns-in-None c = takes_too_long c.args.ahead.now c.skip-in-None.new.self c.args.line.now.items c.args.line.now.items
+    c.min-most.result (search (arith, rules)) (search (arith, rules)) (search rules) (search rules) (search rules)
 
 pub returns-in_ok-extend_from_slice-in-None-2 : goal.returns-in_ok-extend_from_slice-in-None-2
-returns-in_ok-extend_from_slice-in-None-2 c = takes_all c.args.ahead.now c.skip-in-None-2.new.self c.args.line.now.items c.extend_from_slice-in-None-2.new.self.items c.min-most.result (search (arith, rules)) (search rules) (search (arith, rules)) (search rules) (search rules) (search rules)
+returns-in_ok-extend_from_slice-in-None-2 c =
+    takes_all c.args.ahead.now c.skip-in-None-2.new.self c.args.line.now.items c.extend_from_slice-in-None-2.new.self.items
+    c.min-most.result (search (arith, rules)) (search rules) (search (arith, rules)) (search rules) (search rules) (search rules)

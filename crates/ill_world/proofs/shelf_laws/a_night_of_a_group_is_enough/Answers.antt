@@ -11,7 +11,8 @@ use Rattle.ill_world.proofs.shelf_laws.a_night_of_a_group_is_enough.Goals as goa
 pub returns-clause-home : goal.returns-clause-home
 returns-clause-home c =
     λ group events.
-    subst (λ w. events_at group (said_in group (desk_night_of w)) ≡ desk_night_of w) (sym (c.shelf_runs_are_desk_runs.ensures.first group events))
+    subst (λ w. events_at group (said_in group (desk_night_of w)) ≡ desk_night_of w)
+    (sym (c.shelf_runs_are_desk_runs.ensures.first group events))
     (night_at group c.rows_grow.ensures c.desks_stand.ensures.after c.desks_stand.ensures.first events)
 
 pub returns-clause-run : goal.returns-clause-run
@@ -19,7 +20,9 @@ returns-clause-run c =
     λ txn events can.
     let w = shelves_run first_shelves events in
     let night = desk_night_of (w txn.group) in
-    let is = c.shelf_runs_are_desk_runs.ensures.each w txn.group (said_in txn.group night) ∙ ap (desks_run (w txn.group)) (returns-clause-home c txn.group events) in
+    let is = c.shelf_runs_are_desk_runs.ensures.each w txn.group (said_in txn.group night)
+    ∙ ap (desks_run (w txn.group)) (returns-clause-home c txn.group events) in
     subst (λ v. AreInStepOrAtRest (project txn v)) (sym is)
-    (subst (λ v. CanAnswer (project txn v).responder.live → AreInStepOrAtRest (project txn (desks_run v (desk_night_of v)))) (sym (c.shelf_runs_are_desk_runs.ensures.first txn.group events))
+    (subst (λ v. CanAnswer (project txn v).responder.live → AreInStepOrAtRest (project txn (desks_run v (desk_night_of v))))
+    (sym (c.shelf_runs_are_desk_runs.ensures.first txn.group events))
     (c.one_desk_night_is_enough.ensures.run txn (events_at txn.group events)) can)

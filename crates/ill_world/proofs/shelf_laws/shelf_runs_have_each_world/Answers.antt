@@ -7,7 +7,9 @@ use Rattle.ill_world.proofs.Runs.{run_prefix}
 use Rattle.ill_world.proofs.shelf_laws.shelf_runs_have_each_world.Goals as goal
 
 pub returns-clause-safe : goal.returns-clause-safe
-returns-clause-safe c = λ w before after txn each. run_prefix shelves_happen (λ v. Safe (project txn (v txn.group))) w before after (each txn)
+returns-clause-safe c = λ w before after txn each.
+    run_prefix shelves_happen (λ v. Safe (project txn (v txn.group))) w before after (each txn)
 
 pub returns-clause-agrees : goal.returns-clause-agrees
-returns-clause-agrees c = λ w before after txn each. run_prefix shelves_happen (λ v. Agrees (project txn (v txn.group))) w before after (each txn)
+returns-clause-agrees c = λ w before after txn each.
+    run_prefix shelves_happen (λ v. Agrees (project txn (v txn.group))) w before after (each txn)

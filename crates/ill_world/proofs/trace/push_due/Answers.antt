@@ -13,4 +13,5 @@ returns-in_err-extend_from_slice-in-Some-clause-prefix c =
     let stays : new ≡ old = search rules in
     let is : c.args.due ≡ Some c.in-Some.day = search rules in
     let some : 0 < length (date_text c.in-Some.day) = search rules in
-    at_err c.from_residual-in_err-extend_from_slice-in-Some.result (subst (λ due. AddsPrefix old new (due_text due)) (sym is) (adds_nothing old new (date_text c.in-Some.day) stays some))
+    at_err c.from_residual-in_err-extend_from_slice-in-Some.result
+    (subst (λ due. AddsPrefix old new (due_text due)) (sym is) (adds_nothing old new (date_text c.in-Some.day) stays some))

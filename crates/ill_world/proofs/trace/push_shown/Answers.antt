@@ -56,7 +56,8 @@ one_more old middle next text part before more = more ∙ ap (λ (x : List ℕ).
 
 -- If `text` was added and the byte after it was not, a prefix of both was added.
 no_byte : (old middle new text : List ℕ) (byte : ℕ) → middle ≡ old ++ text → new ≡ middle → AddsPrefix old new (text ++ byte ∷ [])
-no_byte old middle new text byte before stays = adds_second old middle new text (byte ∷ []) before (adds_nothing middle new (byte ∷ []) stays (omega arith))
+no_byte old middle new text byte before stays =
+    adds_second old middle new text (byte ∷ []) before (adds_nothing middle new (byte ∷ []) stays (omega arith))
 
 -- A text with a byte after it is not empty.
 some_there : (text : List ℕ) (byte : ℕ) → 0 < length (text ++ byte ∷ [])
@@ -67,7 +68,8 @@ returns-in_err-extend_from_slice-clause-prefix c =
     let shown = c.args.shown in
     let old = c.args.lines.now.items in
     let stays : c.extend_from_slice.new.self.items ≡ old = search rules in
-    at_err c.from_residual.result (space_all shown old _ (adds_nothing old _ (to_space shown) stays (some_there (state_name shown.state) 32)))
+    at_err c.from_residual.result (space_all shown old _
+    (adds_nothing old _ (to_space shown) stays (some_there (state_name shown.state) 32)))
 
 pub returns-in_err-push-clause-prefix : goal.returns-in_err-push-clause-prefix
 returns-in_err-push-clause-prefix c =
@@ -87,7 +89,9 @@ returns-in_err-push_due-clause-prefix c =
     let spaced = c.push.new.self.items in
     let space : spaced ≡ named ++ codes " " = search rules in
     let to_2 = one_more old named spaced (state_name shown.state) (codes " ") name space in
-    at_err c.from_residual-in_err-push_due.result (due_all shown old _ (adds_second old spaced _ (to_space shown) (due_text shown.due) to_2 c.in_err-push_due.ensures.prefix))
+    at_err c.from_residual-in_err-push_due.result
+    (due_all shown old _ (adds_second old spaced _ (to_space shown) (due_text shown.due) to_2
+    c.in_err-push_due.ensures.prefix))
 
 pub returns-in_err-push-2-clause-prefix : goal.returns-in_err-push-2-clause-prefix
 returns-in_err-push-2-clause-prefix c =
@@ -117,7 +121,9 @@ returns-in_err-push_number-clause-prefix c =
     let apart = c.push-2.new.self.items in
     let gap : apart ≡ dated ++ codes " " = search rules in
     let to_4 = one_more old dated apart (to_due shown) (codes " ") to_3 gap in
-    at_err c.from_residual-in_err-push_number.result (released_all shown old _ (adds_second old apart _ (to_gap shown) (decimal shown.released) to_4 c.in_err-push_number.ensures.prefix))
+    at_err c.from_residual-in_err-push_number.result
+    (released_all shown old _ (adds_second old apart _ (to_gap shown) (decimal shown.released) to_4
+    c.in_err-push_number.ensures.prefix))
 
 pub returns-in_err-push-3-clause-prefix : goal.returns-in_err-push-3-clause-prefix
 returns-in_err-push-3-clause-prefix c =

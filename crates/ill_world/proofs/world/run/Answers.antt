@@ -9,11 +9,13 @@ loop-event-init c = ap (λ w. run_of w c.args.events.now) c.in_ok-world.ensures
 
 pub loop-event-preserved : goal.loop-event-preserved
 loop-event-preserved c =
-    let on = run_on happens c.loop-event.world c.step.new.self c.args.events.now c.loop-event.event-index c.event-item.result c.in_ok-step.field-0 (omega (arith, c.loop-event-test.true)) c.event-item.is c.in_ok-step.ensures.gives in
+    let on = run_on happens c.loop-event.world c.step.new.self c.args.events.now c.loop-event.event-index c.event-item.result
+    c.in_ok-step.field-0 (omega (arith, c.loop-event-test.true)) c.event-item.is c.in_ok-step.ensures.gives in
     sym on ∙ c.loop-event.invariant
 
 pub returns-clause-runs : goal.returns-clause-runs
-returns-clause-runs c = sym (run_ended happens c.loop-event.world c.args.events.now c.loop-event.event-index (omega (arith, c.loop-event-test.false))) ∙ c.loop-event.invariant
+returns-clause-runs c = sym (run_ended happens c.loop-event.world c.args.events.now c.loop-event.event-index
+    (omega (arith, c.loop-event-test.false))) ∙ c.loop-event.invariant
 
 pub returns-in_err-world-clause-safe : goal.returns-in_err-world-clause-safe
 returns-in_err-world-clause-safe c = c.every_run_is_safe.ensures c.args.txn.now c.args.events.now

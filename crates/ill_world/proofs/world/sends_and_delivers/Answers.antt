@@ -6,8 +6,11 @@ use Rattle.ill_world.proofs.world.sends_and_delivers.Goals as goal
 pub loop-index-preserved : goal.loop-index-preserved
 loop-index-preserved c =
     let index = c.loop-index.index in
-    passes_grow c.args.who c.other.result (index + 1) c.in-Some.number (c.args.count - index) (c.args.count - (index + 1)) c.loop-index.events.items c.push.new.self.items c.push-in-loop-index.new.self.items _
-    c.other.ensures c.in-Some.ensures.value (omega (arith, c.loop-index-test.true)) c.in_ok-push.ensures.items c.in_ok-push-2.ensures.items c.loop-index.invariant
+    passes_grow c.args.who c.other.result (index + 1) c.in-Some.number (c.args.count - index) (c.args.count - (index + 1))
+    c.loop-index.events.items c.push.new.self.items c.push-in-loop-index.new.self.items _
+    c.other.ensures c.in-Some.ensures.value (omega (arith, c.loop-index-test.true)) c.in_ok-push.ensures.items
+    c.in_ok-push-2.ensures.items c.loop-index.invariant
 
 pub returns : goal.returns
-returns c = passes_none c.loop-index.events.items c.args.who (c.loop-index.index + 1) (c.args.count - c.loop-index.index) (omega (arith, c.loop-index-test.false)) ∙ c.loop-index.invariant
+returns c = passes_none c.loop-index.events.items c.args.who (c.loop-index.index + 1) (c.args.count - c.loop-index.index)
+    (omega (arith, c.loop-index-test.false)) ∙ c.loop-index.invariant

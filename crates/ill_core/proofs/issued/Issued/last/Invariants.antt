@@ -7,4 +7,5 @@ use Rattle.ill_core.proofs.issued.Issued.last.Given as goal
 -- The last number that is sought is that of the part from the index on, or else `last`.
 abbrev pub invariant-loop-apdu : goal.invariant-loop-apdu
 invariant-loop-apdu l =
-    last_or None (filter_map (sought_number l.sought) l.self.apdus) ≡ last_or l.last (filter_map (sought_number l.sought) (drop l.apdu-index l.apdu-items))
+    last_or None (filter_map (sought_number l.sought) l.self.apdus)
+    ≡ last_or l.last (filter_map (sought_number l.sought) (drop l.apdu-index l.apdu-items))

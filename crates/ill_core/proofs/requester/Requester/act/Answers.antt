@@ -47,23 +47,27 @@ returns-in_err-issue c =
 pub invariant_of-self-2 : goal.invariant_of-self-2
 invariant_of-self-2 c =
     let r = c.self.inside in
-    let x : RequesterRecord = requester_of r.issued.txn r.standing.state r.standing.held r.standing.checked_in r.standing.due r.issued.apdus in
+    let x : RequesterRecord = requester_of r.issued.txn r.standing.state r.standing.held r.standing.checked_in r.standing.due
+    r.issued.apdus in
     let row = c.in-Some.row.now in
     let fits : wish_row x c.args.wish.now ≡ Some row = search rules in
     let next : next_number x.issued ≡ Ok c.in_ok-number.number = search rules in
     let issued : c.issue.new.self.apdus ≡ with_next x.txn x.issued (wish_body x c.args.wish.now) = search rules in
     let e = c.after-standing.ensures in
-    let same = wished_is x c.args.wish.now row c.in_ok-number.number _ _ _ _ _ _ c.issue.ensures.txn e.state e.held e.checked_in e.due issued in
+    let same = wished_is x c.args.wish.now row c.in_ok-number.number _ _ _ _ _ _ c.issue.ensures.txn e.state e.held e.checked_in
+    e.due issued in
     subst IsRequester (sym same) (wished_kept x c.args.wish.now row _ _ c.self.invariant fits next)
 
 pub returns : goal.returns
 returns c =
     let r = c.self.inside in
-    let x : RequesterRecord = requester_of r.issued.txn r.standing.state r.standing.held r.standing.checked_in r.standing.due r.issued.apdus in
+    let x : RequesterRecord = requester_of r.issued.txn r.standing.state r.standing.held r.standing.checked_in r.standing.due
+    r.issued.apdus in
     let row = c.in-Some.row.now in
     let fits : wish_row x c.args.wish.now ≡ Some row = search rules in
     let next : next_number x.issued ≡ Ok c.in_ok-number.number = search rules in
     let issued : c.issue.new.self.apdus ≡ with_next x.txn x.issued (wish_body x c.args.wish.now) = search rules in
     let e = c.after-standing.ensures in
-    let same = wished_is x c.args.wish.now row c.in_ok-number.number _ _ _ _ _ _ c.issue.ensures.txn e.state e.held e.checked_in e.due issued in
+    let same = wished_is x c.args.wish.now row c.in_ok-number.number _ _ _ _ _ _ c.issue.ensures.txn e.state e.held e.checked_in
+    e.due issued in
     search (rules, acts_this x c.args.wish.now row c.in_ok-number.number _ fits next, same)

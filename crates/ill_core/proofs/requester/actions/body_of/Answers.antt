@@ -7,5 +7,6 @@ use Rattle.ill_core.proofs.requester.actions.body_of.Goals as goal
 pub known_value-requires : goal.known_value-requires
 known_value-requires c =
     let r = c.requester.inside in
-    let x : RequesterRecord = requester_of r.issued.txn r.standing.state r.standing.held r.standing.checked_in r.standing.due r.issued.apdus in
+    let x : RequesterRecord = requester_of r.issued.txn r.standing.state r.standing.held r.standing.checked_in r.standing.due
+    r.issued.apdus in
     search (rules, requester_rules x c.requester.invariant)

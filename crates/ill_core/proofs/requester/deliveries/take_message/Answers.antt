@@ -8,7 +8,8 @@ use Rattle.ill_core.proofs.requester.deliveries.take_message.Goals as goal
 pub invariant_of-requester : goal.invariant_of-requester
 invariant_of-requester c =
     let r = c.requester.inside in
-    let x : RequesterRecord = requester_of r.issued.txn r.standing.state r.standing.held r.standing.checked_in r.standing.due r.issued.apdus in
+    let x : RequesterRecord = requester_of r.issued.txn r.standing.state r.standing.held r.standing.checked_in r.standing.due
+    r.issued.apdus in
     let a = c.args.apdu.now in
     let row = c.in-Some.row.now in
     let fits : delivery_row x a ≡ Some row = search rules in
@@ -19,7 +20,8 @@ invariant_of-requester c =
 pub returns-in-Some : goal.returns-in-Some
 returns-in-Some c =
     let r = c.requester.inside in
-    let x : RequesterRecord = requester_of r.issued.txn r.standing.state r.standing.held r.standing.checked_in r.standing.due r.issued.apdus in
+    let x : RequesterRecord = requester_of r.issued.txn r.standing.state r.standing.held r.standing.checked_in r.standing.due
+    r.issued.apdus in
     let a = c.args.apdu.now in
     let row = c.in-Some.row.now in
     let fits : delivery_row x a ≡ Some row = search rules in

@@ -35,13 +35,15 @@ returns-in_err-issue c =
 pub body_of-body-requires : goal.body_of-body-requires
 body_of-body-requires c =
     let r = c.self.inside in
-    let y : ResponderRecord = responder_of r.issued.txn r.standing.state r.standing.accepted r.standing.last_cancel r.standing.last_renew r.standing.received r.request r.issued.apdus in
+    let y : ResponderRecord = responder_of r.issued.txn r.standing.state r.standing.accepted r.standing.last_cancel
+    r.standing.last_renew r.standing.received r.request r.issued.apdus in
     search (rules, responder_rules y c.self.invariant)
 
 pub invariant_of-self-2 : goal.invariant_of-self-2
 invariant_of-self-2 c =
     let r = c.self.inside in
-    let y : ResponderRecord = responder_of r.issued.txn r.standing.state r.standing.accepted r.standing.last_cancel r.standing.last_renew r.standing.received r.request r.issued.apdus in
+    let y : ResponderRecord = responder_of r.issued.txn r.standing.state r.standing.accepted r.standing.last_cancel
+    r.standing.last_renew r.standing.received r.request r.issued.apdus in
     let deed = c.args.deed.now in
     let row = c.in-Some.row.now in
     let number = c.in_ok-number.number in
@@ -51,14 +53,17 @@ invariant_of-self-2 c =
     let next : next_number y.issued ≡ Ok number = search rules in
     let e = c.after-self-inside.ensures in
     let more : c.issue.new.self.apdus ≡ with_next y.txn y.issued body = search rules in
-    let parts = deed_is y row number body _ _ _ _ _ _ _ c.in_ok-issue.ensures.txn e.state e.accepted e.cancel e.renew e.received more in
-    let done : acts y deed c.args.today ≡ Ok (after_deed y row number body) = acts_this y deed c.args.today row number has date next in
+    let parts = deed_is y row number body _ _ _ _ _ _ _ c.in_ok-issue.ensures.txn e.state e.accepted e.cancel e.renew e.received
+    more in
+    let done : acts y deed c.args.today ≡ Ok (after_deed y row number body) =
+    acts_this y deed c.args.today row number has date next in
     subst IsResponder (sym parts) (deed_kept y (after_deed y row number body) deed c.args.today c.self.invariant done)
 
 pub returns : goal.returns
 returns c =
     let r = c.self.inside in
-    let y : ResponderRecord = responder_of r.issued.txn r.standing.state r.standing.accepted r.standing.last_cancel r.standing.last_renew r.standing.received r.request r.issued.apdus in
+    let y : ResponderRecord = responder_of r.issued.txn r.standing.state r.standing.accepted r.standing.last_cancel
+    r.standing.last_renew r.standing.received r.request r.issued.apdus in
     let deed = c.args.deed.now in
     let row = c.in-Some.row.now in
     let number = c.in_ok-number.number in
@@ -68,6 +73,8 @@ returns c =
     let next : next_number y.issued ≡ Ok number = search rules in
     let e = c.after-self-inside.ensures in
     let more : c.issue.new.self.apdus ≡ with_next y.txn y.issued body = search rules in
-    let parts = deed_is y row number body _ _ _ _ _ _ _ c.in_ok-issue.ensures.txn e.state e.accepted e.cancel e.renew e.received more in
-    let done : acts y deed c.args.today ≡ Ok (after_deed y row number body) = acts_this y deed c.args.today row number has date next in
+    let parts = deed_is y row number body _ _ _ _ _ _ _ c.in_ok-issue.ensures.txn e.state e.accepted e.cancel e.renew e.received
+    more in
+    let done : acts y deed c.args.today ≡ Ok (after_deed y row number body) =
+    acts_this y deed c.args.today row number has date next in
     search (rules, done, parts)

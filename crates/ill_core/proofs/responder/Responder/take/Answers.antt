@@ -4,4 +4,5 @@ use Rattle.ill_core.proofs.ResponderKept.{takes_admitted, admits_none}
 use Rattle.ill_core.proofs.responder.Responder.take.Goals as goal
 
 pub returns : goal.returns
-returns c = takes_admitted c.args.self.now _ c.args.apdu.now c.take_message.result (search (rules, admits_none)) c.take_message.ensures
+returns c = takes_admitted c.args.self.now _ c.args.apdu.now c.take_message.result (search (rules, admits_none))
+    c.take_message.ensures

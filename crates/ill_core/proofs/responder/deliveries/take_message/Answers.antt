@@ -17,7 +17,8 @@ returns-in_err-grow-in-Some c =
 pub invariant_of-responder-in-Some : goal.invariant_of-responder-in-Some
 invariant_of-responder-in-Some c =
     let r = c.responder.inside in
-    let y : ResponderRecord = responder_of r.issued.txn r.standing.state r.standing.accepted r.standing.last_cancel r.standing.last_renew r.standing.received r.request r.issued.apdus in
+    let y : ResponderRecord = responder_of r.issued.txn r.standing.state r.standing.accepted r.standing.last_cancel
+    r.standing.last_renew r.standing.received r.request r.issued.apdus in
     let a = c.args.apdu.now in
     let row = c.in-Some.row.now in
     let fits : delivery_row y a ≡ Some row = search rules in
@@ -30,7 +31,8 @@ invariant_of-responder-in-Some c =
 pub returns-in_ok-grow-in-Some : goal.returns-in_ok-grow-in-Some
 returns-in_ok-grow-in-Some c =
     let r = c.responder.inside in
-    let y : ResponderRecord = responder_of r.issued.txn r.standing.state r.standing.accepted r.standing.last_cancel r.standing.last_renew r.standing.received r.request r.issued.apdus in
+    let y : ResponderRecord = responder_of r.issued.txn r.standing.state r.standing.accepted r.standing.last_cancel
+    r.standing.last_renew r.standing.received r.request r.issued.apdus in
     let a = c.args.apdu.now in
     let row = c.in-Some.row.now in
     let fits : delivery_row y a ≡ Some row = search rules in

@@ -7,4 +7,5 @@ use Rattle.ill_core.proofs.responder.rules.dates_rise.Given as goal
 
 -- The granted dates rise exactly if those from the index on rise after `last`.
 abbrev pub invariant-loop-apdu : goal.invariant-loop-apdu
-invariant-loop-apdu l = are_rising (filter_map granted_day l.apdus) ≡ rise_from l.last (filter_map granted_day (drop l.apdu-index l.apdus))
+invariant-loop-apdu l = are_rising (filter_map granted_day l.apdus)
+    ≡ rise_from l.last (filter_map granted_day (drop l.apdu-index l.apdus))

@@ -5,12 +5,15 @@ use Rattle.ill_core.proofs.responder.rules.ships_first.Goals as goal
 
 pub returns-then-is_shipped : goal.returns-then-is_shipped
 returns-then-is_shipped c =
-    sym (c.loop-apdu.invariant ∙ ships_at true _ _ _ c.apdu-item.result c.loop-apdu-test.true c.apdu-item.is c.if-is_shipped.ensures refl)
+    sym (c.loop-apdu.invariant ∙ ships_at true _ _ _ c.apdu-item.result c.loop-apdu-test.true c.apdu-item.is
+    c.if-is_shipped.ensures refl)
 
 pub returns-then-is_renewal : goal.returns-then-is_renewal
 returns-then-is_renewal c =
-    sym (c.loop-apdu.invariant ∙ ships_at false true _ _ c.apdu-item.result c.loop-apdu-test.true c.apdu-item.is c.if-is_shipped.ensures c.if-is_renewal.ensures)
+    sym (c.loop-apdu.invariant ∙ ships_at false true _ _ c.apdu-item.result c.loop-apdu-test.true c.apdu-item.is
+    c.if-is_shipped.ensures c.if-is_renewal.ensures)
 
 pub loop-apdu-preserved : goal.loop-apdu-preserved
 loop-apdu-preserved c =
-    c.loop-apdu.invariant ∙ ships_at false false _ _ c.apdu-item.result c.loop-apdu-test.true c.apdu-item.is c.if-is_shipped.ensures c.if-is_renewal.ensures
+    c.loop-apdu.invariant ∙ ships_at false false _ _ c.apdu-item.result c.loop-apdu-test.true c.apdu-item.is
+    c.if-is_shipped.ensures c.if-is_renewal.ensures

@@ -5,7 +5,8 @@ use Rattle.ill_der.specs.ShortForm.{apdu_at}
 use Rattle.ill_der.specs.Stream.{IfShort}
 use Rattle.ill_der.specs.Handling.{HandlesEach}
 use Rattle.ill_der.specs.FeedView.{held_of, HandlesFirst, GoesOn}
-use Rattle.ill_der.proofs.FeedLemmas.{closing_some, is_open, holds_prefix, holds_still, short_held, goes_on_from, goes_on_after, goes_on_alone, all_left, fault_of_all, fails_first, still_held}
+use Rattle.ill_der.proofs.FeedLemmas.{closing_some, is_open, holds_prefix, holds_still, short_held, goes_on_from, goes_on_after}
+use Rattle.ill_der.proofs.FeedLemmas.{goes_on_alone, all_left, fault_of_all, fails_first, still_held}
 use Rattle.ill_der.proofs.feed.Feed.complete.Goals as goal
 
 pub returns-then-self-eq0 : goal.returns-then-self-eq0
@@ -13,7 +14,8 @@ returns-then-self-eq0 g c =
     let held = take c.self.inside.size c.self.inside.buffer in
     let opened = holds_prefix c.self.inside.closed held c.args.self.now c.self.view_is c.requires in
     let none : held ≡ [] = rw c.if-self-eq0.true refl in
-    goes_on_alone g.H.Handler.handles held c.args.piece.now _ _ c.args.self.now c.go_on.result c.go_on.new.self opened none c.go_on.ensures
+    goes_on_alone g.H.Handler.handles held c.args.piece.now _ _ c.args.self.now c.go_on.result c.go_on.new.self opened none
+    c.go_on.ensures
 
 pub overflow_sub-after : goal.overflow_sub-after
 overflow_sub-after g c =
@@ -22,13 +24,17 @@ overflow_sub-after g c =
     let new = c.fill-filled.new.buffer in
     let filled = c.fill-filled.result in
     let first =
-    subst (λ (r : Result ℕ DerFault). HandlesFirst handles (take filled new) (c.args.handler.now, c.args.context.now) (Ok r) (c.handle_first.new.handler, c.handle_first.new.context)) c.in-Ok-Ok.field-0-is
+    subst (λ (r : Result ℕ DerFault).
+    HandlesFirst handles (take filled new) (c.args.handler.now, c.args.context.now) (Ok r)
+    (c.handle_first.new.handler, c.handle_first.new.context)) c.in-Ok-Ok.field-0-is
     c.in-Ok-Ok.ensures in
-    let there = goes_on_from handles c.read_again.ensures old new c.args.piece.now c.self.inside.size filled c.in-Ok-Ok.end _ _ c.fill-filled.ensures c.self.invariant first in
+    let there = goes_on_from handles c.read_again.ensures old new c.args.piece.now c.self.inside.size filled c.in-Ok-Ok.end _ _
+    c.fill-filled.ensures c.self.invariant first in
     there.0
 
 pub invariant_of-self : goal.invariant_of-self
-invariant_of-self g c = holds_still c.self.inside.buffer c.fill-filled.new.buffer c.args.piece.now c.self.inside.size c.fill-filled.result c.fill-filled.ensures c.self.invariant
+invariant_of-self g c = holds_still c.self.inside.buffer c.fill-filled.new.buffer c.args.piece.now c.self.inside.size
+    c.fill-filled.result c.fill-filled.ensures c.self.invariant
 
 pub invariant_of-self-in-None : goal.invariant_of-self-in-None
 invariant_of-self-in-None g c =
@@ -36,16 +42,22 @@ invariant_of-self-in-None g c =
     let new = c.fill-filled.new.buffer in
     let filled = c.fill-filled.result in
     let first =
-    subst (λ (r : Result ℕ DerFault). HandlesFirst g.H.Handler.handles (take filled new) (c.args.handler.now, c.args.context.now) (Ok r) (c.handle_first.new.handler, c.handle_first.new.context))
+    subst (λ (r : Result ℕ DerFault).
+    HandlesFirst g.H.Handler.handles (take filled new) (c.args.handler.now, c.args.context.now) (Ok r)
+    (c.handle_first.new.handler, c.handle_first.new.context))
     c.in-Ok-Err.field-0-is c.in-Ok-Err.ensures in
-    let is = short_held c.short_has_the_size.ensures old new c.args.piece.now c.self.inside.size filled c.in-Ok-Err.fault c.fill-filled.ensures c.in-None.ensures first.0 in
+    let is = short_held c.short_has_the_size.ensures old new c.args.piece.now c.self.inside.size filled c.in-Ok-Err.fault
+    c.fill-filled.ensures c.in-None.ensures first.0 in
     is.0
 
 pub invariant_of-self-in-Some : goal.invariant_of-self-in-Some
-invariant_of-self-in-Some g c = holds_still c.self.inside.buffer c.fill-filled.new.buffer c.args.piece.now c.self.inside.size c.fill-filled.result c.fill-filled.ensures c.self.invariant
+invariant_of-self-in-Some g c =
+    holds_still c.self.inside.buffer c.fill-filled.new.buffer c.args.piece.now c.self.inside.size c.fill-filled.result
+    c.fill-filled.ensures c.self.invariant
 
 pub invariant_of-self-in-Err : goal.invariant_of-self-in-Err
-invariant_of-self-in-Err g c = holds_still c.self.inside.buffer c.fill-filled.new.buffer c.args.piece.now c.self.inside.size c.fill-filled.result c.fill-filled.ensures c.self.invariant
+invariant_of-self-in-Err g c = holds_still c.self.inside.buffer c.fill-filled.new.buffer c.args.piece.now c.self.inside.size
+    c.fill-filled.result c.fill-filled.ensures c.self.invariant
 
 pub returns-in-Ok-Ok : goal.returns-in-Ok-Ok
 returns-in-Ok-Ok g c =
@@ -57,13 +69,20 @@ returns-in-Ok-Ok g c =
     let closed = c.self.inside.closed in
     let was = holds_prefix closed (take size old) c.args.self.now c.self.view_is c.requires in
     let first =
-    subst (λ (r : Result ℕ DerFault). HandlesFirst handles (take filled new) (c.args.handler.now, c.args.context.now) (Ok r) (c.handle_first.new.handler, c.handle_first.new.context)) c.in-Ok-Ok.field-0-is
+    subst (λ (r : Result ℕ DerFault).
+    HandlesFirst handles (take filled new) (c.args.handler.now, c.args.context.now) (Ok r)
+    (c.handle_first.new.handler, c.handle_first.new.context)) c.in-Ok-Ok.field-0-is
     c.in-Ok-Ok.ensures in
     let opened = is_open closed (take size old) c.args.self.now c.self.view_is c.requires in
     let on =
-    subst (λ (k : Option DerFault). GoesOn handles (held_of k (take size new)) (take (length c.args.piece.now - (c.in-Ok-Ok.end - size)) (drop (c.in-Ok-Ok.end - size) c.args.piece.now)) (c.handle_first.new.handler, c.handle_first.new.context) c.go_on-in-Ok-Ok.result c.go_on-in-Ok-Ok.new.self (c.go_on-in-Ok-Ok.new.handler, c.go_on-in-Ok-Ok.new.context))
+    subst (λ (k : Option DerFault).
+    GoesOn handles (held_of k (take size new))
+    (take (length c.args.piece.now - (c.in-Ok-Ok.end - size)) (drop (c.in-Ok-Ok.end - size) c.args.piece.now))
+    (c.handle_first.new.handler, c.handle_first.new.context) c.go_on-in-Ok-Ok.result c.go_on-in-Ok-Ok.new.self
+    (c.go_on-in-Ok-Ok.new.handler, c.go_on-in-Ok-Ok.new.context))
     opened c.go_on-in-Ok-Ok.ensures in
-    goes_on_after handles c.read_again.ensures old new c.args.piece.now size filled c.in-Ok-Ok.end _ _ _ c.args.self.now c.go_on-in-Ok-Ok.result c.go_on-in-Ok-Ok.new.self c.fill-filled.ensures c.self.invariant was first on
+    goes_on_after handles c.read_again.ensures old new c.args.piece.now size filled c.in-Ok-Ok.end _ _ _ c.args.self.now
+    c.go_on-in-Ok-Ok.result c.go_on-in-Ok-Ok.new.self c.fill-filled.ensures c.self.invariant was first on
 
 pub returns-in-None : goal.returns-in-None
 returns-in-None g c =
@@ -75,12 +94,18 @@ returns-in-None g c =
     let was = holds_prefix closed (take size old) c.args.self.now c.self.view_is c.requires in
     let opened = is_open closed (take size old) c.args.self.now c.self.view_is c.requires in
     let first =
-    subst (λ (r : Result ℕ DerFault). HandlesFirst g.H.Handler.handles (take filled new) (c.args.handler.now, c.args.context.now) (Ok r) (c.handle_first.new.handler, c.handle_first.new.context))
+    subst (λ (r : Result ℕ DerFault).
+    HandlesFirst g.H.Handler.handles (take filled new) (c.args.handler.now, c.args.context.now) (Ok r)
+    (c.handle_first.new.handler, c.handle_first.new.context))
     c.in-Ok-Err.field-0-is c.in-Ok-Err.ensures in
-    let is = short_held c.short_has_the_size.ensures old new c.args.piece.now size filled c.in-Ok-Err.fault c.fill-filled.ensures c.in-None.ensures first.0 in
+    let is = short_held c.short_has_the_size.ensures old new c.args.piece.now size filled c.in-Ok-Err.fault c.fill-filled.ensures
+    c.in-None.ensures first.0 in
     subst
-    (λ (k : Option DerFault). HandlesEach g.H.Handler.handles c.args.self.now c.args.piece.now (c.args.handler.now, c.args.context.now) (Ok None) (held_of k (take filled new)) (c.handle_first.new.handler, c.handle_first.new.context))
-    (sym opened) (all_left g.H.Handler.handles (take size old) c.args.piece.now _ _ c.args.self.now (Ok (take filled new)) was (is.1, is.2) first.1)
+    (λ (k : Option DerFault). HandlesEach g.H.Handler.handles c.args.self.now c.args.piece.now
+    (c.args.handler.now, c.args.context.now) (Ok None) (held_of k (take filled new))
+    (c.handle_first.new.handler, c.handle_first.new.context))
+    (sym opened) (all_left g.H.Handler.handles (take size old) c.args.piece.now _ _ c.args.self.now (Ok (take filled new)) was
+    (is.1, is.2) first.1)
 
 pub returns-in-Some : goal.returns-in-Some
 returns-in-Some g c =
@@ -90,12 +115,15 @@ returns-in-Some g c =
     let size = c.self.inside.size in
     let was = holds_prefix c.self.inside.closed (take size old) c.args.self.now c.self.view_is c.requires in
     let first =
-    subst (λ (r : Result ℕ DerFault). HandlesFirst g.H.Handler.handles (take filled new) (c.args.handler.now, c.args.context.now) (Ok r) (c.handle_first.new.handler, c.handle_first.new.context))
+    subst (λ (r : Result ℕ DerFault).
+    HandlesFirst g.H.Handler.handles (take filled new) (c.args.handler.now, c.args.context.now) (Ok r)
+    (c.handle_first.new.handler, c.handle_first.new.context))
     c.in-Ok-Err.field-0-is c.in-Ok-Err.ensures in
     let closes = closing_some c.in-Ok-Err.fault c.in-Some.fault c.in-Some.ensures in
     let at_fault : apdu_at (take filled new) ≡ Err c.in-Some.fault = first.0 ∙ ap (λ (f : DerFault). Err f) closes.0 in
     let leaves =
-    fault_of_all old new c.args.piece.now size filled c.in-Some.fault c.fill-filled.ensures (subst (λ (f : DerFault). IfShort f ⊥) closes.0 closes.1) at_fault in
+    fault_of_all old new c.args.piece.now size filled c.in-Some.fault c.fill-filled.ensures
+    (subst (λ (f : DerFault). IfShort f ⊥) closes.0 closes.1) at_fault in
     all_left g.H.Handler.handles (take size old) c.args.piece.now _ _ c.args.self.now (Err c.in-Some.fault) was leaves first.1
 
 pub returns-in-Err : goal.returns-in-Err
@@ -109,5 +137,6 @@ returns-in-Err g c =
     let still = still_held old new c.args.piece.now size filled c.fill-filled.ensures in
     let same : held_of closed (take size new) ≡ c.args.self.now = ap (held_of closed) still ∙ c.self.view_is in (
       same,
-      fails_first g.H.Handler.handles old new c.args.piece.now size filled _ _ c.args.self.now c.in-Err.fault c.fill-filled.ensures was c.in-Err.ensures,
+      fails_first g.H.Handler.handles old new c.args.piece.now size filled _ _ c.args.self.now c.in-Err.fault
+          c.fill-filled.ensures was c.in-Err.ensures,
     )

@@ -18,4 +18,7 @@ returns-in-Ok c =
     (subst (λ (x : List Apdu). Feeds c.args.self.now c.args.piece.now x c.each.new.self) (sym all) is.1.1, is.0)
 
 pub returns-in-Err : goal.returns-in-Err
-returns-in-Err c = (c.in-Err.ensures.0, fails_at_apdu Keeps c.args.self.now c.args.piece.now _ _ c.in-Err.fault c.in-Err.ensures.1)
+returns-in-Err c = (
+  c.in-Err.ensures.0,
+  fails_at_apdu Keeps c.args.self.now c.args.piece.now _ _ c.in-Err.fault c.in-Err.ensures.1,
+)

@@ -7,4 +7,7 @@ use Rattle.ill_saved.proofs.desk.Desk1+S.create.Goals as goal
 -- The idle side backs itself.
 pub over-requires : goal.over-requires
 over-requires g c =
-    record { backed = subst (λ held. OneBacks (one_side.unsaved held) held) (sym c.alone.ensures) (idle_backs c.args.first c.requires.idle) }
+    record {
+      backed = subst (λ held. OneBacks (one_side.unsaved held) held) (sym c.alone.ensures)
+          (idle_backs c.args.first c.requires.idle);
+    }

@@ -18,7 +18,10 @@ loop-apdu-init c =
     let end : length c.messages-end.result.now ≡ length landed_record.messages = ap length c.messages-end.ensures in
     let within : All (IsWithin (length landed_record.messages)) places = search rules in
     let pieces : map (piece_at landed_record.messages) places ≡ landed_record.pieces = search rules in
-    record { placed = first_placed landed_record.messages landed_record.pieces places c.args.apdus.now (length c.messages-end.result.now) end within pieces }
+    record {
+      placed = first_placed landed_record.messages landed_record.pieces places c.args.apdus.now
+          (length c.messages-end.result.now) end within pieces;
+    }
 
 -- One more message keeps the invariant.
 pub loop-apdu-preserved : goal.loop-apdu-preserved
@@ -29,7 +32,8 @@ loop-apdu-preserved c =
     let index = c.loop-apdu.apdu-index in
     let a = c.apdu-item.result in
     let left = drop (index + 1) apdus in
-    let prefix : drop index apdus ≡ a ∷ left = drop_more apdus index a c.loop-apdu-test.true ∙ ap (λ x. x ∷ left) (sym c.apdu-item.is) in
+    let prefix : drop index apdus ≡ a ∷ left =
+    drop_more apdus index a c.loop-apdu-test.true ∙ ap (λ x. x ∷ left) (sym c.apdu-item.is) in
     let placed : ArePlaced whole c.loop-apdu.end c.loop-apdu.places.items (a ∷ left) all =
     subst (λ rest. ArePlaced whole c.loop-apdu.end c.loop-apdu.places.items rest all) prefix c.loop-apdu.invariant.placed in
     let next = next_placed whole c.loop-apdu.end c.loop-apdu.places.items a left all placed in
@@ -37,14 +41,16 @@ loop-apdu-preserved c =
 
 -- After the loop, each message has its place in `bytes`.
 all_are_placed : (c : goal.After-len)
-    → ArePlacedIn c.args.bytes.items (c.len.result - c.loop-apdu.end) (c.args.self.now.messages ++ spell_all spelling c.args.apdus.now) c.loop-apdu.places.items
+    → ArePlacedIn c.args.bytes.items (c.len.result - c.loop-apdu.end)
+    (c.args.self.now.messages ++ spell_all spelling c.args.apdus.now) c.loop-apdu.places.items
     (c.args.self.now.pieces ++ map spelling c.args.apdus.now)
 all_are_placed c =
     let apdus = c.args.apdus.now in
     let left = drop c.loop-apdu.apdu-index apdus in
     let none : left ≡ [] = drop_all c.loop-apdu.apdu-index apdus (omega (arith, c.loop-apdu-test.false)) in
     let size : c.len.result ≡ length c.args.bytes.items = search rules in
-    all_placed c.args.bytes.items (c.args.self.now.messages ++ spell_all spelling apdus) (c.len.result - c.loop-apdu.end) c.loop-apdu.end c.loop-apdu.places.items left (c.args.self.now.pieces ++ map spelling apdus)
+    all_placed c.args.bytes.items (c.args.self.now.messages ++ spell_all spelling apdus) (c.len.result - c.loop-apdu.end)
+    c.loop-apdu.end c.loop-apdu.places.items left (c.args.self.now.pieces ++ map spelling apdus)
     none c.loop-apdu.invariant.placed c.requires.ends (ap (λ n. n - c.loop-apdu.end) size)
 
 -- The places of the new record are within its messages.

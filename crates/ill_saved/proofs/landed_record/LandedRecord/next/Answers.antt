@@ -9,19 +9,22 @@ use Rattle.ill_saved.proofs.landed_record.LandedRecord.next.Goals as goal
 pub encode_after-requires-clause-spelled : goal.encode_after-requires-clause-spelled
 encode_after-requires-clause-spelled c =
     let others = c.issued_after-others.result.now in
-    let more = landed_continues c.args.self.now c.args.side.now c.args.released others c.requires.keeps c.issued_after-others.ensures in
+    let more = landed_continues c.args.self.now c.args.side.now c.args.released others c.requires.keeps
+    c.issued_after-others.ensures in
     ap (λ messages. messages ++ spell_all spelling others) c.messages.ensures ∙ more.messages
 
 -- If the other messages are in range, all that the side has issued are.
 pub encode_after-requires-clause-range : goal.encode_after-requires-clause-range
 encode_after-requires-clause-range c =
-    let more = landed_continues c.args.self.now c.args.side.now c.args.released c.issued_after-others.result.now c.requires.keeps c.issued_after-others.ensures in
+    let more = landed_continues c.args.self.now c.args.side.now c.args.released c.issued_after-others.result.now c.requires.keeps
+    c.issued_after-others.ensures in
     more.range
 
 -- The new record ends with the kept messages and the encodings of the others.
 pub followed_by-requires : goal.followed_by-requires
 followed_by-requires c =
-    let more = landed_continues c.args.self.now c.args.side.now c.args.released c.issued_after-others.result.now c.requires.keeps c.issued_after-others.ensures in
+    let more = landed_continues c.args.self.now c.args.side.now c.args.released c.issued_after-others.result.now c.requires.keeps
+    c.issued_after-others.ensures in
     let ends = ends_with_messages c.args.side.now in
     record { ends = (ends.0, c.in_ok-bytes.ensures.bytes ∙ (ends.1 ∙ ap (λ t. ends.0 ++ t) (sym more.messages))) }
 
@@ -29,5 +32,7 @@ followed_by-requires c =
 pub returns : goal.returns
 returns c =
     let others = c.issued_after-others.result.now in
-    let more = landed_continues c.args.self.now c.args.side.now c.args.released others c.requires.keeps c.issued_after-others.ensures in
-    next_landed c.followed_by.result c.args.self.now c.args.side.now c.standing.result others c.in_ok-bytes.bytes.items more c.in_ok-bytes.ensures.side c.standing.ensures.value c.in_ok-bytes.ensures.bytes c.followed_by.ensures
+    let more = landed_continues c.args.self.now c.args.side.now c.args.released others c.requires.keeps
+    c.issued_after-others.ensures in
+    next_landed c.followed_by.result c.args.self.now c.args.side.now c.standing.result others c.in_ok-bytes.bytes.items more
+    c.in_ok-bytes.ensures.side c.standing.ensures.value c.in_ok-bytes.ensures.bytes c.followed_by.ensures

@@ -10,5 +10,6 @@ use Rattle.ill_saved.proofs.landed_record.LandedRecord.of.Goals as goal
 pub followed_by-requires : goal.followed_by-requires
 followed_by-requires c =
     let ends = ends_with_messages c.args.side.now in
-    let messages : c.none.result.messages ++ spell_all spelling c.all_issued.result.now ≡ spell_all spelling (issued_of c.args.side.now) = search rules in
+    let messages : c.none.result.messages ++ spell_all spelling c.all_issued.result.now
+    ≡ spell_all spelling (issued_of c.args.side.now) = search rules in
     record { ends = (ends.0, c.requires.spelled ∙ (ends.1 ∙ ap (λ t. ends.0 ++ t) (sym messages))) }

@@ -9,7 +9,8 @@ use Rattle.ill_saved.proofs.many_sides.ManySides.act_first.Goals as goal
 
 -- The side that has begun may be put. A row led to it from the idle side of its transaction.
 may : (c : In_ok-side)
-    → (put_refusal (sides_held c.args.self.now) c.in_ok-side.side ≡ None) × IsStep (idle_side c.args.self.now.role (txn_of c.in_ok-side.side)) c.in_ok-side.side
+    → (put_refusal (sides_held c.args.self.now) c.in_ok-side.side ≡ None)
+    × IsStep (idle_side c.args.self.now.role (txn_of c.in_ok-side.side)) c.in_ok-side.side
 may c =
     let live = c.args.self.now in
     let room : nat_lt (length live.held) most_sides ≡ true = search rules in

@@ -15,12 +15,15 @@ invariant_of-self-in-Ok c =
     let seen = as_seen all counted c.args.self.now c.self.invariant.0 c.self.view_is in
     let may : put_refusal all c.args.side ≡ None = ap (λ held. put_refusal held c.args.side) seen ∙ c.requires.may in
     let role = ap (λ live. live.role) c.self.view_is in
-    let row : IsStep (idle_side all.role (txn_of c.args.side)) c.args.side = subst (λ r. IsStep (idle_side r (txn_of c.args.side)) c.args.side) (sym role) c.requires.row in
+    let row : IsStep (idle_side all.role (txn_of c.args.side)) c.args.side =
+    subst (λ r. IsStep (idle_side r (txn_of c.args.side)) c.args.side) (sym role) c.requires.row in
     let put : c.put.new.self ≡ put_last all c.args.side = search rules in
     let pushed : c.push.new.self.items ≡ counted ++ 0 ∷ [] = search rules in (
-      ap length pushed ∙ length-append counted (0 ∷ []) ∙ ap (λ n. n + 1) c.self.invariant.0 ∙ sym (length-append all.sides (c.args.side ∷ [])) ∙ ap (λ held. length held.sides) (sym put),
+      ap length pushed ∙ length-append counted (0 ∷ []) ∙ ap (λ n. n + 1) c.self.invariant.0
+          ∙ sym (length-append all.sides (c.args.side ∷ [])) ∙ ap (λ held. length held.sides) (sym put),
       subst (λ ns. AreBackable (record { role = c.put.new.self.role; held = held_of c.put.new.self.sides ns })) (sym pushed)
-          (more_backable all.role all.sides counted c.self.invariant.0 c.args.side may c.rows_grow.ensures c.put.new.self put row c.self.invariant.1),
+          (more_backable all.role all.sides counted c.self.invariant.0 c.args.side may c.rows_grow.ensures c.put.new.self put row
+          c.self.invariant.1),
     )
 
 -- The desk holds one more side, with nothing released.
@@ -44,9 +47,12 @@ returns-in_ok-push-in-Ok-clause-backed c =
     let seen = as_seen all counted c.args.self.now c.self.invariant.0 c.self.view_is in
     let may : put_refusal all c.args.side ≡ None = ap (λ held. put_refusal held c.args.side) seen ∙ c.requires.may in
     let role = ap (λ live. live.role) c.self.view_is in
-    let row : IsStep (idle_side all.role (txn_of c.args.side)) c.args.side = subst (λ r. IsStep (idle_side r (txn_of c.args.side)) c.args.side) (sym role) c.requires.row in
+    let row : IsStep (idle_side all.role (txn_of c.args.side)) c.args.side =
+    subst (λ r. IsStep (idle_side r (txn_of c.args.side)) c.args.side) (sym role) c.requires.row in
     let put : c.put.new.self ≡ put_last all c.args.side = search rules in
     let pushed : c.push.new.self.items ≡ counted ++ 0 ∷ [] = search rules in
-    subst (λ old. StaysBacked many_sides ManyBack old (record { role = c.put.new.self.role; held = held_of c.put.new.self.sides c.push.new.self.items })) c.self.view_is
-    (subst (λ ns. StaysBacked many_sides ManyBack (record { role = all.role; held = held_of all.sides counted }) (record { role = c.put.new.self.role; held = held_of c.put.new.self.sides ns })) (sym pushed)
+    subst (λ old. StaysBacked many_sides ManyBack old
+    (record { role = c.put.new.self.role; held = held_of c.put.new.self.sides c.push.new.self.items })) c.self.view_is
+    (subst (λ ns. StaysBacked many_sides ManyBack (record { role = all.role; held = held_of all.sides counted })
+    (record { role = c.put.new.self.role; held = held_of c.put.new.self.sides ns })) (sym pushed)
     (more_backed all.role all.sides counted c.self.invariant.0 c.args.side may c.rows_grow.ensures c.put.new.self put row))

@@ -7,7 +7,8 @@ use Rattle.ill_saved.proofs.many_sides.ManySides.may_begin.Goals as goal
 
 -- A desk holds as many as it has sides.
 as_many : (c : After-len) → length c.args.self.now.held ≡ length c.self.inside.sides.sides
-as_many c = sym (ap (λ live. length live.held) c.self.view_is) ∙ as_many_held c.self.inside.sides.sides c.self.inside.released.items c.self.invariant.0
+as_many c = sym (ap (λ live. length live.held) c.self.view_is)
+    ∙ as_many_held c.self.inside.sides.sides c.self.inside.released.items c.self.invariant.0
 
 -- If the sides are fewer than the limit, there is room.
 pub returns-then-len-lt-SIDES_LIMIT : goal.returns-then-len-lt-SIDES_LIMIT

@@ -15,7 +15,8 @@ invariant_of-result c =
     let is : all ≡ record { role = c.args.role; sides = [] } = search rules in
     let whole : counted ≡ counts all.sides = search rules in (
       as_many_counted all.sides counted whole,
-      whole_backable all counted (subst (λ (held : SidesOf). Each IsConsistent held.sides) (sym is) (none_are IsConsistent)) whole,
+      whole_backable all counted (subst (λ (held : SidesOf). Each IsConsistent held.sides) (sym is) (none_are IsConsistent))
+          whole,
     )
 
 -- The desk holds no sides.

@@ -14,7 +14,8 @@ returns-in-Some-clause-value c =
     let txn = c.args.txn.now in
     let at : Some c.in-Some.place ≡ position (λ side. is_same_txn txn (txn_of side)) all.sides = search rules in
     let within : c.in-Some.place < length all.sides = search rules in
-    count_there all.role all.sides c.self.inside.released.items txn c.in-Some.place c.index.result.now c.self.invariant.0 at within c.index.ensures ∙ ap (λ live. (held_for txn live).released) c.self.view_is
+    count_there all.role all.sides c.self.inside.released.items txn c.in-Some.place c.index.result.now c.self.invariant.0 at
+    within c.index.ensures ∙ ap (λ live. (held_for txn live).released) c.self.view_is
 
 -- If no side is of the transaction, nothing of it is released.
 pub returns-in-None-clause-value : goal.returns-in-None-clause-value
@@ -22,7 +23,8 @@ returns-in-None-clause-value c =
     let all = c.self.inside.sides in
     let txn = c.args.txn.now in
     let none : None ≡ position (λ side. is_same_txn txn (txn_of side)) all.sides = search rules in
-    no_count all.role all.sides c.self.inside.released.items txn c.self.invariant.0 none ∙ ap (λ live. (held_for txn live).released) c.self.view_is
+    no_count all.role all.sides c.self.inside.released.items txn c.self.invariant.0 none
+    ∙ ap (λ live. (held_for txn live).released) c.self.view_is
 
 -- No more messages are released than issued.
 pub returns-in-Some-clause-issued : goal.returns-in-Some-clause-issued

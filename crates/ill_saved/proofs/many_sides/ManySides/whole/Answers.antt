@@ -7,8 +7,10 @@ use Rattle.ill_saved.proofs.many_sides.ManySides.whole.Goals as goal
 pub invariant_of-result : goal.invariant_of-result
 invariant_of-result c =
     let all = c.args.sides in
-    let counted = c.in_ok-released.released.items in
-    (as_many_counted all.sides counted c.in_ok-released.ensures, whole_backable all counted c.requires.rules c.in_ok-released.ensures)
+    let counted = c.in_ok-released.released.items in (
+      as_many_counted all.sides counted c.in_ok-released.ensures,
+      whole_backable all counted c.requires.rules c.in_ok-released.ensures,
+    )
 
 -- All messages are released.
 pub returns : goal.returns

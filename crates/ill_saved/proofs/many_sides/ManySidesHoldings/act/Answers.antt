@@ -15,17 +15,27 @@ rules_stay : (c : In-Some) → (length c.self.inside.released.items ≡ length c
     × AreBackable (record { role = c.act.new.self.role; held = held_of c.act.new.self.sides c.self.inside.released.items })
 rules_stay c =
     let all = c.self.inside.sides in (
-      (changed_held all.role all.sides c.self.inside.released.items c.self.invariant.0 c.rows_grow.ensures c.args.txn.now (λ old answer new. Acts old c.args.action.now answer new) (λ old new answer does. acts_row old new c.args.action.now answer does) c.in-Some.answer c.act.new.self c.in-Some.ensures).6,
-      still_backable all.role all.sides c.self.inside.released.items c.self.invariant.0 c.rows_grow.ensures c.args.txn.now (λ old answer new. Acts old c.args.action.now answer new) (λ old new answer does. acts_row old new c.args.action.now answer does) c.in-Some.answer c.act.new.self c.in-Some.ensures c.self.invariant.1,
+      (changed_held all.role all.sides c.self.inside.released.items c.self.invariant.0 c.rows_grow.ensures c.args.txn.now
+          (λ old answer new. Acts old c.args.action.now answer new)
+          (λ old new answer does. acts_row old new c.args.action.now answer does) c.in-Some.answer c.act.new.self
+          c.in-Some.ensures).6,
+      still_backable all.role all.sides c.self.inside.released.items c.self.invariant.0 c.rows_grow.ensures c.args.txn.now
+          (λ old answer new. Acts old c.args.action.now answer new)
+          (λ old new answer does. acts_row old new c.args.action.now answer does) c.in-Some.answer c.act.new.self
+          c.in-Some.ensures c.self.invariant.1,
     )
 
 -- After the act of a held side, all bytes that backed the desk's content back it.
 stays_backed : (c : In-Some)
-    → StaysBacked many_sides ManyBack c.args.self.now (record { role = c.act.new.self.role; held = held_of c.act.new.self.sides c.self.inside.released.items })
+    → StaysBacked many_sides ManyBack c.args.self.now
+    (record { role = c.act.new.self.role; held = held_of c.act.new.self.sides c.self.inside.released.items })
 stays_backed c =
     let all = c.self.inside.sides in
-    subst (λ old. StaysBacked many_sides ManyBack old (record { role = c.act.new.self.role; held = held_of c.act.new.self.sides c.self.inside.released.items })) c.self.view_is
-    (still_backed all.role all.sides c.self.inside.released.items c.self.invariant.0 c.rows_grow.ensures c.args.txn.now (λ old answer new. Acts old c.args.action.now answer new) (λ old new answer does. acts_row old new c.args.action.now answer does) c.in-Some.answer c.act.new.self c.in-Some.ensures)
+    subst (λ old. StaysBacked many_sides ManyBack old
+    (record { role = c.act.new.self.role; held = held_of c.act.new.self.sides c.self.inside.released.items })) c.self.view_is
+    (still_backed all.role all.sides c.self.inside.released.items c.self.invariant.0 c.rows_grow.ensures c.args.txn.now
+    (λ old answer new. Acts old c.args.action.now answer new)
+    (λ old new answer does. acts_row old new c.args.action.now answer does) c.in-Some.answer c.act.new.self c.in-Some.ensures)
 
 -- If the held side answers an action, the desk answers as `DeskActs` says.
 acts_so : (c : In-Some)
@@ -34,8 +44,10 @@ acts_so : (c : In-Some)
 acts_so c =
     let fits : is_same_role c.self.inside.sides.role (role_for c.args.action.now) ≡ true = search rules in
     let all = c.self.inside.sides in
-    subst (λ old. DeskActs many_sides old c.args.txn.now c.args.action.now (core_answer c.in-Some.answer) (record { role = c.act.new.self.role; held = held_of c.act.new.self.sides c.self.inside.released.items })) c.self.view_is
-    (desk_acts_so all.role all.sides c.self.inside.released.items c.self.invariant.0 c.rows_grow.ensures c.args.txn.now c.args.action.now c.in-Some.answer c.act.new.self fits c.in-Some.ensures)
+    subst (λ old. DeskActs many_sides old c.args.txn.now c.args.action.now (core_answer c.in-Some.answer)
+    (record { role = c.act.new.self.role; held = held_of c.act.new.self.sides c.self.inside.released.items })) c.self.view_is
+    (desk_acts_so all.role all.sides c.self.inside.released.items c.self.invariant.0 c.rows_grow.ensures c.args.txn.now
+    c.args.action.now c.in-Some.answer c.act.new.self fits c.in-Some.ensures)
 
 -- The desk keeps its invariant if its side does not do the action.
 pub invariant_of-self : goal.invariant_of-self
@@ -61,7 +73,8 @@ returns-in_ok-answer-in-Some-clause-acts c =
 pub act_first-requires-clause-none : goal.act_first-requires-clause-none
 act_first-requires-clause-none c =
     ap (λ all. found_by txn_held c.args.txn.now (held_of all.sides c.self.inside.released.items)) c.in-None.ensures.1
-    ∙ none_held c.self.inside.sides.role c.self.inside.sides.sides c.self.inside.released.items c.self.invariant.0 c.args.txn.now c.in-None.ensures.0
+    ∙ none_held c.self.inside.sides.role c.self.inside.sides.sides c.self.inside.released.items c.self.invariant.0 c.args.txn.now
+    c.in-None.ensures.0
 
 -- All bytes that backed the desk's content back it.
 pub returns-in_err-answer-in-Some-clause-backed : goal.returns-in_err-answer-in-Some-clause-backed

@@ -11,13 +11,19 @@ found : (c : In-Some) → found_by txn_held c.args.txn.now c.args.self.now.held
     ≡ Some (record { side = c.in-Some.side.now; released = (held_for c.args.txn.now c.args.self.now).released })
 found c =
     let there : side_with c.args.txn.now c.self.inside.sides.sides ≡ Some c.in-Some.side.now = search rules in
-    held_there c.args.self.now c.args.txn.now c.in-Some.side.now (ap (λ all. side_with c.args.txn.now all.sides) (sym (as_seen c.self.inside.sides c.self.inside.released.items c.args.self.now c.self.invariant.0 c.self.view_is)) ∙ there)
+    held_there c.args.self.now c.args.txn.now c.in-Some.side.now
+    (ap (λ all. side_with c.args.txn.now all.sides)
+    (sym (as_seen c.self.inside.sides c.self.inside.released.items c.args.self.now c.self.invariant.0 c.self.view_is))
+    ∙ there)
 
 -- If no side is of the transaction, the answer is `NoSuchTransaction`.
 pub returns-in_default : goal.returns-in_default
 returns-in_default c =
     let none : side_with c.args.txn.now c.self.inside.sides.sides ≡ None = search rules in
-    let held = none_held_there c.args.self.now c.args.txn.now (ap (λ all. side_with c.args.txn.now all.sides) (sym (as_seen c.self.inside.sides c.self.inside.released.items c.args.self.now c.self.invariant.0 c.self.view_is)) ∙ none) in
+    let held = none_held_there c.args.self.now c.args.txn.now
+    (ap (λ all. side_with c.args.txn.now all.sides)
+    (sym (as_seen c.self.inside.sides c.self.inside.released.items c.args.self.now c.self.invariant.0 c.self.view_is))
+    ∙ none) in
     search (rules, held)
 
 -- If the message is not issued, the answer is `NoSuchMessage`.

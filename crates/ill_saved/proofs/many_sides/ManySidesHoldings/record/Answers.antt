@@ -16,10 +16,12 @@ pub returns-clause-record : goal.returns-clause-record
 returns-clause-record c =
     let all = c.self.inside.sides in
     let are = c.in_ok-bytes.ensures.sides in
-    sides_record c.follows_issues.ensures all c.self.inside.released.items c.self.invariant.0 (each_consistent all.sides are.each) c.sides_read_again.ensures are c.in_ok-bytes.bytes.items c.args.self.now c.in_ok-bytes.ensures.bytes c.self.view_is
+    sides_record c.follows_issues.ensures all c.self.inside.released.items c.self.invariant.0 (each_consistent all.sides are.each)
+    c.sides_read_again.ensures are c.in_ok-bytes.bytes.items c.args.self.now c.in_ok-bytes.ensures.bytes c.self.view_is
     (subst AreBackable c.self.view_is c.self.invariant.1)
 
 -- The sides are in range.
 pub returns-clause-range : goal.returns-clause-range
 returns-clause-range c =
-    subst AreSides (as_seen c.self.inside.sides c.self.inside.released.items c.args.self.now c.self.invariant.0 c.self.view_is) c.in_ok-bytes.ensures.sides
+    subst AreSides (as_seen c.self.inside.sides c.self.inside.released.items c.args.self.now c.self.invariant.0 c.self.view_is)
+    c.in_ok-bytes.ensures.sides

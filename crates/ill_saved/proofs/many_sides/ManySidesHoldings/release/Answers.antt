@@ -11,8 +11,10 @@ invariant_of-self c =
     let all = c.self.inside.sides in
     let seen = sym (as_seen all c.self.inside.released.items c.args.self.now c.self.invariant.0 c.self.view_is) in
     let are = subst AreSides seen c.requires.fits.0 in
-    let counted : c.args.landed.counts.items ≡ counts all.sides = c.requires.fits.1 ∙ ap (λ held. counts held.sides) seen in
-    (as_many_counted all.sides c.args.landed.counts.items counted, whole_backable all c.args.landed.counts.items (each_consistent all.sides are.each) counted)
+    let counted : c.args.landed.counts.items ≡ counts all.sides = c.requires.fits.1 ∙ ap (λ held. counts held.sides) seen in (
+      as_many_counted all.sides c.args.landed.counts.items counted,
+      whole_backable all c.args.landed.counts.items (each_consistent all.sides are.each) counted,
+    )
 
 -- All messages are released.
 pub returns : goal.returns

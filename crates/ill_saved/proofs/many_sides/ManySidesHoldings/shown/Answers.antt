@@ -13,8 +13,10 @@ returns-in-Some c =
     let txn = c.args.txn.now in
     let seen = as_seen c.self.inside.sides c.self.inside.released.items live c.self.invariant.0 c.self.view_is in
     let there : side_with txn c.self.inside.sides.sides ≡ Some c.in-Some.side.now = search rules in
-    let held = ap (found_or (idle_held live.role txn)) (held_there live txn c.in-Some.side.now (ap (λ all. side_with txn all.sides) (sym seen) ∙ there)) in
-    c.of.ensures ∙ ap (shown_of c.in-Some.side.now) c.released_of.ensures.value ∙ sym (ap (λ held. shown_of held.side held.released) held)
+    let held = ap (found_or (idle_held live.role txn))
+    (held_there live txn c.in-Some.side.now (ap (λ all. side_with txn all.sides) (sym seen) ∙ there)) in
+    c.of.ensures ∙ ap (shown_of c.in-Some.side.now) c.released_of.ensures.value
+    ∙ sym (ap (λ held. shown_of held.side held.released) held)
 
 -- If the side is not held, its parts are those of an idle one.
 pub returns-in-None : goal.returns-in-None
@@ -23,5 +25,6 @@ returns-in-None c =
     let txn = c.args.txn.now in
     let seen = as_seen c.self.inside.sides c.self.inside.released.items live c.self.invariant.0 c.self.view_is in
     let none : side_with txn c.self.inside.sides.sides ≡ None = search rules in
-    let held = ap (found_or (idle_held live.role txn)) (none_held_there live txn (ap (λ all. side_with txn all.sides) (sym seen) ∙ none)) in
+    let held = ap (found_or (idle_held live.role txn))
+    (none_held_there live txn (ap (λ all. side_with txn all.sides) (sym seen) ∙ none)) in
     c.idle.ensures live.role txn ∙ sym (ap (λ held. shown_of held.side held.released) held)

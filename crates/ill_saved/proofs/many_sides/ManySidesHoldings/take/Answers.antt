@@ -15,17 +15,28 @@ rules_stay : (c : In-Some) → (length c.self.inside.released.items ≡ length c
     × AreBackable (record { role = c.take.new.self.role; held = held_of c.take.new.self.sides c.self.inside.released.items })
 rules_stay c =
     let all = c.self.inside.sides in (
-      (changed_held all.role all.sides c.self.inside.released.items c.self.invariant.0 c.rows_grow.ensures c.args.apdu.now.txn (λ old answer new. Takes old c.args.apdu.now answer new) (λ old new answer does. takes_row old new c.args.apdu.now answer does) c.in-Some.answer c.take.new.self c.in-Some.ensures).6,
-      still_backable all.role all.sides c.self.inside.released.items c.self.invariant.0 c.rows_grow.ensures c.args.apdu.now.txn (λ old answer new. Takes old c.args.apdu.now answer new) (λ old new answer does. takes_row old new c.args.apdu.now answer does) c.in-Some.answer c.take.new.self c.in-Some.ensures c.self.invariant.1,
+      (changed_held all.role all.sides c.self.inside.released.items c.self.invariant.0 c.rows_grow.ensures c.args.apdu.now.txn
+          (λ old answer new. Takes old c.args.apdu.now answer new)
+          (λ old new answer does. takes_row old new c.args.apdu.now answer does) c.in-Some.answer c.take.new.self
+          c.in-Some.ensures).6,
+      still_backable all.role all.sides c.self.inside.released.items c.self.invariant.0 c.rows_grow.ensures c.args.apdu.now.txn
+          (λ old answer new. Takes old c.args.apdu.now answer new)
+          (λ old new answer does. takes_row old new c.args.apdu.now answer does) c.in-Some.answer c.take.new.self
+          c.in-Some.ensures c.self.invariant.1,
     )
 
 -- After a held side takes an APDU, all bytes that backed the desk's content back it.
 stays_backed : (c : In-Some)
-    → StaysBacked many_sides ManyBack c.args.self.now (record { role = c.take.new.self.role; held = held_of c.take.new.self.sides c.self.inside.released.items })
+    → StaysBacked many_sides ManyBack c.args.self.now
+    (record { role = c.take.new.self.role; held = held_of c.take.new.self.sides c.self.inside.released.items })
 stays_backed c =
     let all = c.self.inside.sides in
-    subst (λ old. StaysBacked many_sides ManyBack old (record { role = c.take.new.self.role; held = held_of c.take.new.self.sides c.self.inside.released.items })) c.self.view_is
-    (still_backed all.role all.sides c.self.inside.released.items c.self.invariant.0 c.rows_grow.ensures c.args.apdu.now.txn (λ old answer new. Takes old c.args.apdu.now answer new) (λ old new answer does. takes_row old new c.args.apdu.now answer does) c.in-Some.answer c.take.new.self c.in-Some.ensures)
+    subst (λ old. StaysBacked many_sides ManyBack old
+    (record { role = c.take.new.self.role; held = held_of c.take.new.self.sides c.self.inside.released.items }))
+    c.self.view_is
+    (still_backed all.role all.sides c.self.inside.released.items c.self.invariant.0 c.rows_grow.ensures c.args.apdu.now.txn
+    (λ old answer new. Takes old c.args.apdu.now answer new)
+    (λ old new answer does. takes_row old new c.args.apdu.now answer does) c.in-Some.answer c.take.new.self c.in-Some.ensures)
 
 -- If the held side answers an APDU, the desk answers as `DeskTakesApdu` says.
 takes_so : (c : In-Some) → DeskTakesApdu many_sides c.args.self.now c.args.apdu.now (core_answer c.in-Some.answer)
@@ -33,8 +44,11 @@ takes_so : (c : In-Some) → DeskTakesApdu many_sides c.args.self.now c.args.apd
 takes_so c =
     let other : is_own c.self.inside.sides.role c.args.apdu.now.body ≡ false = search rules in
     let all = c.self.inside.sides in
-    subst (λ old. DeskTakesApdu many_sides old c.args.apdu.now (core_answer c.in-Some.answer) (record { role = c.take.new.self.role; held = held_of c.take.new.self.sides c.self.inside.released.items })) c.self.view_is
-    (desk_takes_so all.role all.sides c.self.inside.released.items c.self.invariant.0 c.rows_grow.ensures c.refusals_stay.ensures c.args.apdu.now c.in-Some.answer c.take.new.self other c.in-Some.ensures)
+    subst (λ old. DeskTakesApdu many_sides old c.args.apdu.now (core_answer c.in-Some.answer)
+    (record { role = c.take.new.self.role; held = held_of c.take.new.self.sides c.self.inside.released.items }))
+    c.self.view_is
+    (desk_takes_so all.role all.sides c.self.inside.released.items c.self.invariant.0 c.rows_grow.ensures c.refusals_stay.ensures
+    c.args.apdu.now c.in-Some.answer c.take.new.self other c.in-Some.ensures)
 
 -- The desk keeps its invariant if its side does not take the APDU.
 pub invariant_of-self : goal.invariant_of-self
@@ -60,7 +74,8 @@ returns-in_ok-answer-in-Some-clause-takes c =
 pub take_first-requires-clause-none : goal.take_first-requires-clause-none
 take_first-requires-clause-none c =
     ap (λ all. found_by txn_held c.args.apdu.now.txn (held_of all.sides c.self.inside.released.items)) c.in-None.ensures.1
-    ∙ none_held c.self.inside.sides.role c.self.inside.sides.sides c.self.inside.released.items c.self.invariant.0 c.args.apdu.now.txn c.in-None.ensures.0
+    ∙ none_held c.self.inside.sides.role c.self.inside.sides.sides c.self.inside.released.items c.self.invariant.0
+    c.args.apdu.now.txn c.in-None.ensures.0
 
 -- All bytes that backed the desk's content back it.
 pub returns-in_err-answer-in-Some-clause-backed : goal.returns-in_err-answer-in-Some-clause-backed

@@ -13,12 +13,14 @@ given bytes = option_map (λ b. b.items) bytes
 pub invariant_of-self : goal.invariant_of-self
 invariant_of-self c =
     let held = c.self.inside in
-    let back = subst (λ went. GoesBackTo held.landed_record held.released (given c.args.bytes) went held.side c.take_back.new.live) c.if-take_back.true c.take_back.ensures in
+    let back = subst (λ went. GoesBackTo held.landed_record held.released (given c.args.bytes) went held.side
+    c.take_back.new.live) c.if-take_back.true c.take_back.ensures in
     (back_rules c.read_again.ensures held.landed_record held.released (given c.args.bytes) held.side c.take_back.new.live back).0
 
 -- If the side goes back to the kept record, the loaded bytes back it.
 pub returns-then-take_back-clause-backed : goal.returns-then-take_back-clause-backed
 returns-then-take_back-clause-backed c =
     let held = c.self.inside in
-    let back = subst (λ went. GoesBackTo held.landed_record held.released (given c.args.bytes) went held.side c.take_back.new.live) c.if-take_back.true c.take_back.ensures in
+    let back = subst (λ went. GoesBackTo held.landed_record held.released (given c.args.bytes) went held.side
+    c.take_back.new.live) c.if-take_back.true c.take_back.ensures in
     (back_rules c.read_again.ensures held.landed_record held.released (given c.args.bytes) held.side c.take_back.new.live back).1

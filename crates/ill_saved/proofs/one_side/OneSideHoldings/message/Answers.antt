@@ -10,6 +10,7 @@ returns c =
     let first : 1 ≤ c.args.number = search rules in
     let few : c.args.number ≤ held.released = search rules in
     let same : c.in_ok-from_slice.field-0.items ≡ c.message.result.now = search rules in
-    let sends = sends_released (λ (bytes : Vec ℕ Global). bytes.items) c.in_ok-from_slice.field-0 held.landed_record held.side held.released c.args.number c.message.result.now c.self.invariant.1 first few c.message.ensures same in
+    let sends = sends_released (λ (bytes : Vec ℕ Global). bytes.items) c.in_ok-from_slice.field-0 held.landed_record held.side
+    held.released c.args.number c.message.result.now c.self.invariant.1 first few c.message.ensures same in
     let is = c.self.view_is in
     search (rules, sends)

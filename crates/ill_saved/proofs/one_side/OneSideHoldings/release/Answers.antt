@@ -8,5 +8,7 @@ use Rattle.ill_saved.proofs.one_side.OneSideHoldings.release.Goals as goal
 pub invariant_of-self : goal.invariant_of-self
 invariant_of-self c =
     let held = c.self.inside in
-    let is = subst (λ live. IsLandedRecord c.args.landed live.side) (sym c.self.view_is) c.requires.fits in
-    (omega (arith, c.issued_count-self-inside.ensures), keeps_whole c.args.landed held.side c.issued_count-self-inside.result is c.issued_count-self-inside.ensures)
+    let is = subst (λ live. IsLandedRecord c.args.landed live.side) (sym c.self.view_is) c.requires.fits in (
+      omega (arith, c.issued_count-self-inside.ensures),
+      keeps_whole c.args.landed held.side c.issued_count-self-inside.result is c.issued_count-self-inside.ensures,
+    )

@@ -10,13 +10,16 @@ use Rattle.ill_saved.proofs.sides.Sides.act.Goals as goal
 pub invariant_of-self : goal.invariant_of-self
 invariant_of-self c =
     filed_on c.rows_grow.ensures c.rows_begin.ensures.stays (λ old answer new. Acts old c.args.action.now answer new)
-    (λ old new answer does. acts_row old new c.args.action.now answer does) c.self.inside.role c.args.txn.now c.self.inside.map.entries c.self.invariant
+    (λ old new answer does. acts_row old new c.args.action.now answer does) c.self.inside.role c.args.txn.now
+    c.self.inside.map.entries c.self.invariant
     c.act_among.result c.act_among.new.map.entries c.act_among.ensures
 
 -- The side of the transaction alone acts.
 pub returns : goal.returns
 returns c =
-    subst (λ held. OnlyThat (λ old answer new. Acts old c.args.action.now answer new) c.args.txn.now held c.act_among.result (record { role = c.self.inside.role; sides = values_of c.act_among.new.map.entries })) c.self.view_is
+    subst (λ held. OnlyThat (λ old answer new. Acts old c.args.action.now answer new) c.args.txn.now held c.act_among.result
+    (record { role = c.self.inside.role; sides = values_of c.act_among.new.map.entries })) c.self.view_is
     (only_that c.rows_grow.ensures c.rows_begin.ensures.stays (λ old answer new. Acts old c.args.action.now answer new)
-    (λ old new answer does. acts_row old new c.args.action.now answer does) c.self.inside.role c.args.txn.now c.self.inside.map.entries c.self.invariant
+    (λ old new answer does. acts_row old new c.args.action.now answer does) c.self.inside.role c.args.txn.now
+    c.self.inside.map.entries c.self.invariant
     c.act_among.result c.act_among.new.map.entries c.act_among.ensures)

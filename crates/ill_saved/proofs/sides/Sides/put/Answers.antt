@@ -12,7 +12,8 @@ returns-in-Some c = handed_back c.args.self.now c.args.side c.in-Some.fault (sym
 -- Nothing is filed under the transaction of a side that is not refused.
 pub insert_new-requires : goal.insert_new-requires
 insert_new-requires c =
-    let none : put_refusal c.args.self.now c.args.side ≡ None = sym c.refusal.ensures ∙ no_fault c.refusal.result c.in_default.not-Some in
+    let none : put_refusal c.args.self.now c.args.side ≡ None =
+    sym c.refusal.ensures ∙ no_fault c.refusal.result c.in_default.not-Some in
     record {
       new = is_new c.self.inside.role c.self.inside.map.entries c.args.side c.self.invariant
           (ap (λ held. put_refusal held c.args.side) c.self.view_is ∙ none) c.in-Ok.txn (c.in-Ok.ensures ∙ c.txn.ensures);
@@ -21,9 +22,12 @@ insert_new-requires c =
 -- All are filed after the side is put, and if memory runs out.
 pub invariant_of-self : goal.invariant_of-self
 invariant_of-self c =
-    let none : put_refusal c.args.self.now c.args.side ≡ None = sym c.refusal.ensures ∙ no_fault c.refusal.result c.in_default.not-Some in
+    let none : put_refusal c.args.self.now c.args.side ≡ None =
+    sym c.refusal.ensures ∙ no_fault c.refusal.result c.in_default.not-Some in
     let seen = ap (λ held. put_refusal held c.args.side) c.self.view_is ∙ none in
     elim c.match-insert_new.branch [
-      | in-Ok-insert_new w ↦ filed_more c.self.inside.role c.self.inside.map.entries c.args.side c.self.invariant seen c.in-Ok.txn (c.in-Ok.ensures ∙ c.txn.ensures) c.insert_new.new.map.entries w.in-Ok-insert_new.ensures.done
-      | in-Err w ↦ filed_still c.self.inside.role c.self.inside.map.entries c.args.side c.self.invariant seen c.insert_new.new.map.entries w.in-Err.ensures.unchanged
+      | in-Ok-insert_new w ↦ filed_more c.self.inside.role c.self.inside.map.entries c.args.side c.self.invariant seen c.in-Ok.txn
+          (c.in-Ok.ensures ∙ c.txn.ensures) c.insert_new.new.map.entries w.in-Ok-insert_new.ensures.done
+      | in-Err w ↦ filed_still c.self.inside.role c.self.inside.map.entries c.args.side c.self.invariant seen
+          c.insert_new.new.map.entries w.in-Err.ensures.unchanged
     ]

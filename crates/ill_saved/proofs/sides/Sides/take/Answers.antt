@@ -10,13 +10,16 @@ use Rattle.ill_saved.proofs.sides.Sides.take.Goals as goal
 pub invariant_of-self : goal.invariant_of-self
 invariant_of-self c =
     filed_on c.rows_grow.ensures c.rows_begin.ensures.stays (λ old answer new. Takes old c.args.apdu.now answer new)
-    (λ old new answer does. takes_row old new c.args.apdu.now answer does) c.self.inside.role c.args.apdu.now.txn c.self.inside.map.entries c.self.invariant
+    (λ old new answer does. takes_row old new c.args.apdu.now answer does) c.self.inside.role c.args.apdu.now.txn
+    c.self.inside.map.entries c.self.invariant
     c.take_among.result c.take_among.new.map.entries c.take_among.ensures
 
 -- The side of the APDU's transaction alone takes it.
 pub returns : goal.returns
 returns c =
-    subst (λ held. OnlyThat (λ old answer new. Takes old c.args.apdu.now answer new) c.args.apdu.now.txn held c.take_among.result (record { role = c.self.inside.role; sides = values_of c.take_among.new.map.entries })) c.self.view_is
+    subst (λ held. OnlyThat (λ old answer new. Takes old c.args.apdu.now answer new) c.args.apdu.now.txn held c.take_among.result
+    (record { role = c.self.inside.role; sides = values_of c.take_among.new.map.entries })) c.self.view_is
     (only_that c.rows_grow.ensures c.rows_begin.ensures.stays (λ old answer new. Takes old c.args.apdu.now answer new)
-    (λ old new answer does. takes_row old new c.args.apdu.now answer does) c.self.inside.role c.args.apdu.now.txn c.self.inside.map.entries c.self.invariant
+    (λ old new answer does. takes_row old new c.args.apdu.now answer does) c.self.inside.role c.args.apdu.now.txn
+    c.self.inside.map.entries c.self.invariant
     c.take_among.result c.take_among.new.map.entries c.take_among.ensures)

@@ -8,7 +8,9 @@ use Rattle.ill_tool.proofs.row.Columns.of.Given as goal
 -- Each column is as wide as the widest of the sides so far.
 abbrev pub invariant-loop-side : goal.invariant-loop-side
 invariant-loop-side l = record {
-  group : l.columns.group ≡ fold (λ (width : ℕ) (side : Bor Side). max width (length (txn_of side.now).group)) 0 (take l.side-index l.sides);
-  transaction : l.columns.transaction ≡ fold (λ (width : ℕ) (side : Bor Side). max width (length (txn_of side.now).transaction)) 0 (take l.side-index l.sides);
+  group : l.columns.group ≡ fold (λ (width : ℕ) (side : Bor Side). max width (length (txn_of side.now).group)) 0
+      (take l.side-index l.sides);
+  transaction : l.columns.transaction
+      ≡ fold (λ (width : ℕ) (side : Bor Side). max width (length (txn_of side.now).transaction)) 0 (take l.side-index l.sides);
   has_verbs : l.columns.has_verbs ≡ l.has_verbs;
 }

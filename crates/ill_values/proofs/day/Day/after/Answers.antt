@@ -9,13 +9,15 @@ use Rattle.ill_values.proofs.DaysLater.{refused_beyond, refused_too_many, reache
 use Rattle.ill_values.proofs.day.Day.after.Goals as goal
 
 -- The span of jiff for `n` days has `n` days and nothing else, up to the most that a span holds.
-span_of_days : (n : ℕ) (given : ℤ) (s : Span) → n ≤ 7_304_484 → given ≡ pos n → IsOnly Day (to_z w64 (of_z w64 given)) s → IsOnly Day (pos n) s
+span_of_days : (n : ℕ) (given : ℤ) (s : Span) → n ≤ 7_304_484 → given ≡ pos n → IsOnly Day (to_z w64 (of_z w64 given)) s
+    → IsOnly Day (pos n) s
 span_of_days n given s few e only =
     let fits : FitsSigned w64 given = rw e (omega (arith, signed_arith)) in
     rw e at (simp to_z-of_z at only)
 
 pub returns-then-days-gt-MAX_DAYS-clause-value : goal.returns-then-days-gt-MAX_DAYS-clause-value
-returns-then-days-gt-MAX_DAYS-clause-value c = refused_too_many c.args.days c.args.self.now c.to_civil-date.ensures.valid c.if-days-gt-MAX_DAYS.true
+returns-then-days-gt-MAX_DAYS-clause-value c =
+    refused_too_many c.args.days c.args.self.now c.to_civil-date.ensures.valid c.if-days-gt-MAX_DAYS.true
 
 pub from_civil-requires : goal.from_civil-requires
 from_civil-requires c =
@@ -29,7 +31,8 @@ returns-in-Ok-clause-value c =
     let date = c.to_civil-date in
     let span = span_of_days c.args.days c.from.result c.days.result c.if-days-gt-MAX_DAYS.false c.from.ensures c.days.ensures in
     let number = c.in-Ok.ensures.value ∙ date_add-days date.result (pos c.args.days) c.days.result span in
-    c.from_civil.ensures ∙ reached c.args.days c.args.self.now date.result c.in-Ok.later date.ensures.valid date.ensures.value number
+    c.from_civil.ensures ∙ reached c.args.days c.args.self.now date.result c.in-Ok.later date.ensures.valid date.ensures.value
+    number
 
 pub returns-in-Err-clause-value : goal.returns-in-Err-clause-value
 returns-in-Err-clause-value c =

@@ -1,12 +1,15 @@
 -- Answers the contract of `Ahead::skip` (`src/ahead.rt`).
-use Rattle.std.proofs.Common.{arith, ◌≡◌, ◌≤◌, ◌+◌, ◌-◌, ℕ, List, length, take, drop, slice_range, sym, ap, ◌∙◌, subst, length-take, drop-drop}
+use Rattle.std.proofs.Common.{arith, ◌≡◌, ◌≤◌, ◌+◌, ◌-◌, ℕ, List, length, take, drop, slice_range, sym, ap, ◌∙◌, subst}
+use Rattle.std.proofs.Common.{length-take, drop-drop}
 use Rattle.std.proofs.lemmas.List.{drop-take}
 use Rattle.ill_world.proofs.ahead.Ahead.skip.Goals as goal
 
 -- A range that begins `count` later is the range without its first `count` items.
-fewer : (xs : List ℕ) (start end count : ℕ) → count ≤ length (slice_range xs start end) → slice_range xs (start + count) end ≡ drop count (slice_range xs start end)
+fewer : (xs : List ℕ) (start end count : ℕ) → count ≤ length (slice_range xs start end)
+    → slice_range xs (start + count) end ≡ drop count (slice_range xs start end)
 fewer xs start end count there =
-    let within : count + (end - (start + count)) ≡ end - start = omega (arith, there, length-take (end - start) (drop start xs)) in
+    let within : count + (end - (start + count)) ≡ end - start =
+    omega (arith, there, length-take (end - start) (drop start xs)) in
     ap (take (end - (start + count))) (sym (drop-drop count start xs))
     ∙ sym (drop-take count (end - (start + count)) (drop start xs))
     ∙ ap (λ k. drop count (take k (drop start xs))) within

@@ -8,19 +8,24 @@ use Rattle.ill_world.proofs.desk_party.DeskParty.take.Goals as goal
 pub invariant_of-self : goal.invariant_of-self
 invariant_of-self c =
     let desk = c.self.inside.desk in
-    let takes = takes_one desk.live c.take_bytes.new.self.live _ c.args.message.now c.take_bytes.result c.bytes.ensures c.take_bytes.ensures.takes in
+    let takes = takes_one desk.live c.take_bytes.new.self.live _ c.args.message.now c.take_bytes.result c.bytes.ensures
+    c.take_bytes.ensures.takes in
     let role = takes_role desk.live c.take_bytes.new.self.live c.args.message.now c.take_bytes.result takes in
     search (rules, role)
 
 pub returns : goal.returns
 returns c =
     let desk = c.self.inside.desk in
-    let takes = takes_one desk.live c.take_bytes.new.self.live _ c.args.message.now c.take_bytes.result c.bytes.ensures c.take_bytes.ensures.takes in
+    let takes = takes_one desk.live c.take_bytes.new.self.live _ c.args.message.now c.take_bytes.result c.bytes.ensures
+    c.take_bytes.ensures.takes in
     let role = takes_role desk.live c.take_bytes.new.self.live c.args.message.now c.take_bytes.result takes in
     search (rules, takes, role)
 
 pub seen-requires : goal.seen-requires
 seen-requires c =
     let desk = c.self.inside.desk in
-    let takes = takes_one desk.live c.take_bytes.new.self.live _ c.args.message.now c.take_bytes.result c.bytes.ensures c.take_bytes.ensures.takes in
-    take_faults desk.live c.take_bytes.new.self.live c.args.message.now c.in-Err.fault (subst (λ answer. DeskTakes many_sides desk.live (Ok (c.args.message.now, [])) answer c.take_bytes.new.self.live) c.in-Err.is takes)
+    let takes = takes_one desk.live c.take_bytes.new.self.live _ c.args.message.now c.take_bytes.result c.bytes.ensures
+    c.take_bytes.ensures.takes in
+    take_faults desk.live c.take_bytes.new.self.live c.args.message.now c.in-Err.fault
+    (subst (λ answer. DeskTakes many_sides desk.live (Ok (c.args.message.now, [])) answer c.take_bytes.new.self.live)
+    c.in-Err.is takes)

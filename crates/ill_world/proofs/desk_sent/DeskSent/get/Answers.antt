@@ -13,11 +13,14 @@ returns-in-Some c =
     let entries = c.self.inside.map.entries in
     let there : lookup (is_same_txn c.args.txn.now) entries ≡ Some c.in-Some.sent.now = search (rules, c.in-Some.ensures.value) in
     c.get-in-Some.ensures
-    ∙ ap (λ s. sent_message s c.args.number) (sym (ap (sent_for c.args.txn.now) (sym c.self.view_is) ∙ sent_there c.args.txn.now entries ∙ ap (found_or nothing_sent) there))
+    ∙ ap (λ s. sent_message s c.args.number)
+    (sym (ap (sent_for c.args.txn.now) (sym c.self.view_is) ∙ sent_there c.args.txn.now entries
+    ∙ ap (found_or nothing_sent) there))
 
 pub returns-in-None : goal.returns-in-None
 returns-in-None c =
     let entries = c.self.inside.map.entries in
     let there : lookup (is_same_txn c.args.txn.now) entries ≡ None = search (rules, c.in-None.ensures.value) in
-    sym (ap (λ s. sent_message s c.args.number) (ap (sent_for c.args.txn.now) (sym c.self.view_is) ∙ sent_there c.args.txn.now entries ∙ ap (found_or nothing_sent) there)
+    sym (ap (λ s. sent_message s c.args.number)
+    (ap (sent_for c.args.txn.now) (sym c.self.view_is) ∙ sent_there c.args.txn.now entries ∙ ap (found_or nothing_sent) there)
     ∙ nothing_there c.args.number)

@@ -16,7 +16,8 @@ returns-in-None-clause-put c =
     let old = c.self.inside.map.entries in
     let new = c.put_among.new.map.entries in
     let found = lookup (is_same_txn txn) old in
-    becomes_put txn n a old new found refl (subst (λ back. BecomesAmong txn (λ sent. with_sent sent n a) old found back a new) c.in-None.is c.put_among.ensures)
+    becomes_put txn n a old new found refl
+    (subst (λ back. BecomesAmong txn (λ sent. with_sent sent n a) old found back a new) c.in-None.is c.put_among.ensures)
     ∙ ap (λ all. with_sent_for txn all n a) c.self.view_is
 
 pub returns-in_ok-copy-in-Some-clause-put : goal.returns-in_ok-copy-in-Some-clause-put
@@ -29,6 +30,8 @@ returns-in_ok-copy-in-Some-clause-put c =
     let found = lookup (is_same_txn txn) old in
     let none = becomes_none txn (λ sent. with_sent sent n a) a c.in-Some.message old among found
     (subst (λ back. BecomesAmong txn (λ sent. with_sent sent n a) old found back a among) c.in-Some.is c.put_among.ensures) in
-    let sent = c.put.ensures ∙ ap (λ s. with_sent s n c.in-Some.message) c.in_ok-sent-in-Some.ensures ∙ ap (with_sent _ n) (sym none.1) in
+    let sent = c.put.ensures ∙ ap (λ s. with_sent s n c.in-Some.message) c.in_ok-sent-in-Some.ensures
+    ∙ ap (with_sent _ n) (sym none.1) in
     subst (λ all. OnOk c.insert_new.result (sendings_of c.insert_new.new.map.entries ≡ with_sent_for txn all n a)) c.self.view_is
-    (first_put txn c.in_ok-copy-in-Some.field-0 n a c.put.new.self old among c.insert_new.new.map.entries c.insert_new.result none.0 c.in_ok-copy-in-Some.ensures sent none.2 c.insert_new.ensures.done)
+    (first_put txn c.in_ok-copy-in-Some.field-0 n a c.put.new.self old among c.insert_new.new.map.entries c.insert_new.result
+    none.0 c.in_ok-copy-in-Some.ensures sent none.2 c.insert_new.ensures.done)

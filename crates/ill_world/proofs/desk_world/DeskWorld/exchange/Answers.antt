@@ -14,21 +14,27 @@ returns-in_err-pass_on-clause-performs c =
     let first = desk_half_of Requester w in
     let second = desk_half_of Responder (desks_run w first) in
     let done = c.in_err-pass_on.ensures in
-    performs_prefix desks_happen (first ++ second) done.0 w c.pass_on.new.self c.from_residual.result c.from_residual.ensures.0 (prefix_further done.0 first second done.1) done.2
+    performs_prefix desks_happen (first ++ second) done.0 w c.pass_on.new.self c.from_residual.result c.from_residual.ensures.0
+    (prefix_further done.0 first second done.1) done.2
 
 pub returns-clause-performs : goal.returns-clause-performs
 returns-clause-performs c =
     let w = c.args.self.now in
     let first = desk_half_of Requester w in
     let between = c.pass_on.new.self in
-    let second = subst (λ v. Performs desks_run (desk_half_of Responder v) between c.pass_on-2.result c.pass_on-2.new.self) c.in_ok-pass_on.ensures c.pass_on-2.ensures in
-    performs_both desks_happen first (desk_half_of Responder (desks_run w first)) w between c.pass_on-2.new.self c.pass_on-2.result c.in_ok-pass_on.ensures second
+    let second = subst (λ v. Performs desks_run (desk_half_of Responder v) between c.pass_on-2.result c.pass_on-2.new.self)
+    c.in_ok-pass_on.ensures c.pass_on-2.ensures in
+    performs_both desks_happen first (desk_half_of Responder (desks_run w first)) w between c.pass_on-2.new.self
+    c.pass_on-2.result c.in_ok-pass_on.ensures second
 
 pub returns-clause-in_step : goal.returns-clause-in_step
 returns-clause-in_step c =
     let old = c.args.self.now in
     let w : DeskParties = record { requester = c.self.inside.requester; responder = c.self.inside.responder } in
-    let step = subst (λ (v : DeskParties). (txn : Qualifiers) → CanAnswer (project txn v).responder.live → AreInStep (project txn (desks_run v (desk_round_of v)))) c.self.view_is
+    let step = subst (λ (v : DeskParties).
+    (txn : Qualifiers) → CanAnswer (project txn v).responder.live → AreInStep (project txn (desks_run v (desk_round_of v))))
+    c.self.view_is
     (λ txn. c.one_desk_round_is_enough.ensures.in_step txn w c.self.invariant) in
-    performed desks_happen (λ new. (txn : Qualifiers) → CanAnswer (project txn old).responder.live → AreInStep (project txn new)) (desk_round_of old) old c.pass_on-2.new.self c.pass_on-2.result
+    performed desks_happen (λ new. (txn : Qualifiers) → CanAnswer (project txn old).responder.live → AreInStep (project txn new))
+    (desk_round_of old) old c.pass_on-2.new.self c.pass_on-2.result
     (returns-clause-performs c) step

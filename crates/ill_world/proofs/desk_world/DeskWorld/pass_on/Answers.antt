@@ -10,4 +10,5 @@ pub returns-in_err-events : goal.returns-in_err-events
 unfolding run_by
 returns-in_err-events c =
     let events = desk_half_of c.args.who c.args.self.now in
-    performs_prefix desks_happen events [] c.args.self.now c.args.self.now c.from_residual.result c.from_residual.ensures.0 (events, refl) refl
+    performs_prefix desks_happen events [] c.args.self.now c.args.self.now c.from_residual.result c.from_residual.ensures.0
+    (events, refl) refl

@@ -3,7 +3,8 @@ use Rattle.ill_world.proofs.Messages.{apdu_is, is_whole}
 use Rattle.ill_world.proofs.message.Message.new.Goals as goal
 
 pub invariant_of-result : goal.invariant_of-result
-invariant_of-result c = is_whole c.read_again.ensures c.args.bytes.items c.requires.spelled.0 c.requires.spelled.1 c.requires.spelled.2
+invariant_of-result c = is_whole c.read_again.ensures c.args.bytes.items c.requires.spelled.0 c.requires.spelled.1
+    c.requires.spelled.2
 
 pub returns : goal.returns
 returns c = λ a is spelled. apdu_is c.read_again.ensures c.args.bytes.items a is spelled

@@ -6,13 +6,15 @@ use Rattle.ill_world.proofs.party.Party.take.Goals as goal
 pub invariant_of-self : goal.invariant_of-self
 invariant_of-self c =
     let desk = c.self.inside.desk in
-    let takes = takes_one desk.live c.take_bytes.new.self.live _ c.args.message.now c.take_bytes.result c.bytes.ensures c.take_bytes.ensures.takes in
+    let takes = takes_one desk.live c.take_bytes.new.self.live _ c.args.message.now c.take_bytes.result c.bytes.ensures
+    c.take_bytes.ensures.takes in
     let idle = taken_idle c.rows_grow.ensures desk.live c.take_bytes.new.self.live c.args.message.now c.take_bytes.result takes in
     search (rules, idle)
 
 pub returns : goal.returns
 returns c =
     let desk = c.self.inside.desk in
-    let takes = takes_one desk.live c.take_bytes.new.self.live _ c.args.message.now c.take_bytes.result c.bytes.ensures c.take_bytes.ensures.takes in
+    let takes = takes_one desk.live c.take_bytes.new.self.live _ c.args.message.now c.take_bytes.result c.bytes.ensures
+    c.take_bytes.ensures.takes in
     let idle = taken_idle c.rows_grow.ensures desk.live c.take_bytes.new.self.live c.args.message.now c.take_bytes.result takes in
     search (rules, takes, idle)

@@ -11,7 +11,9 @@ pub loop-before-init : goal.loop-before-init
 loop-before-init g c =
     let self = c.args.self in (
       λ left after result plays.
-          subst (λ (count : ℕ). Plays g.T.Performer.play self.carried 1 self.performer count (prepend_known self.ahead (g.R.Read.remaining c.args.reader.now)) left (g.W.Write.contents c.args.writer.now) after result)
+          subst (λ (count : ℕ). Plays g.T.Performer.play self.carried 1 self.performer count
+          (prepend_known self.ahead (g.R.Read.remaining c.args.reader.now)) left (g.W.Write.contents c.args.writer.now) after
+          result)
           c.requires.begins plays,
       omega (arith, c.requires.begins),
     )
@@ -24,17 +26,22 @@ returns-in-Ok-false g c =
     let old = c.loop-before in
     let new = c.step.new in
     let step = subst
-    (λ (more : Bool). StepsLine play old.self.carried (old.before + 1) old.self.performer old.self.count (prepend_known old.self.ahead (remaining old.reader)) (prepend_known new.self.ahead (remaining new.reader)) (contents old.writer) (contents new.writer) (Ok more) new.self.carried new.self.performer new.self.count)
+    (λ (more : Bool). StepsLine play old.self.carried (old.before + 1) old.self.performer old.self.count
+    (prepend_known old.self.ahead (remaining old.reader)) (prepend_known new.self.ahead (remaining new.reader))
+    (contents old.writer) (contents new.writer) (Ok more) new.self.carried new.self.performer new.self.count)
     c.in-Ok-false.field-0-test c.in-Ok-false.ensures.steps in
-    let plays = old.invariant.0 (prepend_known new.self.ahead (remaining new.reader)) (contents new.writer) (Ok new.self.count) step in
+    let plays = old.invariant.0 (prepend_known new.self.ahead (remaining new.reader)) (contents new.writer) (Ok new.self.count)
+    step in
     counts_as_read play _ 1 _ 0 c.args.self.ahead new.self.ahead _ _ _ _ (Ok new.self.count) c.requires.unread tt plays
 
 pub returns-in-Err : goal.returns-in-Err
 returns-in-Err g c =
     let old = c.loop-before in
     let new = c.step.new in
-    let plays = old.invariant.0 (prepend_known new.self.ahead (g.R.Read.remaining new.reader)) (g.W.Write.contents new.writer) (Err c.in-Err.fault) c.in-Err.ensures.steps in
-    counts_as_read g.T.Performer.play _ 1 _ 0 c.args.self.ahead new.self.ahead _ _ _ _ (Err c.in-Err.fault) c.requires.unread c.in-Err.ensures.used plays
+    let plays = old.invariant.0 (prepend_known new.self.ahead (g.R.Read.remaining new.reader)) (g.W.Write.contents new.writer)
+    (Err c.in-Err.fault) c.in-Err.ensures.steps in
+    counts_as_read g.T.Performer.play _ 1 _ 0 c.args.self.ahead new.self.ahead _ _ _ _ (Err c.in-Err.fault) c.requires.unread
+    c.in-Err.ensures.used plays
 
 pub loop-before-preserved : goal.loop-before-preserved
 loop-before-preserved g c =
@@ -44,10 +51,14 @@ loop-before-preserved g c =
     let old = c.loop-before in
     let new = c.step.new in
     let step = subst
-    (λ (more : Bool). StepsLine play old.self.carried (old.before + 1) old.self.performer old.self.count (prepend_known old.self.ahead (remaining old.reader)) (prepend_known new.self.ahead (remaining new.reader)) (contents old.writer) (contents new.writer) (Ok more) new.self.carried new.self.performer new.self.count)
+    (λ (more : Bool). StepsLine play old.self.carried (old.before + 1) old.self.performer old.self.count
+    (prepend_known old.self.ahead (remaining old.reader)) (prepend_known new.self.ahead (remaining new.reader))
+    (contents old.writer) (contents new.writer) (Ok more) new.self.carried new.self.performer new.self.count)
     c.in-Ok-true.field-0-test c.in-Ok-true.ensures.steps in (
       λ left after result rest.
-          old.invariant.0 left after result (goes_on play old.self.carried new.self.carried (old.before + 1) old.self.performer new.self.performer old.self.count new.self.count _ _ _ _ _ _ result step rest),
+          old.invariant.0 left after result
+          (goes_on play old.self.carried new.self.carried (old.before + 1) old.self.performer new.self.performer
+          old.self.count new.self.count _ _ _ _ _ _ result step rest),
       omega (arith, old.invariant.1, c.in-Ok-true.ensures.few),
     )
 
@@ -55,6 +66,8 @@ pub returns : goal.returns
 returns g c =
     let play = g.T.Performer.play in
     let old = c.loop-before in
-    let finds = finds_end play old.self.carried (old.before + 1) old.self.performer old.self.count _ _ _ c.end.result (omega arith) c.end.ensures.end in
+    let finds = finds_end play old.self.carried (old.before + 1) old.self.performer old.self.count _ _ _ c.end.result
+    (omega arith) c.end.ensures.end in
     let plays = old.invariant.0 _ _ c.end.result finds in
-    counts_as_read play _ 1 _ 0 c.args.self.ahead c.end.new.self.ahead _ _ _ _ c.end.result c.requires.unread c.end.ensures.used plays
+    counts_as_read play _ 1 _ 0 c.args.self.ahead c.end.new.self.ahead _ _ _ _ c.end.result c.requires.unread c.end.ensures.used
+    plays

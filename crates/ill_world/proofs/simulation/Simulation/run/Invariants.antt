@@ -9,6 +9,9 @@ use Rattle.ill_world.proofs.simulation.Simulation.run.Given as goal
 abbrev pub invariant-loop-before : goal.invariant-loop-before
 invariant-loop-before g l =
     ((left after : Option (List ℕ)) (result : Result ℕ SimFault)
-    → Plays g.T.Performer.play l.self.carried (l.before + 1) l.self.performer l.self.count (prepend_known l.self.ahead (g.R.Read.remaining l.reader)) left (g.W.Write.contents l.writer) after result
-    → Plays g.T.Performer.play l.fn.self.carried 1 l.fn.self.performer 0 (prepend_known l.initial.self.ahead (g.R.Read.remaining l.initial.reader)) left (g.W.Write.contents l.initial.writer) after result)
+    → Plays g.T.Performer.play l.self.carried (l.before + 1) l.self.performer l.self.count
+    (prepend_known l.self.ahead (g.R.Read.remaining l.reader)) left (g.W.Write.contents l.writer) after result
+    → Plays g.T.Performer.play l.fn.self.carried 1 l.fn.self.performer 0
+    (prepend_known l.initial.self.ahead (g.R.Read.remaining l.initial.reader)) left (g.W.Write.contents l.initial.writer)
+    after result)
     × (l.self.count ≤ l.before)

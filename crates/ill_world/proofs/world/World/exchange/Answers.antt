@@ -12,19 +12,24 @@ returns-in_err-pass_on-clause-performs c =
     let first = half_of Requester w in
     let second = half_of Responder (run_of w first) in
     let done = c.in_err-pass_on.ensures in
-    performs_prefix happens (first ++ second) done.0 w c.pass_on.new.self c.from_residual.result c.from_residual.ensures.0 (prefix_further done.0 first second done.1) done.2
+    performs_prefix happens (first ++ second) done.0 w c.pass_on.new.self c.from_residual.result c.from_residual.ensures.0
+    (prefix_further done.0 first second done.1) done.2
 
 pub returns-clause-performs : goal.returns-clause-performs
 returns-clause-performs c =
     let w = c.args.self.now in
     let first = half_of Requester w in
     let between = c.pass_on.new.self in
-    let second = subst (λ v. Performs run_of (half_of Responder v) between c.pass_on-2.result c.pass_on-2.new.self) c.in_ok-pass_on.ensures c.pass_on-2.ensures in
-    performs_both happens first (half_of Responder (run_of w first)) w between c.pass_on-2.new.self c.pass_on-2.result c.in_ok-pass_on.ensures second
+    let second = subst (λ v. Performs run_of (half_of Responder v) between c.pass_on-2.result c.pass_on-2.new.self)
+    c.in_ok-pass_on.ensures c.pass_on-2.ensures in
+    performs_both happens first (half_of Responder (run_of w first)) w between c.pass_on-2.new.self c.pass_on-2.result
+    c.in_ok-pass_on.ensures second
 
 pub returns-clause-in_step : goal.returns-clause-in_step
 returns-clause-in_step c =
     let old = c.args.self.now in
     let w : Parties = record { requester = c.self.inside.requester; responder = c.self.inside.responder } in
-    let step = subst (λ (v : Parties). CanAnswer v.responder.live → AreInStep (run_of v (round_of v))) c.self.view_is (c.one_round_is_enough.ensures.stands c.self.invariant.0 w c.self.invariant.1) in
-    performed happens (λ new. CanAnswer old.responder.live → AreInStep new) (round_of old) old c.pass_on-2.new.self c.pass_on-2.result (returns-clause-performs c) step
+    let step = subst (λ (v : Parties). CanAnswer v.responder.live → AreInStep (run_of v (round_of v))) c.self.view_is
+    (c.one_round_is_enough.ensures.stands c.self.invariant.0 w c.self.invariant.1) in
+    performed happens (λ new. CanAnswer old.responder.live → AreInStep new) (round_of old) old c.pass_on-2.new.self
+    c.pass_on-2.result (returns-clause-performs c) step

@@ -6,9 +6,11 @@ use Rattle.ill_world.proofs.world.World.new.Goals as goal
 
 pub returns : goal.returns
 returns c =
-    first_is c.args.txn.now _ _ _ _ _ _ c.in_ok-copy.ensures c.in_ok-copy-2.ensures c.idle-requester.ensures c.idle-responder.ensures c.in_ok-new.ensures c.in_ok-new-2.ensures
+    first_is c.args.txn.now _ _ _ _ _ _ c.in_ok-copy.ensures c.in_ok-copy-2.ensures c.idle-requester.ensures
+    c.idle-responder.ensures c.in_ok-new.ensures c.in_ok-new-2.ensures
 
 pub invariant_of-result : goal.invariant_of-result
 invariant_of-result c =
-    let first = first_is c.args.txn.now _ _ _ _ _ _ c.in_ok-copy.ensures c.in_ok-copy-2.ensures c.idle-requester.ensures c.idle-responder.ensures c.in_ok-new.ensures c.in_ok-new-2.ensures in
+    let first = first_is c.args.txn.now _ _ _ _ _ _ c.in_ok-copy.ensures c.in_ok-copy-2.ensures c.idle-requester.ensures
+    c.idle-responder.ensures c.in_ok-new.ensures c.in_ok-new-2.ensures in
     (c.args.txn.now, subst (Invariant c.args.txn.now) (sym first) (c.world_stands.ensures.first c.args.txn.now))

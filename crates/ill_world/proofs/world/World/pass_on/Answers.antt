@@ -9,4 +9,5 @@ pub returns-in_err-half_of_round : goal.returns-in_err-half_of_round
 unfolding run_by
 returns-in_err-half_of_round c =
     let events = half_of c.args.who c.args.self.now in
-    performs_prefix happens events [] c.args.self.now c.args.self.now c.from_residual.result c.from_residual.ensures.0 (events, refl) refl
+    performs_prefix happens events [] c.args.self.now c.args.self.now c.from_residual.result c.from_residual.ensures.0
+    (events, refl) refl

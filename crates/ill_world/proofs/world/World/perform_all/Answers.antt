@@ -13,11 +13,13 @@ loop-event-init c = refl
 pub loop-event-preserved : goal.loop-event-preserved
 loop-event-preserved c =
     let here = ap (λ w. happens w c.event-item.result) (sym c.loop-event.invariant) ∙ c.in_ok-step.ensures.gives in
-    sym (run_taken happens c.args.self.now c.step.new.self c.args.events.now c.loop-event.event-index c.event-item.result c.in_ok-step.field-0 (omega (arith, c.loop-event-test.true)) c.event-item.is here)
+    sym (run_taken happens c.args.self.now c.step.new.self c.args.events.now c.loop-event.event-index c.event-item.result
+    c.in_ok-step.field-0 (omega (arith, c.loop-event-test.true)) c.event-item.is here)
 
 pub returns-in_err-step : goal.returns-in_err-step
 returns-in_err-step c =
     let events = c.args.events.now in
     let first = take c.loop-event.event-index events in
-    performs_prefix happens events first c.args.self.now c.step.new.self c.from_residual.result c.from_residual.ensures.0 (drop c.loop-event.event-index events, sym (take-append-drop c.loop-event.event-index events))
+    performs_prefix happens events first c.args.self.now c.step.new.self c.from_residual.result c.from_residual.ensures.0
+    (drop c.loop-event.event-index events, sym (take-append-drop c.loop-event.event-index events))
     (c.in_err-step.ensures.gives ∙ c.loop-event.invariant)

@@ -12,15 +12,20 @@ invariant_of-self c =
     let w : Parties = record { requester = c.self.inside.requester; responder = c.self.inside.responder } in
     let new : Parties = record { requester = c.perform.new.party; responder = c.self.inside.responder } in
     let event = c.args.event.now in
-    let gives = world_gives w event who.Requester c.perform.result c.perform.new.party (sym c.who.ensures ∙ c.in-Requester.is) c.perform.ensures in
-    (c.self.invariant.0, still_stands c.self.invariant.0 w new event c.perform.result (c.world_stands.ensures.after c.self.invariant.0) gives c.self.invariant.1)
+    let gives = world_gives w event who.Requester c.perform.result c.perform.new.party (sym c.who.ensures ∙ c.in-Requester.is)
+    c.perform.ensures in (
+      c.self.invariant.0,
+      still_stands c.self.invariant.0 w new event c.perform.result
+          (c.world_stands.ensures.after c.self.invariant.0) gives c.self.invariant.1,
+    )
 
 pub returns-in-Requester-clause-gives : goal.returns-in-Requester-clause-gives
 returns-in-Requester-clause-gives c =
     let w : Parties = record { requester = c.self.inside.requester; responder = c.self.inside.responder } in
     let new : Parties = record { requester = c.perform.new.party; responder = c.self.inside.responder } in
     let event = c.args.event.now in
-    let gives = world_gives w event who.Requester c.perform.result c.perform.new.party (sym c.who.ensures ∙ c.in-Requester.is) c.perform.ensures in
+    let gives = world_gives w event who.Requester c.perform.result c.perform.new.party (sym c.who.ensures ∙ c.in-Requester.is)
+    c.perform.ensures in
     subst (λ v. GivesOutcome (happens v event) v c.perform.result new) c.self.view_is gives
 
 pub returns-in-Requester-clause-dates : goal.returns-in-Requester-clause-dates
@@ -28,28 +33,36 @@ returns-in-Requester-clause-dates c =
     let w : Parties = record { requester = c.self.inside.requester; responder = c.self.inside.responder } in
     let new : Parties = record { requester = c.perform.new.party; responder = c.self.inside.responder } in
     let event = c.args.event.now in
-    let gives = world_gives w event who.Requester c.perform.result c.perform.new.party (sym c.who.ensures ∙ c.in-Requester.is) c.perform.ensures in
-    subst (λ v. KeepsDates v event new) c.self.view_is (dates_of w new event c.perform.result (c.due_dates_stay.ensures c.self.invariant.0 w event c.self.invariant.1) gives)
+    let gives = world_gives w event who.Requester c.perform.result c.perform.new.party (sym c.who.ensures ∙ c.in-Requester.is)
+    c.perform.ensures in
+    subst (λ v. KeepsDates v event new) c.self.view_is
+    (dates_of w new event c.perform.result (c.due_dates_stay.ensures c.self.invariant.0 w event c.self.invariant.1) gives)
 
 pub returns-in-Requester-clause-arrives : goal.returns-in-Requester-clause-arrives
 returns-in-Requester-clause-arrives c =
     let w : Parties = record { requester = c.self.inside.requester; responder = c.self.inside.responder } in
-    subst (λ v. Arrives v c.args.event.now) c.self.view_is (c.one_arrival_is_enough.ensures c.self.invariant.0 w c.args.event.now c.self.invariant.1)
+    subst (λ v. Arrives v c.args.event.now) c.self.view_is
+    (c.one_arrival_is_enough.ensures c.self.invariant.0 w c.args.event.now c.self.invariant.1)
 
 pub invariant_of-self-in-Responder : goal.invariant_of-self-in-Responder
 invariant_of-self-in-Responder c =
     let w : Parties = record { requester = c.self.inside.requester; responder = c.self.inside.responder } in
     let new : Parties = record { requester = c.self.inside.requester; responder = c.perform-in-Responder.new.party } in
     let event = c.args.event.now in
-    let gives = world_gives w event who.Responder c.perform-in-Responder.result c.perform-in-Responder.new.party (sym c.who.ensures ∙ c.in-Responder.is) c.perform-in-Responder.ensures in
-    (c.self.invariant.0, still_stands c.self.invariant.0 w new event c.perform-in-Responder.result (c.world_stands.ensures.after c.self.invariant.0) gives c.self.invariant.1)
+    let gives = world_gives w event who.Responder c.perform-in-Responder.result c.perform-in-Responder.new.party
+    (sym c.who.ensures ∙ c.in-Responder.is) c.perform-in-Responder.ensures in (
+      c.self.invariant.0,
+      still_stands c.self.invariant.0 w new event c.perform-in-Responder.result
+          (c.world_stands.ensures.after c.self.invariant.0) gives c.self.invariant.1,
+    )
 
 pub returns-in-Responder-clause-gives : goal.returns-in-Responder-clause-gives
 returns-in-Responder-clause-gives c =
     let w : Parties = record { requester = c.self.inside.requester; responder = c.self.inside.responder } in
     let new : Parties = record { requester = c.self.inside.requester; responder = c.perform-in-Responder.new.party } in
     let event = c.args.event.now in
-    let gives = world_gives w event who.Responder c.perform-in-Responder.result c.perform-in-Responder.new.party (sym c.who.ensures ∙ c.in-Responder.is) c.perform-in-Responder.ensures in
+    let gives = world_gives w event who.Responder c.perform-in-Responder.result c.perform-in-Responder.new.party
+    (sym c.who.ensures ∙ c.in-Responder.is) c.perform-in-Responder.ensures in
     subst (λ v. GivesOutcome (happens v event) v c.perform-in-Responder.result new) c.self.view_is gives
 
 pub returns-in-Responder-clause-dates : goal.returns-in-Responder-clause-dates
@@ -57,10 +70,14 @@ returns-in-Responder-clause-dates c =
     let w : Parties = record { requester = c.self.inside.requester; responder = c.self.inside.responder } in
     let new : Parties = record { requester = c.self.inside.requester; responder = c.perform-in-Responder.new.party } in
     let event = c.args.event.now in
-    let gives = world_gives w event who.Responder c.perform-in-Responder.result c.perform-in-Responder.new.party (sym c.who.ensures ∙ c.in-Responder.is) c.perform-in-Responder.ensures in
-    subst (λ v. KeepsDates v event new) c.self.view_is (dates_of w new event c.perform-in-Responder.result (c.due_dates_stay.ensures c.self.invariant.0 w event c.self.invariant.1) gives)
+    let gives = world_gives w event who.Responder c.perform-in-Responder.result c.perform-in-Responder.new.party
+    (sym c.who.ensures ∙ c.in-Responder.is) c.perform-in-Responder.ensures in
+    subst (λ v. KeepsDates v event new) c.self.view_is
+    (dates_of w new event c.perform-in-Responder.result
+    (c.due_dates_stay.ensures c.self.invariant.0 w event c.self.invariant.1) gives)
 
 pub returns-in-Responder-clause-arrives : goal.returns-in-Responder-clause-arrives
 returns-in-Responder-clause-arrives c =
     let w : Parties = record { requester = c.self.inside.requester; responder = c.self.inside.responder } in
-    subst (λ v. Arrives v c.args.event.now) c.self.view_is (c.one_arrival_is_enough.ensures c.self.invariant.0 w c.args.event.now c.self.invariant.1)
+    subst (λ v. Arrives v c.args.event.now) c.self.view_is
+    (c.one_arrival_is_enough.ensures c.self.invariant.0 w c.args.event.now c.self.invariant.1)

@@ -11,4 +11,5 @@ returns c =
     let asked = c.args.asked in
     let cancels = both_met asked (number_guards x k) (cancel_guards x k) _ _ c.number_holds.ensures c.cancel_holds.ensures in
     let renews = both_met asked (number_guards x k ++ cancel_guards x k) (renew_guards x k) _ _ cancels c.renew_holds.ensures in
-    both_met asked ((number_guards x k ++ cancel_guards x k) ++ renew_guards x k) (due_guards x c.args.self.now.date) _ _ renews c.due_holds.ensures
+    both_met asked ((number_guards x k ++ cancel_guards x k) ++ renew_guards x k) (due_guards x c.args.self.now.date) _ _ renews
+    c.due_holds.ensures

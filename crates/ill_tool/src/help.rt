@@ -22,7 +22,7 @@ A loan is named by its GROUP and TRANSACTION. How messages are carried, by mail
 or by hand, is left to the libraries. `ill COMMAND --help` tells more of a
 command.
 
-With `--explain` before the command, lines behind that of a fault tell which
+With `--explain` before the command, lines after that of a fault tell which
 word, file or message is wrong, and what would be right. They begin with spaces,
 and no program may rest on them.
 
@@ -47,7 +47,7 @@ responder's in the file `there`:
   $ ill act there G1 T1 --today 20250301 ship +14
   done SHIPPED 20250315 1/1
 
-The exit status, and the line of a fault on standard error behind `ill: `:
+The exit status, and the line of a fault on standard error after `ill: `:
   0  -                    all went well; help and the version too
   1  -                    refused, or in conflict; standard output says why
   1  exists               FILE is there already
@@ -86,7 +86,7 @@ way of FILE.new, beside it; that file belongs to the program. Other commands may
 run on FILE at any time, as `ill --help` tells. One line, `done`, is written to
 standard output. Standard input is not read.
 
-The exit status is 0 where the desk is saved, 1 with `exists`, 2 for wrong
+The exit status is 0 if the desk is saved, 1 with `exists`, 2 for wrong
 arguments, a ROLE that is none too, and 3 with `store failed`, `store
 too-large`, `write` or `memory`.";
 
@@ -100,7 +100,7 @@ pub const ACT: &str = "\
 Perform one action in a loan, and save it.
 
 The loan is that of GROUP and TRANSACTION, of 1 to 64 characters of ASCII each,
-from space to tilde; where one begins with a hyphen, `--` goes before the
+from space to tilde; if one begins with a hyphen, `--` goes before the
 arguments. A requester's `request` begins a loan, and the ILL-Request that
 `take` takes begins a responder's. A desk has room for 1,000 loans.
 
@@ -132,15 +132,15 @@ that remain, of 200 bytes at most. None of the words may hold a space, so a
 title has no quotes round it: `request none War and Peace`.
 
 A responder's action needs --today; a requester's has no use for it. It stands
-before the words: behind them it would be one of them, as of a title. One action
+before the words: after them it would be one of them, as of a title. One action
 issues one message; `take` may issue one too, as `ill take --help` tells. The
 messages of each loan are numbered 1, 2, 3, up to 255.
 
 The action is saved in FILE before a line of it is written to standard output:
   OUTCOME STATE DUE RELEASED/ISSUED
 OUTCOME is `done`. Then come the state of the loan, its due date or `-`, how
-many of its messages may be sent, and how many it has issued: behind `done`, the
-message of the action is the last one. Where the action is refused, nothing
+many of its messages may be sent, and how many it has issued: after `done`, the
+message of the action is the last one. If the action is refused, nothing
 changes, and OUTCOME says why:
   no-such-transaction    the desk has no such loan; `request` begins one
   desk-full              `request`, and the desk has 1,000 loans
@@ -154,7 +154,7 @@ changes, and OUTCOME says why:
 Standard input is not read, and FILE has at most 67,108,864 bytes. While another
 command changes FILE, this one waits, as `ill --help` tells.
 
-The exit status is 0 where the action is done, 1 where it is refused or with
+The exit status is 0 if the action is done, 1 if it is refused or with
 `no-record`, 2 for wrong arguments or words or a bad record, and 3 with `store
 failed`, `store too-large`, `write` or `memory`. After `store failed` the action
 may be saved or not: `ill status FILE` shows which.";
@@ -179,14 +179,14 @@ pub const TAKE: &str = "\
 Take the APDUs on standard input, and save what they change.
 
 The APDUs, the messages of other libraries as `ill send` gives them there, stand
-one behind another up to the end of the input: `ill take FILE < message`. Each
+one after another up to the end of the input: `ill take FILE < message`. Each
 is for the loan that it names. There are at most 100,000 of them. FILE has at
 most 67,108,864 bytes. While another command changes FILE, this one waits, as
 `ill --help` tells; and it holds FILE itself until its input ends.
 
 For each of them a line is written to standard output:
   OUTCOME STATE DUE RELEASED/ISSUED
-OUTCOME is one of these; behind it the line says how its loan stands, as that of
+OUTCOME is one of these; after it the line says how its loan stands, as that of
 `ill act`:
   taken                  this is news: read it, and act on it
   repeat                 the desk knows it already; the partner may lack the
@@ -199,7 +199,7 @@ OUTCOME is one of these; behind it the line says how its loan stands, as that of
   numbers-used           it wants an answer, and all 255 numbers are used
 
 With --long the line begins with what the message is, and its further fields
-stand behind it, as `ill show` has them, each on an indented line of its own:
+stand after it, as `ill show` has them, each on an indented line of its own:
   GROUP TRANSACTION TYPE NUMBER OUTCOME STATE DUE RELEASED/ISSUED
 A character on which a terminal may act is shown by its number, as \\u{202e}.
 
@@ -217,8 +217,8 @@ Conditional-Reply no, by which the requester declines its conditions, issues an
 ILL-Answer unfilled. ISSUED has risen by one then, as from 1/1 to 2/2, and that
 message has to be sent, like one of an action: `ill send FILE G1 T1 2`.
 
-The exit status is 0 where each was taken, a repeat or stale, and 1 where one
-was anything else or with `no-record`. It is 2 where the input has a faulty
+The exit status is 0 if each was taken, a repeat or stale, and 1 if one
+was anything else or with `no-record`. It is 2 if the input has a faulty
 message or too many, and for a bad record, and 3 with `store failed`, `store
 too-large`, `read`, `write` or `memory`. The messages before a fault stay taken.";
 
@@ -248,7 +248,7 @@ a message of another library, as `ill send` gives it there. FILE has at most
 67,108,864 bytes. While another command changes FILE, this one waits, as
 `ill --help` tells, and holds FILE itself until it ends.
 
-First each mail is moved into a folder in FILE.mail/in, where it is read.
+First each mail is moved into a folder in FILE.mail/in, and read there.
 FILE.mail is made for its owner alone, and has to be on the disk of FOLDER. The
 mails are taken in the order of the bytes of their names, 10,000 at most in one
 run. Those that a run has moved that was killed come before the others.
@@ -268,13 +268,13 @@ messages that came for loans that are over, which `ill outbox` answers.
 For each mail with a message the lines of `ill take --long` are written to
 standard output, as the loan stands once the desk is saved. Of a mail that is
 put aside or stays, a line `NAME aside REASON` or `NAME left REASON` stands
-behind them. The reasons to put a mail aside:
+after them. The reasons to put a mail aside:
   short at N             the mail ends within a message, after N bytes of it
   tag at N               it is no message: a wrong field, at its byte N
   length at N            it is none: a wrong length, at its byte N
   field at N             it is none: a wrong value, at its byte N
   too-long               it is longer than 359 bytes
-  trailing               bytes stand behind its message
+  trailing               bytes stand after its message
   wrong-role             its message is of a kind that this desk sends
   numbers-used           it wants an answer, and all 255 numbers are used
 
@@ -289,8 +289,8 @@ A character of a name on which a terminal may act is shown by its number, as
 `unknown` counts those of a loan that a responder's desk has not: they come
 again, with its request. `waiting` counts the mails beyond the first 10,000.
 
-Standard input is not read. The exit status is 0 where all mails are done, and 1
-where one was put aside or in conflict, or with `no-record`. It is 2 for a bad
+Standard input is not read. The exit status is 0 if all mails are done, and 1
+if one was put aside or in conflict, or with `no-record`. It is 2 for a bad
 record, and 3 with `left`, `store failed`, `store too-large`, `write` or
 `memory`. With `left` mails stay or wait; what else was to be done is done. A
 file that cannot be removed or put aside is named on standard error, and then it
@@ -332,11 +332,11 @@ that nobody has fetched is there once. After a loss of power one may be cut: the
 next run replaces it. A line `sent N` tells how many they are.
 
 With --stream the messages are written to standard output in place of FOLDER,
-one behind another and nothing else. FILE has at most 67,108,864 bytes; it is
+one after another and nothing else. FILE has at most 67,108,864 bytes; it is
 not changed. While another command changes FILE, this one waits, as `ill --help`
 tells.
 
-The exit status is 0 where all messages are there, 1 with `no-record`, 2 for
+The exit status is 0 if all messages are there, 1 with `no-record`, 2 for
 wrong arguments or a bad record, and 3 with `store failed`, `store too-large`,
 `write` or `memory`: the first messages may be there then.";
 
@@ -377,8 +377,8 @@ line `sent N`. Standard error has a line for each mail that wants a person: one
 that is put aside or stays, and a conflict that no lost, late or repeated mail
 explains. So cron mails only these.
 
-The exit status is 0 where nothing wants a person, 1 where something does or
-with `no-record`, 2 for wrong arguments or a bad record, and 3 where a mail
+The exit status is 0 if nothing wants a person, 1 if something does or
+with `no-record`, 2 for wrong arguments or a bad record, and 3 if a mail
 stays for the next run (`left`), or with `store failed`, `store too-large`,
 `write` or `memory`.";
 
@@ -407,7 +407,7 @@ which are not for a terminal. Give them to a file or another program, as in
 changed, so nothing tells what was sent. A message may be sent again at any
 time, and has the same bytes then. Standard input is not read.
 
-The exit status is 0 where the message is written, 1 with `no-such-transaction`,
+The exit status is 0 if the message is written, 1 with `no-such-transaction`,
 `no-such-message`, `not-saved` or `no-record`, 2 for wrong arguments or a bad
 record, and 3 with `store failed`, `store too-large`, `write` or `memory`.";
 
@@ -429,7 +429,7 @@ pub const SEND_EXAMPLE: &str = "Example:
 pub const LIST: &str = "\
 List the loans of desks, a line for each.
 
-The loans that wait for this library come first. Behind them stand those that
+The loans that wait for this library come first. After them stand those that
 wait for the other one, then those that are over. Of each kind the most urgent
 come first: those whose due date, or else the last day of their request, comes
 first. The columns of a line:
@@ -458,16 +458,16 @@ too.
 
 PATH is the file of a desk, or a folder of desks. A folder's desks are listed in
 the order of their names: all regular files, but for those that begin with a dot
-or end in .new, .lck or .came. Where several desks are listed, a line `PATH:`
+or end in .new, .lck or .came. If several desks are listed, a line `PATH:`
 stands before each, and an empty line between each and the next.
 
 With --json each loan that is listed is an object of JSON on a line, in the same
 order: `next`, `state`, `due`, `group`, `transaction`, `now` (what `act` takes
-now) and `item`. Behind them an object has the counts: `loans`, `open`, `mine`
-and `room`. Where several desks are listed, each object has its PATH in `file`.
+now) and `item`. After them an object has the counts: `loans`, `open`, `mine`
+and `room`. If several desks are listed, each object has its PATH in `file`.
 
 A desk has at most 67,108,864 bytes and is not changed. Standard input is not
-read. The exit status is 0 where the loans are listed, 1 with `no-record`, 2 for
+read. The exit status is 0 if the loans are listed, 1 with `no-record`, 2 for
 wrong arguments or a bad record, and 3 with `store failed`, `store too-large`,
 `write` or `memory`. The desks before a fault are listed.";
 
@@ -492,7 +492,7 @@ pub const STATUS: &str = "\
 Show how each loan in a file stands.
 
 Seven lines for each loan are written to standard output, in the order in which
-the loans were begun; none, where the desk has no loan:
+the loans were begun; none, if the desk has no loan:
   role                   requester or responder
   group                  the group qualifier of the loan
   transaction            the transaction qualifier of the loan
@@ -508,7 +508,7 @@ With --json each loan is an object of JSON on a line, with these labels. It has
 
 FILE has at most 67,108,864 bytes and is not changed. Other commands may run on
 FILE at any time, as `ill --help` tells. Standard input is not read. The exit
-status is 0 where the loans are shown, 1 with `no-record`, 2 for a bad record,
+status is 0 if the loans are shown, 1 with `no-record`, 2 for a bad record,
 and 3 with `store failed`, `store too-large`, `write` or `memory`.";
 
 pub const STATUS_EXAMPLE: &str = "Example:
@@ -528,7 +528,7 @@ pub const STATUS_EXAMPLE: &str = "Example:
 pub const LOAN: &str = "\
 Show all of one loan: its request, its messages, what comes next.
 
-The first seven lines on standard output are those of `ill status`. Behind them
+The first seven lines on standard output are those of `ill status`. After them
 come these:
   next                   who acts next: `mine`, this library; `theirs`, the
                          other one; or `over`, nobody
@@ -549,11 +549,11 @@ A requester tells this in their place:
 
 Then come the messages that the loan has issued, in order. An empty line stands
 before each. A message has the lines of `ill show`, and one more:
-  leaves                 `yes` where `send` gives it, or `no` while it is not
+  leaves                 `yes` if `send` gives it, or `no` while it is not
                          saved
 
-Behind them come the messages that `take` has kept with --keep, in the order in
-which they came, each once. Before each stands an empty line, behind it this:
+After them come the messages that `take` has kept with --keep, in the order in
+which they came, each once. Before each stands an empty line, after it this:
   came                   `yes`
 
 With --picture the messages are drawn in place of all this, as a sequence chart
@@ -569,7 +569,7 @@ issued, and its `came` one of those that were kept. With --picture too it is the
 object.
 
 FILE has at most 67,108,864 bytes and is not changed. Standard input is not
-read. The exit status is 0 where the loan is shown, 1 with `no-such-transaction`
+read. The exit status is 0 if the loan is shown, 1 with `no-such-transaction`
 or `no-record`, 2 for wrong arguments or a bad record, and 3 with `store
 failed`, `store too-large`, `write` or `memory`.";
 
@@ -610,8 +610,8 @@ These lines are written to standard output:
   room                   for how many more loans there is room
 
 A record that is none, or was damaged, is a fault, which tells the place of the
-first wrong byte where there is one. FILE has at most 67,108,864 bytes and is
-not changed. Standard input is not read. The exit status is 0 where it is a
+first wrong byte if there is one. FILE has at most 67,108,864 bytes and is
+not changed. Standard input is not read. The exit status is 0 if it is a
 desk, 1 with `no-record`, 2 for a bad record, and 3 with `store failed`, `store
 too-large`, `write` or `memory`.";
 
@@ -650,7 +650,7 @@ text is shown by its number, as \\u{202e}.
 
 FILE has at most 67,108,864 bytes and is not changed. Other commands may run on
 FILE at any time, as `ill --help` tells. Standard input is not read. Nothing is
-written unless all desks can be read. The exit status is 0 where the page is
+written unless all desks can be read. The exit status is 0 if the page is
 written, 1 with `no-record`, 2 for wrong arguments or a bad record, and 3 with
 `store failed`, `store too-large`, `write` or `memory`.";
 
@@ -664,13 +664,13 @@ pub const REPORT_EXAMPLE: &str = "Example:
 pub const SHOW: &str = "\
 Show each APDU on standard input.
 
-The APDUs stand one behind another, in the short form, up to the end of the
+The APDUs stand one after another, in the short form, up to the end of the
 input, as in `ill show < FILE`: at most 100,000 of them, each of 359 bytes at
 most. For each of them its type, its transaction, its number and its further
 fields are written to standard output, a line for each. With --json each APDU is
 an object of JSON on a line, with the same labels.
 
-The exit status is 0 where all of them are shown. It is 2 where one has a fault
+The exit status is 0 if all of them are shown. It is 2 if one has a fault
 or there are too many, and 3 with `read`, `write` or `memory`. The APDUs before
 a fault are shown.";
 
@@ -684,12 +684,12 @@ pub const SHOW_EXAMPLE: &str = "Example:
 pub const CHECK: &str = "\
 Check the APDUs on standard input and count them.
 
-The APDUs stand one behind another, in the short form, up to the end of the
+The APDUs stand one after another, in the short form, up to the end of the
 input, as in `ill check < FILE`: at most 100,000 of them, each of 359 bytes at
-most. Behind the last of them their number is written to standard output. Where
+most. After the last of them their number is written to standard output. If
 one of them has a fault, nothing is written there.
 
-The exit status is 0 where they are counted. It is 2 where one has a fault or
+The exit status is 0 if they are counted. It is 2 if one has a fault or
 there are too many, and 3 with `read`, `write` or `memory`.";
 
 pub const CHECK_EXAMPLE: &str = "Example:
@@ -704,7 +704,7 @@ The script comes from standard input, as in `ill simulate G1 T1 < FILE`: at most
 and one that begins with `#`, says nothing. For each event a line is written to
 standard output: its number, what is seen of it, and how both sides stand after
 it. No file is read or written. GROUP and TRANSACTION have 1 to 64 characters of
-ASCII each, from space to tilde; where one begins with a hyphen, `--` goes
+ASCII each, from space to tilde; if one begins with a hyphen, `--` goes
 before the two.
 
 The lines of a script:
@@ -728,8 +728,8 @@ SIDE is requester or responder. EXPIRY, WISHED, TODAY and DUE are days, such as
 20250315; EXPIRY, WISHED and HEX may be `none`. RESULT is conditional, retry,
 unfilled, locations-provided, will-supply, hold-placed or estimate.
 
-The exit status is 0 where the whole script was performed. It is 2 for arguments
-that are no qualifiers and for a line that is no event, and 3 where the input
+The exit status is 0 if the whole script was performed. It is 2 for arguments
+that are no qualifiers and for a line that is no event, and 3 if the input
 cannot be read, the output cannot be written, or memory runs out. The lines of
 the events before are written.";
 
@@ -746,18 +746,18 @@ The script comes from standard input, as in `ill simulate-desks < FILE`, and has
 the lines of a script of `simulate` and one more:
   use GROUP TRANSACTION
 
-It is no event: the lines behind it are in this loan. An event before the first
+It is no event: the lines after it are in this loan. An event before the first
 of them is a bad line. A save, a faulted save and a restart are those of a whole
 desk. For each event a line is written to standard output: its number, what is
-seen of it, and how both sides of the loan in use stand after it, IDLE where a
+seen of it, and how both sides of the loan in use stand after it, IDLE if a
 desk does not hold it. No file is read or written.
 
 Two words are seen at desks alone: `no-such-transaction` of what names a loan
 that the desk does not hold and does not begin it, and `desk-full` of what would
 begin one more than 1,000.
 
-The exit status is 0 where the whole script was performed. It is 2 for a line
-that is no event and no use, and 3 where the input cannot be read, the output
+The exit status is 0 if the whole script was performed. It is 2 for a line
+that is no event and no use, and 3 if the input cannot be read, the output
 cannot be written, or memory runs out. The lines of the events before are
 written.";
 
@@ -774,11 +774,11 @@ second time. So the mark stays in place of the desk, in DESK.retired, and no
 desk of GROUP is ever made again. Mail of the group is removed, and told.
 
 One line is written: `done`, or `not-now` if a loan of the group is not over.
-Then nothing is changed. Behind `done`, nothing is known of the loans any more.
+Then nothing is changed. After `done`, nothing is known of the loans any more.
 A requester may retire a group as soon as its loans are over; a responder once
 the requester asks no more, since it could not answer.
 
-The exit status is 0 behind `done`, 1 behind `not-now` or with `no-record`, 2
+The exit status is 0 after `done`, 1 after `not-now` or with `no-record`, 2
 for wrong arguments or a bad record, and 3 with `store failed`, `write` or
 `memory`.";
 
@@ -804,7 +804,7 @@ file DIR/GROUP.requester or DIR/GROUP.responder. All bytes of the name but
 letters, digits, `-` and `_` are written as `%` and two digits. DIR/.shelf is
 the shelf's own desk: it says the role, and takes the mail that has no desk.
 
-A requester's shelf begins a group where `act --new-group` says so. A
+A requester's shelf begins a group if `act --new-group` says so. A
 responder's begins one for an ILL-Request: the mail of one run makes 16 desks at
 most, and further requests wait for the next run.";
 
@@ -826,7 +826,7 @@ Begin a shelf of one role, in a folder.
 DIR is made, if it is not there. Its folder must be there. One line, `done`, is
 written. `exists` tells that DIR is a shelf already.
 
-The exit status is 0 where the shelf is saved, 1 with `exists`, 2 for wrong
+The exit status is 0 if the shelf is saved, 1 with `exists`, 2 for wrong
 arguments, and 3 with `store failed`, `write` or `memory`.";
 
 pub const SHELF_ACT: &str = "\
@@ -837,7 +837,7 @@ that is `no-record`, so that a slip of the pen begins no group. With
 --new-group a requester's `request` begins one. A retired group is
 `no-such-transaction`.
 
-Where a desk is full, go on in a new group, which you name: the other library
+If a desk is full, go on in a new group, which you name: the other library
 needs no notice.";
 
 pub const SHELF_LOAN: &str = "\
@@ -869,7 +869,7 @@ pub const SHELF_INBOX: &str = "\
 Take the mails of a folder, each at the desk of its group.
 
 Each mail of FOLDER goes to the desk of the group of its message, and then each
-desk takes its mails, as `ill inbox` does, behind a line of its path. Each desk
+desk takes its mails, as `ill inbox` does, after a line of its path. Each desk
 is loaded and saved once. The shelf's own desk takes what has no desk: what is
 no message is put aside in DIR/.shelf.mail/aside.
 
@@ -892,6 +892,6 @@ pub const SHELF_EXCHANGE: &str = "\
 Take the mails of a folder, and send into another.
 
 The mails of IN are sorted to the desks, as `ill shelf inbox` does, and then
-each desk does what `ill exchange` does, behind a line of its path. --copy names
+each desk does what `ill exchange` does, after a line of its path. --copy names
 a folder: each desk is copied into it before its messages leave. --beat makes
 its file anew in the end, unless a desk has failed.";

@@ -125,7 +125,7 @@ fn tell_no_today(text: &mut String, form: Form, parts: &[&str]) -> Result<(), Ou
     if parts.iter().any(|part| part.starts_with("--today")) {
         writeln!(
             text,
-            "  Behind the verb, `--today` is a word of the action."
+            "  After the verb, `--today` is a word of the action."
         )?;
     }
     Ok(())
@@ -234,7 +234,7 @@ fn tell_no_days(
     if !are_digits || !(1..=5).contains(&days.len()) {
         return writeln!(
             text,
-            "  {shown} is no day: behind `+` stand one to five digits."
+            "  {shown} is no day: after `+` stand one to five digits."
         );
     }
     writeln!(

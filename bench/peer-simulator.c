@@ -523,7 +523,7 @@ static enum outcome hear(const uint8_t *bytes, size_t size) {
 
 /* ---- The words of a line ---- */
 
-/* The words of a line, as far as the one behind the most that a line may have, or its item. `end` is the end of
+/* The words of a line, as far as the one after the most that a line may have, or its item. `end` is the end of
  * the line. */
 struct words {
     struct text word[MOST_WORDS];
@@ -531,7 +531,7 @@ struct words {
     const uint8_t *end;
 };
 
-/* Finds the next word at or behind a place; without any it is empty. */
+/* Finds the next word at or after a place; without any it is empty. */
 static struct text next_word(const uint8_t *at, const uint8_t *end) {
     while (at < end && *at == ' ')
         at++;

@@ -42,7 +42,7 @@ static inline void expect_broken_pipes(void) {
         stop(STATUS_FAILED, "write");
 }
 
-/* Moves what is not used yet to the front, and reads another piece behind it, or finds the end. */
+/* Moves what is not used yet to the front, and reads another piece after it, or finds the end. */
 static inline void read_more(struct input *in) {
     ssize_t count;
     memmove(in->bytes, in->bytes + in->at, in->end - in->at);
@@ -172,7 +172,7 @@ enum type {
     CHECKED_IN, OVERDUE, RENEW, RENEW_ANSWER, EXPIRED = 20, TYPES
 };
 
-/* What a type has behind the number. */
+/* What a type has after the number. */
 enum { ANSWERS = 1, RESULT = 2, YES_NO = 4, DATE = 8, DATE_OR_NOT = 16, DATE_WITH_YES = 32, ITEM = 64 };
 
 /* No name: no such type. */
@@ -267,7 +267,7 @@ static inline bool header(struct reading *from, size_t end, uint8_t identifier, 
     return true;
 }
 
-/* Goes on behind contents of this size, which are right or not. */
+/* Goes on after contents of this size, which are right or not. */
 static inline bool contents(struct reading *from, size_t size, bool right) {
     if (!right)
         return faulty(from, FIELD, from->at);

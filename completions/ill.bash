@@ -31,7 +31,7 @@ _ill_words() {
   esac
 }
 
-# The groups of the loans in a file; behind a group, its transactions.
+# The groups of the loans in a file; after a group, its transactions.
 _ill_loans() {
   local line group=
   while IFS= read -r line; do

@@ -45,14 +45,14 @@ function __ill_read
     string join \n -- $wanted "$words[2]" $arguments
 end
 
-# __ill_at COUNT COMMAND..: whether an argument of one of these commands comes next, behind COUNT others.
+# __ill_at COUNT COMMAND..: whether an argument of one of these commands comes next, after COUNT others.
 function __ill_at
     set -l read (__ill_read)
     not contains -- $read[1] day state file; and test (count $read[3..-1]) = $argv[1]
     and contains -- "$read[2]" $argv[2..-1]
 end
 
-# __ill_any COMMAND..: whether an argument of one of these commands comes next, behind any number.
+# __ill_any COMMAND..: whether an argument of one of these commands comes next, after any number.
 function __ill_any
     set -l read (__ill_read)
     not contains -- $read[1] day state file
@@ -72,7 +72,7 @@ function __ill_status
     ill $shelf status -- (string replace -r '^~/' "$HOME/" -- $argv[1]) 2>/dev/null
 end
 
-# The groups of the loans in the file; behind a group, its transactions.
+# The groups of the loans in the file; after a group, its transactions.
 function __ill_loans
     set -l arguments (__ill_read)[3..-1]
     set -l group

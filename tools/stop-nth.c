@@ -8,8 +8,8 @@
      waits   it waits before the call, as SIGSTOP has it
      short   a read or a write moves half of the bytes
      EIO     or another name of the table below: the call fails so, and does nothing, but that a close closes
-     broken  this call and all behind it fail with EIO, but those of standard input, output and errors
-     full    this call and all behind it fail with ENOSPC if they write to a file or make a folder
+     broken  this call and all after it fail with EIO, but those of standard input, output and errors
+     full    this call and all after it fail with ENOSPC if they write to a file or make a folder
    STOP_LOG names a file that gets a line for each call before it is made: its name, and that of the file. A
    statx that follows no link is an lstat there, one of an open file an fstat, and an lchown of the group alone a
    chgrp.
@@ -130,7 +130,7 @@ static int finds_no_space(int reached) {
   return 1;
 }
 
-/* What a call answers behind which the process may be killed. */
+/* What a call answers after which the process may be killed. */
 static long answered(int reached, long answer) {
   if (reached && is_how("after"))
     die();

@@ -1,4 +1,4 @@
-//! The other calls of `ill_der`, and those of `ill_values`, which have to agree with what `decode` answers.
+//! Compares the other calls of `ill_der`, and those of `ill_values`, with the answer of `decode`.
 
 use crate::reading::{Reading, decoded};
 use crate::values::{id_of, item_of};
@@ -8,7 +8,7 @@ use ill_test_kit::marks::{quietly, tried};
 use ill_values::{Apdu, Body, OutOfMemory, TxnId};
 use std::alloc::Global;
 
-/// Returns the first call that does not agree, if `decode` answers an APDU of `count` bytes.
+/// Returns the first call that contradicts `decode`, if that answers `apdu` and the size `count`.
 pub fn differing_at_apdu(
     alloc: Global,
     bytes: &[u8],
@@ -33,6 +33,7 @@ pub fn differing_at_apdu(
     }
 }
 
+/// Returns true if `encode` gives the bytes `spelling`.
 fn is_encoded(alloc: Global, apdu: &Apdu, spelling: &[u8]) -> bool {
     match tried(alloc, OutOfMemory, || encode(alloc, apdu)) {
         Ok(bytes) => bytes.as_slice() == spelling,
@@ -40,7 +41,8 @@ fn is_encoded(alloc: Global, apdu: &Apdu, spelling: &[u8]) -> bool {
     }
 }
 
-/// Returns true if the APDU is added after what is there. Without memory a proper prefix of it may be added.
+/// Returns true if `encode_onto` adds the bytes `spelling` at the end of a vector. Out of memory it adds a proper
+/// prefix of them.
 fn is_added(alloc: Global, apdu: &Apdu, spelling: &[u8]) -> bool {
     for _ in 0..marks::TRIES {
         let Ok(mut bytes) = Vec::from_slice(alloc, b"#") else {
@@ -62,8 +64,8 @@ fn is_added(alloc: Global, apdu: &Apdu, spelling: &[u8]) -> bool {
     false
 }
 
-/// Returns true if the APDU is written after what the writer has, and nothing is written without memory. The writer
-/// has room, so that it takes no memory itself.
+/// Returns true if `write_apdu` writes the bytes `spelling` at the end, and nothing when memory runs out. The writer
+/// has room for them, so that the writer itself takes no memory.
 fn is_written(alloc: Global, apdu: &Apdu, spelling: &[u8]) -> bool {
     let Ok(mut writer) = Vec::with_capacity(alloc, spelling.len() + 1) else {
         return false;
@@ -79,7 +81,7 @@ fn is_written(alloc: Global, apdu: &Apdu, spelling: &[u8]) -> bool {
     }
 }
 
-/// Returns true if the APDU is read, and these bytes after it are left. Without memory they are left too.
+/// Returns true if `read_apdu` gives `apdu`, and leaves the bytes `after`. Out of memory it leaves the same bytes.
 fn is_read(alloc: Global, bytes: &[u8], apdu: &Apdu, after: &[u8]) -> bool {
     let reading = Reading::of(alloc, bytes);
     match &reading.answer {
@@ -88,7 +90,7 @@ fn is_read(alloc: Global, bytes: &[u8], apdu: &Apdu, after: &[u8]) -> bool {
     }
 }
 
-/// Returns the first type whose values in this APDU are not made or copied again, if there is one.
+/// Returns the first type whose values in `apdu` cannot be made or copied again, if there is one.
 fn differing_value(alloc: Global, apdu: &Apdu) -> Option<&'static [u8]> {
     if !is_made_again(alloc, &apdu.txn) {
         Some(b"TxnId")
@@ -101,6 +103,7 @@ fn differing_value(alloc: Global, apdu: &Apdu) -> Option<&'static [u8]> {
     }
 }
 
+/// Returns true if `TxnId::new` makes `id` of its two qualifiers.
 fn is_made_again(alloc: Global, id: &TxnId) -> bool {
     match id_of(alloc, id.group(), id.transaction()) {
         Ok(made) => made == *id,
@@ -108,6 +111,7 @@ fn is_made_again(alloc: Global, id: &TxnId) -> bool {
     }
 }
 
+/// Returns true if `Item::new` makes the item of `body`, if it has one, of its text.
 fn has_item_again(alloc: Global, body: &Body) -> bool {
     let Body::IllRequest { expiry: _, item } = body else {
         return true;
@@ -118,6 +122,7 @@ fn has_item_again(alloc: Global, body: &Body) -> bool {
     }
 }
 
+/// Returns true if a copy of `apdu` equals `apdu`.
 fn is_copied(alloc: Global, apdu: &Apdu) -> bool {
     match tried(alloc, OutOfMemory, || apdu.copy(alloc)) {
         Ok(copy) => copy == *apdu,
@@ -125,7 +130,7 @@ fn is_copied(alloc: Global, apdu: &Apdu) -> bool {
     }
 }
 
-/// Returns the first call that does not agree, if `decode` answers a fault.
+/// Returns the first call that contradicts `decode`, if that answers `fault`.
 pub fn differing_at_fault(alloc: Global, bytes: &[u8], fault: DerFault) -> Option<&'static [u8]> {
     let reading = Reading::of(alloc, bytes);
     let is_answered = match &reading.answer {
@@ -140,8 +145,8 @@ pub fn differing_at_fault(alloc: Global, bytes: &[u8], fault: DerFault) -> Optio
     }
 }
 
-/// Returns true if the bytes before those that are left are the shortest prefix with the fault. If the bytes are short,
-/// nothing may be left.
+/// Returns true if the bytes before `left` are the shortest prefix that has the fault. If the bytes are too short,
+/// `left` must be empty.
 fn is_taken(alloc: Global, bytes: &[u8], left: &[u8], fault: DerFault) -> bool {
     if let DerFault::Short(_) = fault {
         return left.is_empty();
@@ -155,6 +160,7 @@ fn is_taken(alloc: Global, bytes: &[u8], left: &[u8], fault: DerFault) -> bool {
     has_fault(alloc, prefix, fault) && !has_fault(alloc, shorter, fault)
 }
 
+/// Returns true if `decode` answers `fault`.
 fn has_fault(alloc: Global, bytes: &[u8], fault: DerFault) -> bool {
     decoded(alloc, bytes).err() == Some(fault)
 }

@@ -1,4 +1,4 @@
-//! The answers that are printed for a case.
+//! Prints the answers to a case.
 
 use crate::agreement::{differing_at_apdu, differing_at_fault};
 use crate::cases::push_bytes;
@@ -10,14 +10,14 @@ use ill_der::DerFault;
 use ill_test_kit::{INDENT, Lines, Page};
 use std::alloc::Global;
 
-/// Performs the lines of the input.
+/// Performs each line of the input as a case.
 #[derive(Drop)]
 pub struct Cases {
     pub alloc: Global,
 }
 
 impl Lines for Cases {
-    /// Adds a line, unless it is an answer, and the answers of a case below it.
+    /// Adds `line` with its answers below it. A line that is itself an answer is dropped.
     fn perform(&mut self, page: &mut Page, line: &str) {
         if !line.starts_with(INDENT) {
             push_case(self.alloc, page, line);
@@ -51,7 +51,7 @@ fn push_answers(alloc: Global, output: &mut Page, line: &str) {
     }
 }
 
-/// Adds the answers to a case of one run of bytes.
+/// Adds the answers to a case that consists of one sequence of bytes.
 fn push_answers_to_bytes(alloc: Global, output: &mut Page, form: &str, words: &str) {
     let mut bytes = Page::new(alloc);
     push_bytes(alloc, &mut bytes, words);
@@ -61,7 +61,7 @@ fn push_answers_to_bytes(alloc: Global, output: &mut Page, form: &str, words: &s
     }
 }
 
-/// Adds the answers to bytes in a form.
+/// Adds the answers to `bytes` in the form that `form` names.
 fn push_form(alloc: Global, output: &mut Page, form: &str, bytes: &[u8]) {
     match form {
         "" => push_line(output, &answer_to(alloc, bytes)),
@@ -75,7 +75,7 @@ fn push_form(alloc: Global, output: &mut Page, form: &str, bytes: &[u8]) {
     }
 }
 
-/// Adds the answers to bytes in a form that has a number in it.
+/// Adds the answers to `bytes` in a form that contains a number.
 fn push_numbered_form(alloc: Global, output: &mut Page, form: &str, bytes: &[u8]) {
     if let Some(place) = place_in(form) {
         push_octets(alloc, output, place, bytes);
@@ -88,13 +88,14 @@ fn push_numbered_form(alloc: Global, output: &mut Page, form: &str, bytes: &[u8]
     }
 }
 
+/// Returns the place that the form `each octet at N` names.
 fn place_in(form: &str) -> Option<usize> {
     let digits = form.strip_prefix("each octet at ")?;
     let place = u8::from_str_radix(digits, 10).ok()?;
     Some(usize::from(place))
 }
 
-/// How often is cut at random, and from which seed.
+/// Returns the count of cuts and the seed in the form `cut at random, N times from seed N`.
 fn draws_in(form: &str) -> Option<(u32, u32)> {
     let numbers = form.strip_prefix("cut at random, ")?;
     let (count, seed) = numbers.split_once(" times from seed ")?;
@@ -103,13 +104,13 @@ fn draws_in(form: &str) -> Option<(u32, u32)> {
     Some((count, seed))
 }
 
-/// Returns how many days later a day is.
+/// Returns the count of days in the form `N days after`.
 fn days_in(form: &str) -> Option<u32> {
     let digits = form.strip_suffix(" days after")?;
     u32::from_str_radix(digits, 10).ok()
 }
 
-/// The answer of `decode`, and the first call that does not agree with it.
+/// Returns the answer of `decode` as text, with the first call that contradicts it.
 fn answer_to(alloc: Global, bytes: &[u8]) -> Page {
     let mut answer = Page::new(alloc);
     let differing = match decoded(alloc, bytes) {
@@ -131,7 +132,7 @@ fn answer_to(alloc: Global, bytes: &[u8]) -> Page {
     answer
 }
 
-/// Adds the answers to the proper prefixes that are not short at their ends, and how many prefixes there are.
+/// Adds the answers to the proper prefixes that are not short at their ends, and the count of all prefixes.
 fn push_prefixes(alloc: Global, output: &mut Page, bytes: &[u8]) {
     for size in 0..bytes.len() {
         let prefix = &bytes[..size];
@@ -144,7 +145,7 @@ fn push_prefixes(alloc: Global, output: &mut Page, bytes: &[u8]) {
     output.octet(b'\n');
 }
 
-/// Returns true if all calls answer that the bytes are short at their end.
+/// Returns true if all calls answer that `bytes` are short at their end.
 fn is_short(alloc: Global, bytes: &[u8]) -> bool {
     match decoded(alloc, bytes) {
         Err(DerFault::Short(size)) => {
@@ -155,8 +156,8 @@ fn is_short(alloc: Global, bytes: &[u8]) -> bool {
     }
 }
 
-/// Adds the answers with each octet in turn at this place, each with the first octet of those in a row
-/// that have it.
+/// Adds the answers to `bytes` with each octet in turn at `place`. Equal answers to octets in a row are printed once,
+/// after the first of these octets.
 fn push_octets(alloc: Global, output: &mut Page, place: usize, bytes: &[u8]) {
     let Some((before, [_, after @ ..])) = bytes.split_at_checked(place) else {
         return output.line("no case");
@@ -172,7 +173,7 @@ fn push_octets(alloc: Global, output: &mut Page, place: usize, bytes: &[u8]) {
     }
 }
 
-/// The answer to these bytes in a row.
+/// Returns the answer to the bytes `before`, `octet` and `after`.
 fn answer_between(alloc: Global, before: &[u8], octet: u8, after: &[u8]) -> Page {
     let mut bytes = Page::new(alloc);
     bytes.push(before);
@@ -181,7 +182,7 @@ fn answer_between(alloc: Global, before: &[u8], octet: u8, after: &[u8]) -> Page
     answer_to(alloc, bytes.so_far())
 }
 
-/// Adds that an answer holds from this octet on.
+/// Adds the words that announce an answer from `octet` on.
 fn push_from(output: &mut Page, octet: u8) {
     output.push(b"from ");
     output.hex(&[octet]);
@@ -194,7 +195,7 @@ fn push_line(output: &mut Page, answer: &Page) {
     output.octet(b'\n');
 }
 
-/// Adds the answers of `read_apdu` to the end, and how many bytes each took. The end is read twice.
+/// Adds each answer of `read_apdu` up to the end, with the count of bytes that it took. The end is read twice.
 fn push_stream(alloc: Global, output: &mut Page, bytes: &[u8]) {
     let mut reader = bytes;
     for _ in 0..bytes.len() {
@@ -207,7 +208,7 @@ fn push_stream(alloc: Global, output: &mut Page, bytes: &[u8]) {
     push_read(alloc, output, reader);
 }
 
-/// Adds the answer of one `read_apdu`, and how many bytes it took. Gives the bytes that it left.
+/// Adds the answer of one `read_apdu`, with the count of bytes that it took. Returns the bytes that it left.
 fn push_read<'a>(alloc: Global, output: &mut Page, bytes: &'a [u8]) -> &'a [u8] {
     let reading = Reading::of(alloc, bytes);
     match &reading.answer {

@@ -1,16 +1,16 @@
-//! The bytes of a case.
+//! Reads the bytes of a case from its words.
 
 use ill_test_kit::Page;
 use std::alloc::Global;
 
-/// Adds the bytes that these words stand for. A word that is none loses them.
+/// Adds the bytes that `words` spell. A word that spells none makes `bytes` incomplete.
 pub fn push_bytes(alloc: Global, bytes: &mut Page, words: &str) {
     for word in words.split_ascii_whitespace() {
         push_word(alloc, bytes, word);
     }
 }
 
-/// Adds what a word stands for, as often as it says.
+/// Adds the bytes that `word` spells, as often as it says.
 fn push_word(alloc: Global, bytes: &mut Page, word: &str) {
     let (text, count) = word.split_once("*").unwrap_or((word, "1"));
     match u8::from_str_radix(count, 10) {
@@ -23,7 +23,7 @@ fn push_word(alloc: Global, bytes: &mut Page, word: &str) {
     }
 }
 
-/// Adds an octet in hexadecimal, or ASCII in quotes, or once more all that stands before it.
+/// Adds an octet in hexadecimal, or ASCII in quotes. The word `again` adds a copy of all bytes before it.
 fn push_text(alloc: Global, bytes: &mut Page, text: &str) {
     if text == "again" {
         double(alloc, bytes);
@@ -40,7 +40,7 @@ fn push_text(alloc: Global, bytes: &mut Page, text: &str) {
     }
 }
 
-/// Adds all that is here once more.
+/// Adds a copy of all bytes at their end.
 fn double(alloc: Global, bytes: &mut Page) {
     let mut before = Page::new(alloc);
     before.page(bytes);

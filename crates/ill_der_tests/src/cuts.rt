@@ -1,21 +1,22 @@
-//! Bytes cut at random.
+//! Cuts bytes at random.
 
 use ill_values::OutOfMemory;
 use std::alloc::Global;
 
-/// Numbers that look random, by a linear congruence: the same seed gives the same numbers.
+/// Pseudorandom numbers of a linear congruential generator. Equal seeds give equal numbers.
 #[derive(Drop)]
 pub struct Draws {
     state: u32,
 }
 
 impl Draws {
-    /// The numbers from this seed on.
+    /// Returns the numbers that follow `seed`.
     pub fn new(seed: u32) -> Draws {
         Draws { state: seed }
     }
 
-    /// The next number, below 65536. The low bits of the state are no more random than a counter.
+    /// Returns the next number, below 65536. The low bits of the state are dropped, since they repeat after few
+    /// numbers.
     fn next(&mut self) -> u32 {
         self.state = self
             .state
@@ -24,14 +25,14 @@ impl Draws {
         self.state >> 16
     }
 
-    /// The size of a piece, 0 to 511: as often below 2 as from 256 on.
+    /// Returns the size of a piece, 0 to 511. Small sizes are drawn more often than large ones.
     fn size(&mut self) -> usize {
         let size = self.next() % 512;
         (size >> (self.next() % 9)) as usize
     }
 }
 
-/// Cuts the bytes into pieces of sizes that are drawn; the last is what is left.
+/// Cuts `bytes` into pieces of drawn sizes. The last piece is the remainder.
 pub fn cut<'a>(
     alloc: Global,
     draws: &mut Draws,

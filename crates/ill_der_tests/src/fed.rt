@@ -1,4 +1,4 @@
-//! A feed that is tested.
+//! Tests a `Feed` with two others beside it.
 
 use crate::words::push_apdu;
 use ill_der::{ApduView, DerFault, Feed, Handler, Pushed};
@@ -7,14 +7,14 @@ use ill_test_kit::marks::{quietly, tried};
 use ill_values::{Apdu, OutOfMemory};
 use std::alloc::Global;
 
-/// The outcome of a push: a line for each APDU, and the fault.
+/// The outcome of a push: a line for each APDU, and the fault if there is one.
 #[derive(Drop)]
 pub struct Given {
     pub apdus: Page,
     pub fault: Option<DerFault>,
 }
 
-/// A feed, two others that get the same pieces by `each`, and what they gave.
+/// A feed that gets pieces by `push`, two others that get them by `each`, and their outcomes.
 #[derive(Drop)]
 pub struct Fed {
     alloc: Global,
@@ -27,7 +27,7 @@ pub struct Fed {
 }
 
 impl Fed {
-    /// A feed into which nothing is pushed yet.
+    /// Returns feeds that have got no piece yet.
     pub fn new(alloc: Global) -> Fed {
         Fed {
             alloc,
@@ -40,7 +40,7 @@ impl Fed {
         }
     }
 
-    /// A feed into which these pieces are pushed, one after another.
+    /// Returns feeds that have got these pieces, one after another.
     pub fn of(alloc: Global, pieces: &[&[u8]]) -> Fed {
         let mut fed = Fed::new(alloc);
         for piece in pieces {
@@ -49,7 +49,7 @@ impl Fed {
         fed
     }
 
-    /// Pushes a piece.
+    /// Gives a piece to all feeds, and returns the outcome of its push.
     pub fn push(&mut self, piece: &[u8]) -> Given {
         let pushed = push(self.alloc, &mut self.pushed, piece);
         if let Some(call) = self.differing_call(piece, &pushed) {
@@ -61,7 +61,7 @@ impl Fed {
         given
     }
 
-    /// Gives a piece to the other feeds. Returns the call that does not agree with `pushed`, if one does not.
+    /// Gives a piece to the feeds of `each`. Returns the call that contradicts `pushed`, if there is one.
     fn differing_call(&mut self, piece: &[u8], pushed: &Option<Pushed>) -> Option<&'static [u8]> {
         let Some(pushed) = pushed else {
             return Some(b"push");
@@ -78,7 +78,7 @@ impl Fed {
         }
     }
 
-    /// Returns true if both gave the same in all, and end alike.
+    /// Returns true if both have given the same APDUs and fault, and agree on the end.
     pub fn agrees_with(&self, other: &Fed) -> bool {
         self.apdus.so_far() == other.apdus.so_far()
             && self.fault == other.fault
@@ -86,7 +86,7 @@ impl Fed {
             && self.differing == other.differing
     }
 
-    /// Adds how many APDUs were given.
+    /// Adds the count of APDUs that were given.
     pub fn push_count(&self, output: &mut Page) {
         let count = self
             .apdus
@@ -98,7 +98,7 @@ impl Fed {
         output.show(&count);
     }
 
-    /// Adds the answer of `end`, and the call that does not agree with it or with `push`, if one does not.
+    /// Adds the answer of `end`, and the call that contradicts it or `push`, if there is one.
     pub fn push_end(&self, output: &mut Page) {
         output.push(b"end: ");
         match self.pushed.end() {
@@ -117,7 +117,7 @@ impl Fed {
 }
 
 impl Given {
-    /// Puts what was pushed into words.
+    /// Returns the outcome of a push in words.
     fn of(alloc: Global, pushed: &Option<Pushed>) -> Given {
         let mut apdus = Page::new(alloc);
         let Some(pushed) = pushed else {
@@ -134,16 +134,18 @@ impl Given {
     }
 }
 
+/// Returns a feed that has got no bytes.
 fn new_feed(alloc: Global) -> Feed {
     quietly(alloc, || Feed::new(alloc))
 }
 
+/// Returns the answer of `end`.
 fn end(alloc: Global, feed: &Feed) -> Result<(), DerFault> {
     quietly(alloc, || feed.end())
 }
 
-/// Returns what `push` gives, unless it fails, or changed the feed while a growth was refused. To give no APDU, it may
-/// take no memory.
+/// Returns the result of `push`. It is `None` if the call fails, or changes the feed while a growth is refused. It is
+/// also `None` if the call gives no APDU and still takes memory.
 fn push(alloc: Global, feed: &mut Feed, piece: &[u8]) -> Option<Pushed> {
     let before = feed.end();
     let (mut tries, mut stays) = (0_u32, true);
@@ -157,7 +159,8 @@ fn push(alloc: Global, feed: &mut Feed, piece: &[u8]) -> Option<Pushed> {
     if is_right { Some(pushed) } else { None }
 }
 
-/// Returns true if `each` gives the same to a handler that takes memory. If that is refused, the feed stays.
+/// Returns true if `each` gives the result of `pushed` to a handler that takes memory. If a growth is refused, the feed
+/// must stay unchanged.
 fn is_handed(alloc: Global, feed: &mut Feed, piece: &[u8], pushed: &Pushed) -> bool {
     let before = feed.end();
     let mut stays = true;
@@ -173,7 +176,7 @@ fn is_handed(alloc: Global, feed: &mut Feed, piece: &[u8], pushed: &Pushed) -> b
     }
 }
 
-/// Returns true if `each` gives the same to a handler that takes no memory, and takes none itself.
+/// Returns true if `each` gives the result of `pushed` to a handler that takes no memory, and takes none itself.
 fn is_viewed(alloc: Global, feed: &mut Feed, piece: &[u8], pushed: &Pushed) -> bool {
     let mut viewer = Viewer {
         expected: &pushed.apdus,
@@ -183,7 +186,7 @@ fn is_viewed(alloc: Global, feed: &mut Feed, piece: &[u8], pushed: &Pushed) -> b
     fault == Ok(pushed.fault) && viewer.is_right && viewer.expected.is_empty()
 }
 
-/// Adds each APDU to a list.
+/// A handler that copies each APDU into a list.
 #[derive(Drop)]
 struct Collector;
 
@@ -203,7 +206,7 @@ impl Handler<Vec<Apdu>> for Collector {
     }
 }
 
-/// Expects the views of these APDUs, one after another.
+/// A handler that compares the views with the expected APDUs, one after another.
 #[derive(Drop)]
 struct Viewer<'a> {
     expected: &'a [Apdu],
@@ -227,7 +230,7 @@ impl Handler<()> for Viewer<'_> {
     }
 }
 
-/// Returns true if a view has the type of this APDU, and its fields that each APDU has.
+/// Returns true if `view` has the type, transaction and number of `apdu`.
 fn is_view_of(view: &ApduView<'_>, apdu: &Apdu) -> bool {
     view.group() == apdu.txn.group()
         && view.transaction() == apdu.txn.transaction()

@@ -1,4 +1,4 @@
-//! The answers that are printed for a case of a feed.
+//! Prints the answers to a case of a `Feed`.
 
 use crate::cases::push_bytes;
 use crate::cuts::{Draws, cut};
@@ -6,7 +6,7 @@ use crate::fed::{Fed, Given};
 use ill_test_kit::Page;
 use std::alloc::Global;
 
-/// Adds what each piece gives, and whether the bytes may end after the last.
+/// Adds the outcome of each piece, and the answer of `end` after the last.
 pub fn push_pieces(alloc: Global, output: &mut Page, words: &str) {
     let mut fed = Fed::new(alloc);
     for (index, words) in words.split("|").enumerate() {
@@ -20,7 +20,7 @@ pub fn push_pieces(alloc: Global, output: &mut Page, words: &str) {
     fed.push_end(output);
 }
 
-/// Adds what each byte gives as a piece, and whether the bytes may end after the last.
+/// Adds the outcome of each byte as a piece, and the answer of `end` after the last.
 pub fn push_singly(alloc: Global, output: &mut Page, bytes: &[u8]) {
     let mut fed = Fed::new(alloc);
     for (index, byte) in bytes.iter().enumerate() {
@@ -29,7 +29,7 @@ pub fn push_singly(alloc: Global, output: &mut Page, bytes: &[u8]) {
     fed.push_end(output);
 }
 
-/// Adds what a push gave, a line for each APDU and for the fault. The first push has the index 0.
+/// Adds the outcome of a push: a line for each APDU, and one for the fault. The first push has the index 0.
 fn push_given(alloc: Global, output: &mut Page, index: usize, given: &Given) {
     let mut prefix = Page::new(alloc);
     prefix.push(b"push ");
@@ -43,8 +43,8 @@ fn push_given(alloc: Global, output: &mut Page, index: usize, given: &Given) {
     }
 }
 
-/// Adds what one push gives, the places where a cut in two gives something else, and how many cuts give the
-/// same.
+/// Adds the outcome of one push of all bytes. Then adds each place at which a cut in two changes the outcome, and the
+/// count of the others.
 pub fn push_halves(alloc: Global, output: &mut Page, bytes: &[u8]) {
     let whole = Fed::of(alloc, &[bytes]);
     push_whole(output, &whole);
@@ -60,7 +60,7 @@ pub fn push_halves(alloc: Global, output: &mut Page, bytes: &[u8]) {
     push_number(output, b"the same with a cut, at so many places: ", same);
 }
 
-/// Adds what one push gives, and how many of some cuts at random give the same.
+/// Adds the outcome of one push of all bytes, and the count of random cuts that do not change it.
 pub fn push_random(alloc: Global, output: &mut Page, count: u32, seed: u32, bytes: &[u8]) {
     let whole = Fed::of(alloc, &[bytes]);
     push_whole(output, &whole);
@@ -76,14 +76,14 @@ pub fn push_random(alloc: Global, output: &mut Page, count: u32, seed: u32, byte
     push_number(output, b"the same with cuts at random, so often: ", same);
 }
 
-/// Adds what one push gives.
+/// Adds the count of APDUs that the push gave, and the answer of `end`.
 fn push_whole(output: &mut Page, whole: &Fed) {
     whole.push_count(output);
     output.push(b", ");
     whole.push_end(output);
 }
 
-/// Adds a line that ends with a number.
+/// Adds a line of `words` that ends with `number`.
 fn push_number(output: &mut Page, words: &[u8], number: usize) {
     output.push(words);
     output.show(&number);

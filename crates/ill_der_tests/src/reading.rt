@@ -1,4 +1,4 @@
-//! The answers of `decode` and of `read_apdu`.
+//! Calls `decode` and `read_apdu` between marks.
 
 use ill_der::{DerFault, ReadFault, decode, read_apdu};
 use ill_test_kit::marks::tried;
@@ -10,18 +10,19 @@ pub fn decoded(alloc: Global, bytes: &[u8]) -> Result<(Apdu, usize), DerFault> {
     tried(alloc, DerFault::OutOfMemory, || decode(alloc, bytes))
 }
 
-/// An answer of `read_apdu`.
+/// The outcome of `read_apdu`.
 #[derive(Drop)]
 pub struct Reading<'a> {
+    /// The answer of the last try.
     pub answer: Result<Option<Apdu>, ReadFault>,
-    /// The bytes that it left.
+    /// The last try left these bytes.
     pub left: &'a [u8],
-    /// True if each try left as many.
+    /// True if every try left equally many bytes.
     pub is_steady: bool,
 }
 
 impl<'a> Reading<'a> {
-    /// Reads from these bytes.
+    /// Reads one APDU from `bytes`.
     pub fn of(alloc: Global, bytes: &'a [u8]) -> Reading<'a> {
         let mut left = bytes;
         let (mut least, mut most) = (usize::MAX, 0);

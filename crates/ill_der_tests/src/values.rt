@@ -1,4 +1,4 @@
-//! Values: how they are made, and the answers that are printed for a case of one.
+//! Makes values between marks, and prints the answers to a case of one.
 
 use crate::cases::push_bytes;
 use crate::words::push_text;
@@ -53,6 +53,7 @@ pub fn push_item(alloc: Global, output: &mut Page, bytes: &[u8]) {
     output.octet(b'\n');
 }
 
+/// Adds the words that a value is refused for this fault.
 fn push_refused<F: Debug>(output: &mut Page, fault: &F) {
     output.text("refused: ");
     output.show_parts(fault);
@@ -63,7 +64,7 @@ pub fn push_read_day(alloc: Global, output: &mut Page, bytes: &[u8]) {
     push_day(alloc, output, quietly(alloc, || Day::read(bytes)));
 }
 
-/// Adds the day that is `days` days later than that of these bytes, or the fault.
+/// Adds the day that is `days` days after the day of these bytes, or the fault.
 pub fn push_later_day(alloc: Global, output: &mut Page, days: u32, bytes: &[u8]) {
     push_day(
         alloc,
@@ -82,6 +83,7 @@ pub fn push_new_day(alloc: Global, output: &mut Page, words: &str) {
     }
 }
 
+/// Returns the year, month and day that `words` spell.
 fn numbers_in(words: &str) -> Option<(u16, u8, u8)> {
     let (year, rest) = words.split_once(" ")?;
     let (month, day) = rest.split_once(" ")?;
@@ -100,7 +102,7 @@ fn push_day(alloc: Global, output: &mut Page, day: Result<Day, DayFault>) {
     output.octet(b'\n');
 }
 
-/// Adds the number that `Number::new` makes of this one, or that there is none.
+/// Adds the number that `Number::new` makes of `words`, or the word `none`.
 pub fn push_number(alloc: Global, output: &mut Page, words: &str) {
     let Ok(value) = u8::from_str_radix(words, 10) else {
         return output.line("no case");

@@ -1,9 +1,9 @@
-//! APDUs in words.
+//! Puts APDUs into words.
 
 use ill_test_kit::Page;
 use ill_values::{Apdu, Body, Day, Number};
 
-/// Adds an APDU in words: its type, and the names of its fields with their values.
+/// Adds an APDU in words: its type, and each field with its name and value.
 pub fn push_apdu(words: &mut Page, apdu: &Apdu) {
     words.push(apdu.body.type_name().as_bytes());
     push_text(words, b", group ", apdu.txn.group());
@@ -12,7 +12,7 @@ pub fn push_apdu(words: &mut Page, apdu: &Apdu) {
     push_fields(words, &apdu.body);
 }
 
-/// Adds the fields that not every APDU has.
+/// Adds the fields that only some types of APDU have.
 fn push_fields(words: &mut Page, body: &Body) {
     match body {
         Body::IllRequest { expiry, item } => {
@@ -41,12 +41,13 @@ fn push_fields(words: &mut Page, body: &Body) {
     }
 }
 
+/// Adds the number that a reply answers, and its yes or no.
 fn push_reply(words: &mut Page, answers: Number, yes: bool) {
     push_number(words, b", answers ", answers);
     words.push(if yes { b", yes" } else { b", no" });
 }
 
-/// Adds a date where there is one.
+/// Adds a date after `name`, if there is one.
 fn push_day(words: &mut Page, name: &[u8], day: Option<Day>) {
     if let Some(day) = day {
         words.push(name);
@@ -54,12 +55,13 @@ fn push_day(words: &mut Page, name: &[u8], day: Option<Day>) {
     }
 }
 
+/// Adds a number after `name`.
 fn push_number(words: &mut Page, name: &[u8], number: Number) {
     words.push(name);
     words.show(&number.get());
 }
 
-/// Adds a text in quotes.
+/// Adds `text` in quotes after `name`.
 pub fn push_text(words: &mut Page, name: &[u8], text: &[u8]) {
     words.push(name);
     words.octet(b'"');

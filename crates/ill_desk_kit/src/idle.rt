@@ -1,4 +1,4 @@
-//! Sides before their first message.
+//! Makes sides that have issued and taken no message.
 
 ghost use Rattle.std.specs.Prelude.{◌≡◌};
 ghost use Rattle.ill_saved.specs.Side.{idle_of};
@@ -7,7 +7,7 @@ use ill_saved::{Role, Side};
 use ill_values::TxnId;
 use std::alloc::Global;
 
-/// Returns the side of this role and transaction before its first message.
+/// Returns a side of this role and transaction that has issued and taken no message.
 pub fn idle_side(alloc: Global, role: Role, txn: TxnId) -> Side
     ensures { result ≡ idle_of result }
 {

@@ -1,4 +1,4 @@
-//! What the programs of tests share that call desks: sides that begin, and the plans of a store.
+//! The test programs that call desks share this kit. It makes idle sides, and names the plans of a store.
 #![tactic(auto)]
 
 mod idle;

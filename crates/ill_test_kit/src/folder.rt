@@ -1,4 +1,4 @@
-//! A folder for the files of a program of tests.
+//! Makes a temporary folder for the files of a test program.
 
 use std::alloc::Global;
 use std::env::Env;
@@ -6,7 +6,7 @@ use std::io::ErrorKind;
 use std::rt::Files;
 use std::{env, fs, io};
 
-/// Makes a folder that was not there, below the system's for temporary files. Its name begins with `name`.
+/// Makes a new folder in the system's folder for temporary files. Its path ends with `name`, a full stop and a number.
 pub fn make_folder<R: Files + Env + AllocGlobal>(
     rt: &R,
     alloc: Global,
@@ -22,7 +22,7 @@ pub fn make_folder<R: Files + Env + AllocGlobal>(
     Err(io::Error::from(ErrorKind::AlreadyExists))
 }
 
-/// Returns false if the folder was there before.
+/// Returns true if `answer` says that the folder was made, and false if it was there before.
 fn is_made(answer: io::Result<()>) -> io::Result<bool> {
     match answer {
         Err(error) if error.kind() == ErrorKind::AlreadyExists => Ok(false),

@@ -1,5 +1,5 @@
-//! What the programs of tests share: the lines of an input, the page that is printed, words and what they name, a
-//! folder for files, and streams that fail or are slow.
+//! The test programs share this kit. It reads the lines of the input, and collects the page that is printed. It names
+//! values by words, makes a temporary folder, and gives streams that fail or are slow.
 #![tactic(auto)]
 
 mod folder;

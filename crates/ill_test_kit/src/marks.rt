@@ -1,49 +1,56 @@
-//! Marks round a call of a library, by which a shim knows what to refuse.
+//! Marks surround a call of a library. By them a shim knows which allocations to refuse.
 //!
-//! A mark is an allocation of a size that nothing else has; `tools/refuse-nth.c` knows these sizes. In a call that may
-//! answer want of memory the shim refuses one growth: the first, and if the call answers so, the next in the call after
-//! it. So whoever calls until no growth was refused has each growth refused once. In a quiet call, which can't answer
-//! want of memory, the shim refuses every growth. It tells `tools/want-of-memory` each growth that it refused, and each
-//! call whose answer does not say so.
+//! A mark is an allocation of a size that the program needs nowhere else; `tools/refuse-nth.c` knows these sizes. In a
+//! call that may answer out of memory the shim refuses one growth, at first the first. If the call answers out of
+//! memory, the shim refuses the next growth in the next call. So a caller that repeats the call until no growth is
+//! refused has each growth refused once. In a quiet call, which cannot answer out of memory, the shim refuses every
+//! growth. The shim tells `tools/want-of-memory` each growth that it refused. It also tells each call that
+//! answers out of memory without a refusal, or gives another answer after one.
 
 use std::alloc::Global;
 
-/// The most tries of one call: one more than it has growths. The most have those that take 512 messages.
+/// A call is tried at most this often: one more than it has growths. Calls that take 512 messages have the most
+/// growths.
 pub const TRIES: u16 = 2_000;
 
+/// An allocation of this size begins a call that may answer out of memory.
 const BEGIN: usize = 54_321;
 
+/// An allocation of this size begins a quiet call.
 const BEGIN_QUIET: usize = 54_323;
 
+/// An allocation of this size ends a call that does not answer out of memory.
 const END: usize = 54_327;
 
+/// An allocation of this size ends a call that answers out of memory.
 const END_OF_MEMORY: usize = 54_329;
 
+/// An allocation of this size ends a call that may do without the refused memory.
 const END_OR_WITHOUT: usize = 54_331;
 
-/// Begins a call that may answer want of memory.
+/// Begins a call that may answer out of memory.
 pub fn begin(alloc: Global) {
     mark(alloc, BEGIN);
 }
 
-/// Begins a call that takes no memory.
+/// Begins a quiet call, which takes no memory.
 pub fn begin_quiet(alloc: Global) {
     mark(alloc, BEGIN_QUIET);
 }
 
-/// Ends a call that takes no memory.
+/// Ends a quiet call.
 pub fn end_quiet(alloc: Global) {
     mark(alloc, END);
 }
 
-/// Ends a call that may answer want of memory. `says_memory` tells if it did. Returns true if a growth was refused:
-/// then all has to be as it was, and the call is made again.
+/// Ends a call that may answer out of memory; `says_memory` is true if it did. Returns true if a growth was refused.
+/// Then the call must have changed nothing, and is made again.
 pub fn is_refused(alloc: Global, says_memory: bool) -> bool {
     mark(alloc, if says_memory { END_OF_MEMORY } else { END })
 }
 
-/// Ends a call that may do without what it was refused. Returns true if a growth was refused: then the case is
-/// performed again from its beginning.
+/// Ends a call that may do without the refused memory. Returns true if a growth was refused. Then the case is performed
+/// again from its beginning.
 pub fn is_refused_or_without(alloc: Global, says_memory: bool) -> bool {
     mark(
         alloc,
@@ -55,8 +62,8 @@ pub fn is_refused_or_without(alloc: Global, says_memory: bool) -> bool {
     )
 }
 
-/// Makes a call, and makes it again while a growth of it is refused. It then answers `memory`. A call that ends with
-/// another fault takes no memory, and is made once more without.
+/// Makes a call, and repeats it while one of its growths is refused. A refused call answers `memory`. A call that ends
+/// with another fault is then made once more, as a quiet call.
 pub fn tried<T: Drop, F: Copy + PartialEq + Drop, Call: FnMut() -> Result<T, F>>(
     alloc: Global,
     memory: F,
@@ -78,7 +85,7 @@ pub fn tried<T: Drop, F: Copy + PartialEq + Drop, Call: FnMut() -> Result<T, F>>
     Err(memory)
 }
 
-/// Makes a call that takes no memory.
+/// Makes a quiet call, and returns its answer.
 pub fn quietly<T, Call: FnOnce() -> T>(alloc: Global, call: Call) -> T
     requires { Call.IsAlwaysCallable call }
 {
@@ -88,7 +95,7 @@ pub fn quietly<T, Call: FnOnce() -> T>(alloc: Global, call: Call) -> T
     answer
 }
 
-/// Makes a mark. Returns true if the shim refuses it.
+/// Allocates `size` bytes as a mark. Returns true if the shim refuses it.
 fn mark(alloc: Global, size: usize) -> bool {
     Vec::<u8>::with_capacity(alloc, size).is_err()
 }

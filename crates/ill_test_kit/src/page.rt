@@ -1,9 +1,9 @@
-//! What is printed.
+//! Collects the bytes that a test program prints.
 
 use std::alloc::Global;
 use std::fmt::{Debug, Display};
 
-/// Bytes to which more are added. If an addition fails, the page is not whole, and stays so.
+/// A page holds bytes, and more are added at its end. If an addition fails, the page is incomplete for good.
 #[derive(Drop)]
 pub struct Page {
     bytes: Vec<u8>,
@@ -19,7 +19,7 @@ impl Page {
         }
     }
 
-    /// Returns all that was added, if nothing is missing.
+    /// Returns the bytes, or `None` if some are missing.
     pub fn bytes(&self) -> Option<&[u8]> {
         if self.is_whole {
             Some(&self.bytes)
@@ -28,12 +28,12 @@ impl Page {
         }
     }
 
-    /// Returns what was added, even if some is missing.
+    /// Returns the bytes that were added, even if some are missing.
     pub fn so_far(&self) -> &[u8] {
         &self.bytes
     }
 
-    /// Marks that something is missing.
+    /// Marks the page as incomplete.
     pub fn lose(&mut self) {
         self.is_whole = false;
     }
@@ -57,13 +57,13 @@ impl Page {
         self.push(text.as_bytes());
     }
 
-    /// Adds a line, and its end.
+    /// Adds `text` as a line.
     pub fn line(&mut self, text: &str) {
         self.text(text);
         self.octet(b'\n');
     }
 
-    /// Adds text, and spaces after it until both have `width` bytes.
+    /// Adds `text`, and then spaces up to `width` bytes.
     pub fn text_to(&mut self, width: usize, text: &str) {
         self.text(text);
         for _ in text.len()..width {
@@ -77,7 +77,7 @@ impl Page {
         self.is_whole = self.is_whole && other.is_whole;
     }
 
-    /// Adds the lines of another page, each after `prefix`.
+    /// Adds the lines of another page, and `prefix` before each.
     pub fn page_after(&mut self, prefix: &[u8], other: &Page) {
         for line in other.bytes.split_inclusive(|byte| *byte == b'\n') {
             self.push(prefix);
@@ -86,7 +86,7 @@ impl Page {
         self.is_whole = self.is_whole && other.is_whole;
     }
 
-    /// Adds two hexadecimal digits for each of the bytes, and a space between two.
+    /// Adds two hexadecimal digits for each byte, with a space between two bytes.
     pub fn hex(&mut self, bytes: &[u8]) {
         let mut between = "";
         for byte in bytes {
@@ -95,6 +95,7 @@ impl Page {
         }
     }
 
+    /// Adds `before`, and the two hexadecimal digits of `octet`.
     fn hex_octet(&mut self, before: &str, octet: u8) {
         match format!(in *self.bytes.allocator(); "{before}{octet:02X}") {
             Ok(text) => self.text(text.as_str()),
@@ -102,7 +103,7 @@ impl Page {
         }
     }
 
-    /// Adds what `{}` prints.
+    /// Adds `value` as `{}` prints it.
     pub fn show<T: Display>(&mut self, value: &T) {
         match value.to_string(*self.bytes.allocator()) {
             Ok(text) => self.text(text.as_str()),
@@ -110,7 +111,7 @@ impl Page {
         }
     }
 
-    /// Adds what `{:?}` prints.
+    /// Adds `value` as `{:?}` prints it.
     pub fn show_parts<T: Debug>(&mut self, value: &T) {
         match format!(in *self.bytes.allocator(); "{value:?}") {
             Ok(text) => self.text(text.as_str()),

@@ -1,4 +1,4 @@
-//! Readers and writers that fail, or give and take their bytes in pieces.
+//! Test readers and writers fail as planned, or move few bytes at once.
 
 ghost use Rattle.std.specs.Prelude.{◌≡◌, ◌≤◌, length, IfOk};
 
@@ -6,38 +6,41 @@ use std::alloc::Global;
 use std::io;
 use std::io::{ErrorKind, Read, Write};
 
-/// How a stream fails: with an error, or by giving or taking no byte; and how often, before it works again.
+/// A failure tells how a stream fails, and how often before it works again. The stream returns an error, or moves no
+/// byte.
 #[derive(Clone, Copy)]
 pub struct Failure {
+    /// If `None`, the stream moves no byte in place of an error.
     kind: Option<ErrorKind>,
+    /// The stream fails this often.
     times: u32,
 }
 
 impl Failure {
-    /// It never fails.
+    /// A stream with this failure never fails.
     pub const NEVER: Failure = Failure {
         kind: None,
         times: 0,
     };
 
-    /// Fails `times` times: with an error of this kind, or by giving or taking no byte.
+    /// Returns the failure of a stream that fails `times` times: with an error of `kind`, or else by moving no byte.
     pub fn new(kind: Option<ErrorKind>, times: u32) -> Failure {
         Failure { kind, times }
     }
 
-    /// Returns true if it will fail.
+    /// Returns true if the stream must fail at its next call.
     fn is_due(&self) -> bool {
         self.times > 0
     }
 
-    /// Fails: with an error, or by giving or taking no byte.
+    /// Counts one failure, and returns its error. `None` means that the stream moves no byte.
     fn fail(&mut self) -> Option<io::Error> {
         self.times = self.times.saturating_sub(1);
         Some(io::Error::from(self.kind?))
     }
 }
 
-/// Bytes of which some were read. No read goes across the bar.
+/// Bytes that are read one after another. No read crosses the first `bar` bytes.
 #[derive(Drop)]
 struct Bytes {
     bytes: Vec<u8>,
@@ -46,6 +49,7 @@ struct Bytes {
 }
 
 impl Bytes {
+    /// Returns bytes of which none is read yet.
     fn new(bytes: Vec<u8>) -> Bytes {
         Bytes {
             bytes,
@@ -54,11 +58,12 @@ impl Bytes {
         }
     }
 
+    /// Returns the bytes that are not read yet.
     fn rest(&self) -> &[u8] {
         self.bytes.get(self.read..).unwrap_or(&[])
     }
 
-    /// Returns how many bytes one read gives at most.
+    /// Returns the most bytes that one read gives.
     fn most(&self) -> usize {
         if self.read < self.bar {
             self.bar - self.read
@@ -77,7 +82,7 @@ impl Bytes {
     }
 }
 
-/// A reader that gives bytes, may fail after them, and then gives others.
+/// A reader that gives the bytes of `before`, may fail, and then gives the bytes of `after`.
 #[derive(Drop)]
 pub struct TestReader {
     before: Bytes,
@@ -90,7 +95,7 @@ pub struct TestReader {
 }
 
 impl TestReader {
-    /// A reader that gives the bytes of `before`, fails, and then gives those of `after`.
+    /// Returns a reader that gives the bytes of `before`, fails, and then gives the bytes of `after`.
     pub fn new(before: Vec<u8>, failure: Failure, after: Vec<u8>) -> TestReader {
         TestReader {
             before: Bytes::new(before),
@@ -103,18 +108,18 @@ impl TestReader {
         }
     }
 
-    /// Makes it give one byte at a time.
+    /// Makes the reader give one byte at a time.
     pub fn set_slow(&mut self) {
         self.is_slow = true;
     }
 
-    /// Lets no read go across the first `bar` bytes.
+    /// Forbids a read that crosses the first `bar` bytes.
     pub fn set_bar(&mut self, bar: usize) {
         self.before.bar = bar;
         self.has_bar = true;
     }
 
-    /// Returns the bytes for which it was not asked, if it is slow or has a bar.
+    /// Returns the bytes before the failure that were never read, if the reader is slow or has a bar.
     pub fn unread(&self) -> &[u8] {
         if self.is_slow || self.has_bar {
             self.before.rest()
@@ -123,12 +128,12 @@ impl TestReader {
         }
     }
 
-    /// Returns true if it was called after it had failed.
+    /// Returns true if the reader was called after it had failed.
     pub fn was_called_again(&self) -> bool {
         self.was_called_again
     }
 
-    /// Lets its failure be of no account from now on.
+    /// Makes the reader forget that it has failed.
     pub fn forgive(&mut self) {
         self.has_failed = false;
     }
@@ -156,7 +161,7 @@ impl Read for TestReader {
 /// A writer that takes bytes, may refuse after some, and then takes all.
 #[derive(Drop)]
 pub struct TestWriter {
-    /// The bytes that it took.
+    /// The writer has taken these bytes.
     pub taken: Vec<u8>,
     room: usize,
     refusal: Failure,
@@ -167,7 +172,7 @@ pub struct TestWriter {
 }
 
 impl TestWriter {
-    /// A writer that takes all.
+    /// Returns a writer that takes all bytes.
     pub fn new(alloc: Global) -> TestWriter {
         TestWriter {
             taken: Vec::new(alloc),
@@ -180,28 +185,28 @@ impl TestWriter {
         }
     }
 
-    /// Makes it take one byte at a time.
+    /// Makes the writer take one byte at a time.
     pub fn set_slow(&mut self) {
         self.is_slow = true;
     }
 
-    /// Makes it fail once it has taken `room` bytes.
+    /// Makes the writer fail when it has taken `room` bytes.
     pub fn set_room(&mut self, room: usize, refusal: Failure) {
         self.room = room;
         self.refusal = refusal;
     }
 
-    /// Makes its flush fail.
+    /// Makes `flush` fail.
     pub fn set_flush(&mut self, flush: Failure) {
         self.flush = flush;
     }
 
-    /// Returns true if it was called after it had failed.
+    /// Returns true if the writer was called after it had failed.
     pub fn was_called_again(&self) -> bool {
         self.was_called_again
     }
 
-    /// Returns how many bytes it takes at most at once.
+    /// Returns the most bytes that the writer takes in one call.
     fn most(&self) -> usize {
         if self.is_slow {
             1

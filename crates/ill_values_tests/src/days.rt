@@ -1,9 +1,9 @@
-//! Days: their parts, their texts, their faults, their order, and days so many days later.
+//! Tests of days: their parts, texts, faults and order, and the sum of a day and a count of days.
 
 use ill_values::{Day, DayFault};
 use std::test::Fail;
 
-/// Year, month and day, and the eight digits of that day or its fault.
+/// A year, month and day, with the digits of the day that they make, or the fault.
 struct PartsRow {
     parts: (u16, u8, u8),
     made: Result<&'static str, DayFault>,
@@ -80,7 +80,7 @@ fn days_are_made_of_their_parts(rt: HostRuntime) {
     }
 }
 
-/// A day with its parts, and with hyphens between them.
+/// A day in three spellings: its digits, its parts, and the ISO text with hyphens.
 struct IsoRow {
     digits: &'static str,
     parts: (u16, u8, u8),
@@ -118,7 +118,7 @@ fn days_show_their_parts(rt: HostRuntime) -> Result<(), Fail> {
     Ok(())
 }
 
-/// A text that is no day.
+/// A text that is no day, and the fault of reading it.
 struct TextRow {
     text: &'static str,
     fault: DayFault,
@@ -167,7 +167,7 @@ fn texts_that_are_no_days(rt: HostRuntime) {
     }
 }
 
-/// So many days after a day, and the day that it is. `None`: it would be after the last day.
+/// A day, a count of days, and the day that many days later. `None` means that it would be after the last day.
 struct LaterRow {
     start: &'static str,
     days: u32,

@@ -1,4 +1,4 @@
-//! Which values are equal, and that a copy is.
+//! Tests of the equality of values and of their copies.
 
 use ill_values::{AnswerResult, Apdu, Body, Day, Item, Number, TxnId};
 use std::alloc::Global;
@@ -53,7 +53,7 @@ fn equal_and_unequal_parts(rt: HostRuntime) -> Result<(), Fail> {
     Ok(())
 }
 
-/// A message of transaction G1, T1, number 1.
+/// Returns a message of transaction G1, T1, with number 1.
 fn one_message(alloc: Global, body: Body) -> Result<Apdu, Fail> {
     Ok(Apdu {
         txn: TxnId::new(alloc, b"G1", b"T1")?,

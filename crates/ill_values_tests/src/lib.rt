@@ -1,4 +1,4 @@
-//! Tests of the values, over what `ill_values` exports.
+//! Tests the values by the functions that `ill_values` exports.
 #![tactic(auto)]
 
 #[cfg(test)]

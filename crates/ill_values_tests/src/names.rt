@@ -1,4 +1,4 @@
-//! The names of results and of types of APDU.
+//! Tests of the names of results and of APDU types.
 
 use ill_values::{AnswerResult, ApduType, Body};
 use std::test::Fail;

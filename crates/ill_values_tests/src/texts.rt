@@ -1,11 +1,11 @@
-//! Transaction ids, items and numbers.
+//! Tests of transaction ids, items and numbers.
 
 use ill_values::{ITEM_LIMIT, Item, Number, QUALIFIER_LIMIT, TextFault, TxnId};
 use std::alloc::Global;
 use std::process::Abort;
 use std::test::Fail;
 
-/// A text, and why it is refused, if it is.
+/// A text, and the fault that refuses it. `None` means that the text is accepted.
 struct Row {
     case: &'static str,
     text: &'static [u8],

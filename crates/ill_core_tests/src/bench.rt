@@ -1,4 +1,4 @@
-//! Lines of the input, one after another.
+//! Performs the lines of the input, one after another.
 
 use crate::events::Event;
 use crate::record::Record;
@@ -10,22 +10,25 @@ use ill_test_kit::{Transitions, Page};
 use std::alloc::Global;
 use std::mem;
 
-/// What the lines so far have set up.
+/// The state that the lines so far have set up.
 pub struct Bench {
+    /// The allocator of all values.
     alloc: Global,
-    /// The ruler of the rows.
+    /// The role that the last ruler names.
     role: Role,
+    /// The last ruler names these states.
     columns: Vec<State>,
-    /// The side to which things happen, and the record that it should have.
+    /// Events happen to this side. It is absent if the record is not a record of its role.
     side: Option<Side>,
+    /// The side must have this record.
     record: Record,
 }
 
-/// What comes of a row in one state: the new state where it was done or taken, and else the letter of
-/// the answer; then that of the answer to a message that was taken and comes again.
+/// The outcome of a row in one state. The first text is the new state if the event was performed or taken, and else the
+/// letter of the answer. The second text is the letter of the answer to a second copy of a taken message.
 type Cell = (&'static str, &'static str);
 
-/// Written out, so that whoever owns a bench calls it.
+/// The body is written out instead of derived, so that each owner of a bench calls it.
 impl Drop for Bench {
     fn drop(self) {
         let Bench {
@@ -39,6 +42,7 @@ impl Drop for Bench {
 }
 
 impl Bench {
+    /// Returns a bench before the first line.
     pub fn new(alloc: Global) -> Bench {
         Bench {
             alloc,
@@ -49,6 +53,7 @@ impl Bench {
         }
     }
 
+    /// Adds the answer to a line: the name of a state, or the cells of a row. Other lines have none.
     fn push_answer(&mut self, page: &mut Page, transition: &str) {
         let Some((name, rest)) = transition.split_once('|') else {
             return;
@@ -62,7 +67,7 @@ impl Bench {
         }
     }
 
-    /// Reads the other fields of a row, or of a ruler, which has more after the last.
+    /// Reads the fields after the past of a row or of a ruler. A ruler has one more field.
     fn push_fields(&mut self, page: &mut Page, name: &str, past: &str, rest: &str) {
         let (event, rest) = rest.split_once('|').unwrap_or((rest, ""));
         let (effect, columns) = rest.split_once('|').unwrap_or((rest, ""));
@@ -78,7 +83,7 @@ impl Bench {
         self.columns = columns;
     }
 
-    /// Sets the columns of the rows that follow.
+    /// Sets the role and the columns of the rows that follow.
     fn rule(&mut self, role: &str, columns: &str) -> Option<()> {
         self.role = role_of(role.trim());
         self.columns.clear();
@@ -88,6 +93,7 @@ impl Bench {
         Some(())
     }
 
+    /// Adds the cell of each column, and the bar that ends the answer.
     fn push_cells(
         &mut self,
         page: &mut Page,
@@ -105,7 +111,8 @@ impl Bench {
         page.text("|");
     }
 
-    /// What comes of it in this state. A past of three dots is all that has happened to the side.
+    /// Returns the outcome of the event in `state`. If `past` is three dots, the event happens to the side of the row
+    /// before.
     fn cell(&mut self, state: State, past: &str, event: &Event, effect: &str) -> Cell {
         let is_new = past != "...";
         if is_new {
@@ -121,7 +128,7 @@ impl Bench {
 }
 
 impl Transitions for Bench {
-    /// Adds a line, and after it what it is answered, in place of the answer that stands there.
+    /// Adds a line with its answer. An answer that the line already has is dropped.
     fn perform(&mut self, page: &mut Page, transition: &str) {
         if transition.starts_with('#') {
             return page.transition(transition);
@@ -137,8 +144,8 @@ impl Transitions for Bench {
     }
 }
 
-/// A case without its answer, which stands after the bar of a name, or after the fourth bar of a row
-/// and before its fifth. A ruler, which has no fifth, has no answer.
+/// Returns a line without its answer. The answer follows the bar of a name, or the fourth bar of a row. A ruler has
+/// only four bars, and no answer.
 fn without_answer(transition: &str) -> &str {
     let bars = transition.matches('|').count();
     let fields = match bars {
@@ -152,8 +159,8 @@ fn without_answer(transition: &str) -> &str {
     }
 }
 
-/// Lets it happen to a side with this record, which then follows; and, if wanted, a message that is
-/// taken a second time.
+/// Performs the event on `side`, and brings `record` up to date. If `is_twice`, a message that is taken is delivered a
+/// second time.
 fn happen(
     alloc: Global,
     side: &mut Side,
@@ -177,8 +184,8 @@ fn happen(
     (letters, second)
 }
 
-/// Lets it happen to a side with this record, and again while it is refused memory, which changes nothing. Returns the
-/// letter of the answer.
+/// Performs the event on `side`, and repeats it while a growth is refused. A refused event must leave the side with
+/// `record`. Returns the letter of the answer.
 fn answer(alloc: Global, side: &mut Side, record: &Record, event: &Event) -> &'static str {
     for _ in 0..TRIES {
         let letter = side.answer(alloc, event);

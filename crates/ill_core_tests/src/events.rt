@@ -1,27 +1,29 @@
-//! What a side is told to do, and what comes to it.
+//! Reads the events that happen to a side.
 
 use crate::messages::{body_of, day, message};
 use ill_core::{Deed, Verb, Wish};
 use ill_values::{Apdu, Body, Day};
 use std::alloc::Global;
 
-/// What happens to a side.
+/// An event of a side, or a question to it.
 pub enum Event {
-    /// Nothing: its readers are asked.
+    /// Nothing happens, and the readers of the side are called.
     Reading,
-    /// Nothing: it is asked whose turn it is.
+    /// Nothing happens, and the side is asked whose turn it is.
     Turn,
-    /// Nothing: it is asked whether it has this verb.
+    /// Nothing happens, and the side is asked if it has this verb.
     May(Verb),
+    /// The library of a requester wishes this.
     Wish(Wish),
-    /// A deed, and the day of it.
+    /// The library of a responder does this deed on this day.
     Deed(Deed, Day),
+    /// A message of the other side arrives.
     Delivery(Apdu),
     /// The text names no event.
     Unknown,
 }
 
-/// Written out, so that whoever owns an event calls it.
+/// The body is written out instead of derived, so that each owner of an event calls it.
 impl Drop for Event {
     fn drop(self) {
         match self {
@@ -37,8 +39,8 @@ impl Drop for Event {
 }
 
 impl Event {
-    /// The event that a text names: a reading, a question after the turn or a verb, a message that comes,
-    /// a wish by the message that it issues, or a deed by its day and the message that it issues.
+    /// Returns the event that `text` names: a reading, a question, or a message that arrives. A wish is named by the
+    /// message that it issues. A deed is named by its day and the message that it issues.
     pub fn read(alloc: Global, text: &str) -> Event {
         let (word, rest) = text.split_once(' ').unwrap_or((text, ""));
         let event = match word {
@@ -52,7 +54,7 @@ impl Event {
         event.unwrap_or(Event::Unknown)
     }
 
-    /// The letter where there is no side to which it could happen.
+    /// Returns the letter of the answer if there is no side to which the event can happen.
     pub fn absent(&self) -> &'static str {
         match self {
             Event::Reading => "n",
@@ -61,10 +63,12 @@ impl Event {
     }
 }
 
+/// Returns the delivery of the message that `word` spells.
 fn delivery(alloc: Global, word: &str) -> Option<Event> {
     Some(Event::Delivery(message(alloc, word, None)?))
 }
 
+/// Returns the wish that issues the message that `word` spells.
 fn wish(alloc: Global, word: &str) -> Option<Event> {
     Some(Event::Wish(match body_of(alloc, word)? {
         Body::IllRequest { expiry, item } => Wish::Request { expiry, item },
@@ -77,6 +81,7 @@ fn wish(alloc: Global, word: &str) -> Option<Event> {
     }))
 }
 
+/// Returns the deed that issues the message that `word` spells, on the day `today`.
 fn deed(alloc: Global, today: Option<Day>, word: &str) -> Option<Event> {
     let deed = match body_of(alloc, word)? {
         Body::IllAnswer { result } => Deed::Answer(result),

@@ -1,10 +1,10 @@
-//! Tests of the requester and the responder: a line of the input is a case, and it is printed with
-//! the answers of `ill_core` after it, in place of those that stand there. The file `stdin` has the cases
-//! with the answers that they should get, and says at its head how they are written; `stdout` is the same.
+//! Tests the requester and the responder. Each line of the input is a case. The program prints it again, with the
+//! answers of `ill_core` in place of its old answers. The file `stdin` has the cases with the answers that they must
+//! get. Its head defines how the cases are written. The file `stdout` has the same bytes.
 //!
-//! To try a row alone, in seconds: put it with its ruler into a file, and
-//! `rt try < file | diff file -` prints nothing where all is right. All of them are too long for `rt try`;
-//! `rt run < stdin | diff stdin -` performs them after a check.
+//! To try a row alone, in seconds, put it with its ruler into a file. Then `rt try < file | diff file -` prints nothing
+//! if all is right. All cases together take too long for `rt try`. After a check, `rt run < stdin | diff stdin -`
+//! performs all of them.
 #![tactic(auto)]
 
 mod bench;

@@ -1,24 +1,24 @@
-//! Messages, as the input spells them.
+//! Reads messages, as the input spells them.
 
 use ill_values::{AnswerResult, Apdu, Body, Day, Item, Number, TxnId};
 use std::alloc::Global;
 
-/// The number that a text spells, or none.
+/// Returns the number that `text` spells, or `None`.
 pub fn number(text: &str) -> Option<Number> {
     Number::new(text.parse().ok()?)
 }
 
-/// The day that a text spells, or none.
+/// Returns the day that `text` spells, or `None`.
 pub fn day(text: &str) -> Option<Day> {
     Day::read(text.as_bytes()).ok()
 }
 
-/// The number of the message that stands after so many.
+/// Returns the number of the message after the first `count` messages.
 pub fn next_number(count: usize) -> Option<Number> {
     Number::new(u8::try_from(count.saturating_add(1)).ok()?)
 }
 
-/// The message that a word stands for. Where the word has no number, the message has this one.
+/// Returns the message that `word` spells. If `word` has no number, the message has the number `place`.
 pub fn message(alloc: Global, word: &str, place: Option<Number>) -> Option<Apdu> {
     let (digits, word) = word.split_once(':').unwrap_or(("", word));
     let (word, id) = word.split_once('@').unwrap_or((word, "G1/T1"));
@@ -29,7 +29,7 @@ pub fn message(alloc: Global, word: &str, place: Option<Number>) -> Option<Apdu>
     Some(Apdu { txn, number, body })
 }
 
-/// What a message says: a letter, the number that it answers, and a date after a hyphen.
+/// Returns the body that `word` spells: a letter, the number that it answers, and a date after a hyphen.
 pub fn body_of(alloc: Global, word: &str) -> Option<Body> {
     let (word, date) = word.split_once('-').unwrap_or((word, ""));
     let mut letters = word.chars();
@@ -40,8 +40,7 @@ pub fn body_of(alloc: Global, word: &str) -> Option<Body> {
     }
 }
 
-/// What a message says that answers no other by its number. A date that is wanted is 15 March 2025
-/// where there is no other.
+/// Returns the body of a message that answers no number. If a date is needed and `date` is absent, it is 15 March 2025.
 fn plain(alloc: Global, letter: char, date: Option<Day>) -> Option<Body> {
     let due = date.or(day("20250315"))?;
     match letter {
@@ -62,6 +61,7 @@ fn plain(alloc: Global, letter: char, date: Option<Day>) -> Option<Body> {
     }
 }
 
+/// Returns the body of a message that answers the number `answers`.
 fn reply(letter: char, answers: Number, date: Option<Day>) -> Option<Body> {
     match letter {
         'y' => Some(Body::ConditionalReply { answers, yes: true }),
@@ -82,6 +82,7 @@ fn reply(letter: char, answers: Number, date: Option<Day>) -> Option<Body> {
     }
 }
 
+/// Returns the body of the ILL-Answer whose result has this digit.
 fn answer(digit: char) -> Option<Body> {
     let result = match digit {
         '1' => AnswerResult::Conditional,

@@ -1,4 +1,4 @@
-//! What a side has, by the words of the input.
+//! Builds the record of a side from the words of the input.
 
 use crate::messages::{day, message, next_number, number};
 use crate::states::{Role, state_of};
@@ -6,8 +6,8 @@ use ill_core::{Requester, Responder, State};
 use ill_values::{Apdu, Body, Day, Number, TxnId};
 use std::alloc::Global;
 
-/// What the readers of a side say of its parts, but for the transaction, the request and the messages.
-/// What a role lacks is none or false.
+/// The parts that the readers of a side return, except its transaction, request and messages. A part that the role
+/// lacks is `None` or false.
 #[derive(Clone, Copy, PartialEq, Eq)]
 pub struct Readings {
     pub state: State,
@@ -22,23 +22,25 @@ pub struct Readings {
     pub is_checked_in: bool,
 }
 
-/// A record of either role: its parts, and what its readers are to make of them. Where memory is wanting,
-/// it lacks a message.
+/// A record of either role, with the results that its readers must return. If memory runs out, it lacks a message.
 pub struct Record {
+    /// The parts of the record.
     pub readings: Readings,
-    /// The request that was taken, if one was.
+    /// The request that the side has taken, if there is one.
     pub request: Vec<Apdu>,
+    /// The messages that the side has issued.
     pub messages: Vec<Apdu>,
-    /// Whether all its words could be read.
+    /// True if all its words could be read.
     pub is_readable: bool,
-    /// The words of the messages that it has.
+    /// The words of its messages, and of those that it must lack.
     words: String,
-    /// The messages that it cannot be without, and that which has to be the last.
+    /// The messages that its state requires.
     wanted: &'static [&'static str],
+    /// The message that its state requires at the end of the list.
     last: &'static str,
 }
 
-/// Written out, so that whoever owns a record calls it.
+/// The body is written out instead of derived, so that each owner of a record calls it.
 impl Drop for Record {
     fn drop(self) {
         let Record {
@@ -54,6 +56,7 @@ impl Drop for Record {
 }
 
 impl Readings {
+    /// Returns the readings of a side in `state` that has no other part.
     pub fn none(state: State) -> Readings {
         Readings {
             state,
@@ -69,7 +72,7 @@ impl Readings {
         }
     }
 
-    /// Follows a message that is issued.
+    /// Changes the readings as the issue of a message with this body does.
     fn follow(&mut self, body: &Body) {
         match body {
             Body::ConditionalReply { answers, yes: true } => self.accepted = Some(*answers),
@@ -86,7 +89,7 @@ impl Readings {
 }
 
 impl Record {
-    /// The record in a state that has this past, and else the least that the state wants.
+    /// Returns the record in `state` that has the parts that `past` names, and those that the state requires.
     pub fn of(alloc: Global, role: Role, state: State, past: &str) -> Record {
         let mut record = Record::empty(alloc, state);
         match role {
@@ -100,7 +103,7 @@ impl Record {
         record
     }
 
-    /// A record with nothing in it.
+    /// Returns a record in `state` that has no other part.
     pub fn empty(alloc: Global, state: State) -> Record {
         Record {
             readings: Readings::none(state),
@@ -113,7 +116,7 @@ impl Record {
         }
     }
 
-    /// The requester of these parts, where there is one.
+    /// Returns the requester with these parts, or `None` if no requester has them.
     pub fn into_requester(self, txn: TxnId) -> Option<Requester> {
         let Record {
             readings,
@@ -135,7 +138,7 @@ impl Record {
         )
     }
 
-    /// The responder of these parts, where there is one.
+    /// Returns the responder with these parts, or `None` if no responder has them.
     pub fn into_responder(self, txn: TxnId) -> Option<Responder> {
         let Record {
             readings,
@@ -158,8 +161,8 @@ impl Record {
         )
     }
 
-    /// What the readers are to say. Conditions that wait for an answer are the last message, and those
-    /// that were declined stand in CONDITIONAL alone.
+    /// Returns the results that the readers must return. In CONDITIONAL the last message of a responder names the
+    /// outstanding conditions. Only in CONDITIONAL a requester can be declined.
     pub fn expected(&self, role: Role) -> Readings {
         let mut readings = self.readings;
         match (role, readings.state) {
@@ -172,7 +175,7 @@ impl Record {
         readings
     }
 
-    /// Wants what a requester in its state cannot be without.
+    /// Sets the parts that the state of a requester requires.
     fn want_as_requester(&mut self, alloc: Global, past: &str) {
         self.wanted = match self.readings.state {
             State::CancelPending | State::Cancelled => &["c"],
@@ -193,7 +196,7 @@ impl Record {
         }
     }
 
-    /// Wants what a responder in its state cannot be without.
+    /// Sets the parts that the state of a responder requires.
     fn want_as_responder(&mut self, alloc: Global) {
         match self.readings.state {
             State::Idle => return,
@@ -209,7 +212,7 @@ impl Record {
         self.set_request(alloc, "1:q");
     }
 
-    /// Adds what these words stand for.
+    /// Adds the parts and messages that `words` spell.
     pub fn add(&mut self, alloc: Global, words: &str) {
         for word in words.split_whitespace() {
             match word.split_once('=') {
@@ -219,7 +222,7 @@ impl Record {
         }
     }
 
-    /// Sets the part whose name begins with this letter: no two begin with the same.
+    /// Sets the part whose name begins with the first letter of `name`. No two parts begin with the same letter.
     fn set(&mut self, alloc: Global, name: &str, value: &str) {
         let readings = &mut self.readings;
         match name.as_bytes().first() {
@@ -238,6 +241,7 @@ impl Record {
         }
     }
 
+    /// Sets the request to the message that `word` spells.
     fn set_request(&mut self, alloc: Global, word: &str) {
         self.request.clear();
         if let Some(apdu) = message(alloc, word, None) {
@@ -245,7 +249,7 @@ impl Record {
         }
     }
 
-    /// Issues a message, or does what another word says.
+    /// Adds the message that `word` spells, or obeys `word` if it spells none.
     fn push(&mut self, alloc: Global, word: &str) {
         match message(alloc, word, next_number(self.messages.len())) {
             Some(apdu) => {
@@ -257,13 +261,13 @@ impl Record {
         }
     }
 
-    /// Wants no message of this letter any more.
+    /// Notes `word`, so that no message of its letter is required any more.
     fn leave_out(&mut self, word: &str) {
         let _ = self.words.push(' ');
         let _ = self.words.push_str(word);
     }
 
-    /// Whether it has a message of this letter, or is to be without.
+    /// Returns true if the record has a message of this letter, or must lack it.
     fn has(&self, letter: &str) -> bool {
         for word in self.words.split_whitespace() {
             if word.starts_with(letter) {
@@ -273,7 +277,7 @@ impl Record {
         false
     }
 
-    /// Wants nothing after the word `only`.
+    /// Obeys a word that is no message. After `only` no message is required.
     fn obey(&mut self, word: &str) {
         match word {
             "" | "new" => {}
@@ -285,7 +289,7 @@ impl Record {
         }
     }
 
-    /// Issues the wanted messages whose letters it has not.
+    /// Adds each required message that is missing.
     fn push_wanted(&mut self, alloc: Global) {
         let wanted = self.wanted;
         self.wanted = &[];
@@ -296,7 +300,8 @@ impl Record {
         }
     }
 
-    /// Issues a message, as `255,y2`, until there are so many with those that are wanted.
+    /// Adds copies of a message up to a count. The value `255,y2` adds y2 until there are 255 messages, the required
+    /// ones included.
     fn fill(&mut self, alloc: Global, value: &str) {
         let (count, word) = value.split_once(',').unwrap_or((value, ""));
         let count: u8 = count.parse().unwrap_or(0);
@@ -308,7 +313,7 @@ impl Record {
     }
 }
 
-/// Whether a requester in this state has a due date, and a responder has shipped.
+/// Returns true if `state` is SHIPPED or later, in either role.
 fn is_shipped(state: State) -> bool {
     match state {
         State::Shipped

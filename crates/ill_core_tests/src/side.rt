@@ -1,4 +1,4 @@
-//! Sides of either role.
+//! Calls the sides of either role.
 
 use crate::events::Event;
 use crate::record::{Readings, Record};
@@ -8,15 +8,16 @@ use ill_test_kit::marks::{self, quietly};
 use ill_values::{Apdu, Number, TxnId};
 use std::alloc::Global;
 
-/// The letter of want of memory.
+/// This letter is the answer out of memory.
 pub const NO_MEMORY: &str = "?";
 
+/// A requester or a responder.
 pub enum Side {
     Requester(Requester),
     Responder(Responder),
 }
 
-/// Written out, so that whoever owns a side calls it.
+/// The body is written out instead of derived, so that each owner of a side calls it.
 impl Drop for Side {
     fn drop(self) {
         match self {
@@ -27,7 +28,8 @@ impl Drop for Side {
 }
 
 impl Side {
-    /// The side in a state that has this past, where there is one. A new one is as it begins.
+    /// Returns the side in `state` with the parts that `past` names, or `None` if there is no such side. If `past` is
+    /// `new`, returns the idle side.
     pub fn of(alloc: Global, role: Role, state: State, past: &str) -> Option<Side> {
         let txn = TxnId::new(alloc, b"G1", b"T1").ok()?;
         let parts = Record::of(alloc, role, state, past);
@@ -39,6 +41,7 @@ impl Side {
         })
     }
 
+    /// Returns the state of the side.
     pub fn state(&self) -> State {
         match self {
             Side::Requester(side) => side.state(),
@@ -46,6 +49,7 @@ impl Side {
         }
     }
 
+    /// Returns whose turn it is.
     fn turn(&self) -> Turn {
         match self {
             Side::Requester(side) => side.turn(),
@@ -53,7 +57,7 @@ impl Side {
         }
     }
 
-    /// Whether it has this verb.
+    /// Returns true if the side has this verb.
     fn may(&self, verb: Verb) -> bool {
         match self {
             Side::Requester(side) => side.verbs().contains(&verb),
@@ -61,8 +65,8 @@ impl Side {
         }
     }
 
-    /// Lets something happen to it, or asks it, and gives the letter of the answer. What is done is `T`, as
-    /// what is taken. A question mark is want of memory.
+    /// Performs an event or asks a question, and returns the letter of the answer. The letter of a performed action and
+    /// of a taken message is `T`. A question mark is out of memory.
     pub fn answer(&mut self, alloc: Global, event: &Event) -> &'static str {
         match event {
             Event::Reading => "y",
@@ -72,6 +76,7 @@ impl Side {
         }
     }
 
+    /// Performs an event between marks, and returns the letter of the answer.
     fn happens(&mut self, alloc: Global, event: &Event) -> &'static str {
         let state = self.state();
         match (self, event) {
@@ -99,11 +104,12 @@ impl Side {
         }
     }
 
-    /// Returns true if each of its readers says what this record has. They take no memory.
+    /// Returns true if each reader of the side returns the part that `record` has. Readers take no memory.
     pub fn shows(&self, alloc: Global, record: &Record) -> bool {
         quietly(alloc, || self.shows_all(record))
     }
 
+    /// Returns true if each reader of the side returns the part that `record` has.
     fn shows_all(&self, record: &Record) -> bool {
         let shows_parts = match self {
             Side::Requester(side) => requester_readings(side) == record.expected(Role::Requester),
@@ -116,7 +122,7 @@ impl Side {
             && self.has_issued(&record.messages)
     }
 
-    /// Whether it has issued exactly these messages.
+    /// Returns true if the side has issued exactly `messages`.
     fn has_issued(&self, messages: &[Apdu]) -> bool {
         for value in 1..=u8::MAX {
             if self.issued(value) != messages.get(usize::from(value).saturating_sub(1)) {
@@ -126,6 +132,7 @@ impl Side {
         usize::from(self.issued_count()) == messages.len()
     }
 
+    /// Returns the message that the side has issued with the number `value`.
     fn issued(&self, value: u8) -> Option<&Apdu> {
         let number = Number::new(value)?;
         match self {
@@ -134,6 +141,7 @@ impl Side {
         }
     }
 
+    /// Returns the count of messages that the side has issued.
     fn issued_count(&self) -> u8 {
         match self {
             Side::Requester(side) => side.issued_count(),
@@ -141,6 +149,7 @@ impl Side {
         }
     }
 
+    /// Returns the transaction of the side.
     fn txn(&self) -> &TxnId {
         match self {
             Side::Requester(side) => side.txn(),
@@ -148,6 +157,7 @@ impl Side {
         }
     }
 
+    /// Returns the request that a responder has taken, if there is one.
     fn request(&self) -> Option<&Apdu> {
         match self {
             Side::Requester(_) => None,
@@ -156,6 +166,7 @@ impl Side {
     }
 }
 
+/// Returns the parts that the readers of a requester return.
 fn requester_readings(side: &Requester) -> Readings {
     Readings {
         held: side.held(),
@@ -168,6 +179,7 @@ fn requester_readings(side: &Requester) -> Readings {
     }
 }
 
+/// Returns the parts that the readers of a responder return.
 fn responder_readings(side: &Responder) -> Readings {
     Readings {
         outstanding: side.outstanding(),
@@ -180,7 +192,7 @@ fn responder_readings(side: &Responder) -> Readings {
     }
 }
 
-/// The letter of an answer; or a question mark if a growth was refused, and the answer says so.
+/// Ends the marks of a call. Returns a question mark if a growth was refused and the call said so, and else `letter`.
 fn unless_refused(alloc: Global, letter: &'static str) -> &'static str {
     if marks::is_refused(alloc, letter == NO_MEMORY) {
         NO_MEMORY
@@ -189,12 +201,13 @@ fn unless_refused(alloc: Global, letter: &'static str) -> &'static str {
     }
 }
 
+/// Returns true if the transaction is G1, T1.
 fn is_own(txn: &TxnId) -> bool {
     txn.group() == b"G1".as_slice() && txn.transaction() == b"T1".as_slice()
 }
 
-/// The letter of what an action is answered in this state. It is not now exactly where its verb was not
-/// listed before.
+/// Returns the letter of the answer to an action in `state`. The answer must be `NotNow` exactly if the verb was not
+/// listed before; else the letter is V.
 fn done(answer: Result<(), Refusal>, state: State, is_listed: bool) -> &'static str {
     let letter = match answer {
         Ok(()) => "T",
@@ -207,6 +220,7 @@ fn done(answer: Result<(), Refusal>, state: State, is_listed: bool) -> &'static 
     }
 }
 
+/// Returns the letter of a turn.
 fn turn_letter(turn: Turn) -> &'static str {
     match turn {
         Turn::Over => "o",
@@ -215,7 +229,7 @@ fn turn_letter(turn: Turn) -> &'static str {
     }
 }
 
-/// The letter of what a message is answered in this state.
+/// Returns the letter of the answer to a message in `state`.
 fn taken(answer: Result<Taking, Refusal>, state: State) -> &'static str {
     match answer {
         Ok(Taking::Taken) => "T",
@@ -226,6 +240,7 @@ fn taken(answer: Result<Taking, Refusal>, state: State) -> &'static str {
     }
 }
 
+/// Returns the letter of a refusal in `state`.
 fn refused(refusal: Refusal, state: State) -> &'static str {
     match refusal {
         Refusal::OtherTransaction => "O",

@@ -1,13 +1,15 @@
-//! The roles, and the states with the two letters that stand for each.
+//! Names the roles, and each state by two letters.
 
 use ill_core::{STATES, State};
 
+/// The role of a side.
 #[derive(Clone, Copy)]
 pub enum Role {
     Requester,
     Responder,
 }
 
+/// Returns the two letters of a state.
 pub fn letters_of(state: State) -> &'static str {
     match state {
         State::Idle => "id",
@@ -29,7 +31,7 @@ pub fn letters_of(state: State) -> &'static str {
     }
 }
 
-/// The state of these letters, or IDLE for any others.
+/// Returns the state of these letters, or IDLE if no state has them.
 pub fn state_of(letters: &str) -> State {
     for state in &STATES {
         if letters_of(*state) == letters {
@@ -39,6 +41,7 @@ pub fn state_of(letters: &str) -> State {
     State::Idle
 }
 
+/// Returns the responder if `word` names it, and else the requester.
 pub fn role_of(word: &str) -> Role {
     match word {
         "responder" => Role::Responder,

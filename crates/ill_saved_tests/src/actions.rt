@@ -1,4 +1,4 @@
-//! Actions, from their words.
+//! Reads actions from their words.
 
 use ill_core::{Deed, Wish};
 use ill_saved::Action;
@@ -6,7 +6,7 @@ use ill_test_kit::named;
 use ill_values::{AnswerResult, Day, Item};
 use std::alloc::Global;
 
-/// The action that these words say: a deed after its day, or a wish.
+/// Returns the action that `words` spell: a deed after its day, or a wish.
 pub fn action(alloc: Global, words: &str) -> Option<Action> {
     let (first, others) = words.split_once(' ').unwrap_or((words, ""));
     match day(first) {
@@ -15,6 +15,7 @@ pub fn action(alloc: Global, words: &str) -> Option<Action> {
     }
 }
 
+/// Returns the wish that `words` spell.
 fn wish(alloc: Global, words: &str) -> Option<Wish> {
     match words {
         "cancel" => Some(Wish::Cancel),
@@ -26,12 +27,14 @@ fn wish(alloc: Global, words: &str) -> Option<Wish> {
     }
 }
 
+/// Returns the wish Request that `words` spell, without an expiry date.
 fn request(alloc: Global, words: &str) -> Option<Wish> {
     let text = words.strip_prefix("request none ")?.as_bytes();
     let item = Item::new(alloc, text).ok()?;
     Some(Wish::Request { expiry: None, item })
 }
 
+/// The words of the deeds that have no date of their own.
 const DEEDS: [(&str, Deed); 9] = [
     (
         "answer conditional",
@@ -47,10 +50,12 @@ const DEEDS: [(&str, Deed); 9] = [
     ("expire", Deed::Expire),
 ];
 
+/// Returns the deed that `words` spell.
 fn deed(words: &str) -> Option<Deed> {
     named(&DEEDS, words).or(dated_deed(words))
 }
 
+/// Returns the deed with a due date that `words` spell.
 fn dated_deed(words: &str) -> Option<Deed> {
     if let Some(digits) = words.strip_prefix("ship ") {
         return Some(Deed::Ship { due: day(digits)? });
@@ -59,6 +64,7 @@ fn dated_deed(words: &str) -> Option<Deed> {
     Some(Deed::RenewAnswer { granted })
 }
 
+/// Returns the day that `digits` spell.
 fn day(digits: &str) -> Option<Day> {
     Day::read(digits.as_bytes()).ok()
 }

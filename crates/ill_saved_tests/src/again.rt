@@ -1,4 +1,5 @@
-//! That what is written of sides is read as those sides: a proof for all of them, and no case.
+//! Proves that a side is read back from the bytes of its record. The contracts here hold for all sides, not only for
+//! the cases.
 
 ghost use Rattle.std.specs.Prelude.{◌≡◌, MatchResult};
 ghost use Rattle.ill_saved.specs.declared.fault.RecordFault.TheVariants.{OutOfMemory};
@@ -8,8 +9,7 @@ use ill_saved::{
 };
 use std::alloc::Global;
 
-/// Writes a side as a record, and reads that: it is the same side, and nothing but want of memory can
-/// prevent it.
+/// Writes the record of `side`, and reads it. The result equals `side`; the call fails only if memory runs out.
 pub fn written_and_read(alloc: Global, side: &Side) -> Result<Side, RecordFault>
     ensures { MatchResult result (λ again. again ≡ side.now) (λ fault. fault ≡ OutOfMemory) }
 {
@@ -18,8 +18,8 @@ pub fn written_and_read(alloc: Global, side: &Side) -> Result<Side, RecordFault>
     decode_record(alloc, &bytes)
 }
 
-/// Writes the sides as a record, and reads that: they are the same sides, in the same order, and nothing but want
-/// of memory can prevent it.
+/// Writes the record of `sides`, and reads it. The result has equal sides in equal order; the call fails only if memory
+/// runs out.
 pub fn all_written_and_read(alloc: Global, sides: &Sides) -> Result<Sides, RecordFault>
     ensures { MatchResult result (λ again. again ≡ sides.now) (λ fault. fault ≡ OutOfMemory) }
 {

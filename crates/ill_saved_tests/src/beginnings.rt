@@ -1,4 +1,4 @@
-//! Desks that begin over a store in memory, and again while a growth is refused.
+//! Begins desks over a store in memory, and repeats that while a growth is refused.
 
 use crate::desk_view::DeskView;
 use crate::line::Line;
@@ -10,22 +10,22 @@ use ill_core::State;
 use ill_saved::{AnyDesk, DeskFault, MemoryStore};
 use std::alloc::Global;
 
-/// A desk over a store in memory.
+/// A desk whose store is in memory.
 pub type MemoryDesk<H> = AnyDesk<H, MemoryStore>;
 
-/// A desk, or a fault and its store.
+/// The new desk, or the fault and the store that was handed back.
 pub type Begun<H> = Result<MemoryDesk<H>, (DeskFault, MemoryStore)>;
 
-/// How a desk begins.
+/// The way in which a desk begins.
 #[derive(Clone, Copy)]
 pub enum Beginning<'a> {
-    /// It is created, with what the words say.
+    /// The desk is created. The words tell its role and perhaps its transaction.
     Create(&'a str),
-    /// It starts from the record in its store.
+    /// The desk starts from the record in its store.
     Start,
 }
 
-/// Lays a desk there, over the store that lies there; or that store again, if the desk has not begun.
+/// Begins a desk over `store`, and puts it into `desk`. If that fails, puts the store back into `store`.
 pub fn lay_desk<H: Sided>(
     alloc: Global,
     line: &mut Line,
@@ -47,7 +47,7 @@ pub fn lay_desk<H: Sided>(
     Some(())
 }
 
-/// Begins a desk, and again while a growth is refused. Then the store is handed back as it was.
+/// Begins a desk, and repeats that while a growth is refused. A refused call must hand the store back unchanged.
 fn begun<H: Sided>(
     alloc: Global,
     store: MemoryStore,
@@ -73,12 +73,12 @@ fn begun<H: Sided>(
     None
 }
 
-/// Returns about how many octets a store has, each of which is seen as four characters.
+/// Returns about the count of octets in a store. Its text has about four characters for each octet.
 fn size_of(seen: &Option<String>) -> usize {
     seen.as_ref().map_or(0, |text| text.len() / 4)
 }
 
-/// Begins a desk, in a try that it begins.
+/// Begins the marks of a try, and begins a desk in it.
 fn try_begin<H: Sided>(
     alloc: Global,
     tries: &Tries,

@@ -1,5 +1,4 @@
-//! What lies on the bench: nothing at first, then a store, or a desk with its store; and the sides of one
-//! library.
+//! The bench has a store, or a desk with its store, and beside it the sides of one library. At first it is empty.
 
 use crate::beginnings::{Beginning, lay_desk};
 use crate::calls::{BytesCall, ManyCall, WordsCall};
@@ -16,7 +15,7 @@ use ill_saved::{Desk, Desk1, ManySides, MemoryStore, NextCall, OneSide, Sides};
 use ill_test_kit::marks;
 use std::alloc::Global;
 
-/// What answers calls. Nothing is answered where the words are none, or what is called lies not there.
+/// Performs the calls of lines. A function returns `None` if its words are no call, or what it calls is absent.
 pub trait Answers {
     /// Performs a call that takes words, and writes its answer.
     fn call(&mut self, line: &mut Line, call: WordsCall, words: &str) -> Option<()>;
@@ -28,16 +27,21 @@ pub trait Answers {
     fn call_files(&mut self, line: &mut Line, names: &Names, words: &str) -> Option<()>;
 }
 
-/// A store, or a desk of one transaction or of many; sides; and a folder.
+/// A store, or a desk of one transaction or of many, with sides and a folder.
 #[derive(Drop)]
 pub struct Bench<'a> {
     alloc: Global,
+    /// The store, if no desk has it.
     store: Option<MemoryStore>,
+    /// The desk of one transaction, if there is one.
     desk: Option<Desk1<MemoryStore>>,
+    /// The desk of many transactions, if there is one.
     many: Option<Desk<MemoryStore>>,
-    /// The plan for the next call of the store.
+    /// The next call of the store has this plan.
     next: NextCall,
+    /// The sides of one library, if there are any.
     sides: Option<Sides>,
+    /// The folder of the files.
     folder: Folder<'a>,
 }
 
@@ -76,7 +80,7 @@ impl<'a> Answers for Bench<'a> {
 }
 
 impl<'a> Bench<'a> {
-    /// A bench with nothing on it but this folder.
+    /// Returns a bench that has nothing but `folder`.
     pub fn new(alloc: Global, folder: Folder<'a>) -> Bench<'a> {
         Bench {
             alloc,
@@ -89,7 +93,7 @@ impl<'a> Bench<'a> {
         }
     }
 
-    /// Performs a call with words on the desk that lies there.
+    /// Performs a call with words on the desk of the bench.
     fn call_desk(&mut self, line: &mut Line, call: WordsCall, words: &str) -> Option<()> {
         match &mut self.many {
             Some(desk) => desks::call(self.alloc, line, desk, call, words),
@@ -97,7 +101,7 @@ impl<'a> Bench<'a> {
         }
     }
 
-    /// Performs a call with bytes on the desk that lies there.
+    /// Performs a call with bytes on the desk of the bench.
     fn call_desk_with(&mut self, line: &mut Line, call: BytesCall, bytes: &[u8]) -> Option<()> {
         match &mut self.many {
             Some(desk) => desks::call_with(self.alloc, line, desk, call, bytes),
@@ -105,7 +109,7 @@ impl<'a> Bench<'a> {
         }
     }
 
-    /// `live BYTES`: writes what is live, and whether its record has these bytes.
+    /// Performs `live BYTES`: writes the live sides, and tells if `bytes` are their record.
     fn write_live(&self, line: &mut Line, bytes: &[u8]) -> Option<()> {
         match &self.many {
             Some(desk) => write_sides(self.alloc, line, desk.sides(), bytes),
@@ -114,7 +118,7 @@ impl<'a> Bench<'a> {
         Some(())
     }
 
-    /// Performs a call for a desk of many transactions.
+    /// Performs a call that only a desk of many transactions has.
     fn call_many(&mut self, line: &mut Line, call: ManyCall, words: &str) -> Option<()> {
         match call {
             ManyCall::Create => self.begin_many(line, Beginning::Create(words)),
@@ -125,7 +129,7 @@ impl<'a> Bench<'a> {
         }
     }
 
-    /// `store`: a store in which nothing has landed.
+    /// Performs `store`: puts an empty store on the bench.
     fn lay_store(&mut self, line: &mut Line) -> Option<()> {
         drop(self.desk.take());
         drop(self.many.take());
@@ -134,13 +138,13 @@ impl<'a> Bench<'a> {
         Some(())
     }
 
-    /// `load`
+    /// Performs `load`: loads the store of the bench.
     fn load(&mut self, line: &mut Line) -> Option<()> {
         write_loaded(line, stores::load(self.alloc, self.store.as_mut()?));
         Some(())
     }
 
-    /// `save`, of a desk; or of these bytes, in the store that lies there.
+    /// Performs `save`: saves `bytes` in the store of the bench, or else saves its desk.
     fn save(&mut self, line: &mut Line, bytes: &[u8]) -> Option<()> {
         let plan = self.next;
         self.next = NextCall::Works;
@@ -152,7 +156,7 @@ impl<'a> Bench<'a> {
         Some(())
     }
 
-    /// `next PLAN`. That takes no memory.
+    /// Performs `next PLAN`: plans the next call of the store. This takes no memory.
     fn plan(&mut self, line: &mut Line, words: &str) -> Option<()> {
         let next = plan_of(words)?;
         marks::begin_quiet(self.alloc);
@@ -167,17 +171,17 @@ impl<'a> Bench<'a> {
         Some(())
     }
 
-    /// `create ROLE GROUP TRANSACTION` or `start`, over the store that lies there.
+    /// Performs `create ROLE GROUP TRANSACTION` or `start`: begins a desk over the store of the bench.
     fn begin(&mut self, line: &mut Line, beginning: Beginning<'_>) -> Option<()> {
         lay_desk(self.alloc, line, &mut self.store, &mut self.desk, beginning)
     }
 
-    /// `create-many ROLE` or `start-many`: a desk of many transactions, over the store that lies there.
+    /// Performs `create-many ROLE` or `start-many`: begins a desk of many transactions over the store of the bench.
     fn begin_many(&mut self, line: &mut Line, beginning: Beginning<'_>) -> Option<()> {
         lay_desk(self.alloc, line, &mut self.store, &mut self.many, beginning)
     }
 
-    /// `close`: lays the store of the desk there, with what has landed in it.
+    /// Performs `close`: puts the store of the desk on the bench, with all that has landed in it.
     fn close(&mut self, line: &mut Line) -> Option<()> {
         let store = match self.many.take() {
             Some(desk) => desk.close(),

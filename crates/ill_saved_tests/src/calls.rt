@@ -1,92 +1,131 @@
-//! What the first word of a line says.
+//! Reads the first word of a line.
 
 use ill_test_kit::named;
 
-/// What a line is, or calls.
+/// The kind of a line.
 #[derive(Clone, Copy)]
 pub enum Call {
+    /// An empty line, or a note that is printed unchanged.
     Note,
+    /// The line gives bytes a name.
     Let,
+    /// The line is a case, or a family of cases.
     Case(CaseCall),
 }
 
-/// A case, or a family of them.
+/// The call of a case, or of a family of cases.
 #[derive(Clone, Copy)]
 pub enum CaseCall {
+    /// The bytes are read as a record.
     Record(RecordCall),
+    /// The call takes bytes.
     Bytes(BytesCall),
+    /// The call takes words.
     Words(WordsCall),
+    /// The call is on files.
     File,
 }
 
-/// What bytes are as a record.
+/// The way in which bytes are read as a record.
 #[derive(Clone, Copy)]
 pub enum RecordCall {
+    /// The bytes are read as the record of one side.
     Record,
-    /// `#` stands for the number of the case.
+    /// As before, and `#` stands for the number of the case.
     Octets,
-    /// The cases are the prefixes of the bytes.
+    /// Each prefix of the bytes is read as the record of one side.
     Prefixes,
-    /// As a record of many sides.
+    /// The bytes are read as the record of many sides.
     Records,
-    /// The same, of the prefixes of the bytes.
+    /// Each prefix of the bytes is read as the record of many sides.
     RecordsPrefixes,
-    /// The same, of the bytes with their SHA-256 after them.
+    /// The bytes with their SHA-256 after them are read as the record of many sides.
     Sealed,
 }
 
-/// A call of a desk, or of a store, with bytes.
+/// A call of a desk or of a store that takes bytes.
 #[derive(Clone, Copy)]
 pub enum BytesCall {
+    /// Saves a desk, or the bytes in a store.
     Save,
+    /// The desk takes the message that the bytes encode.
     Take,
-    /// The bytes are read first, and the message is handed over.
+    /// A message is read from the bytes, and the desk takes the message.
     Hand,
+    /// The live sides are compared with the bytes.
     Live,
+    /// The released messages are compared with the bytes.
     Messages,
+    /// The side whose record the bytes are is put.
     Put,
 }
 
-/// A call of a desk, or of a store, with words or nothing.
+/// A call of a desk or of a store that takes words or nothing.
 #[derive(Clone, Copy)]
 pub enum WordsCall {
+    /// Makes a new store.
     Store,
+    /// Performs actions over a store that fails from some call on.
     Fuse,
+    /// Loads the store.
     Load,
+    /// Plans the next call of the store.
     Next,
+    /// Creates a desk of one transaction.
     Create,
+    /// Starts a desk of one transaction from the landed record.
     Start,
+    /// Closes the desk, and gets its store back.
     Close,
+    /// Performs an action at the desk.
     Act,
+    /// Gives one message of the desk.
     Message,
+    /// Restarts the desk from the landed record.
     Restart,
+    /// Saves under a plan, and restarts.
     Landing,
+    /// A call of the sides of one library.
     Sides(SidesCall),
+    /// A call that only a desk of many transactions has.
     Many(ManyCall),
 }
 
 /// A call of the sides of one library.
 #[derive(Clone, Copy)]
 pub enum SidesCall {
+    /// Makes an empty `Sides`.
     Lay,
+    /// Puts requesters that have asked.
     Fill,
+    /// Finds a side by its transaction.
     Get,
+    /// Finds a side by its place.
     At,
+    /// Puts a side with the longest record.
     PutLongest,
+    /// Encodes the sides, and decodes them again.
     Again,
 }
 
-/// A call for a desk of many transactions alone.
+/// A call that only a desk of many transactions has.
 #[derive(Clone, Copy)]
 pub enum ManyCall {
+    /// Creates a desk of many transactions.
     Create,
+    /// Starts a desk of many transactions from the landed record.
     Start,
+    /// Begins many transactions.
     Begin,
+    /// Views each side of the desk.
     Each,
+    /// Performs actions over a store that fails from some call on.
     Fuse,
+    /// Saves under a plan, and restarts.
     Landing,
 }
 
+/// The first words of lines, and the calls that they name.
 static CALLS: [(&str, Call); 39] = [
     ("", Call::Note),
     ("#", Call::Note),
@@ -169,7 +208,7 @@ static CALLS: [(&str, Call); 39] = [
 ];
 
 impl WordsCall {
-    /// Returns true if the call spends the plan of the store, or lays another there.
+    /// Returns true if the call uses up the plan of the store, or replaces the store.
     pub fn spends_plan(self) -> bool {
         matches!(
             self,
@@ -183,7 +222,7 @@ impl WordsCall {
     }
 }
 
-/// What this word says.
+/// Returns the call that `word` names.
 pub fn call_of(word: &str) -> Option<Call> {
     named(&CALLS, word)
 }

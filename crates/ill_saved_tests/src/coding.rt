@@ -1,4 +1,4 @@
-//! Records that are written and read, and again while a growth is refused.
+//! Encodes and decodes records, and repeats that while a growth is refused.
 
 use crate::tries::{TRIES, Tries};
 use ill_saved::{
@@ -8,7 +8,7 @@ use ill_test_kit::marks;
 use ill_values::OutOfMemory;
 use std::alloc::Global;
 
-/// Returns the record of a side.
+/// Returns the record of one side.
 pub fn encoded(alloc: Global, side: &Side) -> Result<Vec<u8>, OutOfMemory> {
     for _ in 0..TRIES {
         marks::begin(alloc);
@@ -32,7 +32,7 @@ pub fn all_encoded(alloc: Global, sides: &Sides) -> Result<Vec<u8>, OutOfMemory>
     Err(OutOfMemory)
 }
 
-/// Returns the side of a record, or why it is none.
+/// Returns the side whose record is `record`, or the fault.
 pub fn decoded(alloc: Global, record: &[u8]) -> Result<Side, RecordFault> {
     let tries = Tries::of(alloc, record.len());
     for _ in 0..TRIES {
@@ -46,7 +46,7 @@ pub fn decoded(alloc: Global, record: &[u8]) -> Result<Side, RecordFault> {
     Err(RecordFault::OutOfMemory)
 }
 
-/// Returns the sides of a record of many, or why it is none.
+/// Returns the sides whose record is `record`, or the fault.
 pub fn all_decoded(alloc: Global, record: &[u8]) -> Result<Sides, RecordFault> {
     let tries = Tries::of(alloc, record.len());
     for _ in 0..TRIES {

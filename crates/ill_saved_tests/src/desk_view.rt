@@ -1,4 +1,4 @@
-//! What is seen of a desk.
+//! Views a desk, so that two views can be compared.
 
 use crate::line::Line;
 use crate::records::write_day;
@@ -10,20 +10,19 @@ use ill_test_kit::marks;
 use ill_values::TxnId;
 use std::alloc::Global;
 
-/// What a refusal must leave: the record of each side, and how many of its messages are released. What is shown
-/// of a side is the record's.
+/// The view of a desk. A refused call must not change the records, nor the counts of released messages.
 #[derive(Drop)]
 pub struct DeskView {
-    /// None where memory was wanted for it.
+    /// The records of all sides and the counts of their released messages, or `None` if memory ran out.
     kept: Option<Vec<u8>>,
-    /// Where a side stands, if the call is for one.
+    /// The shown parts of one side, if the call is for one side.
     standing: Option<Shown>,
-    /// How many sides a desk of many transactions holds.
+    /// The count of sides that a desk of many transactions holds.
     held: Option<usize>,
 }
 
 impl DeskView {
-    /// Returns what is seen of a desk, and of its side of `txn`. The one side of a desk is always seen.
+    /// Returns the view of a desk, and of its side in the transaction `txn`. A desk of one side always shows that side.
     pub fn of<H: Sided, S: Store>(
         alloc: Global,
         desk: &AnyDesk<H, S>,
@@ -37,17 +36,17 @@ impl DeskView {
         }
     }
 
-    /// Returns the marks round a call of the desk.
+    /// Returns the marks around a call of the desk.
     pub fn tries(&self, alloc: Global) -> Tries {
         Tries::of(alloc, self.kept.as_ref().map_or(0, |kept| kept.len()))
     }
 
-    /// Returns true if the desk keeps what was seen of it.
+    /// Returns true if the desk still has the records and released messages of this view.
     pub fn is_of<H: Sided, S: Store>(&self, alloc: Global, desk: &AnyDesk<H, S>) -> bool {
         self.kept.is_some() && self.kept == kept_by(alloc, desk)
     }
 
-    /// The state of the side, or IDLE.
+    /// Returns the state of the side, or IDLE if the view shows none.
     pub fn state(&self) -> State {
         match self.standing {
             Some(standing) => standing.state,
@@ -55,7 +54,7 @@ impl DeskView {
         }
     }
 
-    /// Writes where the side stands, and how many sides are held.
+    /// Writes the shown parts of the side, and the count of sides.
     pub fn write(&self, line: &mut Line) {
         if let Some(standing) = self.standing {
             write_shown(line, standing);
@@ -67,7 +66,7 @@ impl DeskView {
         }
     }
 
-    /// Writes the same after an answer that changes nothing, and whether anything has changed.
+    /// Writes the view after a call that must change nothing, and tells a change.
     pub fn write_after(&self, line: &mut Line, before: &DeskView) {
         self.write(line);
         if self.kept.is_none() || self.kept != before.kept {
@@ -76,7 +75,7 @@ impl DeskView {
     }
 }
 
-/// Writes the state and the due date, and how many messages are released and issued.
+/// Writes the state and the due date, and the counts of released and issued messages.
 pub fn write_shown(line: &mut Line, shown: Shown) {
     line.text(" ");
     line.show(&shown.state);
@@ -87,7 +86,7 @@ pub fn write_shown(line: &mut Line, shown: Shown) {
     line.show(&shown.issued);
 }
 
-/// Returns where the side of `txn` stands, or the one side that a desk has from the beginning. That takes no memory.
+/// Returns the shown parts of the side of `txn`, or of the only side. This takes no memory.
 fn standing_in<H: Sided, S: Store>(
     alloc: Global,
     desk: &AnyDesk<H, S>,
@@ -99,6 +98,7 @@ fn standing_in<H: Sided, S: Store>(
     standing
 }
 
+/// Returns the shown parts of the side of `txn`, or of the only side.
 fn standing_of<H: Sided, S: Store>(desk: &AnyDesk<H, S>, txn: Option<&TxnId>) -> Option<Shown> {
     match desk.first_key() {
         Some(key) => Some(desk.shown(key)),
@@ -106,7 +106,7 @@ fn standing_of<H: Sided, S: Store>(desk: &AnyDesk<H, S>, txn: Option<&TxnId>) ->
     }
 }
 
-/// Returns all that a desk keeps.
+/// Returns the records of all sides, each after the count of its released messages.
 fn kept_by<H: Sided, S: Store>(alloc: Global, desk: &AnyDesk<H, S>) -> Option<Vec<u8>> {
     let mut kept = Vec::new(alloc);
     for place in 0..H::count(desk) {
@@ -116,7 +116,7 @@ fn kept_by<H: Sided, S: Store>(alloc: Global, desk: &AnyDesk<H, S>) -> Option<Ve
     Some(kept)
 }
 
-/// Adds how many messages are released, and the record.
+/// Adds the count of released messages, and the record of `side`.
 fn push_kept(alloc: Global, kept: &mut Vec<u8>, side: &Side, shown: Shown) -> Option<()> {
     let record = encode_record(alloc, side).ok()?;
     kept.push(shown.released).ok()?;

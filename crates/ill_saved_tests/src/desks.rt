@@ -1,4 +1,4 @@
-//! Calls of a desk. An answer is a word, and where the desk stands after it.
+//! Calls a desk. An answer is a word, and the view of the desk after it.
 
 use crate::actions::action;
 use crate::calls::{BytesCall, WordsCall};
@@ -16,23 +16,32 @@ use std::alloc::Global;
 /// A call of a desk.
 #[derive(Clone, Copy)]
 pub enum DeskCall<'a> {
+    /// An action in this transaction.
     Act(&'a TxnId, &'a Action),
+    /// The message that these bytes encode is taken.
     TakeBytes(&'a [u8]),
+    /// This message is taken.
     Take(&'a Apdu),
+    /// The desk is saved.
     Save,
+    /// The desk is restarted from the landed record.
     Restart,
+    /// The message with this number in this transaction is encoded.
     Message(&'a TxnId, Number),
 }
 
-/// What a call of a desk answers.
+/// The answer of a call that did not fail.
 #[derive(Drop)]
 pub enum Answer {
+    /// The call has succeeded, and has no other result.
     Done,
+    /// The answer to a message.
     Taking(Taking),
+    /// The octets of a message.
     Bytes(Vec<u8>),
 }
 
-/// Makes a call.
+/// Makes a call, and returns its answer.
 pub fn answer_of<H: Sided, S: Store>(
     alloc: Global,
     desk: &mut AnyDesk<H, S>,
@@ -52,7 +61,7 @@ pub fn answer_of<H: Sided, S: Store>(
     Ok(Answer::Done)
 }
 
-/// Makes a call, and again while a growth of it is refused. No such call spends the plan of a store but a save.
+/// Makes a call, and repeats it while a growth is refused. Only a save uses up the plan of a store.
 fn answer_again<H: Sided, S: Store>(
     alloc: Global,
     desk: &mut AnyDesk<H, S>,
@@ -70,7 +79,8 @@ fn answer_again<H: Sided, S: Store>(
     Err(DeskFault::OutOfMemory)
 }
 
-/// Saves, and again while a growth is refused. Such a save may spend the plan of the store, which is planned again.
+/// Saves, and repeats that while a growth is refused. A refused save may use up the plan of the store, so it is planned
+/// again.
 fn save_again<H: Sided>(
     alloc: Global,
     desk: &mut AnyDesk<H, MemoryStore>,
@@ -89,12 +99,12 @@ fn save_again<H: Sided>(
     Err(DeskFault::OutOfMemory)
 }
 
-/// Returns true if a call of a desk answers want of memory.
+/// Returns true if a call of a desk answers out of memory.
 pub fn is_memory(answer: &Result<Answer, DeskFault>) -> bool {
     matches!(answer, Err(DeskFault::OutOfMemory))
 }
 
-/// Makes a call, and writes its answer: this word, if it has no other. Returns true if it was done.
+/// Makes a call, and writes its answer, or `word` if it has no other. Returns true if the call succeeded.
 pub fn perform<H: Sided, S: Store>(
     alloc: Global,
     line: &mut Line,
@@ -111,7 +121,7 @@ pub fn perform<H: Sided, S: Store>(
     is_done
 }
 
-/// Writes what a call answers: this word, if it has no other.
+/// Writes the answer of a call, or `word` if it has no other.
 pub fn write_answer(
     line: &mut Line,
     word: &str,
@@ -134,13 +144,13 @@ pub fn write_answer(
     }
 }
 
-/// Writes a word, and where a desk stands then.
+/// Writes a word, and the view of the desk after it.
 fn write_changed(line: &mut Line, word: &str, after: &DeskView) {
     line.text(word);
     after.write(line);
 }
 
-/// Writes whether a desk was begun, or why not.
+/// Writes that a desk has begun, or the fault.
 pub fn write_begun<D: Drop, S: Drop>(line: &mut Line, begun: Result<D, (DeskFault, S)>) {
     match begun {
         Ok(_) => line.text("done"),
@@ -167,7 +177,7 @@ pub fn call<H: Sided, S: Store>(
     }
 }
 
-/// Performs a call that takes bytes, and writes its answer. `live`, `put` and `save` are none of these.
+/// Performs a call that takes bytes, and writes its answer. Returns `None` for `live`, `put` and `save`.
 pub fn call_with<H: Sided, S: Store>(
     alloc: Global,
     line: &mut Line,
@@ -184,7 +194,7 @@ pub fn call_with<H: Sided, S: Store>(
     Some(())
 }
 
-/// `act WORDS`, after the transaction where the desk has many.
+/// Performs `act WORDS`. At a desk of many transactions the words begin with the transaction.
 pub fn act<H: Sided, S: Store>(
     alloc: Global,
     line: &mut Line,
@@ -198,7 +208,7 @@ pub fn act<H: Sided, S: Store>(
     Some(())
 }
 
-/// `save`, once. A call of a store that fails from a call on is counted, even if it is refused memory.
+/// Performs `save` once. It is not repeated, since a failing store counts even a refused call.
 pub fn save<H: Sided, S: Store>(alloc: Global, line: &mut Line, desk: &mut AnyDesk<H, S>) {
     let before = DeskView::of(alloc, desk, None);
     let answer = answer_of(alloc, desk, &DeskCall::Save);
@@ -206,7 +216,7 @@ pub fn save<H: Sided, S: Store>(alloc: Global, line: &mut Line, desk: &mut AnyDe
     write_answer(line, "saved", answer, &before, &after);
 }
 
-/// `save`, under this plan of the store.
+/// Performs `save` under this plan of the store.
 pub fn save_under<H: Sided>(
     alloc: Global,
     line: &mut Line,
@@ -219,7 +229,7 @@ pub fn save_under<H: Sided>(
     write_answer(line, "saved", answer, &before, &after);
 }
 
-/// `restart`: this word, or why not; and whether it was done.
+/// Performs `restart`, and writes `word` or the fault. Returns true if the call succeeded.
 pub fn restart<H: Sided, S: Store>(
     alloc: Global,
     line: &mut Line,
@@ -229,7 +239,7 @@ pub fn restart<H: Sided, S: Store>(
     perform(alloc, line, desk, &DeskCall::Restart, None, word)
 }
 
-/// `take BYTES`
+/// Performs `take BYTES`: the desk takes a message in bytes.
 fn take<H: Sided, S: Store>(
     alloc: Global,
     line: &mut Line,
@@ -241,7 +251,7 @@ fn take<H: Sided, S: Store>(
     perform(alloc, line, desk, &DeskCall::TakeBytes(bytes), txn, "");
 }
 
-/// `hand BYTES`: a message is read from them, and the desk takes it.
+/// Performs `hand BYTES`: a message is read from the bytes, and the desk takes it.
 fn hand<H: Sided, S: Store>(
     alloc: Global,
     line: &mut Line,
@@ -254,7 +264,8 @@ fn hand<H: Sided, S: Store>(
     Some(())
 }
 
-/// `message NUMBER`, after the transaction where the desk has many: its octets, or why there are none.
+/// Performs `message NUMBER`: writes the octets of the message, or the fault. At a desk of many transactions the words
+/// begin with the transaction.
 fn message<H: Sided, S: Store>(
     alloc: Global,
     line: &mut Line,
@@ -268,8 +279,7 @@ fn message<H: Sided, S: Store>(
     Some(())
 }
 
-/// `messages BYTES`: whether these bytes are all released messages of the desk's transaction, one after
-/// another.
+/// Performs `messages BYTES`: tells if these bytes are all released messages of the transaction, one after another.
 fn messages<H: Sided, S: Store>(
     alloc: Global,
     line: &mut Line,
@@ -283,7 +293,7 @@ fn messages<H: Sided, S: Store>(
     Some(())
 }
 
-/// All released messages, one after another.
+/// Returns all released messages, one after another.
 fn released<H: Sided, S: Store>(
     alloc: Global,
     desk: &AnyDesk<H, S>,

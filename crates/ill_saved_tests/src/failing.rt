@@ -1,4 +1,4 @@
-//! The system's files, of whose calls one fails, or of which a lookup deceives.
+//! Wraps the files of the system, so that one call fails, or a lookup tells something false.
 
 use std::alloc::{AllocError, Allocator, Global};
 use std::cell::Cell;
@@ -9,43 +9,52 @@ use std::os::unix::fs::MetadataExt;
 use std::rc::Rc;
 use std::rt::Files;
 
-/// Files whose calls are counted. The call before which so many are made fails, and does nothing.
+/// The files of the system, whose calls are counted. After a given count of calls, the next call fails and does
+/// nothing.
 #[derive(Drop)]
 pub struct Failing<'a> {
+    /// The files of the system.
     rt: &'a HostRuntime,
+    /// The count of calls before the one that fails.
     left: Left,
+    /// The false result of each lookup.
     deceit: Deceit<'a>,
+    /// The permissions of the file that was made last, at its making.
     made: Cell<u32>,
+    /// The owner that the last `lchown` asked for.
     given: Cell<Option<u32>>,
 }
 
-/// How a lookup of a file deceives.
+/// The false result of a lookup.
 #[derive(Clone, Copy)]
 pub enum Deceit<'a> {
-    /// It does not.
+    /// No lookup is false.
     None,
-    /// The file becomes a link to this path, once it was looked up.
+    /// After the lookup the file becomes a link to this path.
     Swapped(&'a str),
-    /// It tells of the file at this path.
+    /// The lookup tells of the file at this path.
     TellsOf(&'a str),
 }
 
-/// One of these files, which is open.
+/// An open file whose calls are counted.
 #[derive(Drop)]
 pub struct FailingFile {
+    /// The open file of the system.
     file: File,
     left: Left,
 }
 
-/// How many calls are left before the one that fails, and how that fails.
+/// The calls that are left before one fails.
 #[derive(Drop)]
 struct Left {
+    /// The count of calls before the one that fails.
     calls: Rc<Cell<u32>>,
+    /// The failing call returns an error of this kind.
     fault: ErrorKind,
 }
 
 impl<'a> Failing<'a> {
-    /// These files, whose call fails with this fault before which so many are made.
+    /// Returns files of which one call fails with `fault`, after `calls` others.
     pub fn after(
         rt: &'a HostRuntime,
         alloc: Global,
@@ -62,7 +71,7 @@ impl<'a> Failing<'a> {
         })
     }
 
-    /// These files, of which no call fails, and of which each lookup deceives.
+    /// Returns files of which no call fails, and each lookup tells something false.
     pub fn deceiving(
         rt: &'a HostRuntime,
         alloc: Global,
@@ -73,17 +82,17 @@ impl<'a> Failing<'a> {
         Ok(files)
     }
 
-    /// Who might read and write the last file that was made, when it was made.
+    /// Returns the permissions of the file that was made last, at its making.
     pub fn made(&self) -> u32 {
         self.made.get()
     }
 
-    /// The owner to whom a file was to be given last, if one was.
+    /// Returns the owner that the last `lchown` asked for, if there is one.
     pub fn given(&self) -> Option<u32> {
         self.given.get()
     }
 
-    /// What a lookup of a file tells.
+    /// Returns the result of a lookup, true or false.
     fn look_up(&self, path: &str) -> io::Result<Metadata> {
         match self.deceit {
             Deceit::None => self.rt.symlink_metadata(path),
@@ -99,7 +108,7 @@ impl<'a> Failing<'a> {
 }
 
 impl Left {
-    /// Passes a call, or fails it.
+    /// Counts a call, and fails if its turn has come.
     fn pass(&self) -> io::Result<()> {
         let calls = self.calls.get();
         self.calls.set(calls.wrapping_sub(1));
@@ -110,7 +119,7 @@ impl Left {
         }
     }
 
-    /// The same count, for another that makes calls.
+    /// Returns the count for another file, which shares it.
     fn share(&self) -> Result<Left, AllocError> {
         Ok(Left {
             calls: self.calls.clone()?,

@@ -1,4 +1,4 @@
-//! Stores in real files, and what stands in their folder.
+//! Calls stores in real files, and looks at the files of their folder.
 
 ghost use Rattle.std.specs.Prelude.{◌≡◌, IfErr};
 ghost use Rattle.ill_saved.specs.declared.store.StoreFault.TheVariants.{Failed};
@@ -22,17 +22,20 @@ use std::os::unix::fs::{MetadataExt, PermissionsExt};
 use std::rt::Files;
 use std::{fs, io};
 
-/// A folder, and the store that was laid in one of its files.
+/// A folder, and the store in one of its files.
 #[derive(Drop)]
 pub struct Folder<'a> {
+    /// The files of the system.
     rt: &'a HostRuntime,
+    /// The allocator of all values.
     alloc: Global,
     path: &'a str,
+    /// The store that the last `at` made.
     store: Option<FileStore<'a, HostRuntime>>,
 }
 
 impl<'a> Folder<'a> {
-    /// The folder at this path, in which no store was laid.
+    /// Returns the folder at `path`, without a store.
     pub fn new(rt: &'a HostRuntime, alloc: Global, path: &'a str) -> Folder<'a> {
         Folder {
             rt,
@@ -64,7 +67,7 @@ impl<'a> Folder<'a> {
         self.call_at(line, names, call, path.as_str(), words)
     }
 
-    /// Performs a call with the file at this path.
+    /// Performs a call on the file at `path`.
     fn call_at(
         &mut self,
         line: &mut Line,
@@ -109,7 +112,7 @@ impl<'a> Folder<'a> {
         }
     }
 
-    /// The path of the file with this name. A name that begins with a slash is a path.
+    /// The path of the folder.
     fn path(&self, name: &str) -> Option<String> {
         if name.starts_with('/') {
             return String::from_str(self.alloc, name).ok();
@@ -117,7 +120,7 @@ impl<'a> Folder<'a> {
         format!(in self.alloc; "{}/{name}", self.path).ok()
     }
 
-    /// `at NAME LIMIT`
+    /// Performs `at NAME LIMIT`: makes a store in this file.
     fn lay(&mut self, line: &mut Line, path: &str, limit: &str) -> Option<()> {
         let limit = limit.parse::<u32>().ok()?;
         let store = store_at(self.rt, self.alloc, path, limit).ok()?;
@@ -126,7 +129,7 @@ impl<'a> Folder<'a> {
         Some(())
     }
 
-    /// `load` or `save BYTES`, with the store that was laid.
+    /// Performs `load` or `save BYTES` on the store that `at` made.
     fn call_laid(&mut self, line: &mut Line, call: &str, bytes: &[u8]) -> Option<()> {
         let store = self.store.as_mut()?;
         match call {
@@ -136,7 +139,7 @@ impl<'a> Folder<'a> {
         Some(())
     }
 
-    /// `lock NAME`: the lock of the file is taken, and then let go.
+    /// Performs `lock NAME`: takes the lock of the file, and frees it again.
     fn lock(&self, line: &mut Line, path: &str) -> Option<()> {
         for _ in 0..TRIES {
             marks::begin(self.alloc);
@@ -153,8 +156,8 @@ impl<'a> Folder<'a> {
         None
     }
 
-    /// `failing NAME COUNT FAULT load`, or `save BYTES` in place of `load`: with a store of its own, whose
-    /// call of the system fails with this fault before which so many are made.
+    /// Performs `failing NAME COUNT FAULT load` or `failing NAME COUNT FAULT save BYTES`. The call has a new store,
+    /// over files of which one call fails with this fault, after COUNT others.
     fn failing(&self, line: &mut Line, names: &Names, path: &str, words: &str) -> Option<()> {
         let (count, words) = words.split_once(' ')?;
         let (fault, words) = words.split_once(' ')?;
@@ -163,12 +166,13 @@ impl<'a> Folder<'a> {
         self.call_failing(line, &files, path, call, &names.bytes(bytes, 0)?)
     }
 
+    /// Returns files of which one call fails, by the words for its count and its fault.
     fn failing_files(&self, count: &str, fault: &str) -> Option<Failing<'a>> {
         let (count, fault) = (count.parse::<u32>().ok()?, named(&FAULTS, fault)?);
         Failing::after(self.rt, self.alloc, count, fault).ok()
     }
 
-    /// `load`, or `save` of these bytes, with a store over these files.
+    /// Performs `load`, or `save` of `bytes`, on a store over these files.
     fn call_failing(
         &self,
         line: &mut Line,
@@ -181,19 +185,19 @@ impl<'a> Folder<'a> {
         call_store(self.alloc, line, &mut store, call, bytes)
     }
 
-    /// `desk NAME`: a requester that asks is saved there, and another desk starts from its record. With
-    /// `desk-many` the desks are of many transactions.
+    /// Performs `desk NAME`: a requester asks and is saved in the file, and a new desk starts from its record. In
+    /// `desk-many` both desks are of many transactions.
     fn desk<H: Sided>(&self, line: &mut Line, path: &str) -> Option<()> {
         Restarts::new(self.rt, self.alloc, path, 1000).write_started::<H>(line)
     }
 
-    /// `put NAME BYTES`: a file with these bytes.
+    /// Performs `put NAME BYTES`: writes a file with these bytes.
     fn put(&self, line: &mut Line, names: &Names, path: &str, words: &str) -> Option<()> {
         let bytes = names.bytes(words, 0)?;
         write_done(line, "put", fs::write(self.rt, path, bytes.as_slice()))
     }
 
-    /// `shows NAME`: what stands there, no link followed.
+    /// Performs `shows NAME`: tells what the path names, without following a link.
     fn shows(&self, line: &mut Line, path: &str) -> Option<()> {
         match self.rt.symlink_metadata(path) {
             Ok(found) => self.show(line, path, &found),
@@ -201,6 +205,7 @@ impl<'a> Folder<'a> {
         }
     }
 
+    /// Writes the kind of a file, and the bytes of an ordinary one.
     fn show(&self, line: &mut Line, path: &str, found: &Metadata) -> Option<()> {
         if found.is_symlink() {
             line.text("a link");
@@ -213,20 +218,20 @@ impl<'a> Folder<'a> {
         Some(())
     }
 
-    /// `mode NAME`: who may read and write the file, in octal.
+    /// Performs `mode NAME`: writes the permissions of the file in octal.
     fn mode(&self, line: &mut Line, path: &str) -> Option<()> {
         let found = fs::metadata(self.rt, path).ok()?;
         write_octal(self.alloc, line, found.mode() & 0o777)
     }
 
-    /// `change NAME MODE`: says in octal who may read and write the file.
+    /// Performs `change NAME MODE`: sets the permissions of the file, given in octal.
     fn change_mode(&self, line: &mut Line, path: &str, mode: &str) -> Option<()> {
         let mode = u32::from_str_radix(mode, 8).ok()?;
         let changed = fs::set_permissions(self.rt, path, Permissions::from_mode(mode));
         write_done(line, "changed", changed)
     }
 
-    /// `making NAME BYTES`: a save, and who may read and write the new file from its making on.
+    /// Performs `making NAME BYTES`: saves, and writes the permissions of the new file at its making.
     fn making(&self, line: &mut Line, names: &Names, path: &str, words: &str) -> Option<()> {
         let files = Failing::after(self.rt, self.alloc, u32::MAX, ErrorKind::Other).ok()?;
         self.call_failing(line, &files, path, "save", &names.bytes(words, 0)?)?;
@@ -234,7 +239,7 @@ impl<'a> Folder<'a> {
         write_octal(self.alloc, line, files.made())
     }
 
-    /// `swapped NAME TARGET`: a load of a record that becomes a link to the target once it was looked up.
+    /// Performs `swapped NAME TARGET`: loads a record that becomes a link to TARGET right after the lookup.
     fn swapped(&self, line: &mut Line, path: &str, target: &str) -> Option<()> {
         let files = Failing::deceiving(self.rt, self.alloc, Deceit::Swapped(target)).ok()?;
         let mut store = FileStore::at(&files, self.alloc, path, 100).ok()?;
@@ -242,8 +247,8 @@ impl<'a> Folder<'a> {
         Some(())
     }
 
-    /// `owned NAME OTHER BYTES`: a save over a record that seems to be the file OTHER, and to whom the new file
-    /// was to be given.
+    /// Performs `owned NAME OTHER BYTES`: saves over a record whose lookup tells of the file OTHER. Then writes the
+    /// owner to whom the new file was given.
     fn owned(&self, line: &mut Line, names: &Names, path: &str, words: &str) -> Option<()> {
         let (other, bytes) = words.split_once(' ')?;
         let bytes = names.bytes(bytes, 0)?;
@@ -255,8 +260,8 @@ impl<'a> Folder<'a> {
         Some(())
     }
 
-    /// `damaged NAME LIMIT DAMAGE`: what a desk answers behind whose back its record was damaged. With
-    /// `damaged-many` it is of many transactions.
+    /// Performs `damaged NAME LIMIT DAMAGE`: damages the record of a running desk, and writes its answers. In
+    /// `damaged-many` the desk is of many transactions.
     fn damaged<H: Sided>(
         &self,
         line: &mut Line,
@@ -271,6 +276,7 @@ impl<'a> Folder<'a> {
     }
 }
 
+/// The words of the faults of files.
 static FAULTS: [(&str, ErrorKind); 6] = [
     ("fault", ErrorKind::Other),
     ("not-found", ErrorKind::NotFound),
@@ -280,6 +286,7 @@ static FAULTS: [(&str, ErrorKind); 6] = [
     ("invalid", ErrorKind::InvalidInput),
 ];
 
+/// Returns the damage that `words` spell.
 fn damage_of(names: &Names, words: &str) -> Option<Damage> {
     match words {
         "folder" => Some(Damage::Folder),
@@ -288,7 +295,7 @@ fn damage_of(names: &Names, words: &str) -> Option<Damage> {
     }
 }
 
-/// Returns the store in the file at this path. It is laid again while a growth is refused.
+/// Returns the store in the file at `path`. While a growth is refused, it is made again.
 fn store_at<'a>(
     rt: &'a HostRuntime,
     alloc: Global,
@@ -305,7 +312,7 @@ fn store_at<'a>(
     Err(OutOfMemory)
 }
 
-/// Loads, and again while a growth is refused.
+/// Loads, and repeats that while a growth is refused.
 fn load_again(
     store: &mut FileStore<'_, HostRuntime>,
     alloc: Global,
@@ -320,7 +327,7 @@ fn load_again(
     Err(StoreFault::OutOfMemory)
 }
 
-/// Saves. That takes no memory.
+/// Saves as a quiet call, since a save takes no memory.
 fn save_quietly(
     store: &mut FileStore<'_, HostRuntime>,
     alloc: Global,
@@ -332,7 +339,7 @@ fn save_quietly(
     saved
 }
 
-/// `load`, or `save` of these bytes.
+/// Performs `load`, or `save` of `bytes`, and writes the answer.
 fn call_store<R: Files>(
     alloc: Global,
     line: &mut Line,
@@ -348,7 +355,7 @@ fn call_store<R: Files>(
     Some(())
 }
 
-/// Loads. That a failure is counted, and changes nothing else, is proved.
+/// Loads. The contract proves that a failure only raises the count of failures.
 fn load<R: Files>(
     store: &mut FileStore<'_, R>,
     alloc: Global,
@@ -358,7 +365,7 @@ fn load<R: Files>(
     store.load(alloc)
 }
 
-/// Saves. That a failure is counted, and changes nothing else, is proved.
+/// Saves. The contract proves that a failure only raises the count of failures.
 fn save<R: Files>(
     store: &mut FileStore<'_, R>,
     alloc: Global,
@@ -369,7 +376,7 @@ fn save<R: Files>(
     store.save(alloc, bytes)
 }
 
-/// Writes this word, if the call has succeeded.
+/// Writes `word` if the call has succeeded.
 fn write_done(line: &mut Line, word: &str, done: io::Result<()>) -> Option<()> {
     done.ok()?;
     line.text(word);
@@ -383,7 +390,7 @@ fn write_octal(alloc: Global, line: &mut Line, number: u32) -> Option<()> {
     Some(())
 }
 
-/// Writes that nothing stands there, if that is the fault.
+/// Writes `nothing` if the fault is that the path names no file.
 fn write_absent(line: &mut Line, fault: ErrorKind) -> Option<()> {
     if fault != ErrorKind::NotFound {
         return None;
@@ -392,7 +399,7 @@ fn write_absent(line: &mut Line, fault: ErrorKind) -> Option<()> {
     Some(())
 }
 
-/// Writes to whom a file was to be given, if it was.
+/// Writes the owner to whom a file was given, or `nobody`.
 fn write_owner(line: &mut Line, owner: Option<u32>) {
     match owner {
         Some(owner) => line.show(&owner),

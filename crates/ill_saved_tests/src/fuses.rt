@@ -1,4 +1,4 @@
-//! A desk over a store that fails from a call on.
+//! Calls a desk whose store fails from some call on.
 
 use crate::desk_view::DeskView;
 use crate::desks::{act, save};
@@ -10,24 +10,25 @@ use ill_saved::{AnyDesk, DeskFault, FuseStore, ManySides, MemoryStore, OneSide, 
 use ill_values::TxnId;
 use std::alloc::Global;
 
-/// A store that fails from a call on.
+/// A store that fails from some call on.
 type Fused = FuseStore<MemoryStore>;
 
-/// A desk, or a fault and its store.
+/// The new desk, or the fault and the store that was handed back.
 type Begun<H, S> = Result<AnyDesk<H, S>, (DeskFault, S)>;
 
-/// `fuse CALLS`: a requester asks, saves, cancels and saves again over a store that passes so many calls
-/// on, and a desk starts over what has landed then.
+/// Performs `fuse CALLS`: a requester asks, saves, cancels and saves again. Its store passes this many calls on, and
+/// then fails. Then a new desk starts from the landed record.
 pub fn fuse(alloc: Global, line: &mut Line, words: &str) -> Option<()> {
     fuse_with::<OneSide>(alloc, line, words, ["request none Maps", "cancel"])
 }
 
-/// `fuse-many CALLS`: the same with a desk that asks in one transaction and saves, and then in another.
+/// Performs `fuse-many CALLS`: a desk of many transactions asks in one and saves, and then in another.
 pub fn fuse_many(alloc: Global, line: &mut Line, words: &str) -> Option<()> {
     let actions = ["G1 T1 request none Maps", "G1 T2 request none Atlas"];
     fuse_with::<ManySides>(alloc, line, words, actions)
 }
 
+/// Performs two actions, each with a save, over a store that fails from some call on.
 fn fuse_with<H: Sided>(
     alloc: Global,
     line: &mut Line,
@@ -45,7 +46,7 @@ fn fuse_with<H: Sided>(
     Some(())
 }
 
-/// Performs the calls of the desk, if there is one, and gives the store back.
+/// Performs the actions of the desk, if it has begun, and returns the store.
 fn perform<H: Sided>(
     alloc: Global,
     line: &mut Line,
@@ -62,6 +63,7 @@ fn perform<H: Sided>(
     }
 }
 
+/// Performs each action with a save after it.
 fn act_and_save<H: Sided, S: Store>(
     alloc: Global,
     line: &mut Line,
@@ -76,7 +78,7 @@ fn act_and_save<H: Sided, S: Store>(
     }
 }
 
-/// Writes whether a desk was begun and where it stands, or why not.
+/// Writes that a desk has begun, and the view of it, or else the fault.
 fn write_begun<H: Sided, S: Store>(alloc: Global, line: &mut Line, begun: &Begun<H, S>) {
     match begun {
         Ok(desk) => {

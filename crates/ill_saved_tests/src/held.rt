@@ -1,4 +1,4 @@
-//! The sides of one library, which are put one after another.
+//! Puts sides into the `Sides` of one library, one after another.
 
 use crate::actions::action;
 use crate::calls::SidesCall;
@@ -13,7 +13,7 @@ use ill_test_kit::{marks, named};
 use ill_values::TxnId;
 use std::alloc::Global;
 
-/// Performs a call with words on the sides that lie there, and writes its answer.
+/// Performs a call with words on the sides of the bench, and writes its answer.
 pub fn call(
     alloc: Global,
     line: &mut Line,
@@ -31,7 +31,7 @@ pub fn call(
     }
 }
 
-/// `sides ROLE`: none is held yet. That takes no memory.
+/// Performs `sides ROLE`: puts an empty `Sides` of this role on the bench. This takes no memory.
 fn lay(alloc: Global, line: &mut Line, sides: &mut Option<Sides>, words: &str) -> Option<()> {
     let role = role_of(words)?;
     marks::begin_quiet(alloc);
@@ -41,7 +41,7 @@ fn lay(alloc: Global, line: &mut Line, sides: &mut Option<Sides>, words: &str) -
     Some(())
 }
 
-/// `fill COUNT`: requesters that have asked are put, of the transactions 0 to COUNT - 1 of the group G1.
+/// Performs `fill COUNT`: puts requesters that have asked, in the transactions 0 to COUNT - 1 of the group G1.
 fn fill(alloc: Global, line: &mut Line, sides: &mut Sides, words: &str) -> Option<()> {
     for number in 0..words.parse::<u16>().ok()? {
         let side = asking(alloc, number)?;
@@ -53,32 +53,33 @@ fn fill(alloc: Global, line: &mut Line, sides: &mut Sides, words: &str) -> Optio
     Some(())
 }
 
-/// A requester that has asked, in the transaction that this number names.
+/// Returns a requester that has asked, in the transaction with this number.
 fn asking(alloc: Global, number: u16) -> Option<Side> {
     let mut side = Side::idle(alloc, Role::Requester, numbered(alloc, number)?);
     side.act(alloc, &action(alloc, "request none Maps")?).ok()?;
     Some(side)
 }
 
-/// The transaction of the group G1 that this number names.
+/// Returns the id of the transaction with this number, in the group G1.
 pub fn numbered(alloc: Global, number: u16) -> Option<TxnId> {
     let transaction = format!(in alloc; "{number}").ok()?;
     TxnId::new(alloc, b"G1", transaction.as_bytes()).ok()
 }
 
-/// `put RECORD`: the side of this record is put.
+/// Performs `put RECORD`: puts the side with this record.
 pub fn put(alloc: Global, line: &mut Line, sides: &mut Sides, record: &[u8]) -> Option<()> {
     let side = decode_record(alloc, record).ok()?;
     put_side(alloc, line, sides, side);
     Some(())
 }
 
-/// `put-longest`: a side whose record is the longest is put.
+/// Performs `put-longest`: puts a side with the longest record.
 fn put_longest(alloc: Global, line: &mut Line, sides: &mut Sides) -> Option<()> {
     put_side(alloc, line, sides, longest(alloc)?);
     Some(())
 }
 
+/// Puts a side, and writes the answer.
 fn put_side(alloc: Global, line: &mut Line, sides: &mut Sides, side: Side) {
     match put_again(alloc, sides, side) {
         Ok(()) => line.text("done"),
@@ -92,7 +93,7 @@ fn put_side(alloc: Global, line: &mut Line, sides: &mut Sides, side: Side) {
     write_held(alloc, line, sides);
 }
 
-/// Puts a side, and again while a growth is refused. Such a put hands the side back, and changes nothing.
+/// Puts a side, and repeats that while a growth is refused. A refused call must hand the side back and change nothing.
 fn put_again(alloc: Global, sides: &mut Sides, side: Side) -> Result<(), (SidesFault, Side)> {
     let before = (
         encode_record2(alloc, sides).ok(),
@@ -114,10 +115,10 @@ fn put_again(alloc: Global, sides: &mut Sides, side: Side) -> Result<(), (SidesF
     Err((SidesFault::OutOfMemory, side))
 }
 
-/// The record of the sides, and that of a side that is put.
+/// The record of the sides, and the record of the side that is put.
 type Before = (Option<Vec<u8>>, Option<Vec<u8>>);
 
-/// Returns true if the sides, and the one that was handed back, have the records that they had.
+/// Returns true if the sides and the side that was handed back still have their records.
 fn is_as_before(alloc: Global, sides: &Sides, back: &Side, before: &Before) -> bool {
     let (all, one) = before;
     let is_same = *all == encode_record2(alloc, sides).ok()
@@ -125,6 +126,7 @@ fn is_as_before(alloc: Global, sides: &Sides, back: &Side, before: &Before) -> b
     is_same && all.is_some() && one.is_some()
 }
 
+/// Returns the word of a fault.
 fn fault_word(fault: SidesFault) -> &'static str {
     match fault {
         SidesFault::OtherRole => "other-role",
@@ -135,7 +137,7 @@ fn fault_word(fault: SidesFault) -> &'static str {
     }
 }
 
-/// `get GROUP TRANSACTION`: the side of this transaction.
+/// Performs `get GROUP TRANSACTION`: writes the side of this transaction.
 fn get(alloc: Global, line: &mut Line, sides: &Sides, words: &str) -> Option<()> {
     let (txn, _) = split_txn(alloc, words)?;
     marks::begin_quiet(alloc);
@@ -145,7 +147,7 @@ fn get(alloc: Global, line: &mut Line, sides: &Sides, words: &str) -> Option<()>
     Some(())
 }
 
-/// `at PLACE`: the side at this place.
+/// Performs `at PLACE`: writes the side at this place.
 fn at(alloc: Global, line: &mut Line, sides: &Sides, words: &str) -> Option<()> {
     let place = words.parse::<usize>().ok()?;
     marks::begin_quiet(alloc);
@@ -155,6 +157,7 @@ fn at(alloc: Global, line: &mut Line, sides: &Sides, words: &str) -> Option<()> 
     Some(())
 }
 
+/// Writes a side that was found, or `none`.
 fn write_found(line: &mut Line, side: Option<&Side>) {
     match side {
         Some(side) => write_head(line, side.state(), side.txn()),
@@ -162,7 +165,7 @@ fn write_found(line: &mut Line, side: Option<&Side>) {
     }
 }
 
-/// Writes how many sides are held, and the role of all.
+/// Writes the count of sides, and the role of all.
 pub fn write_held(alloc: Global, line: &mut Line, sides: &Sides) {
     marks::begin_quiet(alloc);
     let (count, role) = (sides.len(), sides.role());
@@ -174,11 +177,12 @@ pub fn write_held(alloc: Global, line: &mut Line, sides: &Sides) {
     });
 }
 
-/// The role of this name.
+/// Returns the role that `word` names.
 pub fn role_of(word: &str) -> Option<Role> {
     named(&ROLES, word)
 }
 
+/// The words of the two roles.
 static ROLES: [(&str, Role); 2] = [
     ("requester", Role::Requester),
     ("responder", Role::Responder),

@@ -1,4 +1,4 @@
-//! Sides before their first message.
+//! Makes sides that have issued and taken no message.
 
 ghost use Rattle.std.specs.Prelude.{◌≡◌, IfSome};
 ghost use Rattle.ill_saved.specs.Side.{idle_of};
@@ -9,7 +9,7 @@ use ill_saved::Side;
 use ill_values::TxnId;
 use std::alloc::Global;
 
-/// The side before its first message that `ROLE GROUP TRANSACTION` says.
+/// Returns the idle side that `ROLE GROUP TRANSACTION` names.
 pub fn idle(alloc: Global, words: &str) -> Option<Side>
     ensures { IfSome result (λ side. side ≡ idle_of side) }
 {
@@ -19,7 +19,7 @@ pub fn idle(alloc: Global, words: &str) -> Option<Side>
     Some(idle_side(alloc, role, txn))
 }
 
-/// The transaction that these words begin with, `GROUP TRANSACTION`, and the words after it.
+/// Returns the transaction that `words` begin with, as `GROUP TRANSACTION`, and the words after it.
 pub fn split_txn<'a>(alloc: Global, words: &'a str) -> Option<(TxnId, &'a str)> {
     let (group, words) = words.split_once(' ')?;
     let (transaction, words) = words.split_once(' ').unwrap_or((words, ""));

@@ -1,4 +1,4 @@
-//! What a save has landed, and that a save that was refused memory has landed nothing.
+//! Tests what a save lands, and that a save without memory lands nothing.
 
 use crate::actions::action;
 use crate::beginnings::MemoryDesk;
@@ -14,11 +14,11 @@ use ill_test_kit::marks;
 use ill_values::TxnId;
 use std::alloc::Global;
 
-/// An ILL-Request.
+/// An ILL-Request in transaction G1, T1, with number 1.
 const REQUEST: &[u8] = b"\x61\x16\x80\x01\x01\xA1\x08\x81\x02G1\x82\x02T1\x82\x01\x01\x86\x04Maps";
 
-/// `landing ROLE PLAN`: a requester that has saved its request cancels, or a responder that has saved it answers. It
-/// saves again under this plan, and goes back to what has landed.
+/// Performs `landing ROLE PLAN`. A requester with a saved request cancels, or a responder with a saved request answers.
+/// Then it saves under this plan, and restarts from the landed record.
 pub fn write<H: Sided>(alloc: Global, line: &mut Line, words: &str) -> Option<()> {
     let (role, plan) = words.split_once(' ')?;
     let (role, plan) = (role_of(role)?, plan_of(plan)?);
@@ -34,13 +34,13 @@ pub fn write<H: Sided>(alloc: Global, line: &mut Line, words: &str) -> Option<()
     None
 }
 
-/// Returns a desk that has not begun.
+/// Returns a desk with a new store, in transaction G1, T1.
 fn created<H: Sided>(alloc: Global, role: Role) -> Option<MemoryDesk<H>> {
     let txn = TxnId::new(alloc, b"G1", b"T1").ok()?;
     AnyDesk::begin(alloc, MemoryStore::new(alloc), H::first(role, txn)).ok()
 }
 
-/// Has the desk save twice. Returns true if a growth of the second save was refused, and nothing of it has landed.
+/// Saves the desk twice. Returns true if a growth of the second save was refused, and it has landed nothing.
 fn save<H: Sided>(
     alloc: Global,
     line: &mut Line,
@@ -77,7 +77,7 @@ fn save<H: Sided>(
     Some(false)
 }
 
-/// Returns true if the desk keeps what it had before, and goes back to what has landed before that.
+/// Returns true if the desk equals `before`, and after a restart equals `landed`.
 fn has_landed<H: Sided>(
     alloc: Global,
     desk: &mut MemoryDesk<H>,
@@ -89,7 +89,7 @@ fn has_landed<H: Sided>(
     is_kept && desk.restart(alloc).is_ok() && landed.is_of(alloc, desk)
 }
 
-/// Has the desk begin, and saves that.
+/// Makes the desk ask or take a request, and saves it.
 fn begin<H: Sided>(alloc: Global, desk: &mut MemoryDesk<H>, txn: &TxnId) -> Option<()> {
     match desk.role() {
         Role::Requester => act(alloc, desk, txn, "request none Maps")?,
@@ -98,7 +98,7 @@ fn begin<H: Sided>(alloc: Global, desk: &mut MemoryDesk<H>, txn: &TxnId) -> Opti
     desk.save(alloc).ok()
 }
 
-/// Has the desk do what is not saved.
+/// Performs a second action, which is not saved.
 fn go_on<H: Sided>(alloc: Global, desk: &mut MemoryDesk<H>, txn: &TxnId) -> Option<()> {
     let words = match desk.role() {
         Role::Requester => "cancel",
@@ -107,6 +107,7 @@ fn go_on<H: Sided>(alloc: Global, desk: &mut MemoryDesk<H>, txn: &TxnId) -> Opti
     act(alloc, desk, txn, words)
 }
 
+/// Performs the action that `words` spell.
 fn act<H: Sided>(alloc: Global, desk: &mut MemoryDesk<H>, txn: &TxnId, words: &str) -> Option<()> {
     let action = action(alloc, words)?;
     desk.act_on(alloc, H::key(txn), &action).ok()

@@ -1,19 +1,20 @@
-//! What is written of a line.
+//! Writes a line of the output.
 
 use ill_test_kit::Page;
 use std::alloc::Global;
 use std::fmt::Display;
 
-/// What is written of a line, or a part of it.
+/// A line of the output, or a part of one.
 #[derive(Drop)]
 pub struct Line {
+    /// The bytes of the line.
     page: Page,
-    /// The octet for which `#` is written.
+    /// `#` is written for this octet.
     octet: Option<u8>,
 }
 
 impl Line {
-    /// Nothing yet.
+    /// Returns an empty line.
     pub fn new(alloc: Global, octet: Option<u8>) -> Line {
         Line {
             page: Page::new(alloc),
@@ -21,27 +22,27 @@ impl Line {
         }
     }
 
-    /// Returns all that was written.
+    /// Returns the text of the line.
     pub fn page(&self) -> &Page {
         &self.page
     }
 
-    /// Writes another line's text.
+    /// Writes the text of another line.
     pub fn line(&mut self, other: &Line) {
         self.page.page(&other.page);
     }
 
-    /// Writes this text.
+    /// Writes `text`.
     pub fn text(&mut self, text: &str) {
         self.page.text(text);
     }
 
-    /// Writes what this value displays.
+    /// Writes `value` as `{}` prints it.
     pub fn show<T: Display>(&mut self, value: &T) {
         self.page.show(value);
     }
 
-    /// Writes a count, or `#` where it is the octet.
+    /// Writes a count, or `#` if it equals the octet.
     pub fn count(&mut self, count: u8) {
         if Some(count) == self.octet {
             self.text("#");
@@ -57,8 +58,8 @@ impl Line {
         }
     }
 
-    /// Writes a space and a qualifier, with `#` for each byte that is the octet. Five and more bytes that
-    /// are all the same are written as one of them and their count.
+    /// Writes a space and a qualifier, with `#` for each byte that equals the octet. Five or more equal bytes are
+    /// written as one of them and their count.
     pub fn qualifier(&mut self, text: &[u8]) {
         self.text(" ");
         if text.len() < 5 || text[1..] != text[..text.len() - 1] {
@@ -69,6 +70,7 @@ impl Line {
         self.count(u8::try_from(text.len()).unwrap_or(0));
     }
 
+    /// Writes bytes as characters, with `#` for each byte that equals the octet.
     fn letters(&mut self, text: &[u8]) {
         for byte in text {
             if Some(*byte) == self.octet {
@@ -79,7 +81,7 @@ impl Line {
         }
     }
 
-    /// Writes bytes as octets.
+    /// Writes bytes in hexadecimal.
     pub fn octets(&mut self, bytes: &[u8]) {
         if bytes.is_empty() {
             self.text("no bytes");

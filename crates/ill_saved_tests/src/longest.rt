@@ -1,4 +1,4 @@
-//! The longest record that a side has.
+//! Tests the longest record of one side.
 
 use crate::again::written_and_read;
 use crate::desk_view::DeskView;
@@ -9,11 +9,11 @@ use ill_saved::{Desk1, FileStore, Side, Store, encode_record};
 use ill_values::{Apdu, Body, Day, Item, Number, TxnId};
 use std::alloc::Global;
 
-/// The most bytes of a record that a file of the commands has.
+/// The commands limit the file of a record to this many bytes.
 const LIMIT: u32 = 65_535;
 
-/// Saves the longest record in a file, and writes its size, what a desk gives that begins from there, and
-/// what a store answers whose limit is one byte too low.
+/// Saves the longest record in a file, and writes its size and the desk that starts from it. Then writes the answer of
+/// a store whose limit is one byte too low.
 pub fn write(rt: &HostRuntime, alloc: Global, line: &mut Line, path: &str) -> Option<()> {
     let size = save(&mut store(rt, alloc, path, LIMIT)?, alloc)?;
     line.show(&size);
@@ -24,11 +24,12 @@ pub fn write(rt: &HostRuntime, alloc: Global, line: &mut Line, path: &str) -> Op
     Some(())
 }
 
-/// Writes whether a desk starts from this store.
+/// Writes the answer of a desk that starts from `store`.
 fn write_start<S: Store + Drop>(alloc: Global, line: &mut Line, store: S) {
     write_begun(line, Desk1::start(alloc, store));
 }
 
+/// Returns a store in the file at `path`.
 fn store<'a>(
     rt: &'a HostRuntime,
     alloc: Global,
@@ -38,17 +39,19 @@ fn store<'a>(
     FileStore::at(rt, alloc, path, limit).ok()
 }
 
-/// Saves the longest record, and gives its size.
+/// Saves the longest record, and returns its size.
 fn save<S: Store>(store: &mut S, alloc: Global) -> Option<u32> {
     let record = record(alloc)?;
     store.save(alloc, &record).ok()?;
     u32::try_from(record.len()).ok()
 }
 
+/// Returns the longest record.
 fn record(alloc: Global) -> Option<Vec<u8>> {
     encode_record(alloc, &longest(alloc)?).ok()
 }
 
+/// Writes the desk that starts from the longest record.
 fn write_started(rt: &HostRuntime, alloc: Global, line: &mut Line, path: &str) -> Option<()> {
     let desk = Desk1::start(alloc, store(rt, alloc, path, LIMIT)?).ok()?;
     let written = write_desk(alloc, line, &desk);
@@ -56,7 +59,7 @@ fn write_started(rt: &HostRuntime, alloc: Global, line: &mut Line, path: &str) -
     written
 }
 
-/// Writes where a desk stands, and the size of its last message.
+/// Writes the view of a desk, and the size of its last message.
 fn write_desk<S: Store + Drop>(alloc: Global, line: &mut Line, desk: &Desk1<S>) -> Option<()> {
     DeskView::of(alloc, desk, None).write(line);
     written_and_read(alloc, desk.side()).map(drop).ok()?;
@@ -66,7 +69,7 @@ fn write_desk<S: Store + Drop>(alloc: Global, line: &mut Line, desk: &Desk1<S>) 
     Some(())
 }
 
-/// A responder with the longest qualifiers, request and messages: a Shipped, and 254 renewals.
+/// Returns a responder with the longest qualifiers, request and messages: a Shipped, and 254 renewals.
 pub fn longest(alloc: Global) -> Option<Side> {
     let txn = TxnId::new(alloc, &[b'g'; 64], &[b't'; 64]).ok()?;
     let due = Day::new(2025, 3, 15).ok()?;
@@ -76,12 +79,14 @@ pub fn longest(alloc: Global) -> Option<Side> {
     Responder::of_parts(txn, state, None, None, None, false, request, issued).map(Side::Responder)
 }
 
+/// Returns the longest request, with number 255.
 fn request(alloc: Global, txn: &TxnId, day: Day) -> Option<Apdu> {
     let item = Item::new(alloc, &[b'm'; 200]).ok()?;
     let expiry = Some(day);
     apdu(alloc, txn, 255, Body::IllRequest { expiry, item })
 }
 
+/// Returns the 255 messages that the responder has issued.
 fn issued(alloc: Global, txn: &TxnId, due: Day) -> Option<Vec<Apdu>> {
     let mut issued = Vec::new(alloc);
     issued
@@ -93,13 +98,14 @@ fn issued(alloc: Global, txn: &TxnId, due: Day) -> Option<Vec<Apdu>> {
     Some(issued)
 }
 
+/// Returns the Renew-Answer yes with this number.
 fn renewal(alloc: Global, txn: &TxnId, due: Day, number: u8) -> Option<Apdu> {
     let granted = Some(due.after(u32::from(number)).ok()?);
     let answers = Number::new(255)?;
     apdu(alloc, txn, number, Body::RenewAnswer { answers, granted })
 }
 
-/// A message of this transaction.
+/// Returns a message of the transaction `txn`.
 fn apdu(alloc: Global, txn: &TxnId, number: u8, body: Body) -> Option<Apdu> {
     let number = Number::new(number)?;
     let txn = txn.copy(alloc).ok()?;

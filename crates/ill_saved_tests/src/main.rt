@@ -1,16 +1,16 @@
-//! Tests of saved records, stores and desks, whose cases are lines.
+//! Tests saved records, stores and desks.
 //!
-//! Each line of standard input is a case. It is written again with the library's answer after it, in place
-//! of the one that stands there; what a family of cases is answered stands below it. Notes, which begin
-//! with `# `, empty lines, and lines `let`, which give bytes a name, are written as they are. So `stdin` has
-//! the cases with the answers that they should get, and `stdout` is the same. Files stand in a folder that
-//! is made for them below the system's for temporary files, and removed at the end.
+//! Each line of the input is a case. The program writes it again, with the library's answer in place of its old answer.
+//! The answers to a family of cases are written below it. Three kinds of lines are written unchanged: empty lines,
+//! notes, which begin with `# `, and `let` lines, which name bytes. The file `stdin` has the cases with the answers
+//! that they must get, and `stdout` has the same bytes. The program makes a temporary folder for files, and removes it
+//! at the end.
 //!
-//! Calls that take memory stand between marks (`tries.rt`), and are made again while a growth of them is refused. A
-//! refused call changes nothing, and the answers are as ever.
+//! Marks surround calls that take memory (`tries.rt`), and such a call is repeated while a growth is refused. A refused
+//! call must change nothing, so refusals do not change the answers.
 //!
-//! To try some cases alone, in seconds: put their lines and the `let`s that they name into a file, as
-//! `grep -E '^(let|file) ' stdin > file`, and `rt try < file | diff file -` prints nothing where all is right.
+//! To try some cases alone, in seconds, put their lines and the `let` lines that they need into a file. An example is
+//! `grep -E '^(let|file) ' stdin > file`. Then `rt try < file | diff file -` prints nothing if all is right.
 #![tactic(auto)]
 
 mod actions;
@@ -56,6 +56,7 @@ fn main(rt: HostRuntime) -> io::Result<()> {
     printed
 }
 
+/// Prints the answers to the input, with files in the folder at `path`.
 fn print_answers(rt: &HostRuntime, alloc: Global, path: &str) -> io::Result<()> {
     let folder = Folder::new(rt, alloc, path);
     let mut session = Session::new(alloc, Bench::new(alloc, folder));

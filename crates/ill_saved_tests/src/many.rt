@@ -1,4 +1,4 @@
-//! What bytes are as a saved record of many sides.
+//! Reads bytes as the record of many sides.
 
 use crate::again::all_written_and_read;
 use crate::coding::{all_decoded, all_encoded};
@@ -10,7 +10,7 @@ use ill_saved::Sides;
 use sha2::{Digest, Sha256};
 use std::alloc::Global;
 
-/// Writes what bytes are as a record of many sides: a fault, or how many sides there are and each of them.
+/// Writes the sides whose record is `bytes`, with their count, or the fault.
 pub fn write_records(alloc: Global, line: &mut Line, bytes: &[u8]) {
     match all_decoded(alloc, bytes) {
         Ok(sides) => write_sides(alloc, line, &sides, bytes),
@@ -18,7 +18,7 @@ pub fn write_records(alloc: Global, line: &mut Line, bytes: &[u8]) {
     }
 }
 
-/// The same of the bytes with their SHA-256 after them.
+/// Writes the sides whose record is `bytes` with their SHA-256 after them, or the fault.
 pub fn write_sealed(alloc: Global, line: &mut Line, bytes: &[u8]) -> Option<()> {
     let mut sealed = Vec::from_slice(alloc, bytes).ok()?;
     sealed.extend_from_slice(&Sha256::digest(bytes)).ok()?;
@@ -26,7 +26,7 @@ pub fn write_sealed(alloc: Global, line: &mut Line, bytes: &[u8]) -> Option<()> 
     Some(())
 }
 
-/// `again`: the size of the record of the sides, which is read as the same sides.
+/// Performs `again`: writes the size of the record of the sides, which is read back as equal sides.
 pub fn write_again(alloc: Global, line: &mut Line, sides: &Sides) -> Option<()> {
     let record = all_encoded(alloc, sides).ok()?;
     let again = all_written_and_read(alloc, sides).ok()?;
@@ -36,7 +36,7 @@ pub fn write_again(alloc: Global, line: &mut Line, sides: &Sides) -> Option<()> 
     Some(())
 }
 
-/// Writes how many sides there are and each of them, and whether these bytes are their record.
+/// Writes each side and their count, and tells if `bytes` are their record.
 pub fn write_sides(alloc: Global, line: &mut Line, sides: &Sides, bytes: &[u8]) {
     write_held(alloc, line, sides);
     for place in 0..sides.len() {
@@ -52,6 +52,7 @@ pub fn write_sides(alloc: Global, line: &mut Line, sides: &Sides, bytes: &[u8]) 
     });
 }
 
+/// Returns true if `bytes` are the record of `sides`.
 fn is_record_of(alloc: Global, sides: &Sides, bytes: &[u8]) -> bool {
     match all_encoded(alloc, sides) {
         Ok(record) => record.as_slice() == bytes,

@@ -1,27 +1,31 @@
-//! Bytes as the lines write them.
+//! Reads bytes from their words.
 //!
-//! They are words: an octet is two hexadecimal digits, text stands in quotes, and a name stands for the
-//! bytes that a line `let` gave it. `13=02` puts an octet at place 13 of the bytes before it, in place of
-//! the octet there. Where a name has several values, set apart by `|`, the line is a family, with a case
-//! for each of them.
+//! An octet is two hexadecimal digits, and text is in quotes. A name stands for the bytes that a `let` line gave it.
+//! `13=02` replaces the octet at place 13 of the bytes before it by 02. If a name has several values, with `|` between
+//! them, the line is a family, with one case for each value.
 
 use std::alloc::Global;
 
-/// The names that lines `let` gave.
+/// The names that `let` lines gave.
 #[derive(Drop)]
 pub struct Names {
+    /// The allocator of all values.
     alloc: Global,
+    /// The names, with the oldest first.
     names: Vec<Name>,
 }
 
+/// A name, and the values that it stands for.
 #[derive(Drop)]
 struct Name {
+    /// The name itself.
     word: String,
+    /// The values of the name, one for each case.
     values: Vec<Vec<u8>>,
 }
 
 impl Names {
-    /// No names yet.
+    /// Returns no names.
     pub fn new(alloc: Global) -> Names {
         Names {
             alloc,
@@ -29,7 +33,7 @@ impl Names {
         }
     }
 
-    /// Gives the first of these words as a name to the others.
+    /// Defines the first word as a name for the values of the others.
     pub fn add(&mut self, words: &str) -> Option<()> {
         let (word, values) = words.split_once(' ')?;
         let name = Name {
@@ -39,7 +43,7 @@ impl Names {
         self.names.push(name).ok()
     }
 
-    /// The values that these words are, with `|` between them.
+    /// Returns the values that `words` spell, with `|` between them.
     fn values(&self, words: &str) -> Option<Vec<Vec<u8>>> {
         let mut values = Vec::new(self.alloc);
         values.push(Vec::new(self.alloc)).ok()?;
@@ -49,7 +53,7 @@ impl Names {
         Some(values)
     }
 
-    /// Begins another value at `|`, and else adds a word to the last.
+    /// Begins a new value at `|`. Any other word is added to the last value.
     fn push_value(&self, values: &mut Vec<Vec<u8>>, word: &str) -> Option<()> {
         if word == "|" {
             return values.push(Vec::new(self.alloc)).ok();
@@ -57,7 +61,7 @@ impl Names {
         self.push_word(values.last_mut()?, word, 0)
     }
 
-    /// How many cases these words are.
+    /// Returns the count of cases of these words.
     pub fn cases(&self, words: &str) -> usize {
         let mut cases = 1;
         for word in words.split_whitespace() {
@@ -67,7 +71,7 @@ impl Names {
         cases
     }
 
-    /// The bytes that these words are in this case.
+    /// Returns the bytes of these words in the case `case`.
     pub fn bytes(&self, words: &str, case: usize) -> Option<Vec<u8>> {
         let mut bytes = Vec::new(self.alloc);
         for word in words.split_whitespace() {
@@ -76,6 +80,7 @@ impl Names {
         Some(bytes)
     }
 
+    /// Adds the bytes of a word, or replaces one octet.
     fn push_word(&self, bytes: &mut Vec<u8>, word: &str, case: usize) -> Option<()> {
         match word.split_once('=') {
             Some((place, piece)) => self.put_octet(bytes, place, piece, case),
@@ -83,7 +88,7 @@ impl Names {
         }
     }
 
-    /// Puts the octet of a piece in place of the one that stands there.
+    /// Replaces the octet at `place` by the octet that `piece` spells.
     fn put_octet(&self, bytes: &mut Vec<u8>, place: &str, piece: &str, case: usize) -> Option<()> {
         let place = place.parse::<usize>().ok()?;
         self.push_piece(bytes, piece, case)?;
@@ -92,6 +97,7 @@ impl Names {
         Some(())
     }
 
+    /// Adds the bytes that `piece` spells.
     fn push_piece(&self, bytes: &mut Vec<u8>, piece: &str, case: usize) -> Option<()> {
         if let Some(text) = piece.strip_prefix('"') {
             return bytes
@@ -104,7 +110,7 @@ impl Names {
         }
     }
 
-    /// The value of a name in this case: its only one is that of every case.
+    /// Returns the value of a name in the case `case`. A single value holds in every case.
     fn value(&self, word: &str, case: usize) -> Option<&[u8]> {
         match self.find(word) {
             [] => None,
@@ -113,7 +119,7 @@ impl Names {
         }
     }
 
-    /// The values of a name, or none where it is no name.
+    /// Returns the values of a name, or no values if `word` is not a name.
     fn find(&self, word: &str) -> &[Vec<u8>] {
         for name in &self.names {
             if name.word.as_str() == word {

@@ -1,4 +1,4 @@
-//! What bytes are as a saved record, and what the readers of a side tell.
+//! Reads bytes as the record of one side, and writes the parts of the side.
 
 use crate::again::written_and_read;
 use crate::coding::{decoded, encoded};
@@ -10,7 +10,7 @@ use ill_saved::Side;
 use ill_values::{Apdu, Body, Day, Number, TxnId};
 use std::alloc::Global;
 
-/// Writes what bytes are as a record: a fault, or a side.
+/// Writes the side whose record is `bytes`, or the fault.
 pub fn write_record(alloc: Global, line: &mut Line, bytes: &[u8]) {
     match decoded(alloc, bytes) {
         Ok(side) => write_side(alloc, line, &side, bytes),
@@ -18,7 +18,7 @@ pub fn write_record(alloc: Global, line: &mut Line, bytes: &[u8]) {
     }
 }
 
-/// Writes what the readers of a side tell, and whether its record has these bytes.
+/// Writes the parts of a side, and tells if `bytes` are its record.
 pub fn write_side(alloc: Global, line: &mut Line, side: &Side, bytes: &[u8]) {
     match side {
         Side::Requester(requester) => write_requester(line, requester),
@@ -36,6 +36,7 @@ pub fn write_side(alloc: Global, line: &mut Line, side: &Side, bytes: &[u8]) {
     });
 }
 
+/// Writes the parts of a requester.
 fn write_requester(line: &mut Line, side: &Requester) {
     line.text("requester ");
     write_head(line, side.state(), side.txn());
@@ -47,6 +48,7 @@ fn write_requester(line: &mut Line, side: &Requester) {
     write_mark(line, " declined", side.is_declined());
 }
 
+/// Writes the parts of a responder.
 fn write_responder(line: &mut Line, side: &Responder) {
     line.text("responder ");
     write_head(line, side.state(), side.txn());
@@ -59,7 +61,7 @@ fn write_responder(line: &mut Line, side: &Responder) {
     write_request(line, side.request());
 }
 
-/// Writes the number of an ILL-Request and what it says, if there is one.
+/// Writes the number of an ILL-Request and its fields, if there is one.
 fn write_request(line: &mut Line, request: Option<&Apdu>) {
     if let Some(request) = request {
         write_number(line, " request ", Some(request.number));
@@ -75,6 +77,7 @@ pub fn write_head(line: &mut Line, state: State, txn: &TxnId) {
     line.qualifier(txn.transaction());
 }
 
+/// Writes a number after its label, if there is one.
 fn write_number(line: &mut Line, label: &str, number: Option<Number>) {
     if let Some(number) = number {
         line.text(label);
@@ -90,13 +93,14 @@ pub fn write_day(line: &mut Line, label: &str, day: Option<Day>) {
     }
 }
 
+/// Writes the label of a mark if it is set.
 fn write_mark(line: &mut Line, label: &str, is_set: bool) {
     if is_set {
         line.text(label);
     }
 }
 
-/// Writes the type of a message and its further fields.
+/// Writes the type of a message and its other fields.
 fn write_body(line: &mut Line, body: &Body) {
     write_name(line, body);
     match body {
@@ -118,6 +122,7 @@ fn write_body(line: &mut Line, body: &Body) {
     }
 }
 
+/// Writes the yes or no of a reply, and the number that it answers.
 fn write_reply(line: &mut Line, answers: Number, yes: bool) {
     line.text(if yes { " yes to " } else { " no to " });
     line.show(&answers.get());
@@ -132,7 +137,8 @@ fn write_issued(alloc: Global, line: &mut Line, side: &Side) {
     run.write(line);
 }
 
-/// The message that a side has issued with this number. It must say that number and the transaction.
+/// Returns the message that a side has issued with the number `value`, as text. Its fields must have that number and
+/// the transaction of the side.
 fn issued(alloc: Global, side: &Side, value: u8) -> Line {
     let mut line = Line::new(alloc, None);
     match find(side, value) {
@@ -144,7 +150,7 @@ fn issued(alloc: Global, side: &Side, value: u8) -> Line {
     line
 }
 
-/// The message of this number, and the transaction.
+/// Returns the message with the number `value`, and the transaction of the side.
 fn find(side: &Side, value: u8) -> Option<(&Apdu, &TxnId)> {
     let number = Number::new(value)?;
     match side {

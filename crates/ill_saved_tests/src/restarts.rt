@@ -1,4 +1,4 @@
-//! Desks whose record was damaged in its file.
+//! Tests desks whose record was damaged in its file.
 
 use crate::actions::action;
 use crate::desk_view::DeskView;
@@ -10,37 +10,41 @@ use ill_values::{Number, TxnId};
 use std::alloc::Global;
 use std::{fs, io};
 
-/// A file of the system as a desk's store.
+/// A store in a file of the system.
 type HostStore<'a> = FileStore<'a, HostRuntime>;
 
-/// A desk over a file of the system.
+/// A desk whose store is a file of the system.
 type HostDesk<'a, H> = AnyDesk<H, HostStore<'a>>;
 
-/// A desk, or a fault and its store.
+/// The new desk, or the fault and the store that was handed back.
 type Begun<'a, H> = Result<HostDesk<'a, H>, (DeskFault, HostStore<'a>)>;
 
-/// What has become of the record.
+/// The damage that a record gets.
 #[derive(Drop)]
 pub enum Damage {
-    /// The file has these bytes.
+    /// The file gets these bytes.
     Bytes(Vec<u8>),
-    /// A folder is in its place.
+    /// A folder replaces the file.
     Folder,
-    /// No file is there.
+    /// The file is removed.
     Nothing,
 }
 
-/// A file for a record, with a limit.
+/// The path and the limit of a file for a record.
 #[derive(Drop)]
 pub struct Restarts<'a, 'p> {
+    /// The files of the system.
     rt: &'a HostRuntime,
+    /// The allocator of all values.
     alloc: Global,
+    /// The path of the file.
     path: &'p str,
+    /// The most bytes that the store saves.
     limit: u32,
 }
 
 impl<'a, 'p> Restarts<'a, 'p> {
-    /// The file at this path.
+    /// Returns the file at `path`, with this limit.
     pub fn new(rt: &'a HostRuntime, alloc: Global, path: &'p str, limit: u32) -> Restarts<'a, 'p> {
         Restarts {
             rt,
@@ -50,8 +54,8 @@ impl<'a, 'p> Restarts<'a, 'p> {
         }
     }
 
-    /// Writes what a desk answers whose record is damaged: to `restart`, with where it stands then, and
-    /// then what `start` and `create` answer there.
+    /// Damages the record of a running desk. Writes the answer of `restart` with the view of the desk, and then the
+    /// answers of `start` and `create`.
     pub fn write_damaged<H: Sided>(&self, line: &mut Line, damage: &Damage) -> Option<()> {
         self.damaged::<H>(line, damage)?;
         line.text("; start ");
@@ -61,7 +65,7 @@ impl<'a, 'p> Restarts<'a, 'p> {
         Some(())
     }
 
-    /// Writes where a desk stands that starts from the record of another, and its first message.
+    /// Writes the view of a desk that starts from the record of another, and its first message.
     pub fn write_started<H: Sided>(&self, line: &mut Line) -> Option<()> {
         self.asked::<H>()?;
         line.text("started");
@@ -71,28 +75,29 @@ impl<'a, 'p> Restarts<'a, 'p> {
         shown
     }
 
+    /// Returns a store in the file.
     fn store(&self) -> Option<HostStore<'a>> {
         FileStore::at(self.rt, self.alloc, self.path, self.limit).ok()
     }
 
-    /// A desk that starts from the record.
+    /// Starts a desk from the record.
     fn start<H: Sided>(&self) -> Option<Begun<'a, H>> {
         Some(AnyDesk::start(self.alloc, self.store()?))
     }
 
-    /// A desk that has not asked.
+    /// Creates a requester that has not asked.
     fn create<H: Sided>(&self) -> Option<Begun<'a, H>> {
         let (store, txn) = self.store().zip(self.txn())?;
         let first = H::first(Role::Requester, txn);
         Some(AnyDesk::begin(self.alloc, store, first))
     }
 
-    /// The transaction in which it asks.
+    /// Returns the transaction in which the desk asks.
     fn txn(&self) -> Option<TxnId> {
         TxnId::new(self.alloc, b"G1", b"T1").ok()
     }
 
-    /// A desk asks, and is gone.
+    /// Saves a desk that has asked, and drops it.
     fn asked<H: Sided>(&self) -> Option<()> {
         let mut desk: HostDesk<'a, H> = self.create()?.ok()?;
         let asked = self.ask(&mut desk);
@@ -100,17 +105,19 @@ impl<'a, 'p> Restarts<'a, 'p> {
         asked
     }
 
-    /// Has the desk ask, and saves that.
+    /// Makes the desk ask, and saves it.
     fn ask<H: Sided>(&self, desk: &mut HostDesk<'a, H>) -> Option<()> {
         self.act(desk, "request none Maps")?;
         desk.save(self.alloc).ok()
     }
 
+    /// Performs the action that `words` spell.
     fn act<H: Sided>(&self, desk: &mut HostDesk<'a, H>, words: &str) -> Option<()> {
         let (txn, action) = self.txn().zip(action(self.alloc, words))?;
         desk.act_on(self.alloc, H::key(&txn), &action).ok()
     }
 
+    /// Writes the view of the desk, and its first message.
     fn show<H: Sided>(&self, line: &mut Line, desk: &HostDesk<'a, H>) -> Option<()> {
         DeskView::of(self.alloc, desk, Some(&self.txn()?)).write(line);
         line.text(", ");
@@ -118,7 +125,7 @@ impl<'a, 'p> Restarts<'a, 'p> {
         Some(())
     }
 
-    /// Damages the record of a desk that has asked and then wishes to cancel, and restarts it.
+    /// Damages the record of a desk that has asked and then cancelled, and restarts the desk.
     fn damaged<H: Sided>(&self, line: &mut Line, damage: &Damage) -> Option<()> {
         let mut desk: HostDesk<'a, H> = self.create()?.ok()?;
         let answered = self.damage(line, &mut desk, damage);
@@ -126,6 +133,7 @@ impl<'a, 'p> Restarts<'a, 'p> {
         answered
     }
 
+    /// Makes the desk ask and cancel, damages its record, and restarts it.
     fn damage<H: Sided>(
         &self,
         line: &mut Line,
@@ -151,8 +159,8 @@ impl<'a, 'p> Restarts<'a, 'p> {
         }
     }
 
-    /// Writes what `restart` answers, and where the desk stands then. After a fault that is as before,
-    /// and its first message has the bytes that it had.
+    /// Writes the answer of `restart`, and the view of the desk. A failed restart must leave the desk and its first
+    /// message unchanged.
     fn restart<H: Sided>(&self, line: &mut Line, desk: &mut HostDesk<'a, H>) -> Option<()> {
         let message = self.first_message(desk)?;
         let is_done = restart(self.alloc, line, desk, "done");
@@ -162,6 +170,7 @@ impl<'a, 'p> Restarts<'a, 'p> {
         Some(())
     }
 
+    /// Returns true if the first message of the desk has these bytes.
     fn has_first_message<H: Sided>(&self, desk: &HostDesk<'a, H>, bytes: &[u8]) -> bool {
         match self.first_message(desk) {
             Some(message) => message.as_slice() == bytes,
@@ -169,6 +178,7 @@ impl<'a, 'p> Restarts<'a, 'p> {
         }
     }
 
+    /// Returns the bytes of the first message of the desk.
     fn first_message<H: Sided>(&self, desk: &HostDesk<'a, H>) -> Option<Vec<u8>> {
         let txn = self.txn()?;
         desk.message_of(self.alloc, H::key(&txn), Number::new(1)?)

@@ -1,19 +1,23 @@
-//! Numbered texts, where neighbours that are alike are written once.
+//! Writes numbered texts, and equal neighbours only once.
 
 use crate::line::Line;
 use std::alloc::Global;
 
-/// The last of the texts that are alike, and their numbers: from `first` on, and before `next`.
+/// The last of the texts, which those from the number `first` up to `next` - 1 equal.
 #[derive(Drop)]
 pub struct Run {
+    /// The mark is written before each run of equal texts.
     mark: &'static str,
+    /// The number of the first text of the run.
     first: usize,
+    /// The number of the next text.
     next: usize,
+    /// The text that the run repeats.
     text: Line,
 }
 
 impl Run {
-    /// No texts, the first of which will have this number. The mark stands before those that are alike.
+    /// Returns an empty run whose first text will have the number `first`.
     pub fn new(alloc: Global, mark: &'static str, first: usize) -> Run {
         Run {
             mark,
@@ -23,7 +27,7 @@ impl Run {
         }
     }
 
-    /// Takes the next text, and writes those before it where it is another.
+    /// Adds the next text. If it differs, writes the run before it.
     pub fn push(&mut self, line: &mut Line, text: Line) {
         if text.page().so_far() != self.text.page().so_far() {
             self.write(line);
@@ -33,7 +37,7 @@ impl Run {
         self.next = self.next.saturating_add(1);
     }
 
-    /// Writes the texts that are not written yet.
+    /// Writes the run that is not written yet.
     pub fn write(&self, line: &mut Line) {
         if self.next <= self.first {
             return;

@@ -1,4 +1,4 @@
-//! Lines of cases, one after another.
+//! Performs the lines of the input, one after another.
 
 use crate::bench::Answers;
 use crate::calls::{Call, CaseCall, RecordCall, call_of};
@@ -10,21 +10,25 @@ use crate::runs::Run;
 use ill_test_kit::{INDENT, Lines, Page};
 use std::alloc::Global;
 
+/// The answer to a line that is no case.
 const NOT_UNDERSTOOD: &str = "NOT UNDERSTOOD";
 
-/// What stands before the answer to a case of a family.
+/// This begins the answer to a case of a family.
 const BELOW_LINE: &str = "\n  ";
 
-/// What earlier lines left: names, and a store or a desk.
+/// The names that earlier lines gave, and the bench with its store or desk.
 #[derive(Drop)]
 pub struct Session<B: Answers> {
+    /// The allocator of all values.
     alloc: Global,
+    /// The names that `let` lines gave.
     names: Names,
+    /// The bench on which calls are performed.
     bench: B,
 }
 
 impl<B: Answers> Session<B> {
-    /// Before the first line.
+    /// Returns a session before the first line.
     pub fn new(alloc: Global, bench: B) -> Session<B> {
         Session {
             alloc,
@@ -33,6 +37,7 @@ impl<B: Answers> Session<B> {
         }
     }
 
+    /// Writes a line with its answers.
     fn write(&mut self, line: &mut Line, text: &str) {
         let (word, words) = text.split_once(' ').unwrap_or((text, ""));
         line.text(text);
@@ -45,13 +50,14 @@ impl<B: Answers> Session<B> {
         line.text("\n");
     }
 
+    /// Defines the name that a `let` line gives.
     fn give_name(&mut self, line: &mut Line, words: &str) {
         if self.names.add(words).is_none() {
             line.text(NOT_UNDERSTOOD);
         }
     }
 
-    /// Writes the answer of a line, or of each case of a family after its number, from 0.
+    /// Writes the answer of a line, or of each case of a family after its number, from 0 on.
     fn cases(&mut self, line: &mut Line, call: CaseCall, words: &str) {
         line.text(":");
         let count = self.count(call, words);
@@ -63,6 +69,7 @@ impl<B: Answers> Session<B> {
         line.line(&answer);
     }
 
+    /// Writes the answers of a family. Equal answers of neighbours are written once.
     fn family(&mut self, line: &mut Line, call: CaseCall, words: &str, count: usize) {
         let mut run = Run::new(self.alloc, BELOW_LINE, 0);
         for case in 0..count {
@@ -72,7 +79,7 @@ impl<B: Answers> Session<B> {
         run.write(line);
     }
 
-    /// How many cases a line has. Those of `prefixes` are prefixes, which have the sizes from 0 on.
+    /// Returns the count of cases of a line. The cases of prefixes are the prefixes of all sizes.
     fn count(&self, call: CaseCall, words: &str) -> usize {
         if let CaseCall::Record(RecordCall::Prefixes | RecordCall::RecordsPrefixes) = call {
             if let Some(bytes) = self.names.bytes(words, 0) {
@@ -82,6 +89,7 @@ impl<B: Answers> Session<B> {
         self.names.cases(words)
     }
 
+    /// Returns the answer of one case.
     fn case(&mut self, call: CaseCall, words: &str, case: usize) -> Line {
         let mut line = Line::new(self.alloc, octet_of(call, case));
         if self.answer(&mut line, call, words, case).is_none() {
@@ -90,6 +98,7 @@ impl<B: Answers> Session<B> {
         line
     }
 
+    /// Performs the call of one case, and writes its answer.
     fn answer(&mut self, line: &mut Line, call: CaseCall, words: &str, case: usize) -> Option<()> {
         match call {
             CaseCall::Words(call) => self.bench.call(line, call, words),
@@ -107,7 +116,7 @@ impl<B: Answers> Session<B> {
 }
 
 impl<B: Answers> Lines for Session<B> {
-    /// Performs a line. An answer that stands there, after a case or below a family, is left out.
+    /// Performs a line. Its old answer, after the case or below a family, is dropped.
     fn perform(&mut self, page: &mut Page, text: &str) {
         if !text.starts_with(INDENT) {
             let mut line = Line::new(self.alloc, None);
@@ -121,7 +130,7 @@ impl<B: Answers> Lines for Session<B> {
     }
 }
 
-/// Writes what bytes are as a record, of one side or of many.
+/// Writes the side or the sides whose record is `bytes`.
 fn write_bytes(alloc: Global, line: &mut Line, call: RecordCall, bytes: &[u8]) -> Option<()> {
     match call {
         RecordCall::Record | RecordCall::Octets | RecordCall::Prefixes => {
@@ -133,7 +142,7 @@ fn write_bytes(alloc: Global, line: &mut Line, call: RecordCall, bytes: &[u8]) -
     Some(())
 }
 
-/// A case without the answer after it. Notes stay as they are.
+/// Returns a case without its answer. Notes are unchanged.
 fn without_answer(text: &str) -> &str {
     if text.starts_with('#') {
         return text;
@@ -142,7 +151,7 @@ fn without_answer(text: &str) -> &str {
     case.strip_suffix(':').unwrap_or(case)
 }
 
-/// The octet for which `#` is written.
+/// Returns the octet for which `#` is written.
 fn octet_of(call: CaseCall, case: usize) -> Option<u8> {
     match call {
         CaseCall::Record(RecordCall::Octets) => u8::try_from(case).ok(),
@@ -150,7 +159,7 @@ fn octet_of(call: CaseCall, case: usize) -> Option<u8> {
     }
 }
 
-/// The bytes of a case: a prefix of these, where the cases are prefixes.
+/// Returns the bytes of a case: a prefix of `bytes` if the cases are prefixes.
 fn prefix_of(call: RecordCall, bytes: &[u8], case: usize) -> &[u8] {
     match call {
         RecordCall::Prefixes | RecordCall::RecordsPrefixes => bytes.get(..case).unwrap_or(bytes),

@@ -1,4 +1,4 @@
-//! Desks of one transaction or of many, as the cases ask for their sides.
+//! Lets the cases treat desks of one transaction and of many alike.
 
 use crate::beginnings::Begun;
 use crate::held::role_of;
@@ -10,7 +10,7 @@ use ill_saved::{
 use ill_values::TxnId;
 use std::alloc::Global;
 
-/// What the desk of a case holds: one side, or the sides of many transactions.
+/// The cases call a desk by these functions, with one side or with many.
 pub trait Sided: Holdings {
     /// Returns the name of the side of `txn`.
     fn key(txn: &TxnId) -> &Self::Key;

@@ -1,21 +1,21 @@
-//! Calls of a store in memory, and again while a growth is refused.
+//! Calls a store in memory, and repeats a call while a growth is refused.
 
 use crate::tries::TRIES;
 use ill_saved::{MemoryStore, NextCall, Store, StoreFault};
 use ill_test_kit::marks;
 use std::alloc::Global;
 
-/// Returns all that a store has: what has landed, its failures and its plan; or nothing if memory was wanted for it.
+/// Returns the text of a store: the landed bytes, its failures and its plan. Returns `None` if memory runs out.
 pub fn seen(alloc: Global, store: &MemoryStore) -> Option<String> {
     format!(in alloc; "{store:?}").ok()
 }
 
-/// Returns true if a store has what was seen before.
+/// Returns true if the text of a store is still `before`.
 pub fn is_as_seen(alloc: Global, store: &MemoryStore, before: &Option<String>) -> bool {
     before.is_some() && seen(alloc, store) == *before
 }
 
-/// Returns a store in which nothing has landed. That takes no memory.
+/// Returns a store in which nothing has landed. This takes no memory.
 pub fn new(alloc: Global) -> MemoryStore {
     marks::begin_quiet(alloc);
     let store = MemoryStore::new(alloc);
@@ -23,7 +23,7 @@ pub fn new(alloc: Global) -> MemoryStore {
     store
 }
 
-/// Loads. A load that is refused memory changes nothing.
+/// Loads. A load whose growth is refused must change nothing.
 pub fn load(alloc: Global, store: &mut MemoryStore) -> Result<Option<Vec<u8>>, StoreFault> {
     let before = seen(alloc, store);
     for _ in 0..TRIES {
@@ -37,7 +37,7 @@ pub fn load(alloc: Global, store: &mut MemoryStore) -> Result<Option<Vec<u8>>, S
     Err(StoreFault::OutOfMemory)
 }
 
-/// Saves under this plan. A save that is refused memory spends the plan, and changes nothing else.
+/// Saves under this plan. A save whose growth is refused may use up the plan, but must change nothing else.
 pub fn save(
     alloc: Global,
     store: &mut MemoryStore,

@@ -1,4 +1,4 @@
-//! Calls that a desk of many transactions alone has.
+//! Performs the calls that only a desk of many transactions has.
 
 use crate::actions::action;
 use crate::calls::ManyCall;
@@ -24,7 +24,7 @@ pub fn call(
     }
 }
 
-/// `begin COUNT`: the transactions 0 to COUNT - 1 of the group G1 begin.
+/// Performs `begin COUNT`: begins the transactions 0 to COUNT - 1 of the group G1.
 fn begin(alloc: Global, line: &mut Line, desk: &mut Desk<MemoryStore>, words: &str) -> Option<()> {
     for number in 0..words.parse::<u16>().ok()? {
         begin_one(alloc, desk, numbered(alloc, number)?)?;
@@ -33,7 +33,7 @@ fn begin(alloc: Global, line: &mut Line, desk: &mut Desk<MemoryStore>, words: &s
     Some(())
 }
 
-/// A requester asks, or a responder is asked.
+/// Begins a transaction: a requester asks, or a responder takes a request.
 fn begin_one(alloc: Global, desk: &mut Desk<MemoryStore>, txn: TxnId) -> Option<()> {
     match desk.sides().role() {
         Role::Requester => desk
@@ -43,6 +43,7 @@ fn begin_one(alloc: Global, desk: &mut Desk<MemoryStore>, txn: TxnId) -> Option<
     }
 }
 
+/// Returns an ILL-Request of the transaction `txn`.
 fn request(alloc: Global, txn: TxnId) -> Option<Apdu> {
     let item = Item::new(alloc, b"Maps").ok()?;
     let body = Body::IllRequest { expiry: None, item };
@@ -50,7 +51,7 @@ fn request(alloc: Global, txn: TxnId) -> Option<Apdu> {
     Some(Apdu { txn, number, body })
 }
 
-/// `each`: where each side stands, in the order in which they were begun.
+/// Performs `each`: writes the view of each side, in the order in which they began.
 fn write_each<S: Store>(alloc: Global, line: &mut Line, desk: &Desk<S>) -> Option<()> {
     write_held(alloc, line, desk.sides());
     for place in 0..desk.sides().len() {

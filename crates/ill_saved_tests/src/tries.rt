@@ -1,21 +1,23 @@
-//! Tries of calls that take memory: each is made again while a growth of it is refused.
+//! Surrounds each try of a call that takes memory with marks.
 
 use ill_test_kit::marks;
 pub use ill_test_kit::marks::TRIES;
 use std::alloc::Global;
 
-/// The most octets of a record whose calls stand between marks. The tries of a longer one take too long.
+/// Marks surround only calls on records of at most this size. A longer record would take too many tries.
 const MOST_OCTETS: usize = 2_000;
 
-/// The marks round each try of a call.
+/// The marks around each try of a call.
 #[derive(Clone, Copy)]
 pub struct Tries {
+    /// The allocator that makes the marks.
     alloc: Global,
+    /// True if the calls are between marks.
     is_marked: bool,
 }
 
 impl Tries {
-    /// Returns the marks round a call on a record of so many octets. A long one has none.
+    /// Returns the marks around a call on a record of `octets` bytes. A long record gets none.
     pub fn of(alloc: Global, octets: usize) -> Tries {
         Tries {
             alloc,
@@ -30,8 +32,8 @@ impl Tries {
         }
     }
 
-    /// Ends a try. `says_memory` tells if its answer is want of memory. Returns true if a growth was refused: then all
-    /// has to be as it was, and the call is made again.
+    /// Ends a try; `says_memory` is true if it answered out of memory. Returns true if a growth was refused. Then the
+    /// call must have changed nothing, and is made again.
     pub fn is_refused(&self, says_memory: bool) -> bool {
         self.is_marked && marks::is_refused(self.alloc, says_memory)
     }

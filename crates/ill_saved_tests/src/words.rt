@@ -1,4 +1,4 @@
-//! The words of faults and answers, and the names of messages.
+//! Puts faults and answers into words.
 
 use crate::line::Line;
 use ill_core::{Refusal, State, Taking};
@@ -6,7 +6,7 @@ use ill_der::DerFault;
 use ill_saved::{DeskFault, RecordFault, StoreFault};
 use ill_values::Body;
 
-/// Writes the words of why a desk in this state did nothing.
+/// Writes the words of a fault of a desk whose side is in `state`.
 pub fn write_fault(line: &mut Line, fault: DeskFault, state: State) {
     match fault {
         DeskFault::Core(refusal) => line.text(refusal_word(refusal, state)),
@@ -27,7 +27,7 @@ pub fn write_fault(line: &mut Line, fault: DeskFault, state: State) {
     }
 }
 
-/// Writes the words of why bytes are no record.
+/// Writes the words of a fault of a record.
 pub fn write_record_fault(line: &mut Line, fault: RecordFault) {
     match fault {
         RecordFault::Bad(at) => {
@@ -41,6 +41,7 @@ pub fn write_record_fault(line: &mut Line, fault: RecordFault) {
     }
 }
 
+/// Writes the words of a fault of an APDU, and its place.
 fn write_bytes_fault(line: &mut Line, fault: DerFault) {
     let (words, at) = match fault {
         DerFault::Short(at) => ("short at ", at),
@@ -53,7 +54,7 @@ fn write_bytes_fault(line: &mut Line, fault: DerFault) {
     line.show(&at);
 }
 
-/// The words of why a store did nothing.
+/// Returns the words of a fault of a store.
 fn store_words(fault: StoreFault) -> &'static str {
     match fault {
         StoreFault::Failed => "store failed",
@@ -62,7 +63,7 @@ fn store_words(fault: StoreFault) -> &'static str {
     }
 }
 
-/// Writes what a store gave.
+/// Writes the result of a load.
 pub fn write_loaded(line: &mut Line, loaded: Result<Option<Vec<u8>>, StoreFault>) {
     match loaded {
         Ok(Some(bytes)) => line.octets(&bytes),
@@ -71,7 +72,7 @@ pub fn write_loaded(line: &mut Line, loaded: Result<Option<Vec<u8>>, StoreFault>
     }
 }
 
-/// Writes whether a store has saved.
+/// Writes the result of a save.
 pub fn write_saved(line: &mut Line, saved: Result<(), StoreFault>) {
     match saved {
         Ok(()) => line.text("saved"),
@@ -79,6 +80,7 @@ pub fn write_saved(line: &mut Line, saved: Result<(), StoreFault>) {
     }
 }
 
+/// Returns the word of a refusal in `state`.
 fn refusal_word(refusal: Refusal, state: State) -> &'static str {
     match refusal {
         Refusal::OtherTransaction => "other-transaction",
@@ -93,7 +95,7 @@ fn refusal_word(refusal: Refusal, state: State) -> &'static str {
     }
 }
 
-/// The word of what a message did in this state.
+/// Returns the word of the answer to a message in `state`.
 pub fn taking_word(taking: Taking, state: State) -> &'static str {
     match taking {
         Taking::Taken => "taken",
@@ -103,12 +105,12 @@ pub fn taking_word(taking: Taking, state: State) -> &'static str {
     }
 }
 
-/// This word, where the state that was told is the state.
+/// Returns `word` if the named state `told` is the state of the side.
 fn word_in(told: State, state: State, word: &'static str) -> &'static str {
     if told == state { word } else { "ANOTHER STATE" }
 }
 
-/// Writes the name of a message's type, and the result of an answer.
+/// Writes the type of a message, and the result of an ILL-Answer.
 pub fn write_name(line: &mut Line, body: &Body) {
     line.text(body.type_name());
     if let Body::IllAnswer { result } = body {

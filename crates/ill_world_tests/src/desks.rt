@@ -1,4 +1,4 @@
-//! Events of two desks as values, performed one by one or as a list.
+//! Performs events of two desks as values, one by one or as a list.
 
 use crate::list::EventList;
 use crate::tries::{self, Tried};
@@ -9,14 +9,16 @@ use ill_values::{Day, Item, Number, OutOfMemory, TxnId};
 use ill_world::{Bytes, DeskEvent, DeskOutcome, DeskWorld, Who, push_side, run_desks};
 use std::alloc::Global;
 
-/// The transactions of both loans.
+/// The transaction of the first loan.
 const FIRST: &[u8] = b"T1";
 
+/// The transaction of the second loan.
 const SECOND: &[u8] = b"T2";
 
-/// A Cancel of another transaction than the one that is shown.
+/// A Cancel that no requester has sent.
 const OTHER_CANCEL: &[u8] = b"\x66\x10\x80\x01\x01\xA1\x08\x81\x02G1\x82\x02T2\x82\x01\x02";
 
+/// The events of two desks.
 type Events = EventList<DeskEvent>;
 
 impl Tried for DeskWorld {
@@ -40,14 +42,14 @@ impl Tried for DeskWorld {
         print_both(alloc, page, self)
     }
 
-    /// Prints each side that a desk holds.
+    /// Prints each side of both desks.
     fn print_more(&self, _alloc: Global, page: &mut Page) -> Option<()> {
         print_held(page, self.requester())?;
         print_held(page, self.responder())
     }
 }
 
-/// The events of this name.
+/// Returns the events that `name` names.
 fn desk_events(alloc: Global, name: &str) -> Option<Events> {
     let mut events = Events::new(alloc);
     match name {
@@ -60,7 +62,7 @@ fn desk_events(alloc: Global, name: &str) -> Option<Events> {
     Some(events)
 }
 
-/// Two requests, of which the responder's desk forgets what it has taken, and one comes again.
+/// Adds two requests. The responder's desk takes both, loses them in a restart, and takes both again.
 fn two_loans(events: &mut Events, alloc: Global) {
     events.push(request(alloc, FIRST, b"Maps"));
     events.push(request(alloc, SECOND, b"Atlas"));
@@ -76,7 +78,7 @@ fn two_loans(events: &mut Events, alloc: Global) {
     events.push(delivered(alloc, SECOND));
 }
 
-/// Two requests, of which one is lost, and of the other the Shipped.
+/// Adds two requests. The first is lost in the mail, and so is the Shipped of the second.
 fn two_losses(events: &mut Events, alloc: Global) {
     events.push(request(alloc, FIRST, b"Maps"));
     events.push(request(alloc, SECOND, b"Atlas"));
@@ -89,7 +91,7 @@ fn two_losses(events: &mut Events, alloc: Global) {
     events.push(sent(alloc, Who::Responder, SECOND));
 }
 
-/// A Shipped and a Cancel that cross, neither sent yet; and then events of each kind at each desk.
+/// Adds a Shipped and a Cancel that cross, before either is sent. Then adds events of each kind at each desk.
 fn kinds(events: &mut Events, alloc: Global) {
     events.push(request(alloc, FIRST, b"Maps"));
     events.push(Some(DeskEvent::Save(Who::Requester)));
@@ -109,7 +111,7 @@ fn kinds(events: &mut Events, alloc: Global) {
     push_restart(events, Who::Responder);
 }
 
-/// Noise, and saves that fail.
+/// Adds noise, and saves that fail.
 fn push_faults(events: &mut Events, alloc: Global, who: Who) {
     events.push(noise(alloc, who));
     for landed in [false, true] {
@@ -117,59 +119,65 @@ fn push_faults(events: &mut Events, alloc: Global, who: Who) {
     }
 }
 
-/// A save, and a restart.
+/// Adds a save, and a restart.
 fn push_restart(events: &mut Events, who: Who) {
     events.push(Some(DeskEvent::Save(who)));
     events.push(Some(DeskEvent::Restart(who)));
 }
 
+/// Returns the id of a transaction of the group G1.
 fn id(alloc: Global, transaction: &[u8]) -> Option<TxnId> {
     TxnId::new(alloc, b"G1", transaction).ok()
 }
 
+/// Returns the wish for `item` in this transaction.
 fn request(alloc: Global, transaction: &[u8], item: &[u8]) -> Option<DeskEvent> {
     let item = Item::new(alloc, item).ok()?;
     let request = Wish::Request { expiry: None, item };
     Some(DeskEvent::Wish(id(alloc, transaction)?, request))
 }
 
-/// A side sends its first message.
+/// Returns the event that a side sends its message 1.
 fn sent(alloc: Global, who: Who, transaction: &[u8]) -> Option<DeskEvent> {
     let one = Number::new(1)?;
     Some(DeskEvent::Send(who, id(alloc, transaction)?, one))
 }
 
-/// The request reaches the responder.
+/// Returns the event that message 1 of the requester reaches the responder.
 fn delivered(alloc: Global, transaction: &[u8]) -> Option<DeskEvent> {
     let one = Number::new(1)?;
     Some(DeskEvent::Deliver(Who::Responder, id(alloc, transaction)?, one))
 }
 
+/// Returns the deed Ship, due on 15 March.
 fn ship(alloc: Global, transaction: &[u8]) -> Option<DeskEvent> {
     let due = Day::new(2025, 3, 15).ok()?;
     deed(alloc, transaction, Deed::Ship { due })
 }
 
+/// Returns the deed Recall.
 fn recall(alloc: Global, transaction: &[u8]) -> Option<DeskEvent> {
     deed(alloc, transaction, Deed::Recall)
 }
 
+/// Returns the wish Cancel in the first transaction.
 fn cancel(alloc: Global) -> Option<DeskEvent> {
     Some(DeskEvent::Wish(id(alloc, FIRST)?, Wish::Cancel))
 }
 
-/// What the responder's library does on 1 March.
+/// Returns the event of this deed on 1 March.
 fn deed(alloc: Global, transaction: &[u8], deed: Deed) -> Option<DeskEvent> {
     let today = Day::new(2025, 3, 1).ok()?;
     Some(DeskEvent::Deed(id(alloc, transaction)?, deed, today))
 }
 
+/// Returns the event that a forged Cancel reaches a side.
 fn noise(alloc: Global, who: Who) -> Option<DeskEvent> {
     let bytes = Bytes::new(Vec::from_slice(alloc, OTHER_CANCEL).ok()?);
     Some(DeskEvent::Noise(who, bytes))
 }
 
-/// Performs the events of this name one by one, and prints a line for each.
+/// Performs the named events one by one, and prints a line for each.
 pub fn print_desk_steps(alloc: Global, page: &mut Page, name: &str) -> Option<()> {
     let events = desk_events(alloc, name)?;
     let mut world = first_desks(alloc)?;
@@ -178,7 +186,7 @@ pub fn print_desk_steps(alloc: Global, page: &mut Page, name: &str) -> Option<()
     printed
 }
 
-/// Returns two desks that hold nothing, which takes no memory.
+/// Returns a world of two empty desks. This takes no memory.
 fn first_desks(alloc: Global) -> Option<DeskWorld> {
     marks::begin_quiet(alloc);
     let world = DeskWorld::new(alloc);
@@ -186,8 +194,8 @@ fn first_desks(alloc: Global) -> Option<DeskWorld> {
     world.ok()
 }
 
-/// Performs events, and prints a line for each, of the transaction that was named last: its number, what is
-/// seen of it, and both sides.
+/// Performs events, and prints a line for each. The line has the number and outcome of the event, and both sides of the
+/// transaction that was named last.
 fn perform_steps(
     alloc: Global,
     page: &mut Page,
@@ -209,7 +217,7 @@ fn perform_steps(
     Some(())
 }
 
-/// Performs the events of this name as a list, and prints both sides of each transaction.
+/// Performs the named events as a list, and prints both sides of each transaction.
 pub fn print_desk_run(alloc: Global, page: &mut Page, name: &str) -> Option<()> {
     let events = desk_events(alloc, name)?;
     let world: DeskWorld = tries::run(alloc, events.all()?)?;
@@ -218,13 +226,13 @@ pub fn print_desk_run(alloc: Global, page: &mut Page, name: &str) -> Option<()> 
     printed
 }
 
-/// Performs the events of this name as a list, and then a round, and prints both sides of each transaction.
+/// Performs the named events as a list, and then a round. Prints both sides of each transaction.
 pub fn print_desk_exchange(alloc: Global, page: &mut Page, name: &str) -> Option<()> {
     let events = desk_events(alloc, name)?;
     tries::print_exchange::<DeskWorld>(alloc, page, events.all()?)
 }
 
-/// Prints each side that a desk holds.
+/// Prints each side in `sides`.
 fn print_held(page: &mut Page, sides: &Sides) -> Option<()> {
     for place in 0..sides.len() {
         page.show_parts(sides.at(place)?);
@@ -232,6 +240,7 @@ fn print_held(page: &mut Page, sides: &Sides) -> Option<()> {
     Some(())
 }
 
+/// Prints both sides of both transactions.
 fn print_both(alloc: Global, page: &mut Page, world: &DeskWorld) -> Option<()> {
     page.text("T1");
     print_sides(alloc, page, world, &id(alloc, FIRST)?)?;
@@ -239,7 +248,7 @@ fn print_both(alloc: Global, page: &mut Page, world: &DeskWorld) -> Option<()> {
     print_sides(alloc, page, world, &id(alloc, SECOND)?)
 }
 
-/// The transaction that an event names.
+/// Returns the transaction that an event names, if it names one.
 fn named(event: &DeskEvent) -> Option<&TxnId> {
     match event {
         DeskEvent::Wish(txn, _)
@@ -250,7 +259,7 @@ fn named(event: &DeskEvent) -> Option<&TxnId> {
     }
 }
 
-/// Prints how both sides of a transaction stand.
+/// Prints the state of both sides of a transaction.
 fn print_sides(alloc: Global, page: &mut Page, world: &DeskWorld, txn: &TxnId) -> Option<()> {
     page.text(" requester ");
     print_side(alloc, page, world, Who::Requester, txn)?;
@@ -260,6 +269,7 @@ fn print_sides(alloc: Global, page: &mut Page, world: &DeskWorld, txn: &TxnId) -
     Some(())
 }
 
+/// Prints the state of one side, or that of an idle side if the desk has none.
 fn print_side(
     alloc: Global,
     page: &mut Page,
@@ -281,7 +291,7 @@ fn print_side(
     Some(())
 }
 
-/// Returns the side of a transaction that a desk holds.
+/// Returns the side of a transaction at the desk of `who`, if there is one.
 fn held<'a>(world: &'a DeskWorld, who: Who, txn: &TxnId) -> Option<&'a Side> {
     match who {
         Who::Requester => world.requester().get(txn),

@@ -1,4 +1,4 @@
-//! Events as values.
+//! Makes the lists of events of two sides.
 
 use crate::list::EventList;
 use ill_core::{Deed, Wish};
@@ -6,16 +6,19 @@ use ill_values::{AnswerResult, Day, Item, Number};
 use ill_world::{Bytes, Event, Who};
 use std::alloc::Global;
 
-/// A Cancel of the transaction; one of another; and that without its last byte.
+/// A Cancel of the transaction of the tests.
 const CANCEL: &[u8] = b"\x66\x10\x80\x01\x01\xA1\x08\x81\x02G1\x82\x02T1\x82\x01\x02";
 
+/// A Cancel of another transaction.
 const OTHER_CANCEL: &[u8] = b"\x66\x10\x80\x01\x01\xA1\x08\x81\x02G1\x82\x02T2\x82\x01\x02";
 
+/// A Cancel without its last byte.
 const CUT: &[u8] = b"\x66\x10\x80\x01\x01\xA1\x08\x81\x02G1\x82\x02T2\x82\x01";
 
+/// The events of two sides.
 type Events = EventList<Event>;
 
-/// The events of this name.
+/// Returns the events that `name` names.
 pub fn events(alloc: Global, name: &str) -> Option<Events> {
     let mut events = Events::new(alloc);
     match name {
@@ -31,7 +34,7 @@ pub fn events(alloc: Global, name: &str) -> Option<Events> {
     Some(events)
 }
 
-/// A Cancel and a Shipped that cross.
+/// Adds a Cancel and a Shipped that cross.
 fn crossing(events: &mut Events, alloc: Global) {
     push_requested(events, alloc);
     events.push(ship());
@@ -42,7 +45,7 @@ fn crossing(events: &mut Events, alloc: Global) {
     events.push(delivered(Who::Responder, 2));
 }
 
-/// A Cancel that is refused, and another that is accepted.
+/// Adds a Cancel that is refused, and another that is accepted.
 fn cancelled(events: &mut Events, alloc: Global) {
     push_requested(events, alloc);
     events.push(Some(Event::Wish(Wish::Cancel)));
@@ -55,7 +58,7 @@ fn cancelled(events: &mut Events, alloc: Global) {
     push_delivered(events, Who::Responder, 2);
 }
 
-/// Conditions that are declined.
+/// Adds conditions that are declined.
 fn declined(events: &mut Events, alloc: Global) {
     push_requested(events, alloc);
     events.push(deed(Deed::Answer(AnswerResult::Conditional)));
@@ -65,7 +68,7 @@ fn declined(events: &mut Events, alloc: Global) {
     push_delivered(events, Who::Responder, 2);
 }
 
-/// A supply that is promised as often as there are numbers, and once more.
+/// Adds 256 promises to supply, one more than there are numbers.
 fn promised(events: &mut Events, alloc: Global) {
     push_requested(events, alloc);
     for _ in 0..256 {
@@ -73,7 +76,7 @@ fn promised(events: &mut Events, alloc: Global) {
     }
 }
 
-/// Events that change no live side.
+/// Adds events that change no live record.
 fn refused(events: &mut Events, alloc: Global) {
     events.push(Some(Event::Wish(Wish::Cancel)));
     events.push(deed(Deed::Expire));
@@ -87,7 +90,7 @@ fn refused(events: &mut Events, alloc: Global) {
     events.push(Some(Event::Restart(Who::Responder)));
 }
 
-/// A Renew and an Overdue that cross, neither saved yet.
+/// Adds a Renew and an Overdue that cross, before either is saved.
 fn renewing(events: &mut Events, alloc: Global) {
     push_requested(events, alloc);
     events.push(ship());
@@ -98,7 +101,7 @@ fn renewing(events: &mut Events, alloc: Global) {
     events.push(overdue());
 }
 
-/// The same, and then events of each kind at each side.
+/// Adds a Renew and an Overdue that cross, and then events of each kind at each side.
 fn kinds(events: &mut Events, alloc: Global) {
     renewing(events, alloc);
     push_useless(events, alloc, Who::Requester, 3);
@@ -112,7 +115,7 @@ fn kinds(events: &mut Events, alloc: Global) {
     push_restart(events, Who::Responder);
 }
 
-/// Events that change nothing. The message of this number is not saved yet.
+/// Adds events that change nothing. The message with the number `unsaved` must not be saved yet.
 fn push_useless(events: &mut Events, alloc: Global, who: Who, unsaved: u8) {
     events.push(sent(who, unsaved));
     events.push(delivered(who, 3));
@@ -122,70 +125,76 @@ fn push_useless(events: &mut Events, alloc: Global, who: Who, unsaved: u8) {
     events.push(delivered(who, 1));
 }
 
-/// Saves that fail.
+/// Adds saves that fail.
 fn push_faults(events: &mut Events, who: Who) {
     for landed in [false, true] {
         events.push(Some(save_fault(who, landed)));
     }
 }
 
-/// A save, and a restart.
+/// Adds a save, and a restart.
 fn push_restart(events: &mut Events, who: Who) {
     events.push(Some(Event::Save(who)));
     events.push(Some(Event::Restart(who)));
 }
 
-/// The responder takes the request.
+/// Adds a request that reaches the responder.
 fn push_requested(events: &mut Events, alloc: Global) {
     events.push(request(alloc));
     push_delivered(events, Who::Requester, 1);
 }
 
-/// A side is saved and sends a message, and the other takes it.
+/// Adds the save of a side, the sending of a message, and its delivery.
 fn push_delivered(events: &mut Events, who: Who, number: u8) {
     push_sent(events, who, number);
     events.push(delivered(who.other(), number));
 }
 
-/// A side is saved, and sends a message.
+/// Adds the save of a side, and the sending of a message.
 fn push_sent(events: &mut Events, who: Who, number: u8) {
     events.push(Some(Event::Save(who)));
     events.push(sent(who, number));
 }
 
+/// Returns the wish Request.
 fn request(alloc: Global) -> Option<Event> {
     let item = Item::new(alloc, b"Maps").ok()?;
     Some(Event::Wish(Wish::Request { expiry: None, item }))
 }
 
+/// Returns the deed Ship, due on 15 March.
 fn ship() -> Option<Event> {
     let due = Day::new(2025, 3, 15).ok()?;
     deed(Deed::Ship { due })
 }
 
-/// The responder's library says on the day after the due date that the item is overdue.
+/// Returns the deed Overdue on 16 March, the day after the due date.
 fn overdue() -> Option<Event> {
     Some(Event::Deed(Deed::Overdue, Day::new(2025, 3, 16).ok()?))
 }
 
-/// What the responder's library does on 1 March.
+/// Returns the event of this deed on 1 March.
 fn deed(deed: Deed) -> Option<Event> {
     Some(Event::Deed(deed, Day::new(2025, 3, 1).ok()?))
 }
 
+/// Returns the event that a side sends this message.
 fn sent(who: Who, number: u8) -> Option<Event> {
     Some(Event::Send(who, Number::new(number)?))
 }
 
+/// Returns the event that this message of the other side reaches `who`.
 fn delivered(who: Who, number: u8) -> Option<Event> {
     Some(Event::Deliver(who, Number::new(number)?))
 }
 
+/// Returns the event that `bytes` reach a side as noise.
 fn noise(alloc: Global, who: Who, bytes: &[u8]) -> Option<Event> {
     let bytes = Bytes::new(Vec::from_slice(alloc, bytes).ok()?);
     Some(Event::Noise(who, bytes))
 }
 
+/// Returns the event of a save that fails. If `landed`, the record lands in spite of the failure.
 fn save_fault(who: Who, landed: bool) -> Event {
     Event::SaveFault { who, landed }
 }

@@ -1,16 +1,18 @@
-//! Events that are added one after another.
+//! Collects events, one after another.
 
 use std::alloc::Global;
 
-/// Events to which more are added. Where that once fails they are no longer whole, and stay so.
+/// A list of events, to which more are added. If an addition fails, the list is incomplete for good.
 #[derive(Drop)]
 pub struct EventList<E: Drop> {
+    /// The events that were added.
     events: Vec<E>,
+    /// True if no event is missing.
     is_whole: bool,
 }
 
 impl<E: Drop> EventList<E> {
-    /// No events yet.
+    /// Returns an empty list.
     pub fn new(alloc: Global) -> EventList<E> {
         EventList {
             events: Vec::new(alloc),
@@ -18,7 +20,7 @@ impl<E: Drop> EventList<E> {
         }
     }
 
-    /// Adds an event, if it could be made.
+    /// Adds an event. If `event` is `None`, the list is incomplete from then on.
     pub fn push(&mut self, event: Option<E>) {
         let is_pushed = match event {
             Some(event) => self.events.push(event).is_ok(),
@@ -27,7 +29,7 @@ impl<E: Drop> EventList<E> {
         self.is_whole = self.is_whole && is_pushed;
     }
 
-    /// All that were added, if none is missing.
+    /// Returns all events, or `None` if the list is incomplete.
     pub fn all(&self) -> Option<&[E]> {
         if self.is_whole {
             Some(&self.events)

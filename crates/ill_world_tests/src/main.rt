@@ -1,14 +1,14 @@
-//! Tests of two sides in one world: scripts, and below them, after two spaces, the traces that `ill_world`
-//! writes of them, in place of those that stand there. The file `stdin` has the scripts with what they
-//! should give, and says at its head how they are written; `stdout` is the same.
+//! Tests two sides in one world. The input has scripts. Below each script, after two spaces, the program prints the
+//! trace that `ill_world` writes of it. Old traces in the input are dropped. The file `stdin` has the scripts with the
+//! traces that they must give. Its head defines how scripts are written. The file `stdout` has the same bytes.
 //!
-//! To try a script alone, in seconds: put its lines into a file, as
-//! `sed -n '/^script a Shipped that comes again$/,/^$/p' stdin > file`, and `rt try < file | diff file -` prints
-//! nothing where all is right.
+//! To try a script alone, in seconds, put its lines into a file. An example is
+//! `sed -n '/^script a Shipped that comes again$/,/^$/p' stdin > file`.
+//! Then `rt try < file | diff file -` prints nothing if all is right.
 //!
-//! Calls of `ill_world` stand between marks, and are made again while a growth of theirs is refused (`tries`,
-//! `performing`). So `tools/want-of-memory` has each growth of each call refused once, and all that is printed is as
-//! ever. Scripts that are longer than `performing` says, and the events of `ending`, have ample memory.
+//! Marks surround calls of `ill_world`, and a call is repeated while a growth is refused (`tries`, `performing`). So
+//! `tools/want-of-memory` refuses each growth of each call once, and the printed page must not change. Ample memory is
+//! given to scripts that are longer than `performing` says, and to the events of `ending`.
 #![tactic(auto)]
 
 mod desks;

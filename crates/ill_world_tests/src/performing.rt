@@ -1,4 +1,4 @@
-//! Scripts that are performed, and what is printed of them.
+//! Performs scripts, and prints their traces.
 
 use crate::streams::{End, Streams};
 use ill_test_kit::Page;
@@ -7,44 +7,48 @@ use ill_values::TxnId;
 use ill_world::{SimFault, simulate, simulate_desks};
 use std::alloc::Global;
 
-/// The most lines of a trace that is printed whole, and how many are printed of the beginning and the end of
-/// a longer one.
+/// A trace of at most this many lines is printed whole.
 const SHOWN: usize = 100;
 
+/// Of a longer trace this many lines are printed at the beginning, and as many at the end.
 const AT_AN_END: usize = 6;
 
-/// The most bytes of a script of which each growth is refused once. A longer one is performed with ample memory.
+/// In a script of at most this many bytes each growth is refused once. A longer script gets ample memory.
 const REFUSED: usize = 1_000;
 
-/// The line of a script that came to something else while it was refused memory.
+/// This line tells that a script gave a wrong trace when a growth was refused.
 const ANOTHER: &[u8] = b"ANOTHER TRACE WITHOUT MEMORY\n";
 
-/// Which simulation performs a script.
+/// The simulation that performs a script.
 #[derive(Clone, Copy)]
 pub enum Simulation {
-    /// That of two sides, of the transaction of all tests.
+    /// The simulation of two sides, in the transaction of all tests.
     Sides,
-    /// That of two desks.
+    /// The simulation of two desks.
     Desks,
 }
 
-/// A script, and which simulation performs it.
+/// A script, and the simulation that performs it.
 #[derive(Clone, Copy)]
 pub struct Script<'a> {
+    /// The simulation that performs the script.
     pub simulation: Simulation,
+    /// The text of the script.
     pub bytes: &'a [u8],
 }
 
-/// What a script was answered, and what was written.
+/// The result of a script.
 #[derive(PartialEq, Drop)]
 pub struct Told {
+    /// The trace that was written.
     pub trace: Vec<u8>,
+    /// The answer of the simulation.
     pub answer: Result<u32, SimFault>,
 }
 
 impl Told {
-    /// Returns true if a script that was refused memory may come to this, and with ample memory to the other. It does
-    /// without, or it writes whole lines from the beginning of the trace.
+    /// Returns true if this result is right after a refused growth, given the result with ample memory. Either the
+    /// results are equal, or the trace is a prefix of whole lines, and the answer is out of memory.
     fn may_be(&self, ample: &Told) -> bool {
         match self.answer {
             Err(SimFault::OutOfMemory) => {
@@ -55,12 +59,12 @@ impl Told {
     }
 }
 
-/// The transaction of all tests of two sides.
+/// Returns the transaction of all tests of two sides.
 pub fn txn(alloc: Global) -> Option<TxnId> {
     TxnId::new(alloc, b"G1", b"T1").ok()
 }
 
-/// Performs a script with ample memory, and a short one then with each growth refused once.
+/// Performs a script with ample memory. A short one is then performed with each growth refused once.
 pub fn perform(alloc: Global, script: Script<'_>, streams: Streams) -> Option<Told> {
     let (mut ample, _) = perform_once(alloc, script, streams, None)?;
     if script.bytes.len() > REFUSED {
@@ -79,8 +83,8 @@ pub fn perform(alloc: Global, script: Script<'_>, streams: Streams) -> Option<To
     None
 }
 
-/// Performs a script from its beginning: between marks, if it is known how many bytes it writes at most. It also
-/// returns true if a growth was refused.
+/// Performs a script from its beginning. It is between marks if `most` bounds the bytes that it writes. Also returns
+/// true if a growth was refused.
 fn perform_once(
     alloc: Global,
     script: Script<'_>,
@@ -103,7 +107,8 @@ fn perform_once(
     Some((Told { trace, answer }, is_refused))
 }
 
-/// Performs a script, whose reader then does this, and prints its trace and what is answered.
+/// Performs a script whose reader ends as `end` says, and prints its trace and answer. Reading it byte by byte must not
+/// change them.
 pub fn print_script(alloc: Global, page: &mut Page, script: Script<'_>, end: End) -> Option<()> {
     let told = print_trace(alloc, page, script, end)?;
     page.text("\n");
@@ -117,7 +122,7 @@ pub fn print_script(alloc: Global, page: &mut Page, script: Script<'_>, end: End
     Some(())
 }
 
-/// Performs a script, and prints its trace and, without an end, the line of its answer.
+/// Performs a script, and prints its trace and answer, without the end of the line.
 pub fn print_trace(alloc: Global, page: &mut Page, script: Script<'_>, end: End) -> Option<Told> {
     let told = perform(alloc, script, Streams::Reader(end))?;
     print_lines(page, &told.trace);
@@ -125,7 +130,7 @@ pub fn print_trace(alloc: Global, page: &mut Page, script: Script<'_>, end: End)
     Some(told)
 }
 
-/// Prints what a script was answered.
+/// Prints the answer of a simulation.
 pub fn print_answer(page: &mut Page, answer: &Result<u32, SimFault>) {
     match answer {
         Ok(count) => {
@@ -136,17 +141,17 @@ pub fn print_answer(page: &mut Page, answer: &Result<u32, SimFault>) {
     }
 }
 
-/// Returns true if a text ends where a line does.
+/// Returns true if `text` is empty or ends with the end of a line.
 pub fn is_whole_lines(text: &[u8]) -> bool {
     text.is_empty() || text.ends_with(b"\n")
 }
 
-/// How many lines a text has.
+/// Returns the count of lines in `text`.
 pub fn line_count(text: &[u8]) -> usize {
     text.iter().filter(|byte| **byte == b'\n').count()
 }
 
-/// Prints the lines of a trace, or those of its beginning and its end.
+/// Prints the lines of a trace. Of a long trace only the first and the last lines are printed.
 fn print_lines(page: &mut Page, trace: &[u8]) {
     let count = line_count(trace);
     if count <= SHOWN {

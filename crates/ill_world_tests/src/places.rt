@@ -1,19 +1,23 @@
-//! Scripts whose reader or writer fails at each place in turn.
+//! Performs scripts whose reader or writer fails at each place in turn.
 
 use crate::performing::{Script, Told, is_whole_lines, line_count, perform, print_answer};
 use crate::streams::{End, Streams};
 use ill_test_kit::Page;
 use std::alloc::Global;
 
-/// The answers at one place after another. Each is printed where it differs from the one before it.
+/// The answers for each place in turn. An answer is printed if it differs from the one before it.
 #[derive(Drop)]
 struct Answers {
+    /// The allocator of all pages.
     alloc: Global,
+    /// The label begins each line.
     label: &'static str,
+    /// The answer at the last place.
     last: Page,
 }
 
 impl Answers {
+    /// Returns no answers.
     fn new(alloc: Global, label: &'static str) -> Answers {
         Answers {
             alloc,
@@ -22,7 +26,7 @@ impl Answers {
         }
     }
 
-    /// The answer at the next place, and how many events were performed, if that is to be said.
+    /// Adds the answer at the next place, with the count of performed events if `events` has it.
     fn push(&mut self, page: &mut Page, place: usize, told: &Told, events: Option<usize>) {
         let mut text = Page::new(self.alloc);
         print_answer(&mut text, &told.answer);
@@ -44,12 +48,13 @@ impl Answers {
     }
 }
 
-/// Lets the reader fail before each byte of the script in turn, and at its end; and then be interrupted.
+/// Makes the reader fail before each byte of the script in turn, and at its end. Then makes it be interrupted there.
 pub fn print_readers(alloc: Global, page: &mut Page, script: Script<'_>) -> Option<()> {
     print_prefixes(alloc, page, script, End::Fails, "it fails, ")?;
     print_prefixes(alloc, page, script, End::Interrupts, "it is interrupted, ")
 }
 
+/// Performs each prefix of a script, after which the reader ends as `end` says.
 fn print_prefixes(
     alloc: Global,
     page: &mut Page,
@@ -73,14 +78,15 @@ fn print_prefixes(
     Some(())
 }
 
-/// Lets the writer take each count of bytes of the trace in turn, and then fail, be interrupted, or take
-/// no bytes.
+/// Makes the writer take each count of bytes of the trace in turn. After them it fails, is interrupted, or takes no
+/// bytes.
 pub fn print_writers(alloc: Global, page: &mut Page, script: Script<'_>) -> Option<()> {
     print_rooms(alloc, page, script, End::Fails, "it fails, ")?;
     print_rooms(alloc, page, script, End::Interrupts, "it is interrupted, ")?;
     print_rooms(alloc, page, script, End::Stops, "it takes no bytes, ")
 }
 
+/// Performs a script with a writer that ends as `end` says, after each count of bytes in turn.
 fn print_rooms(
     alloc: Global,
     page: &mut Page,

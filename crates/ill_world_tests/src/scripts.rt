@@ -1,7 +1,7 @@
-//! The bytes of a script, from the lines that say them.
+//! Reads the bytes of a script from its lines.
 
-/// Adds a line of a script, and its LF: once, or as often as it says at its beginning. A line that is not
-/// understood is none.
+/// Adds a line of a script, and its LF. A count in brackets at its beginning repeats the line. Returns `None` if the
+/// line has an error.
 pub fn push_line(script: &mut Vec<u8>, line: &str) -> Option<()> {
     let (times, line) = repeated(line).unwrap_or((1, line));
     for time in 1..=times {
@@ -10,14 +10,14 @@ pub fn push_line(script: &mut Vec<u8>, line: &str) -> Option<()> {
     Some(())
 }
 
-/// How often a line stands there that says so, and the rest of it.
+/// Returns the count at the beginning of a line, and the rest of the line. Returns `None` if there is no count.
 fn repeated(line: &str) -> Option<(u32, &str)> {
     let (inside, rest) = line.strip_prefix('[')?.split_once(']')?;
     let times = inside.strip_suffix('*')?.parse().ok()?;
     Some((times, rest))
 }
 
-/// Adds a line that stands there for this time, counted from 1.
+/// Adds a repetition of a line. The first has the number 1 in `time`.
 fn push_once(script: &mut Vec<u8>, line: &str, time: u32) -> Option<()> {
     if let Some(line) = line.strip_suffix("[]") {
         return push_text(script, line, time);
@@ -26,7 +26,7 @@ fn push_once(script: &mut Vec<u8>, line: &str, time: u32) -> Option<()> {
     script.push(b'\n').ok()
 }
 
-/// Adds text, with what stands in brackets in place of it.
+/// Adds `text`, with each bracket replaced by its meaning.
 fn push_text(script: &mut Vec<u8>, text: &str, time: u32) -> Option<()> {
     let (plain, more) = text.split_once('[').unwrap_or((text, ""));
     script.extend_from_slice(plain.as_bytes()).ok()?;
@@ -41,7 +41,7 @@ fn push_text(script: &mut Vec<u8>, text: &str, time: u32) -> Option<()> {
     Some(())
 }
 
-/// Adds the time, an octet, or a text so often.
+/// Adds the meaning of a bracket: the number of the repetition, an octet, or a repeated text.
 fn push_inside(script: &mut Vec<u8>, inside: &str, time: u32) -> Option<()> {
     if inside == "n" {
         let time = time.to_string(*script.allocator()).ok()?;

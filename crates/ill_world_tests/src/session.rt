@@ -1,4 +1,4 @@
-//! The lines of the input, one after another.
+//! Performs the lines of the input, one after another.
 
 use crate::desks::{print_desk_exchange, print_desk_run, print_desk_steps};
 use crate::performing::{Script, Simulation, print_script, print_trace};
@@ -9,32 +9,39 @@ use crate::worlds::{print_ending, print_exchange, print_run, print_steps};
 use ill_test_kit::{INDENT, Lines, Page};
 use std::alloc::Global;
 
+/// The answer to a line that is no case.
 const NOT_UNDERSTOOD: &str = "NOT UNDERSTOOD";
 
-/// What is done with a script.
+/// The way in which a script is performed.
 #[derive(Clone, Copy)]
 enum Call {
+    /// The reader ends after the script.
     Script,
+    /// The reader fails after the script.
     Broken,
+    /// The reader fails at each place in turn.
     Readers,
+    /// The writer fails at each place in turn.
     Writers,
 }
 
-/// A block that has not ended yet.
+/// The kind of block that the next line is in.
 #[derive(Drop)]
 enum Block {
     /// The next line is in no block.
     Outside,
-    /// Every line is a script.
+    /// Every line is a script of its own.
     Each(Simulation),
-    /// The lines are a script.
+    /// The lines are one script.
     Script(Call, Simulation, Vec<u8>),
 }
 
 /// The block that the lines so far have begun.
 #[derive(Drop)]
 pub struct Session {
+    /// The allocator of all values.
     alloc: Global,
+    /// The block of the next line.
     block: Block,
 }
 
@@ -51,7 +58,7 @@ impl Lines for Session {
 }
 
 impl Session {
-    /// Before the first line.
+    /// Returns a session before the first line.
     pub fn new(alloc: Global) -> Session {
         Session {
             alloc,
@@ -59,7 +66,7 @@ impl Session {
         }
     }
 
-    /// Prints the line and its answers.
+    /// Prints a line and its answers.
     fn take(&mut self, page: &mut Page, line: &str) -> Option<()> {
         page.line(line);
         let mut answers = Page::new(self.alloc);
@@ -68,6 +75,7 @@ impl Session {
         understood
     }
 
+    /// Performs a line, and prints its answers.
     fn answer(&mut self, answers: &mut Page, line: &str) -> Option<()> {
         if line == "end" {
             return self.end(answers);
@@ -79,7 +87,7 @@ impl Session {
         }
     }
 
-    /// Begins a block, or does what the line says.
+    /// Begins a block, or performs a line outside of blocks.
     fn begin(&mut self, answers: &mut Page, line: &str) -> Option<()> {
         let (word, name) = line.split_once(' ').unwrap_or((line, ""));
         match word {
@@ -110,7 +118,7 @@ impl Session {
     }
 }
 
-/// The block that begins with this word.
+/// Returns the block that begins with `word`.
 fn block_of(alloc: Global, word: &str) -> Option<Block> {
     let (simulation, word) = match word.strip_prefix("desk-") {
         Some(word) => (Simulation::Desks, word),
@@ -122,6 +130,7 @@ fn block_of(alloc: Global, word: &str) -> Option<Block> {
     }
 }
 
+/// Returns the call that `word` names.
 fn call_of(word: &str) -> Option<Call> {
     match word {
         "script" => Some(Call::Script),
@@ -132,6 +141,7 @@ fn call_of(word: &str) -> Option<Call> {
     }
 }
 
+/// Performs a script in the way of `call`, and prints the result.
 fn print_called(alloc: Global, page: &mut Page, call: Call, script: Script<'_>) -> Option<()> {
     match call {
         Call::Script => print_script(alloc, page, script, End::Stops),

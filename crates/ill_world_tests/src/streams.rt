@@ -1,24 +1,25 @@
-//! Streams that fail once, or end.
+//! Makes streams that fail once, or end.
 
 use ill_test_kit::{Failure, TestReader, TestWriter};
 use std::alloc::Global;
 use std::io::ErrorKind;
 
-/// What a reader that has failed gives where it is asked again.
+/// A reader that has failed gives these bytes when it is called again.
 const BEHIND: &[u8] = b"\nsave requester\n";
 
-/// What a stream does where its bytes or its room end.
+/// The behaviour of a stream when its bytes or its room are used up.
 #[derive(Clone, Copy)]
 pub enum End {
-    /// It gives or takes no bytes.
+    /// The stream moves no bytes.
     Stops,
-    /// It fails once.
+    /// The stream fails once.
     Fails,
-    /// It is interrupted once.
+    /// The stream is interrupted once.
     Interrupts,
 }
 
 impl End {
+    /// Returns the failure of the stream.
     fn failure(self) -> Failure {
         let kind = match self {
             End::Stops => None,
@@ -29,19 +30,19 @@ impl End {
     }
 }
 
-/// How the streams of a script give and take their bytes.
+/// The behaviour of the two streams of a script.
 #[derive(Clone, Copy)]
 pub enum Streams {
-    /// The reader ends so, and the writer takes all.
+    /// The reader ends as this says, and the writer takes all bytes.
     Reader(End),
-    /// The same, one byte at a time.
+    /// As before, but the streams move one byte at a time.
     Slow(End),
-    /// The reader gives all. The writer takes so many bytes, and then ends so.
+    /// The reader gives all bytes. The writer takes a count of bytes, and then ends as this says.
     Writer(usize, End),
 }
 
 impl Streams {
-    /// A reader that gives these bytes, and then ends so. Once it has failed it gives others.
+    /// Returns a reader that gives `bytes`, and then ends. After a failure it gives other bytes.
     pub fn reader(self, alloc: Global, bytes: &[u8]) -> Option<TestReader> {
         let end = match self {
             Streams::Reader(end) | Streams::Slow(end) => end,
@@ -59,7 +60,7 @@ impl Streams {
         Some(reader)
     }
 
-    /// A writer. It has memory for so many bytes.
+    /// Returns a writer that has memory for `most` bytes.
     pub fn writer(self, alloc: Global, most: usize) -> Option<TestWriter> {
         let mut writer = TestWriter::new(alloc);
         writer.taken = Vec::with_capacity(alloc, most).ok()?;

@@ -1,4 +1,4 @@
-//! Calls of worlds, made again while a growth of them is refused.
+//! Calls worlds, and repeats a call while a growth is refused.
 
 use crate::performing::txn;
 use ill_test_kit::Page;
@@ -6,18 +6,18 @@ use ill_test_kit::marks::{self, TRIES};
 use ill_values::{OutOfMemory, TxnId};
 use std::alloc::Global;
 
-/// The line of a call that was refused memory, and has left something else than it may.
+/// This line tells that a call with a refused growth left a wrong state.
 const CHANGED: &str = "CHANGED WITHOUT MEMORY";
 
-/// A world of two sides, or of two desks.
+/// A world of two sides or of two desks, as the tests call it.
 pub trait Tried: Drop {
-    /// An event that may happen to it.
+    /// An event of the world.
     type Event: Drop;
 
     /// The outcome of an event.
     type Outcome: Copy;
 
-    /// Returns the world after events.
+    /// Returns the world after `events`.
     fn after(alloc: Global, txn: &TxnId, events: &[Self::Event]) -> Result<Self, OutOfMemory>;
 
     /// Performs an event.
@@ -26,14 +26,14 @@ pub trait Tried: Drop {
     /// Performs a round.
     fn pass_on(&mut self, alloc: Global) -> Result<(), OutOfMemory>;
 
-    /// Prints how both sides stand.
+    /// Prints the state of both sides.
     fn print(&self, alloc: Global, page: &mut Page) -> Option<()>;
 
-    /// Prints what else can be seen of it.
+    /// Prints the rest of the world.
     fn print_more(&self, alloc: Global, page: &mut Page) -> Option<()>;
 }
 
-/// Performs an event, and again while it is refused memory. A refused one must leave all that can be seen as it was.
+/// Performs an event, and repeats it while a growth is refused. A refused event must leave the world unchanged.
 pub fn step<W: Tried>(
     alloc: Global,
     page: &mut Page,
@@ -54,7 +54,7 @@ pub fn step<W: Tried>(
     None
 }
 
-/// Returns the world after events. While that is refused memory, it begins anew.
+/// Returns the world after `events`. While a growth is refused, the call is repeated from the first world.
 pub fn run<W: Tried>(alloc: Global, events: &[W::Event]) -> Option<W> {
     let txn = txn(alloc)?;
     for _ in 0..TRIES {
@@ -67,8 +67,8 @@ pub fn run<W: Tried>(alloc: Global, events: &[W::Event]) -> Option<W> {
     None
 }
 
-/// Prints the world after events and a round. While the round is refused memory, a further one must lead to the same
-/// world, and the next try begins anew.
+/// Prints the world after `events` and a round. If the round is refused memory, a further round must lead to an equal
+/// world. Then the test begins again from the first world.
 pub fn print_exchange<W: Tried>(alloc: Global, page: &mut Page, events: &[W::Event]) -> Option<()> {
     let txn = txn(alloc)?;
     let mut last = Page::new(alloc);
@@ -89,18 +89,18 @@ pub fn print_exchange<W: Tried>(alloc: Global, page: &mut Page, events: &[W::Eve
     None
 }
 
-/// A world after a round.
+/// The world after a round.
 #[derive(Drop)]
 struct Exchanged {
-    /// Both sides of it.
+    /// The printed state of both sides.
     shown: Page,
-    /// All that can be seen of it.
+    /// The printed state of the whole world.
     all: Page,
-    /// True if a growth of the round was refused, and a further one was performed.
+    /// True if a growth of the round was refused, and a further round was performed.
     is_refused: bool,
 }
 
-/// Performs a round, and a further one if it was refused memory.
+/// Performs a round, and a further one if memory was refused.
 fn exchange<W: Tried>(alloc: Global, world: &mut W) -> Option<Exchanged> {
     marks::begin(alloc);
     let answer = world.pass_on(alloc);
@@ -119,7 +119,7 @@ fn exchange<W: Tried>(alloc: Global, world: &mut W) -> Option<Exchanged> {
     })
 }
 
-/// Returns a page of all that can be seen of a world.
+/// Returns a page of the whole world.
 fn all_of<W: Tried>(alloc: Global, world: &W) -> Option<Page> {
     let mut page = Page::new(alloc);
     world.print(alloc, &mut page)?;

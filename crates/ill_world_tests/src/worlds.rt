@@ -1,4 +1,4 @@
-//! Events as values, performed one by one or as a list, and the world that they lead to.
+//! Performs events of two sides as values, one by one or as a list, and prints the world after them.
 
 use crate::events::events;
 use crate::list::EventList;
@@ -33,15 +33,14 @@ impl Tried for World {
         print_world(alloc, page, self)
     }
 
-    /// Prints each field of it, with what has landed and what was sent.
+    /// Prints each field of the world, with the landed records and the sent messages.
     fn print_more(&self, _alloc: Global, page: &mut Page) -> Option<()> {
         page.show_parts(self);
         Some(())
     }
 }
 
-/// Performs the events of this name one by one, and prints what is seen of each, and how both sides stand
-/// in the end.
+/// Performs the named events one by one, and prints the outcome of each. At the end prints the state of both sides.
 pub fn print_steps(alloc: Global, page: &mut Page, name: &str) -> Option<()> {
     let events = events(alloc, name)?;
     let mut world = first_world(alloc)?;
@@ -50,7 +49,7 @@ pub fn print_steps(alloc: Global, page: &mut Page, name: &str) -> Option<()> {
     printed
 }
 
-/// Returns a world of two idle sides. While that is refused memory, it is made again.
+/// Returns a world of two idle sides. While a growth is refused, the call is repeated.
 fn first_world(alloc: Global) -> Option<World> {
     let txn = txn(alloc)?;
     for _ in 0..TRIES {
@@ -63,6 +62,7 @@ fn first_world(alloc: Global) -> Option<World> {
     None
 }
 
+/// Performs events, prints the outcome of each, and then prints the state of both sides.
 fn perform_steps(
     alloc: Global,
     page: &mut Page,
@@ -75,6 +75,7 @@ fn perform_steps(
     print_world(alloc, page, world)
 }
 
+/// Performs an event, and prints its outcome.
 fn print_step(alloc: Global, page: &mut Page, world: &mut World, event: &Event) -> Option<()> {
     let outcome = tries::step(alloc, page, world, event)?;
     if takes_no_memory(outcome) && again(alloc, world, event) != Ok(outcome) {
@@ -92,7 +93,7 @@ fn print_step(alloc: Global, page: &mut Page, world: &mut World, event: &Event) 
     Some(())
 }
 
-/// Returns true if the events here that have this outcome change nothing and take no memory.
+/// Returns true if the events of these tests with this outcome change nothing and take no memory.
 fn takes_no_memory(outcome: Outcome) -> bool {
     matches!(
         outcome,
@@ -100,7 +101,7 @@ fn takes_no_memory(outcome: Outcome) -> bool {
     )
 }
 
-/// Performs an event with every growth refused.
+/// Performs an event as a quiet call.
 fn again(alloc: Global, world: &mut World, event: &Event) -> Result<Outcome, OutOfMemory> {
     marks::begin_quiet(alloc);
     let answer = world.step(alloc, event);
@@ -108,7 +109,7 @@ fn again(alloc: Global, world: &mut World, event: &Event) -> Result<Outcome, Out
     answer
 }
 
-/// Performs the events of this name as a list, and prints how both sides stand in the end.
+/// Performs the named events as a list, and prints the state of both sides at the end.
 pub fn print_run(alloc: Global, page: &mut Page, name: &str) -> Option<()> {
     let events = events(alloc, name)?;
     let world: World = tries::run(alloc, events.all()?)?;
@@ -117,13 +118,13 @@ pub fn print_run(alloc: Global, page: &mut Page, name: &str) -> Option<()> {
     printed
 }
 
-/// Performs the events of this name as a list, and then a round, and prints how both sides stand in the end.
+/// Performs the named events as a list, and then a round. Prints the state of both sides at the end.
 pub fn print_exchange(alloc: Global, page: &mut Page, name: &str) -> Option<()> {
     let events = events(alloc, name)?;
     tries::print_exchange::<World>(alloc, page, events.all()?)
 }
 
-/// Performs the events of this name as a list, and prints which message has ended the request.
+/// Performs the named events as a list, and prints the number of the message that has ended the request.
 pub fn print_ending(alloc: Global, page: &mut Page, name: &str) -> Option<()> {
     let events = events(alloc, name)?;
     let world = run(alloc, &txn(alloc)?, events.all()?).ok()?;
@@ -140,17 +141,22 @@ pub fn print_ending(alloc: Global, page: &mut Page, name: &str) -> Option<()> {
     Some(())
 }
 
-/// The parts of a side that the readers show.
+/// The parts of a side that are printed.
 #[derive(Clone, Copy)]
 struct Seen<'a> {
+    /// The role of the side.
     name: &'static str,
+    /// The state of the side.
     state: State,
+    /// The due date, if there is one.
     due: Option<Day>,
+    /// The count of released messages.
     released: u8,
+    /// The messages that the side has issued.
     issued: &'a [Apdu],
 }
 
-/// Prints how both sides stand, each with the messages that it has issued, and the request that was taken.
+/// Prints the state of both sides and their issued messages, and the request that was taken.
 fn print_world(alloc: Global, page: &mut Page, world: &World) -> Option<()> {
     marks::begin_quiet(alloc);
     let requester = seen_requester(world);
@@ -166,6 +172,7 @@ fn print_world(alloc: Global, page: &mut Page, world: &World) -> Option<()> {
     Some(())
 }
 
+/// Returns the parts of the requester.
 fn seen_requester(world: &World) -> Seen<'_> {
     let side = world.requester();
     Seen {
@@ -177,6 +184,7 @@ fn seen_requester(world: &World) -> Seen<'_> {
     }
 }
 
+/// Returns the parts of the responder.
 fn seen_responder(world: &World) -> Seen<'_> {
     let side = world.responder();
     Seen {
@@ -188,7 +196,7 @@ fn seen_responder(world: &World) -> Seen<'_> {
     }
 }
 
-/// Prints how a side stands, and the messages that it has issued.
+/// Prints the state of a side, and the messages that it has issued.
 fn print_side(alloc: Global, page: &mut Page, side: &Seen<'_>) -> Option<()> {
     page.text(side.name);
     page.text(" ");
@@ -210,6 +218,7 @@ fn print_side(alloc: Global, page: &mut Page, side: &Seen<'_>) -> Option<()> {
     Some(())
 }
 
+/// Prints the bytes of a message.
 fn print_message(alloc: Global, page: &mut Page, apdu: &Apdu) -> Option<()> {
     page.text(" ");
     page.hex(&encode(alloc, apdu).ok()?);

@@ -10,15 +10,25 @@ use std::alloc::Global;
 /// lacks is `None` or false.
 #[derive(Clone, Copy, PartialEq, Eq)]
 pub struct Readings {
+    /// The state.
     pub state: State,
+    /// The number of the conditions that a requester holds.
     pub held: Option<Number>,
+    /// The number of the conditions to which a responder has no answer yet.
     pub outstanding: Option<Number>,
+    /// The number of the conditions that were accepted last.
     pub accepted: Option<Number>,
+    /// The number of the last Cancel that a responder has taken.
     pub last_cancel: Option<Number>,
+    /// The number of the last Renew that a responder has taken.
     pub last_renew: Option<Number>,
+    /// The due date.
     pub due: Option<Day>,
+    /// True if the item was received.
     pub is_received: bool,
+    /// True if a requester has declined the conditions.
     pub is_declined: bool,
+    /// True if a requester has taken a Checked-In.
     pub is_checked_in: bool,
 }
 

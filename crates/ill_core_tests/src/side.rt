@@ -13,7 +13,9 @@ pub const NO_MEMORY: &str = "?";
 
 /// A requester or a responder.
 pub enum Side {
+    /// The side is a requester.
     Requester(Requester),
+    /// The side is a responder.
     Responder(Responder),
 }
 

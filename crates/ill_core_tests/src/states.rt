@@ -5,7 +5,9 @@ use ill_core::{STATES, State};
 /// The role of a side.
 #[derive(Clone, Copy)]
 pub enum Role {
+    /// The side that asks for the item.
     Requester,
+    /// The side that supplies the item.
     Responder,
 }
 

@@ -13,6 +13,7 @@ use std::alloc::Global;
 /// Performs each line of the input as a case.
 #[derive(Drop)]
 pub struct Cases {
+    /// The allocator of all values.
     pub alloc: Global,
 }
 

@@ -6,6 +6,7 @@ use std::alloc::Global;
 /// Pseudorandom numbers of a linear congruential generator. Equal seeds give equal numbers.
 #[derive(Drop)]
 pub struct Draws {
+    /// The state of the generator.
     state: u32,
 }
 

@@ -10,19 +10,28 @@ use std::alloc::Global;
 /// The outcome of a push: a line for each APDU, and the fault if there is one.
 #[derive(Drop)]
 pub struct Given {
+    /// A line for each APDU.
     pub apdus: Page,
+    /// The fault, if there is one.
     pub fault: Option<DerFault>,
 }
 
 /// A feed that gets pieces by `push`, two others that get them by `each`, and their outcomes.
 #[derive(Drop)]
 pub struct Fed {
+    /// The allocator of all values.
     alloc: Global,
+    /// The feed that gets the pieces by `push`.
     pushed: Feed,
+    /// The feed that gets the pieces by `each`, with a handler that takes memory.
     handed: Feed,
+    /// The feed that gets the pieces by `each`, with a handler that takes no memory.
     viewed: Feed,
+    /// A line for each APDU that was given.
     apdus: Page,
+    /// The fault of the last push, if there is one.
     fault: Option<DerFault>,
+    /// The last call that contradicted another, if there is one.
     differing: Option<&'static [u8]>,
 }
 
@@ -209,7 +218,9 @@ impl Handler<Vec<Apdu>> for Collector {
 /// A handler that compares the views with the expected APDUs, one after another.
 #[derive(Drop)]
 struct Viewer<'a> {
+    /// The APDUs that are still expected.
     expected: &'a [Apdu],
+    /// True if each view so far was as expected.
     is_right: bool,
 }
 

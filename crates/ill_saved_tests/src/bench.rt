@@ -30,6 +30,7 @@ pub trait Answers {
 /// A store, or a desk of one transaction or of many, with sides and a folder.
 #[derive(Drop)]
 pub struct Bench<'a> {
+    /// The allocator of all values.
     alloc: Global,
     /// The store, if no desk has it.
     store: Option<MemoryStore>,

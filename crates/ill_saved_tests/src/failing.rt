@@ -41,6 +41,7 @@ pub enum Deceit<'a> {
 pub struct FailingFile {
     /// The open file of the system.
     file: File,
+    /// The count of calls, which all files share.
     left: Left,
 }
 

@@ -29,6 +29,7 @@ pub struct Folder<'a> {
     rt: &'a HostRuntime,
     /// The allocator of all values.
     alloc: Global,
+    /// The path of the folder.
     path: &'a str,
     /// The store that the last `at` made.
     store: Option<FileStore<'a, HostRuntime>>,

@@ -6,7 +6,9 @@ use std::fmt::{Debug, Display};
 /// A page holds bytes, and more are added at its end. If an addition fails, the page is incomplete for good.
 #[derive(Drop)]
 pub struct Page {
+    /// The bytes that were added.
     bytes: Vec<u8>,
+    /// True if no addition has failed.
     is_whole: bool,
 }
 

@@ -43,8 +43,11 @@ impl Failure {
 /// Bytes that are read one after another. No read crosses the first `bar` bytes.
 #[derive(Drop)]
 struct Bytes {
+    /// All bytes.
     bytes: Vec<u8>,
+    /// The count of bytes that were read.
     read: usize,
+    /// No read crosses this place.
     bar: usize,
 }
 
@@ -72,6 +75,7 @@ impl Bytes {
         }
     }
 
+    /// Reads bytes into `buffer`, and returns their count.
     fn read(&mut self, buffer: &mut [u8]) -> io::Result<usize>
         ensures bound { IfOk result (λ count. count ≤ length buffer.new) }
         ensures size { length buffer.new ≡ length buffer.old }
@@ -85,12 +89,19 @@ impl Bytes {
 /// A reader that gives the bytes of `before`, may fail, and then gives the bytes of `after`.
 #[derive(Drop)]
 pub struct TestReader {
+    /// The bytes before the failure.
     before: Bytes,
+    /// The failure after the bytes of `before`.
     failure: Failure,
+    /// The bytes after the failure.
     after: Bytes,
+    /// True if the reader gives one byte at a time.
     is_slow: bool,
+    /// True if `before` has a bar.
     has_bar: bool,
+    /// True if the reader has failed.
     has_failed: bool,
+    /// True if the reader was called after it had failed.
     was_called_again: bool,
 }
 
@@ -163,11 +174,17 @@ impl Read for TestReader {
 pub struct TestWriter {
     /// The writer has taken these bytes.
     pub taken: Vec<u8>,
+    /// The count of bytes that the writer takes before it fails.
     room: usize,
+    /// The failure of `write` when there is no room.
     refusal: Failure,
+    /// The failure of `flush`.
     flush: Failure,
+    /// True if the writer takes one byte at a time.
     is_slow: bool,
+    /// True if the writer has failed.
     has_failed: bool,
+    /// True if the writer was called after it had failed.
     was_called_again: bool,
 }
 

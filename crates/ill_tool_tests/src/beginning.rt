@@ -1,4 +1,4 @@
-//! Sides and desks that begin in a store in memory, by the engines of `new`.
+//! Begins sides and desks over a store in memory, by the engines of `new`.
 
 use crate::call::Call;
 use crate::memory::{Beginning, Memory};
@@ -13,9 +13,9 @@ use ill_values::TxnId;
 use ill_world::words::who;
 use std::alloc::Global;
 
-/// `ROLE STORE`: a side or a desk of this role begins, and its answer is told; then how it stands, or what has
-/// landed in the store that was handed back. The store is a new one whose first call `works`, `fails-old` or
-/// `fails-new`, or `again` that of what lies in memory.
+/// Performs `ROLE STORE`: begins a side or a desk of this role, and prints the answer. Then prints the state of the new
+/// sides, or the landed bytes of the store that was handed back. STORE is the plan of a new store: `works`, `fails-old`
+/// or `fails-new`. Or it is `again`, which takes the store of the old memory.
 pub fn begin(
     alloc: Global,
     page: &mut Page,
@@ -44,7 +44,7 @@ pub fn begin(
     }
 }
 
-/// The store of these words. What lies in memory is let go.
+/// Returns the store that `word` names. The memory is emptied.
 fn store_of(alloc: Global, memory: &mut Option<Memory>, word: &Word) -> Option<MemoryStore> {
     let before = memory.take();
     if word.is("again") {
@@ -55,7 +55,7 @@ fn store_of(alloc: Global, memory: &mut Option<Memory>, word: &Word) -> Option<M
     }
 }
 
-/// A store in which nothing has landed, whose next call is planned.
+/// Returns an empty store whose next call is planned.
 fn new_store(alloc: Global, plan: &Word) -> Option<MemoryStore> {
     let next = plan_of(plan.text.as_str())?;
     let mut store = MemoryStore::new(alloc);
@@ -63,7 +63,7 @@ fn new_store(alloc: Global, plan: &Word) -> Option<MemoryStore> {
     Some(store)
 }
 
-/// What the engine answers over this store. A desk begins without the transaction.
+/// Returns the answer of the engine over `store`. A desk begins without a transaction.
 fn begin_over(
     alloc: Global,
     store: MemoryStore,
@@ -87,7 +87,7 @@ fn begin_over(
     }
 }
 
-/// Tells the bytes that have landed, if any have.
+/// Prints the bytes that have landed, if there are any.
 pub fn tell_landed(
     alloc: Global,
     page: &mut Page,

@@ -1,4 +1,4 @@
-//! What lies on the bench: a folder, and what lies in memory.
+//! The bench has a folder for files, and a memory with one side or one desk.
 
 use crate::call::Call;
 use crate::engines;
@@ -13,40 +13,47 @@ use ill_saved::LockFiles;
 use ill_test_kit::{Page, named};
 use std::alloc::Global;
 
-/// What performs the calls of lines. Nothing is answered where the words are none.
+/// Performs the calls of lines. A function returns `None` if its words are no call.
 pub trait Performs {
-    /// Begins anew: an empty folder, and nothing in memory.
+    /// Begins a case: empties the folder and the memory.
     fn begin(&mut self) -> Option<()>;
 
-    /// Performs a call, and tells its answer.
+    /// Performs a call, and prints its answer.
     fn perform(&mut self, page: &mut Page, names: &Names, words: &[Word]) -> Option<()>;
 
-    /// Takes the folder away.
+    /// Removes the folder.
     fn end(&mut self) -> Option<()>;
 }
 
 /// A folder, and a side or a desk in memory.
 #[derive(Drop)]
 pub struct Bench<'a, R: LockFiles> {
+    /// The allocator of all values.
     alloc: Global,
+    /// The folder for files.
     folder: Folder<'a, R>,
+    /// The memory, and the lines that led to it.
     past: Past,
 }
 
-/// What the first word of a line calls.
+/// The kind of call that the first word of a line names.
 #[derive(Clone, Copy)]
 enum Kind {
-    /// The command line.
+    /// A command line.
     Ill,
-    /// The command line, on files that see its lock.
+    /// A command line, on files that observe its lock.
     Watched,
+    /// The engine of a command, on streams.
     Engine(Engine),
+    /// A call on a file of the folder.
     File(FileCall),
-    /// A call on a side or a desk in memory.
+    /// A call on the side or the desk in memory.
     Line(LineCall),
+    /// The faults are printed with their texts.
     Texts,
 }
 
+/// The first words of lines, and the calls that they name.
 const KINDS: [(&str, Kind); 30] = [
     ("ill", Kind::Ill),
     ("watched", Kind::Watched),
@@ -81,7 +88,7 @@ const KINDS: [(&str, Kind); 30] = [
 ];
 
 impl<'a, R: LockFiles> Bench<'a, R> {
-    /// A bench with nothing on it but this folder.
+    /// Returns a bench that has `folder` and an empty memory.
     pub fn new(alloc: Global, folder: Folder<'a, R>) -> Bench<'a, R> {
         Bench {
             alloc,

@@ -1,24 +1,29 @@
-//! A block of lines that are performed for each of some values.
+//! A block is a list of lines that are performed for each of some values.
 
 use std::alloc::Global;
 
-/// Lines, and the values of the names that stand in them in braces.
+/// The lines of a block, and the values for the names in braces that the lines contain.
 #[derive(Drop)]
 pub struct Block {
+    /// The allocator of all values.
     alloc: Global,
+    /// The names and their values.
     variables: Vec<Variable>,
+    /// The lines, with names in braces.
     pub lines: Vec<String>,
 }
 
+/// A name, and the values that replace it.
 #[derive(Drop)]
 struct Variable {
-    /// Its name in braces.
+    /// The name in braces.
     mark: String,
+    /// The values that replace the name.
     values: Vec<String>,
 }
 
 impl Block {
-    /// A block without values and lines.
+    /// Returns a block without values and lines.
     pub fn new(alloc: Global) -> Block {
         Block {
             alloc,
@@ -33,8 +38,8 @@ impl Block {
         self.lines.push(line).ok()
     }
 
-    /// Adds the values of `NAME VALUES`, between which stand commas. A value `0-17` is each of these numbers.
-    /// Values of a name that was said last are more of its values.
+    /// Reads `NAME VALUES`, with commas between the values. A value `0-17` stands for each of these numbers. If NAME is
+    /// the last name, its values are added to the earlier ones.
     pub fn add_values(&mut self, words: &str) -> Option<()> {
         let (name, values) = words.split_once(' ')?;
         let mark = format!(in self.alloc; "{{{name}}}").ok()?;
@@ -53,7 +58,7 @@ impl Block {
         Some(())
     }
 
-    /// How many cases there are: each value of one name with each value of the others.
+    /// Returns the count of cases. Each value of one name is combined with each value of the others.
     pub fn cases(&self) -> usize {
         let mut cases: usize = 1;
         for variable in &self.variables {
@@ -62,7 +67,7 @@ impl Block {
         cases
     }
 
-    /// The values of this case, one after another.
+    /// Returns the values of the case `case`, with spaces between them.
     pub fn values(&self, case: usize) -> Option<String> {
         let mut marks = String::new(self.alloc);
         for variable in &self.variables {
@@ -72,7 +77,7 @@ impl Block {
         self.line(marks.as_str(), case)
     }
 
-    /// A line in this case.
+    /// Returns a line with the values of the case `case`.
     pub fn line(&self, line: &str, case: usize) -> Option<String> {
         let mut text = String::from_str(self.alloc, line).ok()?;
         let mut rest = case;
@@ -89,6 +94,7 @@ impl Block {
 }
 
 impl Variable {
+    /// Adds a value, or each number of a range.
     fn add(&mut self, alloc: Global, value: &str) -> Option<()> {
         match range(value) {
             Some((first, last)) => self.add_numbers(alloc, first, last),
@@ -96,6 +102,7 @@ impl Variable {
         }
     }
 
+    /// Adds the numbers from `first` to `last` as values.
     fn add_numbers(&mut self, alloc: Global, first: u32, last: u32) -> Option<()> {
         for number in first..=last {
             self.values.push(number.to_string(alloc).ok()?).ok()?;
@@ -104,7 +111,7 @@ impl Variable {
     }
 }
 
-/// The first and the last of the numbers that `0-17` says.
+/// Returns the first and the last number of a range such as `0-17`.
 fn range(value: &str) -> Option<(u32, u32)> {
     let (first, last) = value.split_once('-')?;
     Some((first.parse().ok()?, last.parse().ok()?))

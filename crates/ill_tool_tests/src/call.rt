@@ -1,4 +1,4 @@
-//! A call: its words, and its streams.
+//! A call has words and streams.
 
 use crate::letters::Letters;
 use crate::memory::MemoryCall;
@@ -13,42 +13,46 @@ use ill_tool::ToolFault;
 use std::alloc::Global;
 use std::fmt::Debug;
 
-/// The room of the writers of a call that stands between marks. It is more than any of these calls writes.
+/// The writers of a call between marks have this room. No such call writes as much.
 const ROOM: usize = 65_536;
 
-/// All that a call is given, and all that it leaves behind beside its answer.
+/// The input of a call, and its results except its answer.
 #[derive(Drop)]
 pub struct Call<'a> {
+    /// The words of the call.
     pub words: &'a [Word],
+    /// The reader of the call.
     pub source: TestReader,
+    /// The writer for the output.
     pub output: TestWriter,
+    /// The writer for faults.
     pub errors: TestWriter,
-    /// The mails that have left.
+    /// The mails that the call has sent.
     pub letters: Letters,
-    /// It answered want of memory.
+    /// True if the call answered out of memory.
     pub says_memory: bool,
-    /// It was refused a growth, and has to be made again.
+    /// True if a growth was refused, so that the call must be made again.
     pub was_refused: bool,
-    /// It answered want of memory, and has changed the store of the copy.
+    /// True if the call answered out of memory, and still has changed the store of the copy.
     pub spoils_copy: bool,
-    /// It stands between marks if it is performed.
+    /// True if marks surround the call.
     is_marked: bool,
-    /// The words of its input.
+    /// The words of the input.
     input: &'a [Word],
-    /// How much is told of what the two writers took.
+    /// The parts of the output and of the faults that are printed.
     tellings: (Telling, Telling),
 }
 
-/// The fault of a call, which may be want of memory.
+/// The fault of a call, which may be out of memory.
 pub trait Faulty {
-    /// Returns true if it is want of memory.
+    /// Returns true if the fault is out of memory.
     fn is_memory(&self) -> bool;
 
     /// Ends the marks of the call. Returns true if a growth was refused.
     fn is_refused(alloc: Global, says_memory: bool) -> bool;
 }
 
-/// An engine may do without room that it asked for only to be quick.
+/// An engine may do without memory that only makes it faster.
 impl Faulty for ToolFault {
     fn is_memory(&self) -> bool {
         *self == ToolFault::OutOfMemory
@@ -69,16 +73,21 @@ impl Faulty for DeskFault {
     }
 }
 
-/// The words of a call, and those of its streams.
+/// The words of a call, and the words of its streams.
 #[derive(Clone, Copy)]
 struct Parts<'a> {
+    /// The words of the call.
     words: &'a [Word],
+    /// The words after `<`.
     input: Option<&'a [Word]>,
+    /// The words after `>`.
     output: Option<&'a [Word]>,
+    /// The words after `2>`.
     errors: Option<&'a [Word]>,
 }
 
 impl<'a> Parts<'a> {
+    /// Splits the words of a call at the marks of its streams.
     fn of(words: &'a [Word]) -> Parts<'a> {
         let (words, errors) = cut(words, "2>");
         let (words, output) = cut(words, ">");
@@ -93,7 +102,7 @@ impl<'a> Parts<'a> {
 }
 
 impl<'a> Call<'a> {
-    /// The call of `WORDS [< READER] [> WRITER] [2> WRITER]`.
+    /// Returns the call that `WORDS [< READER] [> WRITER] [2> WRITER]` spells.
     pub fn of(alloc: Global, names: &Names, words: &'a [Word]) -> Option<Call<'a>> {
         let parts = Parts::of(words);
         let source = reader_of(alloc, names, parts.input.unwrap_or(&[]));
@@ -117,7 +126,7 @@ impl<'a> Call<'a> {
         }
     }
 
-    /// Lets it stand between marks, and gives its writers room for all that they take.
+    /// Surrounds the call with marks, and gives its writers room for all bytes.
     pub fn mark(&mut self, alloc: Global) -> Option<()> {
         self.output.taken = Vec::with_capacity(alloc, ROOM).ok()?;
         self.errors.taken = Vec::with_capacity(alloc, ROOM).ok()?;
@@ -125,14 +134,14 @@ impl<'a> Call<'a> {
         Some(())
     }
 
-    /// Begins the marks.
+    /// Begins the marks, if the call has them.
     pub fn begin(&self, alloc: Global) {
         if self.is_marked {
             marks::begin(alloc);
         }
     }
 
-    /// Ends the marks, and returns the answer.
+    /// Ends the marks, and returns `answer`.
     pub fn end<T: Drop, F: Faulty + Drop>(
         &mut self,
         alloc: Global,
@@ -146,7 +155,7 @@ impl<'a> Call<'a> {
         answer
     }
 
-    /// Leaves it the first `count` of its messages or mails.
+    /// Reduces the call to the first `count` of its messages or mails.
     pub fn shorten(
         &mut self,
         alloc: Global,
@@ -166,31 +175,31 @@ impl<'a> Call<'a> {
         Some(())
     }
 
-    /// Tells what it has written, and what it has left.
+    /// Prints the output, the faults and the rest of the input.
     pub fn tell(&self, page: &mut Page, names: &Names) {
         tell_writer(page, names, ">", &self.output, &self.tellings.0);
         tell_writer(page, names, "!", &self.errors, &self.tellings.1);
         tell_reader(page, names, &self.source);
     }
 
-    /// Whether it has written nothing.
+    /// Returns true if the call has written nothing.
     pub fn has_written_nothing(&self) -> bool {
         self.output.taken.is_empty() && self.errors.taken.is_empty()
     }
 
-    /// Tells the same, and what is answered.
+    /// Prints the output, the faults, the rest of the input, and `answer`.
     pub fn tell_answer<T: Debug>(&self, page: &mut Page, names: &Names, answer: &T) {
         self.tell(page, names);
         tell_value(page, answer);
     }
 }
 
-/// Returns the bytes of the input of `WORDS < READER` that come before a failure.
+/// Returns the bytes of the input in `WORDS < READER` that come before a failure.
 pub fn input_of(names: &Names, words: &[Word]) -> Option<Vec<u8>> {
     bytes_of(names, Parts::of(words).input.unwrap_or(&[]))
 }
 
-/// Returns how many prefixes there are of the messages or mails of a call. Those of another call are none.
+/// Returns the count of prefixes of the messages or mails of a call. Other calls have none.
 pub fn prefix_count(alloc: Global, names: &Names, on: MemoryCall, words: &[Word]) -> usize {
     match on {
         MemoryCall::Take => input_of(names, words)
@@ -215,7 +224,7 @@ fn ends(alloc: Global, bytes: &[u8]) -> Option<Vec<usize>> {
     Some(ends)
 }
 
-/// Tells what is answered.
+/// Prints a value as `{:?}` prints it.
 pub fn tell_value<T: Debug>(page: &mut Page, value: &T) {
     begin(page, "=");
     page.show_parts(value);

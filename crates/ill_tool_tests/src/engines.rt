@@ -1,4 +1,4 @@
-//! Calls that keep nothing: APDUs that are read and written, and the engines of the commands on streams.
+//! Calls that have no memory: reading and writing APDUs, and the engines of the commands on streams.
 
 use crate::call::{Call, tell_value};
 use crate::names::Names;
@@ -13,18 +13,24 @@ use ill_tool::{run_check, run_show, run_simulate, run_simulate_desks};
 use ill_values::Apdu;
 use std::alloc::Global;
 
-/// What is called.
+/// The function that is called.
 #[derive(Clone, Copy)]
 pub enum Engine {
+    /// The engine of `show`.
     Show,
+    /// The engine of `check`.
     Check,
+    /// The engine of `simulate`, for two sides.
     Simulate,
+    /// The engine of `simulate`, for two desks.
     SimulateDesks,
+    /// Reads APDUs.
     Read,
+    /// Writes an APDU.
     Write,
 }
 
-/// Performs a call between marks, and again while it is refused a growth. Then it tells the answer.
+/// Performs a call between marks, repeats it while a growth is refused, and prints the answer.
 pub fn perform(
     alloc: Global,
     page: &mut Page,
@@ -38,7 +44,7 @@ pub fn perform(
     done
 }
 
-/// Performs a call between marks until no growth is refused, and adds each try before that.
+/// Performs a call between marks until no growth is refused. Adds each refused try to `tries`.
 fn try_often<'a>(
     alloc: Global,
     page: &mut Page,
@@ -61,7 +67,7 @@ fn try_often<'a>(
     None
 }
 
-/// Performs a call, between marks if it can be performed often.
+/// Performs a call. Marks surround it if its input is short enough for many tries.
 fn perform_once(
     alloc: Global,
     names: &Names,
@@ -75,7 +81,8 @@ fn perform_once(
     answer_of(alloc, &mut seen.answer, names, engine, &mut seen.call)
 }
 
-/// Tells each try that did not write some whole lines before it answered want of memory, and was not as ever.
+/// Prints each refused try with a wrong result. A try must write only whole lines and answer out of memory, or give the
+/// usual answer.
 fn tell_faults(page: &mut Page, tries: &[Seen<'_>], last: &Seen<'_>) {
     for seen in tries {
         let is_fine = if seen.call.says_memory {
@@ -89,13 +96,13 @@ fn tell_faults(page: &mut Page, tries: &[Seen<'_>], last: &Seen<'_>) {
     }
 }
 
-/// Returns true if bytes are the first lines of others, or all of them.
+/// Returns true if `prefix` is the first lines of `whole`, or all of it.
 fn is_prefix(prefix: &[u8], whole: &[u8]) -> bool {
     let is_whole = prefix.is_empty() || prefix.ends_with(b"\n") || prefix.len() == whole.len();
     is_whole && whole.starts_with(prefix)
 }
 
-/// Performs a call, and tells its answer.
+/// Performs a call, and prints its answer.
 fn answer_of(
     alloc: Global,
     page: &mut Page,
@@ -131,7 +138,7 @@ fn answer_of(
     }
 }
 
-/// `simulate GROUP TRANSACTION`
+/// Performs `simulate GROUP TRANSACTION`.
 fn simulate(alloc: Global, page: &mut Page, names: &Names, call: &mut Call<'_>) -> Option<()> {
     let [group, transaction] = call.words else {
         return None;
@@ -149,7 +156,7 @@ fn simulate(alloc: Global, page: &mut Page, names: &Names, call: &mut Call<'_>) 
     Some(())
 }
 
-/// `read TIMES`: one APDU after another, by as many calls.
+/// Performs `read TIMES`: reads one APDU after another, each in its own call.
 fn read(alloc: Global, page: &mut Page, names: &Names, call: &mut Call<'_>) -> Option<()> {
     let times = call.words.first()?.text.parse::<u32>().ok()?;
     for _ in 0..times {
@@ -161,7 +168,7 @@ fn read(alloc: Global, page: &mut Page, names: &Names, call: &mut Call<'_>) -> O
     Some(())
 }
 
-/// Tells the bytes of the APDU that was read, or what was in place of it.
+/// Prints the bytes of the APDU that was read, or the end or the fault.
 fn tell_read(
     alloc: Global,
     page: &mut Page,
@@ -176,7 +183,7 @@ fn tell_read(
     Some(())
 }
 
-/// `write BYTES`: the APDU of the bytes.
+/// Performs `write BYTES`: writes the APDU that the bytes encode.
 fn write(alloc: Global, page: &mut Page, names: &Names, call: &mut Call<'_>) -> Option<()> {
     let bytes = names.bytes(call.words)?;
     let (apdu, _) = decode(alloc, &bytes).ok()?;

@@ -1,4 +1,4 @@
-//! A folder for the files of a case, and the command lines that are performed on them.
+//! Performs command lines on the files of a folder.
 
 use crate::call::{Call, tell_value};
 use crate::names::Names;
@@ -13,28 +13,35 @@ use std::env::Env;
 use std::io::ErrorKind;
 use std::{fs, io};
 
-/// A folder below the system's for temporary files.
+/// A folder in the system's folder for temporary files.
 #[derive(Drop)]
 pub struct Folder<'a, R: LockFiles> {
+    /// The system.
     rt: &'a R,
+    /// The allocator of all values.
     alloc: Global,
+    /// The path of the folder.
     path: String,
 }
 
-/// What is told in place of its path.
+/// This word replaces the path of the folder in what is printed.
 const SHOWN: &str = "FOLDER";
 
-/// What is done with a file of the folder.
+/// A call on a file of the folder.
 #[derive(Clone, Copy)]
 pub enum FileCall {
+    /// Writes a file.
     Put,
+    /// Prints the bytes of a file.
     Show,
+    /// Makes a folder.
     Folder,
+    /// Removes a file.
     Remove,
 }
 
 impl<'a, R: LockFiles> Folder<'a, R> {
-    /// A folder that was not there, with nothing in it.
+    /// Makes a new and empty folder.
     pub fn new(rt: &'a R, alloc: Global) -> io::Result<Folder<'a, R>>
     where
         R: Env + AllocGlobal,
@@ -43,23 +50,23 @@ impl<'a, R: LockFiles> Folder<'a, R> {
         Ok(Folder { rt, alloc, path })
     }
 
-    /// Removes all that is in it.
+    /// Removes all files of the folder.
     pub fn clear(&self) -> Option<()> {
         self.remove()?;
         fs::create_dir(self.rt, self.path.as_str()).ok()
     }
 
-    /// Removes it, with all that is in it.
+    /// Removes the folder with all its files.
     pub fn remove(&self) -> Option<()> {
         fs::remove_dir_all(&(self.rt, self.alloc), self.path.as_str()).ok()
     }
 
-    /// The path of the file with this name.
+    /// Returns the path of the file `name`.
     fn path_of(&self, name: &str) -> Option<String> {
         format!(in self.alloc; "{}/{name}", self.path).ok()
     }
 
-    /// Performs a call on a file, and tells its answer.
+    /// Performs a call on a file, and prints its answer.
     pub fn perform(
         &self,
         page: &mut Page,
@@ -78,7 +85,7 @@ impl<'a, R: LockFiles> Folder<'a, R> {
         }
     }
 
-    /// Tells the bytes of a file, or that there is none.
+    /// Prints the bytes of a file, or that there is no file.
     fn show(&self, page: &mut Page, names: &Names, path: &str, words: &[Word]) -> Option<()> {
         match fs::read(&(self.rt, self.alloc), path) {
             Ok(bytes) => tell_file(page, names, &bytes, words),
@@ -90,7 +97,7 @@ impl<'a, R: LockFiles> Folder<'a, R> {
         }
     }
 
-    /// Performs a command line, and tells what it leaves.
+    /// Performs a command line, and prints its output and its exit status.
     pub fn command(&self, page: &mut Page, names: &Names, call: &mut Call<'_>) -> Option<()> {
         let line = self.command_line(call.words)?;
         let status = run(self.rt, self.alloc, &line, call)?;
@@ -102,8 +109,8 @@ impl<'a, R: LockFiles> Folder<'a, R> {
         Some(())
     }
 
-    /// Performs a command line on files that see its second word's record, and tells what it leaves and what they
-    /// have seen. The first word is how many tries of the lock fail.
+    /// Performs a command line on files that observe the record of its second word. The first word is the count of
+    /// tries of the lock that fail. Prints the output, the exit status and the observations.
     pub fn watched_command(
         &self,
         page: &mut Page,
@@ -123,20 +130,20 @@ impl<'a, R: LockFiles> Folder<'a, R> {
         Some(())
     }
 
-    /// Puts a name in place of its path in what was written, since each run has another path.
+    /// Replaces the path of the folder in all that was written, since each run has a new path.
     fn hide_path(&self, call: &mut Call<'_>) {
         self.hide_path_in(&mut call.output);
         self.hide_path_in(&mut call.errors);
     }
 
-    /// Puts a name in place of its path in what one writer took.
+    /// Replaces the path of the folder in the bytes that one writer took.
     fn hide_path_in(&self, sink: &mut TestWriter) {
         if let Some(hidden) = self.hidden(&sink.taken) {
             drop(std::mem::replace(&mut sink.taken, hidden));
         }
     }
 
-    /// The bytes of a text with the name in place of the path.
+    /// Returns a text in which `SHOWN` replaces the path of the folder.
     fn hidden(&self, bytes: &[u8]) -> Option<Vec<u8>> {
         let text = str::from_utf8(bytes).ok()?;
         let mut hidden = Vec::new(self.alloc);
@@ -149,7 +156,7 @@ impl<'a, R: LockFiles> Folder<'a, R> {
         Some(hidden)
     }
 
-    /// The words of a command line: the program's name, and the paths of files in place of their names.
+    /// Returns a command line: the name of the program, and the words with the paths of files.
     fn command_line(&self, words: &[Word]) -> Option<Vec<String>> {
         let mut line = Vec::new(self.alloc);
         line.push(String::from_str(self.alloc, "ill").ok()?).ok()?;
@@ -159,7 +166,7 @@ impl<'a, R: LockFiles> Folder<'a, R> {
         Some(line)
     }
 
-    /// A word, or the path of the file that is named after `@`.
+    /// Returns the text of a word, or the path of the file that it names after `@`.
     fn word(&self, word: &Word) -> Option<String> {
         let text = word.text.as_str();
         match text.strip_prefix('@') {
@@ -169,7 +176,7 @@ impl<'a, R: LockFiles> Folder<'a, R> {
     }
 }
 
-/// Performs these words, and answers the exit status.
+/// Performs a command line, and returns the exit status.
 fn run<T: LockFiles>(rt: &T, alloc: Global, line: &[String], call: &mut Call<'_>) -> Option<u8> {
     let words: Vec<&str> = line.iter().map(|word| word.as_str()).collect(alloc).ok()?;
     Some(run_words(
@@ -182,8 +189,7 @@ fn run<T: LockFiles>(rt: &T, alloc: Global, line: &[String], call: &mut Call<'_>
     ))
 }
 
-/// Tells how often the record was opened and replaced, how often the lock was free then, and how often it was waited
-/// for.
+/// Prints the counts of openings and replacements of the record, of those with a free lock, and of pauses.
 fn tell_seen(page: &mut Page, seen: &Seen) {
     begin(page, "=");
     page.text("opened ");
@@ -197,7 +203,7 @@ fn tell_seen(page: &mut Page, seen: &Seen) {
     page.text("\n");
 }
 
-/// Tells the bytes of a file; after `is BYTES` whether it has just these.
+/// Prints the bytes of a file. After `is BYTES` it prints only if the file has exactly these bytes.
 fn tell_file(page: &mut Page, names: &Names, bytes: &[u8], words: &[Word]) -> Option<()> {
     match words {
         [word, wanted @ ..] if word.is("is") => {

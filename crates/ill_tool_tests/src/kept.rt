@@ -1,4 +1,4 @@
-//! What a side and a desk of many transactions have in common: what is called on them, and what is seen of them.
+//! A side and a desk of many transactions are called and viewed by one trait.
 
 use crate::call::Call;
 use crate::view::{View, tell_side};
@@ -14,19 +14,19 @@ use ill_tool::{
 use ill_values::{Day, Number, TxnId};
 use std::alloc::Global;
 
-/// How many mails wait beyond those that are taken by a call.
+/// After the mails that a call takes, this many others wait.
 const WAITING: usize = 2;
 
-/// What keeps sides in a store. Nothing is answered where the words are none.
+/// Sides that are kept in a store. A function returns `None` if its words are no call, or its engine is only for desks.
 pub trait Kept {
-    /// Performs the action that the words say, by its engine.
+    /// Performs the action that the words spell, by its engine.
     fn act(&mut self, alloc: Global, call: &mut Call<'_>) -> Option<Result<bool, ToolFault>>;
 
-    /// Takes the APDUs of the input, by the engine: of long lines, or of a desk by that which keeps what came, where
-    /// the words say so.
+    /// Takes the APDUs of the input, by the engine. With `--long` it prints long lines, and with `--keep` a desk keeps
+    /// each message that came.
     fn take(&mut self, alloc: Global, call: &mut Call<'_>) -> Result<bool, ToolFault>;
 
-    /// Takes mails, by the engine, which only a desk has. Two more wait.
+    /// Takes mails, by the engine, which only a desk has. After them `WAITING` others wait.
     fn inbox(
         &mut self,
         alloc: Global,
@@ -34,7 +34,8 @@ pub trait Kept {
         mails: &[Mail],
     ) -> Option<Result<Vec<Verdict>, ToolFault>>;
 
-    /// Sends all messages that want it, if these bytes ask, by the engine, which only a desk has.
+    /// Sends all messages that are due to be sent, by the engine, which only a desk has. The engine sends them only if
+    /// `asking` asks for them.
     fn outbox(
         &self,
         alloc: Global,
@@ -42,7 +43,8 @@ pub trait Kept {
         asking: &[u8],
     ) -> Option<Result<usize, ToolFault>>;
 
-    /// Writes all messages that want sending, if these bytes ask, by the engine, which only a desk has.
+    /// Writes all messages that are due to be sent, by the engine, which only a desk has. The engine writes them only
+    /// if `asking` asks for them.
     fn stream(
         &self,
         alloc: Global,
@@ -50,7 +52,7 @@ pub trait Kept {
         asking: &[u8],
     ) -> Option<Result<(), ToolFault>>;
 
-    /// Performs the deeds that a day asks for, by the engine, which only a desk has.
+    /// Performs the deeds that are due on a day, by the engine, which only a desk has.
     fn dates(&mut self, alloc: Global, call: &mut Call<'_>) -> Option<Result<(), ToolFault>>;
 
     /// Copies all sides to another store, by the engine, which only a desk has.
@@ -61,29 +63,29 @@ pub trait Kept {
         copy: &mut MemoryStore,
     ) -> Option<Result<(), ToolFault>>;
 
-    /// Gives the message that the words say, by the engine.
+    /// Writes the message that the words name, by the engine.
     fn send(&self, alloc: Global, call: &mut Call<'_>) -> Option<Result<(), ToolFault>>;
 
     /// Shows all sides, by the engine.
     fn status(&self, alloc: Global, call: &mut Call<'_>) -> Result<(), ToolFault>;
 
-    /// Shows all of the loan that the words say, by the engine.
+    /// Shows all of the loan that the words name, by the engine.
     fn loan(&self, alloc: Global, call: &mut Call<'_>) -> Option<Result<(), ToolFault>>;
 
     /// Saves all sides.
     fn save(&mut self, alloc: Global, call: &mut Call<'_>) -> Result<(), DeskFault>;
 
-    /// Takes up what has landed.
+    /// Restarts from the landed record.
     fn restart(&mut self, alloc: Global, call: &mut Call<'_>) -> Result<(), DeskFault>;
 
-    /// What is seen of all sides.
+    /// Returns the view of all sides.
     fn view(&self, alloc: Global) -> Option<View>;
 
-    /// Tells how each side stands.
+    /// Prints the state of each side.
     fn tell(&self, page: &mut Page);
 }
 
-/// The words are `[--today DAY] WORDS` of an action, and the NUMBER of a message.
+/// The words of an action are `[--today DAY] WORDS`. The words of a message are its number.
 impl<S: Store> Kept for Desk1<S> {
     fn act(&mut self, alloc: Global, call: &mut Call<'_>) -> Option<Result<bool, ToolFault>> {
         let today = day(call.words)?;
@@ -185,7 +187,7 @@ impl<S: Store> Kept for Desk1<S> {
     }
 }
 
-/// Before the words stand GROUP and TRANSACTION.
+/// GROUP and TRANSACTION precede the words.
 impl<S: Store> Kept for Desk<S> {
     fn act(&mut self, alloc: Global, call: &mut Call<'_>) -> Option<Result<bool, ToolFault>> {
         let (txn, words) = txn_before(alloc, call.words)?;
@@ -245,7 +247,7 @@ impl<S: Store> Kept for Desk<S> {
         Some(call.end(alloc, answer))
     }
 
-    /// `DAY [overdue] [expire]`
+    /// Performs `DAY [overdue] [expire]`.
     fn dates(&mut self, alloc: Global, call: &mut Call<'_>) -> Option<Result<(), ToolFault>> {
         let (day, wanted) = call.words.split_first()?;
         let today = Day::read(day.text.as_bytes()).ok()?;
@@ -323,7 +325,7 @@ impl<S: Store> Kept for Desk<S> {
     }
 }
 
-/// The transaction whose group and transaction stand before other words, and these.
+/// Returns the transaction that the words begin with, and the words after it.
 fn txn_before(alloc: Global, words: &[Word]) -> Option<(TxnId, &[Word])> {
     match words {
         [group, transaction, others @ ..] => {
@@ -335,7 +337,7 @@ fn txn_before(alloc: Global, words: &[Word]) -> Option<(TxnId, &[Word])> {
     }
 }
 
-/// The day that stands before the words of an action, if one does. One that is none is nothing.
+/// Returns the day that precedes the words of an action, if there is one. Returns `None` if its digits are no day.
 fn day(words: &[Word]) -> Option<Option<Day>> {
     match words {
         [option, day, ..] if option.is("--today") => {
@@ -345,7 +347,7 @@ fn day(words: &[Word]) -> Option<Option<Day>> {
     }
 }
 
-/// The words of an action.
+/// Returns the words of an action, without the day.
 fn words_after(words: &[Word]) -> &[Word] {
     match words {
         [option, _, words @ ..] if option.is("--today") => words,
@@ -353,12 +355,12 @@ fn words_after(words: &[Word]) -> &[Word] {
     }
 }
 
-/// Whether an option is among the words.
+/// Returns true if an option is among the words.
 fn has(words: &[Word], option: &str) -> bool {
     words.iter().any(|word| word.is(option))
 }
 
-/// The number of a message.
+/// Returns the number of a message.
 fn number(words: &[Word]) -> Option<Number> {
     Number::new(words.first()?.text.parse::<u8>().ok()?)
 }

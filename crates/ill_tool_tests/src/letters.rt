@@ -1,4 +1,4 @@
-//! Where the messages of an outbox go: a list of mails with room for some.
+//! Collects the messages of an outbox in a list of mails with limited room.
 
 ghost use Rattle.std.specs.Prelude.{ℕ, None};
 
@@ -9,30 +9,36 @@ use ill_test_kit::Page;
 use ill_tool::{Outgoing, ToolFault};
 use std::alloc::Global;
 
-/// A mail that has left.
+/// A mail that was sent.
 #[derive(Drop)]
 struct Letter {
+    /// The name of the mail.
     name: Vec<u8>,
+    /// The bytes of the mail.
     bytes: Vec<u8>,
 }
 
 impl Letter {
+    /// Returns true if both have equal names and bytes.
     fn is(&self, other: &Letter) -> bool {
         self.name.as_slice() == other.name.as_slice()
             && self.bytes.as_slice() == other.bytes.as_slice()
     }
 }
 
-/// The mails that have left, and for how many more there is room.
+/// The mails that were sent, and the room for others.
 #[derive(Drop)]
 pub struct Letters {
+    /// The allocator of all mails.
     alloc: Global,
+    /// The mails that were sent.
     letters: Vec<Letter>,
+    /// The count of mails for which there is still room.
     room: usize,
 }
 
 impl Letters {
-    /// None have left yet.
+    /// Returns an empty list with room for `room` mails.
     pub fn new(alloc: Global, room: usize) -> Letters {
         Letters {
             alloc,
@@ -41,7 +47,7 @@ impl Letters {
         }
     }
 
-    /// Returns true if its mails are the first ones of the other.
+    /// Returns true if the mails of this list are the first mails of `other`.
     pub fn is_prefix_of(&self, other: &Letters) -> bool {
         let mut others = other.letters.iter();
         for letter in &self.letters {
@@ -52,7 +58,7 @@ impl Letters {
         true
     }
 
-    /// Tells the name and the bytes of each.
+    /// Prints the name and the bytes of each mail.
     pub fn tell(&self, page: &mut Page, names: &Names) {
         for letter in &self.letters {
             tell_line(page, ">", str::from_utf8(&letter.name).unwrap_or_default());

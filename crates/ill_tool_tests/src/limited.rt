@@ -1,19 +1,21 @@
-//! A store that works for so many saves, and then fails.
+//! A limited store works for a count of saves, and then fails.
 
 ghost use Rattle.std.specs.Prelude.{None, false};
 
 use ill_saved::{MemoryStore, NextCall, Store, StoreFault};
 use std::alloc::Global;
 
-/// A store in memory whose saves fail after some, and leave what landed before.
+/// A store in memory. After a count of saves each further save fails, and the landed bytes stay.
 #[derive(Drop)]
 pub struct LimitedStore {
+    /// The store in memory.
     store: MemoryStore,
+    /// The count of saves that are left.
     saves: u32,
 }
 
 impl LimitedStore {
-    /// A store in which nothing has landed, for so many saves.
+    /// Returns an empty store that works for `saves` saves.
     pub fn new(alloc: Global, saves: u32) -> LimitedStore {
         LimitedStore {
             store: MemoryStore::new(alloc),
@@ -22,7 +24,7 @@ impl LimitedStore {
     }
 }
 
-/// A failure is that of the store in memory.
+/// Failures are counted by the store in memory.
 impl Store for LimitedStore {
     ghost state = { λ s. record {
       landed = None;

@@ -1,11 +1,12 @@
-//! Mails that a call has.
+//! Reads the mails of a call.
 
 use crate::names::Names;
 use crate::words::Word;
 use ill_tool::Mail;
 use std::alloc::Global;
 
-/// A mail for each word: it has the word for its name, and the bytes of that name. One that cannot be read is `-`.
+/// Returns a mail for each word. The word is its name, and also names its bytes. The word `-` stands for a mail that
+/// cannot be read.
 pub fn mails_of(alloc: Global, names: &Names, words: &[Word]) -> Option<Vec<Mail>> {
     let mut mails = Vec::new(alloc);
     for one in words.chunks(1) {
@@ -14,7 +15,7 @@ pub fn mails_of(alloc: Global, names: &Names, words: &[Word]) -> Option<Vec<Mail
     Some(mails)
 }
 
-/// The mail of one word.
+/// Returns the mail of one word.
 fn mail_of(alloc: Global, names: &Names, one: &[Word]) -> Option<Mail> {
     let word = one.first()?;
     let name = Vec::from_slice(alloc, word.text.as_bytes()).ok()?;

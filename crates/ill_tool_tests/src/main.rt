@@ -1,21 +1,19 @@
-//! Tests of the commands, on files and by calls, and of reading and writing APDUs, on streams that fail
-//! or are long: a program over transcripts.
+//! Tests the commands on files and by calls. Tests the reading and writing of APDUs, on streams that fail or are long.
 //!
-//! The files `stdin` and `stdout` have the same bytes: transcripts, whose head says how they are written.
-//! A line that begins with two spaces is an answer. The program drops the answers that it reads, performs
-//! each call, and writes what it is answered below it. So a case is added by its lines and the answers that
-//! they must have, in both files.
+//! The files `stdin` and `stdout` have the same bytes: transcripts, whose head defines how they are written. A line
+//! that begins with two spaces is an answer. The program drops old answers, performs each call, and writes its answer
+//! below it. So a case is added by its lines and the answers that they must have, in both files.
 //!
-//! With a name as its argument the program performs that case alone, and writes the others as they stand.
-//! So this prints nothing where the case is right, and takes seconds, but for what `rt try` builds:
+//! With a name as its argument the program performs that case alone, and writes the others unchanged. So this command
+//! prints nothing if the case is right. It takes seconds, besides the build by `rt try`:
 //!
 //!     rt try -- "a cancel and a shipped cross" < stdin | diff stdin -
 //!
-//! A call on what lies in memory stands between marks (`ill_test_kit::marks`), and so does the engine of a command on
-//! streams. If it is refused a growth, it is made again from the beginning. A try that came to what it may not is told
-//! by a line `  = a refused try: ..`, which no case has.
+//! Marks surround each call on the memory (`ill_test_kit::marks`), and each engine of a command on streams. If a growth
+//! is refused, the call is made again from the beginning. A line `  = a refused try: ..` shows that a refused try had a
+//! wrong result. No case has such a line.
 //!
-//! After a check, `rt run < stdin | diff stdin -` does the same for all of them. They are too long for `rt try`.
+//! After a check, `rt run < stdin | diff stdin -` performs all cases. They are too long for `rt try`.
 #![tactic(auto)]
 
 mod beginning;
@@ -52,7 +50,7 @@ fn main(rt: HostRuntime) -> io::Result<()> {
     perform(&rt, arguments.get(1).map(|name| name.as_str()))
 }
 
-/// Performs the lines of the input, and prints what they answer. If a case is wanted, it is performed alone.
+/// Performs the lines of the input, and prints their answers. If `wanted` names a case, only that case is performed.
 fn perform(rt: &HostRuntime, wanted: Option<&str>) -> io::Result<()> {
     let alloc = rt.alloc();
     let folder = Folder::new(rt, alloc)?;

@@ -1,4 +1,4 @@
-//! What lies in memory: one side of transaction G1, T1, or a desk of many transactions.
+//! The memory is one side of transaction G1, T1, or a desk of many transactions.
 
 ghost use Rattle.std.specs.Prelude.{◌≡◌, IfSome};
 ghost use Rattle.ill_saved.specs.Side.{idle_of};
@@ -20,41 +20,59 @@ use ill_values::TxnId;
 use ill_world::words::who;
 use std::alloc::Global;
 
-/// A side or a desk, in a store that fails as is planned, or in one that lasts for so many saves.
+/// A side or a desk. Its store fails as planned, or works for a count of saves.
 #[derive(Drop)]
 pub enum Memory {
+    /// One side, in a store that fails as planned.
     Side(Desk1<MemoryStore>),
+    /// One side, in a store that works for a count of saves.
     LimitedSide(Desk1<LimitedStore>),
+    /// A desk, in a store that fails as planned.
     Desk(Desk<MemoryStore>),
+    /// A desk, in a store that works for a count of saves.
     LimitedDesk(Desk<LimitedStore>),
 }
 
-/// Whether one side begins, or a desk of many transactions.
+/// The kind of memory that begins.
 #[derive(Clone, Copy)]
 pub enum Beginning {
+    /// One side begins.
     Side,
+    /// A desk of many transactions begins.
     Desk,
 }
 
-/// What is called on what lies in memory.
+/// A call on the memory.
 #[derive(Clone, Copy)]
 pub enum MemoryCall {
+    /// All sides are saved.
     Save,
+    /// All sides are restarted from the landed record.
     Restart,
+    /// An action is performed.
     Act,
+    /// The messages of the input are taken.
     Take,
+    /// Mails are taken.
     Inbox,
+    /// Messages are sent as mails.
     Outbox,
+    /// Messages are sent on a stream.
     Stream,
+    /// The deeds that are due on a day are performed.
     Dates,
+    /// All sides are copied to another store.
     Copy,
+    /// One message is written.
     Send,
+    /// All sides are shown.
     Status,
+    /// One loan is shown.
     Loan,
 }
 
 impl Memory {
-    /// What `ROLE [lasting SAVES]` says, before its first message. It is not saved.
+    /// Begins the memory that `ROLE [lasting SAVES]` names. It is not saved yet.
     pub fn begin(alloc: Global, beginning: Beginning, words: &[Word]) -> Option<Memory> {
         let (role, others) = words.split_first()?;
         let role = who(role.text.as_bytes())?;
@@ -67,7 +85,7 @@ impl Memory {
         }
     }
 
-    /// The store in memory that fails as is planned.
+    /// Returns the store that fails as planned, or `None` for another store.
     pub fn into_store(self) -> Option<MemoryStore> {
         match self {
             Memory::Side(desk) => Some(desk.close()),
@@ -87,7 +105,7 @@ impl Memory {
         Some(())
     }
 
-    /// Performs a call, and tells its answer and how all stands.
+    /// Performs a call, and prints its answer and the state of all sides.
     pub fn perform(
         &mut self,
         alloc: Global,
@@ -104,7 +122,7 @@ impl Memory {
         }
     }
 
-    /// Returns what is seen of all sides.
+    /// Returns the view of all sides.
     pub fn view(&self, alloc: Global) -> Option<View> {
         match self {
             Memory::Side(desk) => desk.view(alloc),
@@ -114,7 +132,7 @@ impl Memory {
         }
     }
 
-    /// Takes up what has landed, whatever is planned.
+    /// Restarts from the landed record. A plan of the store is dropped.
     pub fn go_back(&mut self, alloc: Global) -> Option<()> {
         match self {
             Memory::Side(desk) => {
@@ -130,7 +148,7 @@ impl Memory {
         }
     }
 
-    /// Tells how all stands at its beginning.
+    /// Prints the state of all sides at their beginning.
     pub fn tell_begun(&self, page: &mut Page) {
         begin(page, "stands");
         match self {
@@ -142,7 +160,7 @@ impl Memory {
     }
 }
 
-/// The side of a role before its first message.
+/// Returns the idle side of a role.
 fn first_side(alloc: Global, role: Role) -> Option<Side>
     ensures { IfSome result (λ side. side ≡ idle_of side) }
 {
@@ -150,6 +168,7 @@ fn first_side(alloc: Global, role: Role) -> Option<Side>
     Some(idle_side(alloc, role, txn))
 }
 
+/// Begins a memory whose store fails as planned.
 fn planned(alloc: Global, beginning: Beginning, role: Role) -> Option<Memory> {
     let store = MemoryStore::new(alloc);
     match beginning {
@@ -164,6 +183,7 @@ fn planned(alloc: Global, beginning: Beginning, role: Role) -> Option<Memory> {
     }
 }
 
+/// Begins a memory whose store works for `saves` saves.
 fn limited(alloc: Global, beginning: Beginning, role: Role, saves: u32) -> Option<Memory> {
     let store = LimitedStore::new(alloc, saves);
     match beginning {
@@ -178,6 +198,7 @@ fn limited(alloc: Global, beginning: Beginning, role: Role, saves: u32) -> Optio
     }
 }
 
+/// Performs a call. Prints its answer, the state of all sides, and if they have stayed unchanged.
 fn perform_on<K: Kept>(
     alloc: Global,
     page: &mut Page,
@@ -194,7 +215,7 @@ fn perform_on<K: Kept>(
     Some(())
 }
 
-/// Performs a call, and tells its answer.
+/// Performs a call, and prints its answer.
 fn answer<K: Kept>(
     alloc: Global,
     page: &mut Page,
@@ -252,7 +273,8 @@ fn answer<K: Kept>(
     Some(())
 }
 
-/// `[lasting N] ASKING`: all messages leave that want sending, with room for so many, and are told; then the answer.
+/// Performs `[lasting N] ASKING`: sends all messages that are due to be sent, with room for N mails. Prints the mails,
+/// and then the answer.
 fn outbox<K: Kept>(
     alloc: Global,
     page: &mut Page,
@@ -273,8 +295,8 @@ fn outbox<K: Kept>(
     Some(())
 }
 
-/// `PLAN [BYTES]`: all is copied to a store in memory whose call is planned, and its answer is told; then what has
-/// landed there. The bytes have landed before.
+/// Performs `PLAN [BYTES]`: copies all sides to a store with this plan, in which BYTES have landed. Prints the answer,
+/// and then the bytes that have landed there.
 fn copy<K: Kept>(
     alloc: Global,
     page: &mut Page,
@@ -292,7 +314,7 @@ fn copy<K: Kept>(
     tell_landed(alloc, page, names, &mut store)
 }
 
-/// A store in memory where these bytes have landed, if there are any, whose next call is planned.
+/// Returns a store in which these bytes have landed, if there are any, and whose next call is planned.
 fn store_with(alloc: Global, names: &Names, plan: &Word, before: &[Word]) -> Option<MemoryStore> {
     let mut store = MemoryStore::new(alloc);
     if !before.is_empty() {

@@ -1,29 +1,34 @@
-//! Bytes as the lines write them.
+//! Reads bytes from their words.
 //!
-//! They are words: octets are hexadecimal digits, text stands in quotes, and a name stands for the bytes
-//! that a line `let` gave it. `NAME[..9]` are its first nine bytes, and `NAME[9..]` those after them;
-//! `1000*NAME` are its bytes a thousand times.
+//! Octets are hexadecimal digits, and text is in quotes. A name stands for the bytes that a `let` line gave it.
+//! `NAME[..9]` is its first nine bytes, and `NAME[9..]` the bytes after them. `1000*NAME` repeats its bytes a thousand
+//! times.
 
 use crate::words::Word;
 use std::alloc::Global;
 
-/// The names that lines `let` gave.
+/// The names that `let` lines gave.
 #[derive(Drop)]
 pub struct Names {
+    /// The allocator of all values.
     alloc: Global,
+    /// The names, with the oldest first.
     names: Vec<Name>,
-    /// How many of them hold for every case.
+    /// The count of names that hold in every case.
     shared: Option<usize>,
 }
 
+/// A name, and the bytes that it stands for.
 #[derive(Drop)]
 struct Name {
+    /// The name itself.
     word: String,
+    /// The bytes that it stands for.
     bytes: Vec<u8>,
 }
 
 impl Names {
-    /// No names yet.
+    /// Returns no names.
     pub fn new(alloc: Global) -> Names {
         Names {
             alloc,
@@ -32,7 +37,7 @@ impl Names {
         }
     }
 
-    /// Begins a case: the names that another case gave are no longer.
+    /// Begins a case: drops the names that another case gave.
     pub fn begin_case(&mut self) {
         match self.shared {
             Some(count) => self.names.truncate(count),
@@ -40,7 +45,7 @@ impl Names {
         }
     }
 
-    /// Gives the first of these words as a name to the bytes of the others.
+    /// Defines the first word as a name for the bytes of the others.
     pub fn add(&mut self, words: &[Word]) -> Option<()> {
         let (first, others) = words.split_first()?;
         let name = Name {
@@ -50,14 +55,14 @@ impl Names {
         self.names.push(name).ok()
     }
 
-    /// The bytes of these words.
+    /// Returns the bytes of `words`.
     pub fn bytes(&self, words: &[Word]) -> Option<Vec<u8>> {
         let mut bytes = Vec::new(self.alloc);
         self.push(&mut bytes, words)?;
         Some(bytes)
     }
 
-    /// Adds the bytes of these words.
+    /// Adds the bytes of `words`.
     pub fn push(&self, bytes: &mut Vec<u8>, words: &[Word]) -> Option<()> {
         for word in words {
             self.push_word(bytes, word)?;
@@ -65,6 +70,7 @@ impl Names {
         Some(())
     }
 
+    /// Adds the bytes of a word, as often as it says.
     fn push_word(&self, bytes: &mut Vec<u8>, word: &Word) -> Option<()> {
         let text = word.text.as_str();
         if word.is_quoted {
@@ -77,6 +83,7 @@ impl Names {
         Some(())
     }
 
+    /// Adds the bytes of a word that has no count.
     fn push_piece(&self, bytes: &mut Vec<u8>, piece: &str) -> Option<()> {
         let (word, range) = piece.split_once('[').unwrap_or((piece, "0..]"));
         match self.find(word) {
@@ -87,6 +94,7 @@ impl Names {
         }
     }
 
+    /// Returns the bytes of a name, or `None` if `word` is not a name.
     fn find(&self, word: &str) -> Option<&[u8]> {
         for name in &self.names {
             if name.word.as_str() == word {
@@ -96,7 +104,7 @@ impl Names {
         None
     }
 
-    /// The name of these bytes, and how many times over they are its bytes.
+    /// Returns a name and the count of its repetitions that give `bytes`.
     pub fn name_of(&self, bytes: &[u8]) -> Option<(u32, &str)> {
         for name in &self.names {
             if let Some(times) = times_over(bytes, &name.bytes) {
@@ -107,7 +115,7 @@ impl Names {
     }
 }
 
-/// The part of these bytes that `..9]` or `9..]` says.
+/// Returns the part of `bytes` that a range such as `..9]` or `9..]` names.
 fn part<'a>(bytes: &'a [u8], range: &str) -> Option<&'a [u8]> {
     let (first, after) = range.strip_suffix(']')?.split_once("..")?;
     if first.is_empty() {
@@ -117,7 +125,7 @@ fn part<'a>(bytes: &'a [u8], range: &str) -> Option<&'a [u8]> {
     }
 }
 
-/// How many times over bytes are those of a piece, if they are.
+/// Returns how often `piece` is repeated in `bytes`, or `None` if they are no repetition of it.
 fn times_over(bytes: &[u8], piece: &[u8]) -> Option<u32> {
     let mut rest = bytes;
     let mut times: u32 = 0;
@@ -131,7 +139,7 @@ fn times_over(bytes: &[u8], piece: &[u8]) -> Option<u32> {
     if rest.is_empty() { Some(times) } else { None }
 }
 
-/// What stands after a piece at the beginning of these bytes.
+/// Returns the bytes after `piece`, or `None` if `bytes` do not begin with it.
 fn after<'a>(bytes: &'a [u8], piece: &[u8]) -> Option<&'a [u8]> {
     if bytes.starts_with(piece) {
         bytes.get(piece.len()..)

@@ -1,7 +1,7 @@
-//! A side or a desk in memory, and the lines since it began. By these it is made again.
+//! A past is a memory, and the lines that led to it. These lines make an equal memory again.
 //!
-//! A call stands between marks. If it is refused a growth, the lines before it are performed again, and then the call.
-//! So each try begins with just what lay in memory. At the end each try is judged that was refused a growth.
+//! Marks surround each call. If a growth is refused, the lines before it are performed again, and then the call. So
+//! each try begins with an equal memory. At the end each refused try is judged.
 
 use crate::beginning::begin;
 use crate::call::{Call, prefix_count, input_of};
@@ -13,7 +13,7 @@ use ill_test_kit::Page;
 use ill_test_kit::marks::TRIES;
 use std::alloc::Global;
 
-/// The most bytes of an input that is read by a call between marks.
+/// A call whose input has at most this many bytes is made between marks.
 const SHORT: usize = 1_000;
 
 /// The call of a line.
@@ -21,34 +21,38 @@ const SHORT: usize = 1_000;
 pub enum LineCall {
     /// A side or a desk begins.
     Begin(Beginning),
-    /// One begins by the engine of `new`.
+    /// A side or a desk begins by the engine of `new`.
     New(Beginning),
-    /// The next call of its store is planned.
+    /// The next call of the store is planned.
     Next,
-    /// It is called.
+    /// A call is made on the memory.
     On(MemoryCall),
 }
 
 /// A line that was performed.
 #[derive(Drop)]
 struct Line {
+    /// The call of the line.
     kind: LineCall,
+    /// The words of the line.
     words: Vec<Word>,
 }
 
-/// A side or a desk in memory, and the lines that brought it there.
+/// A memory, and the lines that led to it.
 #[derive(Drop)]
 pub struct Past {
+    /// The allocator of all values.
     alloc: Global,
+    /// The memory on which the calls are printed.
     memory: Option<Memory>,
-    /// Another one like it, on which calls are made with ample memory.
+    /// An equal memory, on which calls are made with ample memory.
     ample: Option<Memory>,
-    /// There are none if one of them is too long to be performed again.
+    /// The lines since the memory began, or `None` if one of them is too long for a repetition.
     lines: Option<Vec<Line>>,
 }
 
 impl Past {
-    /// Returns an empty memory.
+    /// Returns an empty memory without lines.
     pub fn new(alloc: Global) -> Past {
         Past {
             alloc,
@@ -65,7 +69,7 @@ impl Past {
         drop(self.lines.take());
     }
 
-    /// Performs a line, and tells its answer.
+    /// Performs a line, and prints its answer.
     pub fn perform(
         &mut self,
         page: &mut Page,
@@ -83,7 +87,7 @@ impl Past {
         self.remember(kind, words, is_short)
     }
 
-    /// Performs a call between marks, and again while a growth is refused. Then it judges the tries.
+    /// Performs a call between marks, and repeats it while a growth is refused. Then judges the refused tries.
     fn perform_marked(
         &mut self,
         page: &mut Page,
@@ -103,7 +107,7 @@ impl Past {
         done
     }
 
-    /// Performs a call between marks until no growth is refused, and adds each try before that.
+    /// Performs a call between marks until no growth is refused. Adds each refused try to `tries`.
     fn try_often<'a>(
         &mut self,
         page: &mut Page,
@@ -127,7 +131,7 @@ impl Past {
         None
     }
 
-    /// Adds what is seen if the call is not made, if it is whole, and if it is made with each prefix of its messages.
+    /// Adds the results of no call, of the whole call, and of the call with each prefix of its messages.
     fn push_prefixes<'a>(
         &mut self,
         names: &Names,
@@ -143,7 +147,7 @@ impl Past {
         Some(())
     }
 
-    /// Adds what is seen of so much of the call.
+    /// Adds the result of this extent of the call.
     fn push_heading<'a>(
         &mut self,
         names: &Names,
@@ -177,7 +181,7 @@ impl Past {
     }
 }
 
-/// Tells each try that came to what it may not.
+/// Prints each refused try with a wrong result.
 fn tell_faults(page: &mut Page, on: MemoryCall, tries: &[Seen<'_>], prefixes: &[Seen<'_>]) {
     for seen in tries {
         if let Some(words) = fault(on, seen, prefixes) {
@@ -197,7 +201,7 @@ fn again(alloc: Global, names: &Names, lines: &[Line], memory: &mut Option<Memor
     Some(())
 }
 
-/// Performs a line on what lies in memory, and tells its answer.
+/// Performs a line on the memory, and prints its answer.
 fn perform_line(
     alloc: Global,
     page: &mut Page,
@@ -212,7 +216,7 @@ fn perform_line(
     done
 }
 
-/// Performs a call on what lies in memory, and tells its answer.
+/// Performs a call on the memory, and prints its answer.
 fn perform_on(
     alloc: Global,
     page: &mut Page,
@@ -233,7 +237,7 @@ fn perform_on(
     }
 }
 
-/// Returns true if the line needs none of those before it.
+/// Returns true if the line depends on no line before it.
 fn begins_anew(kind: LineCall, words: &[Word]) -> bool {
     match kind {
         LineCall::Begin(_) => true,
@@ -242,7 +246,7 @@ fn begins_anew(kind: LineCall, words: &[Word]) -> bool {
     }
 }
 
-/// Returns true if the input of the call is short, so that it can be made often.
+/// Returns true if the input of the call is short enough for many tries.
 pub fn is_short(names: &Names, words: &[Word]) -> bool {
     input_of(names, words).is_some_and(|bytes| bytes.len() <= SHORT)
 }

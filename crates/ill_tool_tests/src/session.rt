@@ -1,4 +1,4 @@
-//! The lines of the input, one after another.
+//! Performs the lines of the input, one after another.
 
 use crate::bench::Performs;
 use crate::block::Block;
@@ -7,32 +7,42 @@ use crate::words::{Word, words_of};
 use ill_test_kit::{INDENT, Lines, Page};
 use std::alloc::Global;
 
+/// The answer to a line that is no call.
 const NOT_UNDERSTOOD: &str = "  NOT UNDERSTOOD";
 
+/// This line says that no case has the wanted name.
 const NO_SUCH_CASE: &str = "NO SUCH CASE";
 
-/// What the lines so far have left.
+/// The state that the lines so far have set up.
 #[derive(Drop)]
 pub struct Session<'a, B: Performs> {
+    /// The allocator of all values.
     alloc: Global,
+    /// The bench with the names.
     bench: NamedBench<B>,
-    /// The case that is performed alone.
+    /// The name of the case that is performed alone, if there is one.
     wanted: Option<&'a str>,
+    /// True if the present case is performed.
     is_performing: bool,
+    /// True if a case was performed.
     has_found_case: bool,
+    /// The block that has begun, if there is one.
     block: Option<Block>,
 }
 
-/// What performs lines, and the names that were given.
+/// The bench that performs lines, with the names that lines gave.
 #[derive(Drop)]
 struct NamedBench<B: Performs> {
+    /// The allocator of all values.
     alloc: Global,
+    /// The names that `let` lines gave.
     names: Names,
+    /// The bench that performs calls.
     bench: B,
 }
 
 impl<'a, B: Performs> Session<'a, B> {
-    /// Before the first line. Where a case is wanted, it is performed alone.
+    /// Returns a session before the first line. If `wanted` names a case, only that case is performed.
     pub fn new(alloc: Global, bench: B, wanted: Option<&'a str>) -> Session<'a, B> {
         Session {
             alloc,
@@ -48,6 +58,7 @@ impl<'a, B: Performs> Session<'a, B> {
         }
     }
 
+    /// Returns true if the case `name` is performed.
     fn is_wanted(&self, name: &str) -> bool {
         match self.wanted {
             Some(wanted) => wanted == name,
@@ -55,6 +66,7 @@ impl<'a, B: Performs> Session<'a, B> {
         }
     }
 
+    /// Performs a line, or adds it to the block.
     fn take(&mut self, page: &mut Page, line: &str) -> Option<()> {
         if let Some(words) = line.strip_prefix("each ") {
             page.line(line);
@@ -72,7 +84,7 @@ impl<'a, B: Performs> Session<'a, B> {
         }
     }
 
-    /// Begins a block, or adds values to the one that has begun.
+    /// Begins a block, or adds values to the block that has begun.
     fn each(&mut self, words: &str) -> Option<()> {
         if self.block.is_none() {
             drop(self.block.replace(Block::new(self.alloc)));
@@ -86,8 +98,7 @@ impl<'a, B: Performs> Session<'a, B> {
         self.perform_block(page, &block)
     }
 
-    /// Writes a block with the answers in its first case, and after it each case in which they are
-    /// others.
+    /// Writes a block with the answers of its first case. After it writes each case with other answers.
     fn perform_block(&mut self, page: &mut Page, block: &Block) -> Option<()> {
         let first = self.bench.perform_block(block, 0)?;
         page.page(&first);
@@ -98,7 +109,7 @@ impl<'a, B: Performs> Session<'a, B> {
         Some(())
     }
 
-    /// Performs a block in a further case, and writes that where its answers are others than in the first.
+    /// Performs a block in a further case, and writes it if its answers differ from `first`.
     fn perform_again(
         &mut self,
         page: &mut Page,
@@ -130,7 +141,7 @@ impl<B: Performs> Lines for Session<'_, B> {
         }
     }
 
-    /// Removes the folder, and prints it if no case was performed.
+    /// Removes the folder. If no case was performed, prints that there is no such case.
     fn end(&mut self, page: &mut Page) -> Option<()> {
         self.bench.bench.end()?;
         if !self.has_found_case {
@@ -141,7 +152,7 @@ impl<B: Performs> Lines for Session<'_, B> {
 }
 
 impl<B: Performs> NamedBench<B> {
-    /// Performs the lines of a block in this case, and prints them as they are written.
+    /// Performs the lines of a block in the case `case`, and prints them with their names in braces.
     fn perform_block(&mut self, block: &Block, case: usize) -> Option<Page> {
         let mut page = Page::new(self.alloc);
         for written in &block.lines {
@@ -151,7 +162,7 @@ impl<B: Performs> NamedBench<B> {
         Some(page)
     }
 
-    /// Prints a line as it is written, performs it, and prints its answer.
+    /// Prints the line `written`, performs `line`, and prints its answer.
     fn perform(&mut self, page: &mut Page, written: &str, line: &str) {
         page.line(written);
         if self.answer(page, line).is_none() {
@@ -159,6 +170,7 @@ impl<B: Performs> NamedBench<B> {
         }
     }
 
+    /// Performs a line that is no remark.
     fn answer(&mut self, page: &mut Page, line: &str) -> Option<()> {
         if line.is_empty() || line.starts_with('#') {
             return Some(());
@@ -167,6 +179,7 @@ impl<B: Performs> NamedBench<B> {
         self.call(page, &words)
     }
 
+    /// Performs the call of a line.
     fn call(&mut self, page: &mut Page, words: &[Word]) -> Option<()> {
         let (first, others) = words.split_first()?;
         match first.text.as_str() {

@@ -1,4 +1,4 @@
-//! Readers and writers by their words.
+//! Makes readers and writers from their words.
 
 use crate::names::Names;
 use crate::telling::Telling;
@@ -7,9 +7,10 @@ use ill_test_kit::{Failure, TestReader, TestWriter, named};
 use std::alloc::Global;
 use std::io::ErrorKind;
 
-/// More often than any call tries.
+/// A stream that fails this often fails in every call.
 const ALWAYS: u32 = u32::MAX;
 
+/// The words of failures.
 const KINDS: [(&str, Option<ErrorKind>); 4] = [
     ("broken", Some(ErrorKind::BrokenPipe)),
     ("interrupted", Some(ErrorKind::Interrupted)),
@@ -17,7 +18,7 @@ const KINDS: [(&str, Option<ErrorKind>); 4] = [
     ("nothing", None),
 ];
 
-/// The failure of these words: `broken`, `interrupted`, `full` or `nothing`, and `once` where it is.
+/// Returns the failure that the words spell: `broken`, `interrupted`, `full` or `nothing`, and perhaps `once`.
 fn failure_of(words: &[Word]) -> Option<Failure> {
     let (first, others) = words.split_first()?;
     let kind = named(&KINDS, first.text.as_str())?;
@@ -28,7 +29,7 @@ fn failure_of(words: &[Word]) -> Option<Failure> {
     }
 }
 
-/// The reader of these words: `[slow] BYTES [| BYTES] [then FAILURE [then BYTES]]`.
+/// Returns the reader that `[slow] BYTES [| BYTES] [then FAILURE [then BYTES]]` spells.
 pub fn reader_of(alloc: Global, names: &Names, words: &[Word]) -> Option<TestReader> {
     let is_slow = is_slow(words);
     let words = words.get(usize::from(is_slow)..)?;
@@ -46,7 +47,7 @@ pub fn reader_of(alloc: Global, names: &Names, words: &[Word]) -> Option<TestRea
     Some(reader)
 }
 
-/// The reader of `BYTES [| BYTES]`, which then fails, and gives the bytes after that.
+/// Returns a reader of `BYTES [| BYTES]` that then fails, and then gives the bytes `after`.
 fn reader_with(
     alloc: Global,
     names: &Names,
@@ -76,12 +77,13 @@ pub fn bytes_of(names: &Names, words: &[Word]) -> Option<Vec<u8>> {
     Some(bytes)
 }
 
+/// Returns true if the words are of a slow stream.
 fn is_slow(words: &[Word]) -> bool {
     words.first().is_some_and(|word| word.is("slow"))
 }
 
-/// The writer of these words: `[slow | any | first COUNT] [flush FAILURE | ROOM then FAILURE]`, where the room is
-/// `COUNT`, or `COUNT of BYTES`; and how much is told of what it took.
+/// Returns the writer that `[slow | any | first COUNT] [flush FAILURE | ROOM then FAILURE]` spells. ROOM is `COUNT` or
+/// `COUNT of BYTES`. Also returns the part of its bytes that is printed.
 pub fn writer_of(
     alloc: Global,
     names: &Names,
@@ -100,7 +102,7 @@ pub fn writer_of(
     Some((writer, telling))
 }
 
-/// Takes the words at the beginning, and gives those after them.
+/// Obeys the first words, and returns the words after them.
 fn set_prefix<'a>(
     writer: &mut TestWriter,
     telling: &mut Telling,
@@ -123,6 +125,7 @@ fn set_prefix<'a>(
     }
 }
 
+/// Limits the room of the writer, and obeys the words after ROOM.
 fn set_room(
     writer: &mut TestWriter,
     telling: &mut Telling,
@@ -144,6 +147,7 @@ fn set_room(
     }
 }
 
+/// Returns the count that `word` spells.
 fn count(word: &Word) -> Option<usize> {
     word.text.parse::<usize>().ok()
 }

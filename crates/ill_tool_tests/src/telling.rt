@@ -1,21 +1,22 @@
-//! How answers are told: each line after two spaces and a mark.
+//! Prints answers: each line has two spaces and a mark at its beginning.
 
 use crate::names::Names;
 use ill_test_kit::{Page, TestReader, TestWriter};
 
-/// How much of what a writer took is told.
+/// The part of the bytes of a writer that is printed.
 #[derive(Drop)]
 pub enum Telling {
+    /// All bytes are printed.
     Whole,
-    /// Whether there was anything.
+    /// Two dots are printed if there are any bytes.
     Any,
-    /// So many bytes at its beginning.
+    /// This many bytes from the beginning are printed.
     First(usize),
-    /// Whether it is just these bytes.
+    /// A fixed text is printed if the bytes are exactly these. Other bytes are printed.
     Just(Vec<u8>),
 }
 
-/// Tells what a writer took, after this mark.
+/// Prints the bytes that a writer took, after `mark`.
 pub fn tell_writer(
     page: &mut Page,
     names: &Names,
@@ -36,26 +37,27 @@ pub fn tell_writer(
     tell_again(page, mark, writer.was_called_again());
 }
 
-/// Tells what a slow reader was not asked for.
+/// Prints the bytes that were never read from a slow reader or one with a bar.
 pub fn tell_reader(page: &mut Page, names: &Names, reader: &TestReader) {
     tell_bytes(page, names, "<", reader.unread());
     tell_again(page, "<", reader.was_called_again());
 }
 
-/// Tells that a stream was called after it had failed.
+/// Prints that a stream was called after it had failed.
 fn tell_again(page: &mut Page, mark: &str, is_again: bool) {
     if is_again {
         tell_line(page, mark, "CALLED AGAIN AFTER IT HAD FAILED");
     }
 }
 
+/// Prints the presence of bytes.
 fn tell_any(page: &mut Page, mark: &str, bytes: &[u8]) {
     if !bytes.is_empty() {
         tell_line(page, mark, "..");
     }
 }
 
-/// Tells whether bytes are these that are wanted, and else what they are.
+/// Prints that `bytes` are `wanted`, or else prints the bytes.
 pub fn tell_whether(page: &mut Page, names: &Names, mark: &str, bytes: &[u8], wanted: &[u8]) {
     if bytes == wanted {
         tell_line(page, mark, "just these");
@@ -64,7 +66,7 @@ pub fn tell_whether(page: &mut Page, names: &Names, mark: &str, bytes: &[u8], wa
     }
 }
 
-/// Tells bytes: by their name, else as text, else as octets.
+/// Prints bytes by their name, or else as text, or else as octets.
 pub fn tell_bytes(page: &mut Page, names: &Names, mark: &str, bytes: &[u8]) {
     if bytes.is_empty() {
         return;
@@ -78,11 +80,12 @@ pub fn tell_bytes(page: &mut Page, names: &Names, mark: &str, bytes: &[u8]) {
     }
 }
 
-/// Whether text has no control characters but the ends of its lines.
+/// Returns true if the only control characters are ends of lines.
 fn is_plain(bytes: &[u8]) -> bool {
     bytes.iter().all(|byte| *byte >= b' ' || *byte == b'\n')
 }
 
+/// Prints a name, and the count of its repetitions.
 fn tell_name(page: &mut Page, mark: &str, times: u32, name: &str) {
     begin(page, mark);
     page.text("[");
@@ -94,7 +97,7 @@ fn tell_name(page: &mut Page, mark: &str, times: u32, name: &str) {
     page.line("]");
 }
 
-/// Tells the lines of a text. After a last line that does not end stands a backslash.
+/// Prints the lines of a text. A last line without end gets a backslash.
 fn tell_text(page: &mut Page, mark: &str, text: &str) {
     for line in text.split_inclusive('\n') {
         begin(page, mark);
@@ -105,6 +108,7 @@ fn tell_text(page: &mut Page, mark: &str, text: &str) {
     }
 }
 
+/// Prints bytes in hexadecimal.
 fn tell_octets(page: &mut Page, mark: &str, bytes: &[u8]) {
     begin(page, mark);
     page.text("[");
@@ -112,7 +116,7 @@ fn tell_octets(page: &mut Page, mark: &str, bytes: &[u8]) {
     page.line("]");
 }
 
-/// Tells a line after this mark.
+/// Prints a line after `mark`.
 pub fn tell_line(page: &mut Page, mark: &str, text: &str) {
     begin(page, mark);
     page.line(text);

@@ -1,4 +1,4 @@
-//! The texts of faults, among them those that no command line brings about.
+//! Prints the texts of faults. Some of them arise in no command line.
 
 use crate::telling::begin;
 use ill_saved::{RecordFault, StoreFault};
@@ -6,6 +6,7 @@ use ill_test_kit::Page;
 use ill_tool::{DerFault, DeskFault, ToolFault};
 use std::fmt::{Debug, Display};
 
+/// The faults whose texts are printed.
 const FAULTS: [ToolFault; 25] = [
     ToolFault::Arguments,
     ToolFault::Der(DerFault::Short(17)),
@@ -34,7 +35,7 @@ const FAULTS: [ToolFault; 25] = [
     ToolFault::OutOfMemory,
 ];
 
-/// Tells each fault and its text; and after those of a command, want of memory of bytes and of a side.
+/// Prints each fault and its text. Then prints the fault out of memory of bytes and of a desk.
 pub fn tell_texts(page: &mut Page) {
     for fault in &FAULTS {
         tell_text(page, fault);
@@ -43,6 +44,7 @@ pub fn tell_texts(page: &mut Page) {
     tell_text(page, &DeskFault::OutOfMemory);
 }
 
+/// Prints a fault and its text.
 fn tell_text<T: Debug + Display>(page: &mut Page, fault: &T) {
     begin(page, "=");
     page.show_parts(fault);

@@ -1,7 +1,8 @@
-//! The judgement on a call that was refused a growth.
+//! Judges a call whose growth was refused.
 //!
-//! It answers want of memory, or does without and is as ever. At want of memory each part is as it was before the call,
-//! as it is after it, or as it is after some of its messages.
+//! The call either answers out of memory, or does without the memory and gives the usual result. If it answers out of
+//! memory, each part of the result has three right values: that of no call, of the whole call, or of the call with some
+//! of its messages.
 
 use crate::call::Call;
 use crate::memory::{Memory, MemoryCall};
@@ -14,36 +15,43 @@ use std::alloc::Global;
 /// The part of a call that is made.
 #[derive(Clone, Copy)]
 pub enum Extent {
+    /// The call is not made.
     Nothing,
-    /// The first ones of its messages.
+    /// The call is made with its first messages only, this many.
     First(usize),
+    /// The whole call is made.
     Whole,
-    /// All of it, between marks.
+    /// The whole call is made, between marks.
     Marked,
 }
 
-/// All that is seen of a call.
+/// The result of a call.
 #[derive(Drop)]
 pub struct Seen<'a> {
+    /// The call, with its streams.
     pub call: Call<'a>,
     /// The lines of its answer.
     pub answer: Page,
-    /// The sides in memory.
+    /// The live sides after it.
     live: View,
-    /// The sides that have landed.
+    /// The landed sides after it.
     landed: View,
 }
 
-/// A part of that.
+/// A part of the result.
 #[derive(Clone, Copy)]
 enum Part {
+    /// The bytes of the output.
     Output,
+    /// The messages that were kept.
     Came,
+    /// The live sides.
     Live,
+    /// The landed sides.
     Landed,
 }
 
-/// Each part, and its words.
+/// The parts of the result, and the words that name them.
 const PARTS: [(Part, &str); 4] = [
     (Part::Output, "what it wrote"),
     (Part::Came, "what it kept"),
@@ -52,7 +60,7 @@ const PARTS: [(Part, &str); 4] = [
 ];
 
 impl<'a> Seen<'a> {
-    /// Returns what is seen before the call is made.
+    /// Returns the result before the call is made.
     pub fn new(alloc: Global, call: Call<'a>) -> Seen<'a> {
         Seen {
             call,
@@ -62,7 +70,7 @@ impl<'a> Seen<'a> {
         }
     }
 
-    /// Makes so much of the call of these words on what lies in memory, and returns what is seen of it.
+    /// Makes this extent of the call on the memory, and returns the result.
     pub fn of(
         alloc: Global,
         names: &Names,
@@ -80,6 +88,7 @@ impl<'a> Seen<'a> {
         Some(seen)
     }
 
+    /// Makes this extent of the call on the memory.
     fn make(
         &mut self,
         alloc: Global,
@@ -98,7 +107,7 @@ impl<'a> Seen<'a> {
         memory.as_mut()?.perform(alloc, answer, names, on, call)
     }
 
-    /// Looks how all stands in memory, and then what has landed, which lies in memory from then on.
+    /// Views the live sides, and then the landed sides. The memory is restarted for that.
     pub fn look(&mut self, alloc: Global, memory: &mut Option<Memory>) -> Option<()> {
         let memory = memory.as_mut()?;
         self.live = memory.view(alloc)?;
@@ -107,7 +116,7 @@ impl<'a> Seen<'a> {
         Some(())
     }
 
-    /// Returns true if a part is the same of both.
+    /// Returns true if both results agree in this part.
     fn is_alike(&self, part: Part, other: &Seen<'_>) -> bool {
         match part {
             Part::Output => self.call.output.taken.as_slice() == other.call.output.taken.as_slice(),
@@ -117,7 +126,7 @@ impl<'a> Seen<'a> {
         }
     }
 
-    /// Returns true if all is the same of both.
+    /// Returns true if both results agree in the answer and in all sides.
     fn is(&self, other: &Seen<'_>) -> bool {
         self.answer.bytes() == other.answer.bytes()
             && self.live.is(&other.live)
@@ -125,8 +134,8 @@ impl<'a> Seen<'a> {
     }
 }
 
-/// Returns the words of the first part that is as it may not be, of a call that was refused a growth. The prefixes are
-/// what is seen if the call is not made, if it is whole, and if it is made with each prefix of its messages.
+/// Returns the words of the first wrong part of a refused call, if there is one. The first two `prefixes` are the
+/// results of no call and of the whole call. The others are the results of the call with each prefix of its messages.
 pub fn fault(on: MemoryCall, seen: &Seen<'_>, prefixes: &[Seen<'_>]) -> Option<&'static str> {
     let [before, after, between @ ..] = prefixes else {
         return Some("its fronts");
@@ -153,8 +162,8 @@ pub fn fault(on: MemoryCall, seen: &Seen<'_>, prefixes: &[Seen<'_>]) -> Option<&
     None
 }
 
-/// Returns true if a part is as it may be between the beginning and the end of the call. A desk saves once for all
-/// mails, and once for all that a day asks for.
+/// Returns true if this part may be that of a call that was made in part. A desk saves once for all mails, and once for
+/// all deeds of a day.
 fn is_between(on: MemoryCall, part: Part, seen: &Seen<'_>, between: &[Seen<'_>]) -> bool {
     match (on, part) {
         (MemoryCall::Take, _) | (MemoryCall::Inbox, Part::Live) => {

@@ -1,18 +1,20 @@
-//! What is seen of what lies in memory.
+//! Views the sides in memory.
 
 use ill_saved::{Desk, Desk1, Side, Store, encode_record, encode_record2};
 use ill_test_kit::Page;
 use std::alloc::Global;
 
-/// The record, and how many messages of each side are released.
+/// The record of the sides, and the count of released messages of each.
 #[derive(Drop)]
 pub struct View {
+    /// The record of the sides.
     record: Vec<u8>,
+    /// The count of released messages of each side.
     released: Vec<u8>,
 }
 
 impl View {
-    /// Returns a view of nothing.
+    /// Returns a view of no sides.
     pub fn none(alloc: Global) -> View {
         View {
             record: Vec::new(alloc),
@@ -20,7 +22,7 @@ impl View {
         }
     }
 
-    /// What is seen of one side.
+    /// Returns the view of one side.
     pub fn of_side<S: Store>(alloc: Global, desk: &Desk1<S>) -> Option<View> {
         Some(View {
             record: encode_record(alloc, desk.side()).ok()?,
@@ -28,7 +30,7 @@ impl View {
         })
     }
 
-    /// What is seen of a desk of many transactions.
+    /// Returns the view of a desk of many transactions.
     pub fn of_desk<S: Store>(alloc: Global, desk: &Desk<S>) -> Option<View> {
         let mut released = Vec::new(alloc);
         for place in 0..desk.sides().len() {
@@ -39,17 +41,18 @@ impl View {
         Some(View { record, released })
     }
 
-    /// Whether the same is seen of both.
+    /// Returns true if both views are equal.
     pub fn is(&self, other: &View) -> bool {
         self.has_record_of(other) && self.released.as_slice() == other.released.as_slice()
     }
 
-    /// Returns true if both have the same record.
+    /// Returns true if both views have equal records.
     pub fn has_record_of(&self, other: &View) -> bool {
         self.record.as_slice() == other.record.as_slice()
     }
 
-    /// Returns true if it has the same messages released, and none of a side that the other does not have.
+    /// Returns true if both views have equal counts of released messages. A side that `other` lacks must have released
+    /// none.
     pub fn releases_as(&self, other: &View) -> bool {
         match self.released.strip_prefix(other.released.as_slice()) {
             Some(others) => others.iter().all(|count| *count == 0),
@@ -58,7 +61,7 @@ impl View {
     }
 }
 
-/// Tells how a side stands: its state, its due date, and how many of its messages are released and issued.
+/// Prints the state of a side, its due date, and the counts of its released and issued messages.
 pub fn tell_side(page: &mut Page, side: &Side, released: u8) {
     page.show(&side.state());
     page.text(" ");

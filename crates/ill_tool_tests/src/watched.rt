@@ -1,4 +1,4 @@
-//! Files on which a command runs, and which see if it holds its lock.
+//! Runs a command on files that observe its lock.
 
 use ill_saved::LockFiles;
 use std::alloc::Allocator;
@@ -7,30 +7,36 @@ use std::fs::{Metadata, OpenOptions};
 use std::rt::Files;
 use std::{fs, io};
 
-/// Files that see each opening and each replacement of one record, and if its lock is free then.
+/// Files that observe each opening and each replacement of one record, and if its lock is free then.
 #[derive(Drop)]
 pub struct Watched<'a, R: LockFiles> {
+    /// The files of the system.
     rt: &'a R,
+    /// The path of the record.
     record: &'a str,
+    /// The path of the file whose lock is observed.
     lock: &'a str,
-    /// How many tries of the lock fail, as if another held it.
+    /// The first tries of the lock fail, this many, as if another program held it.
     held: u32,
+    /// The observations so far.
     seen: Cell<Seen>,
 }
 
-/// How often something was seen.
+/// The counts of observations.
 #[derive(Clone, Copy)]
 pub struct Seen {
+    /// The openings of the record.
     pub openings: u32,
+    /// The replacements of the record.
     pub replacements: u32,
-    /// The openings and replacements at which the lock was free.
+    /// The openings and replacements while the lock was free.
     pub unlocked: u32,
     /// The pauses before another try of the lock.
     pub pauses: u32,
 }
 
 impl<'a, R: LockFiles> Watched<'a, R> {
-    /// Files that see the record at a path, whose lock is that of the file at another one.
+    /// Returns files that observe the record at the path `record`, and the lock of the file at the path `lock`.
     pub fn new(rt: &'a R, record: &'a str, lock: &'a str, held: u32) -> Watched<'a, R> {
         let seen = Seen {
             openings: 0,
@@ -47,12 +53,12 @@ impl<'a, R: LockFiles> Watched<'a, R> {
         }
     }
 
-    /// All that was seen.
+    /// Returns the observations so far.
     pub fn seen(&self) -> Seen {
         self.seen.get()
     }
 
-    /// Counts an opening or a replacement of the record, if this is its path.
+    /// Counts an opening or a replacement of the record, if `path` is its path.
     fn see(&self, path: &str, openings: u32, replacements: u32) {
         if path != self.record {
             return;
@@ -66,7 +72,7 @@ impl<'a, R: LockFiles> Watched<'a, R> {
         });
     }
 
-    /// Tells whether another could take the lock.
+    /// Returns true if another program could take the lock.
     fn is_free(&self) -> bool {
         match fs::open(self.rt, self.lock) {
             Ok(file) => self.rt.try_lock(&file).unwrap_or(true),

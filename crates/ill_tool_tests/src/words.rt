@@ -1,22 +1,24 @@
-//! The words of a line.
+//! Splits a line into its words.
 
 use std::alloc::Global;
 
 /// A word, bare or in quotes.
 #[derive(Drop)]
 pub struct Word {
+    /// The letters of the word, without quotes.
     pub text: String,
+    /// True if the word was in quotes.
     pub is_quoted: bool,
 }
 
 impl Word {
-    /// Whether it is this bare word.
+    /// Returns true if it is the bare word `word`.
     pub fn is(&self, word: &str) -> bool {
         !self.is_quoted && self.text.as_str() == word
     }
 }
 
-/// Copies these words.
+/// Returns copies of the words.
 pub fn copied(alloc: Global, words: &[Word]) -> Option<Vec<Word>> {
     let mut copy = Vec::new(alloc);
     for word in words {
@@ -27,7 +29,7 @@ pub fn copied(alloc: Global, words: &[Word]) -> Option<Vec<Word>> {
     Some(copy)
 }
 
-/// These words as text.
+/// Returns the texts of the words.
 pub fn texts(alloc: Global, words: &[Word]) -> Option<Vec<&str>> {
     words
         .iter()
@@ -36,7 +38,7 @@ pub fn texts(alloc: Global, words: &[Word]) -> Option<Vec<&str>> {
         .ok()
 }
 
-/// The words before the first bare `mark`, and those after it, if it stands there.
+/// Returns the words before the first bare `mark`, and the words after it, if `mark` is among them.
 pub fn cut<'a>(words: &'a [Word], mark: &str) -> (&'a [Word], Option<&'a [Word]>) {
     for (index, word) in words.iter().enumerate() {
         if word.is(mark) {
@@ -47,30 +49,38 @@ pub fn cut<'a>(words: &'a [Word], mark: &str) -> (&'a [Word], Option<&'a [Word]>
     (words, None)
 }
 
-/// Where a line is read.
+/// The place of the next letter of a line.
 #[derive(Clone, Copy)]
 enum Place {
+    /// The letter is between two words.
     Between,
+    /// The letter is in a bare word.
     Bare,
+    /// The letter is in quotes.
     Quoted,
-    /// After a backslash in quotes.
+    /// The letter follows a backslash in quotes.
     Escape,
-    /// After `\x`, and after its first digit.
+    /// The letter follows `\x`.
     FirstDigit,
+    /// The letter follows `\x` and this digit.
     SecondDigit(u32),
 }
 
-/// The words so far, and the letters of the one that has not ended.
+/// The words so far, and the letters of the word that has not ended.
 #[derive(Drop)]
 struct Splitter {
+    /// The allocator of all words.
     alloc: Global,
+    /// The words that have ended.
     words: Vec<Word>,
+    /// The letters of the word that has not ended.
     letters: String,
+    /// The place of the next letter.
     place: Place,
 }
 
-/// The words of a line. In quotes stand words that are empty or have spaces; there `\n`, `\r`, `\t`, `\"`,
-/// `\\` and an octet below 80 as `\x7F` stand for a letter.
+/// Returns the words of a line. A word in quotes may be empty or have spaces. In it `\n`, `\r`, `\t`, `\"` and `\\`
+/// stand for a letter. `\x7F` stands for an octet below 80 in hexadecimal.
 pub fn words_of(alloc: Global, line: &str) -> Option<Vec<Word>> {
     let mut splitter = Splitter {
         alloc,
@@ -85,6 +95,7 @@ pub fn words_of(alloc: Global, line: &str) -> Option<Vec<Word>> {
 }
 
 impl Splitter {
+    /// Reads a letter.
     fn take(&mut self, letter: char) -> Option<()> {
         match self.place {
             Place::Between => self.begin(letter),
@@ -96,6 +107,7 @@ impl Splitter {
         }
     }
 
+    /// Reads a letter between two words.
     fn begin(&mut self, letter: char) -> Option<()> {
         match letter {
             ' ' => Some(()),
@@ -107,11 +119,13 @@ impl Splitter {
         }
     }
 
+    /// Continues at another place.
     fn go(&mut self, place: Place) -> Option<()> {
         self.place = place;
         Some(())
     }
 
+    /// Reads a letter in a bare word.
     fn bare(&mut self, letter: char) -> Option<()> {
         match letter {
             ' ' => self.end(false),
@@ -119,6 +133,7 @@ impl Splitter {
         }
     }
 
+    /// Reads a letter in quotes.
     fn quoted(&mut self, letter: char) -> Option<()> {
         match letter {
             '"' => self.end(true),
@@ -127,6 +142,7 @@ impl Splitter {
         }
     }
 
+    /// Reads a letter after a backslash.
     fn escaped(&mut self, letter: char) -> Option<()> {
         if letter == 'x' {
             return self.go(Place::FirstDigit);
@@ -135,18 +151,21 @@ impl Splitter {
         self.letters.push(meaning(letter)?).ok()
     }
 
+    /// Adds the letter with these two hexadecimal digits.
     fn octet(&mut self, first: u32, second: u32) -> Option<()> {
         self.place = Place::Quoted;
         let code = first.checked_mul(16)?.checked_add(second)?;
         self.letters.push(char::from_u32(code)?).ok()
     }
 
+    /// Ends a word.
     fn end(&mut self, is_quoted: bool) -> Option<()> {
         self.place = Place::Between;
         let text = std::mem::replace(&mut self.letters, String::new(self.alloc));
         self.words.push(Word { text, is_quoted }).ok()
     }
 
+    /// Returns all words at the end of the line.
     fn finish(mut self) -> Option<Vec<Word>> {
         match self.place {
             Place::Between => Some(self.words),
@@ -159,7 +178,7 @@ impl Splitter {
     }
 }
 
-/// The letter that a letter after a backslash stands for.
+/// Returns the letter that a letter after a backslash stands for.
 fn meaning(letter: char) -> Option<char> {
     match letter {
         'n' => Some('\n'),

@@ -5,10 +5,13 @@ use std::test::Fail;
 
 /// A year, month and day, with the digits of the day that they make, or the fault.
 struct PartsRow {
+    /// The year, the month and the day.
     parts: (u16, u8, u8),
+    /// The digits of the day, or the fault.
     made: Result<&'static str, DayFault>,
 }
 
+/// The cases of `Day::new`.
 const PARTS: [PartsRow; 13] = [
     PartsRow {
         parts: (2025, 3, 15),
@@ -82,11 +85,15 @@ fn days_are_made_of_their_parts(rt: HostRuntime) {
 
 /// A day in three spellings: its digits, its parts, and the ISO text with hyphens.
 struct IsoRow {
+    /// The digits of the day.
     digits: &'static str,
+    /// The year, the month and the day.
     parts: (u16, u8, u8),
+    /// The text of the day with hyphens.
     iso: &'static str,
 }
 
+/// The cases of the spellings of a day.
 const ISO: [IsoRow; 3] = [
     IsoRow {
         digits: "20250315",
@@ -120,10 +127,13 @@ fn days_show_their_parts(rt: HostRuntime) -> Result<(), Fail> {
 
 /// A text that is no day, and the fault of reading it.
 struct TextRow {
+    /// The text that is read.
     text: &'static str,
+    /// The fault of reading it.
     fault: DayFault,
 }
 
+/// The cases of texts that are no day.
 const NO_DAYS: [TextRow; 8] = [
     TextRow {
         text: "20250229",
@@ -169,11 +179,15 @@ fn texts_that_are_no_days(rt: HostRuntime) {
 
 /// A day, a count of days, and the day that many days later. `None` means that it would be after the last day.
 struct LaterRow {
+    /// The digits of the first day.
     start: &'static str,
+    /// The count of days that are added.
     days: u32,
+    /// The digits of the later day.
     later: Option<&'static str>,
 }
 
+/// The cases of `Day::after`.
 const LATER: [LaterRow; 10] = [
     LaterRow {
         start: "20250315",

@@ -3,6 +3,7 @@
 use ill_values::{AnswerResult, ApduType, Body};
 use std::test::Fail;
 
+/// The results and their names.
 const RESULTS: [(AnswerResult, &str); 7] = [
     (AnswerResult::Conditional, "conditional"),
     (AnswerResult::Retry, "retry"),
@@ -26,6 +27,7 @@ fn results_are_shown_and_read_by_their_names(rt: HostRuntime) -> Result<(), Fail
     Ok(())
 }
 
+/// The types of APDU and their names.
 const TYPES: [(ApduType, &str); 14] = [
     (ApduType::IllRequest, "ILL-Request"),
     (ApduType::Shipped, "Shipped"),
@@ -60,6 +62,7 @@ fn types_are_shown_and_read_by_their_names(rt: HostRuntime) -> Result<(), Fail> 
     Ok(())
 }
 
+/// These texts name neither a result nor a type.
 const NO_NAMES: [&str; 6] = ["", "Retry", "retry ", "retr", "ill-request", "ILL-Requests"];
 
 #[test]

@@ -7,11 +7,15 @@ use std::test::Fail;
 
 /// A text, and the fault that refuses it. `None` means that the text is accepted.
 struct Row {
+    /// The name of the case.
     case: &'static str,
+    /// The text that is judged.
     text: &'static [u8],
+    /// The fault of the text, if it has one.
     fault: Option<TextFault>,
 }
 
+/// The cases of qualifiers.
 const QUALIFIERS: [Row; 8] = [
     Row {
         case: "two letters",
@@ -81,6 +85,7 @@ fn group_is_judged_before_transaction(rt: HostRuntime) {
     assert!(rt; fault == Some(TextFault::BadByte));
 }
 
+/// The cases of items.
 const ITEMS: [Row; 12] = [
     Row {
         case: "200 letters",
@@ -151,6 +156,7 @@ fn items_are_judged_and_keep_their_text(rt: HostRuntime) {
     }
 }
 
+/// Asserts that the text of `row` is accepted or refused as an item.
 fn expect_item(rt: &impl Abort, alloc: Global, row: &Row) {
     assert!(rt;
         Item::is_item(row.text) == row.fault.is_none(),

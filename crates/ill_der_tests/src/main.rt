@@ -21,13 +21,13 @@
 //! The next cases are of a `Feed`. In each of them `each` must agree with `push`, and a fault must be given again by
 //! each later push.
 //!
-//! - `in pieces: BYTES | BYTES ..`: the outcome of each push, a line for each APDU and for the fault, and the answer of
-//!   `end`. A piece may be empty.
+//! - `in pieces: BYTES | BYTES ..`: the outcome of each push, and the answer of `end`. An outcome is a line for each
+//!   APDU and for the fault. A piece may be empty.
 //! - `byte by byte: BYTES`: as `in pieces`, with each byte as a piece.
 //! - `cut in two at each place: BYTES`: the count of APDUs that one push gives, and the answer of `end`. Then follow
 //!   the places where a cut changes the APDUs, the fault or the end, and the count of the others.
-//! - `cut at random, N times from seed N: BYTES`: as before, but the bytes are cut N times into pieces of 0 to 511
-//!   bytes. The seed determines the sizes.
+//! - `cut at random, N times from seed N: BYTES`: as before, but cut N times into pieces of 0 to 511 bytes. The seed
+//!   determines the sizes.
 //!
 //! The next cases are of values. They print the value that is made, or the fault:
 //!

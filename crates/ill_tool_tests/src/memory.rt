@@ -308,7 +308,7 @@ fn copy<K: Kept>(
     let mut store = store_with(alloc, names, plan, before)?;
     let answer = kept.copy(alloc, call, &mut store)?;
     call.tell_answer(page, names, &answer);
-    store.set_next(NextCall::Works); // a copy that was refused memory leaves the plan
+    store.set_next(NextCall::Works); // A copy that is refused memory leaves the plan.
     let landed = store.load(alloc).ok()?.unwrap_or(Vec::new(alloc));
     call.spoils_copy = call.says_memory && landed.as_slice() != names.bytes(before)?.as_slice();
     tell_landed(alloc, page, names, &mut store)

@@ -1,4 +1,4 @@
--- The command `act` from the results of its calls.
+-- Derives the effect of the command `act` from the results of its calls.
 use Rattle.std.proofs.Common.{◌≡◌, inl, inr, ℕ, Bool, List, [], Option, Some, None, Result, Ok, Err, refl, sym, subst}
 use Rattle.std.specs.Prelude.{IsErrAnd}
 use Rattle.std.proofs.KnownBytes.{Appends-nil}
@@ -10,13 +10,13 @@ use Rattle.ill_tool.specs.Performing.{HeldAndLanded}
 use Rattle.ill_tool.specs.Act.{RunsAct}
 
 module _ {L K : Type 0} (effects : Effects L K) (key : K) where
-  -- If memory ran out for the words, the command has the fault `OutOfMemory`, and nothing changed.
+  -- `act` may return `OutOfMemory` if it writes and changes nothing, whatever action `named` is.
   words_unread : (named : Option Action) (now : HeldAndLanded L) (before : Option (List ℕ))
       → RunsAct effects key named now before before (Err OutOfMemory) now
   words_unread None now before = (inr refl, refl, Appends-nil before)
   words_unread (Some action) now before = (Err OutOfMemory, [], inl (tt, refl), Appends-nil before, (refl, refl))
 
-  -- If the result is the fault `OutOfMemory` alone, the command has it, and nothing changed.
+  -- If `result` is the fault `OutOfMemory`, `act` may return it when it writes and changes nothing.
   pub no_words : (named : Option Action) (now : HeldAndLanded L) (before : Option (List ℕ)) (result : Result Bool ToolFault)
       → IsErrAnd result (λ fault. fault ≡ OutOfMemory)
       → RunsAct effects key named now before before result now

@@ -1,4 +1,4 @@
--- The deeds that a day asks for, loan by loan.
+-- Proves how the list of the deeds that a day asks for is split at a loan.
 use Rattle.std.proofs.Common.{◌≡◌, ℕ, zero, suc, ◌++◌, List, [], ◌∷◌, drop, Option, Some, None, refl}
 use Rattle.std.specs.Prelude.{slice_get}
 use Rattle.std.specs.Option.{option_to_list}
@@ -8,12 +8,12 @@ use Rattle.ill_saved.specs.declared.side.Side.{Side}
 use Rattle.ill_tool.specs.declared.dates.Dates.{Dates}
 use Rattle.ill_tool.specs.Dates.{all_due, due_at, due_in}
 
--- An optional item before a list is the list of that item, and then the list.
+-- `cons_option found more` is the list of the optional item `found`, and then `more`.
 one_before : {X : Type 0} (found : Option X) (more : List X) → cons_option found more ≡ option_to_list found ++ more
 one_before (Some item) more = refl
 one_before None more = refl
 
--- The deeds of the loans from `place` on are that of the loan there, and those of the others.
+-- The deeds from `place` on begin with the deed of the loan at `place`, if it has one. Those of the later loans follow.
 pub one_further : (which : Dates) (today : Date) (sides : List Side) (place : ℕ)
     → all_due which today (drop place sides)
     ≡ option_to_list (due_at which today (slice_get sides place)) ++ all_due which today (drop (suc place) sides)

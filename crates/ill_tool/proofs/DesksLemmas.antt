@@ -1,4 +1,4 @@
--- Desks that are listed one after another.
+-- Proves how the text of several listed desks grows by one desk.
 use Rattle.std.proofs.Common.{arith, ◌≡◌, ℕ, zero, suc, ◌+◌, ◌<◌, ◌++◌, Bool, true, false, List, [], ◌∷◌, length, map, take}
 use Rattle.std.proofs.Common.{get_or, Option, Ok, refl, ap, sym, subst, ◌∙◌, inl, inr, append_assoc, add-one}
 use Rattle.std.specs.Prelude.{◌==◌}
@@ -15,17 +15,18 @@ use Rattle.ill_tool.specs.declared.form.Form.TheVariants.{Lines, Json}
 use Rattle.ill_tool.specs.Listing.{between, listed_desk, listed_desks}
 use Rattle.ill_tool.specs.Commands.{are_several, ListsDesk}
 
--- Returns true if a list has no item.
+-- Returns true if a list is empty.
 abbrev is_nothing : {X : Type 0} → List X → Bool
 is_nothing [] = true
 is_nothing (item ∷ items) = false
 
--- Before the first desk stands no text.
+-- No text comes before the first desk.
 lead : (form : Form) → between form true ≡ []
 lead Lines = refl
 lead Json = refl
 
--- A join with one text more is the join, the text between two if one is before, and it.
+-- If `one` is appended to `done`, the join grows by its text. The text between two comes before that, unless `done` is
+-- empty.
 joined_more : {X : Type 0} (form : Form) (text : X → List ℕ) (done : List X) (one : X)
     → join_by text (between form false) (done ++ one ∷ [])
     ≡ join_by text (between form false) done ++ (between form (is_nothing done) ++ text one)
@@ -36,11 +37,11 @@ joined_more {X} form text (first ∷ done) one =
     (flat_map-append later done (one ∷ []) ∙ ap (λ more. flat_map later done ++ more) (append-nil (later one)))
     ∙ sym (append_assoc (text first) (flat_map later done) (later one))
 
--- A place after another one is not the first.
+-- `suc place` is not 0.
 not_first : (place : ℕ) → (suc place == 0) ≡ false
 not_first place = grind arith
 
--- If the desks before `place` are listed, none is listed exactly if `place` is the first.
+-- If the paths of `desks` are the first `place` of `files`, `desks` is empty exactly if `place` is 0.
 pub first_listed : {X : Type 0} (files : List (List ℕ)) (desks : List (List ℕ × X)) (place : ℕ) → place < length files
     → map (λ (desk : List ℕ × X). desk.0) desks ≡ take place files → is_nothing desks ≡ (place == 0)
 first_listed [] desks place within is = absurd (omega (arith, within))
@@ -49,7 +50,7 @@ first_listed (file ∷ files) [] (suc place) within is = absurd cc
 first_listed (file ∷ files) (desk ∷ desks) zero within is = absurd cc
 first_listed (file ∷ files) (desk ∷ desks) (suc place) within is = sym (not_first place)
 
--- If the desks before `place` are listed, and then the one there, one more of `files` is listed.
+-- If the first `place` of `files` are listed, and then the file at `place`, the first `place + 1` are listed.
 pub one_more : (form : Form) (wanted : Wanted) (files : List (List ℕ)) (desks : List (List ℕ × List Side)) (place : ℕ)
     (file : List ℕ) (is_headed is_first : Bool)
     (before middle after : Option (List ℕ)) (done : Unit {0})

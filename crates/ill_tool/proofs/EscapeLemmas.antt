@@ -1,10 +1,10 @@
--- The first character of a text that is written.
+-- Proves how `written` writes a text, by its first bytes. A terminal may act on an acting character.
 use Rattle.std.proofs.Common.{◌≡◌, ℕ, Bool, true, false, ◌++◌, List, [], ◌∷◌, if◌then◌else◌, sym, ap, subst, ◌∙◌}
 use Rattle.std.proofs.lemmas.List.{append-nil}
 use Rattle.ill_tool.specs.declared.escape.Escaping.{Escaping}
 use Rattle.ill_tool.specs.Escape.{byte_text, escape, written, number_of_two, number_of_three, two_act, three_act}
 
--- If two bytes act, they are written as an escape.
+-- If the first two bytes are an acting character, `written` replaces them by its escape.
 pub two_escape : (escaping : Escaping) (first second : ℕ) (rest : List ℕ) → two_act first second ≡ true
     → written escaping (first ∷ second ∷ rest) ≡ escape escaping (number_of_two first second) ++ written escaping rest
 unfolding written
@@ -19,7 +19,7 @@ two_escape escaping first second (third ∷ rest) acts =
     else byte_text escaping first ++ written escaping (second ∷ third ∷ rest)))
     acts
 
--- If two bytes do not act, the first three decide how the text is written.
+-- If the first two bytes are no acting character, `written` tests the first three.
 three_left : (escaping : Escaping) (first second third : ℕ) (rest : List ℕ) → two_act first second ≡ false
     → written escaping (first ∷ second ∷ third ∷ rest)
     ≡ (if three_act first second third then escape escaping (number_of_three first second third) ++ written escaping rest else
@@ -32,7 +32,8 @@ three_left escaping first second third rest pass =
     else byte_text escaping first ++ written escaping (second ∷ third ∷ rest)))
     pass
 
--- If three bytes act, and the first two do not, they are written as an escape.
+-- If the first three bytes are an acting character, and the first two are none, `written` replaces all three by its
+-- escape.
 pub three_escape : (escaping : Escaping) (first second third : ℕ) (rest : List ℕ) → two_act first second ≡ false
     → three_act first second third ≡ true
     → written escaping (first ∷ second ∷ third ∷ rest)
@@ -42,7 +43,7 @@ three_escape escaping first second third rest pass acts =
     ∙ ap (λ (act : Bool). if act then escape escaping (number_of_three first second third) ++ written escaping rest else
     byte_text escaping first ++ written escaping (second ∷ third ∷ rest)) acts
 
--- If neither two bytes nor three act, the first is written by itself.
+-- If a text of three bytes or more begins with no acting character, `written` writes its first byte by itself.
 pub first_stays : (escaping : Escaping) (first second third : ℕ) (rest : List ℕ) → two_act first second ≡ false
     → three_act first second third ≡ false
     → written escaping (first ∷ second ∷ third ∷ rest) ≡ byte_text escaping first ++ written escaping (second ∷ third ∷ rest)
@@ -51,7 +52,7 @@ first_stays escaping first second third rest pass passes =
     ∙ ap (λ (act : Bool). if act then escape escaping (number_of_three first second third) ++ written escaping rest else
     byte_text escaping first ++ written escaping (second ∷ third ∷ rest)) passes
 
--- The last byte of a text is written by itself.
+-- `written` writes the last byte of a text by itself.
 pub last_stays : (escaping : Escaping) (first : ℕ) (after : List ℕ) → after ≡ []
     → written escaping (first ∷ after) ≡ byte_text escaping first ++ written escaping after
 unfolding written
@@ -59,7 +60,7 @@ last_stays escaping first after none =
     subst (λ (after : List ℕ). written escaping (first ∷ after) ≡ byte_text escaping first ++ written escaping after) (sym none)
     (sym (append-nil (byte_text escaping first)))
 
--- If two bytes end a text and do not act, the first is written by itself.
+-- If a text of two bytes is no acting character, `written` writes its first byte by itself.
 pub first_of_two_stays : (escaping : Escaping) (first second : ℕ) (after rest : List ℕ) → after ≡ second ∷ rest
     → rest ≡ [] → two_act first second ≡ false
     → written escaping (first ∷ after) ≡ byte_text escaping first ++ written escaping after
@@ -70,7 +71,7 @@ first_of_two_stays escaping first second after rest is none pass =
     subst (λ (after : List ℕ). written escaping (first ∷ after) ≡ byte_text escaping first ++ written escaping after)
     (ap (λ (rest : List ℕ). second ∷ rest) (sym none) ∙ sym is) both
 
--- If no byte is left to write, the text that was written is all of it.
+-- If `rest`, the bytes left to write, is empty, the text `shown` so far is `all`.
 pub none_left : (escaping : Escaping) (shown all rest : List ℕ) → shown ++ written escaping rest ≡ all → rest ≡ [] → shown ≡ all
 unfolding written
 none_left escaping shown all rest left none =

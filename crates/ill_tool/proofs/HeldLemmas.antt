@@ -1,4 +1,4 @@
--- A held side is found by its own transaction.
+-- Proves that a desk finds each of its sides by the transaction of the side.
 use Rattle.std.proofs.Common.{◌≡◌, ℕ, zero, suc, Bool, true, false, cond, List, [], ◌∷◌, map, Some, refl, ap, sym, subst, ◌∙◌}
 use Rattle.std.proofs.Common.{true≢false}
 use Rattle.std.specs.Prelude.{option_map, is_none, is_some, slice_get}
@@ -18,7 +18,7 @@ use Rattle.ill_saved.proofs.Finding.{same_is, same_self, some_is, found_mapped}
 abbrev side_of : DeskEntry → Side
 side_of held = held.side
 
--- A transaction that no side has is not found.
+-- If no side in `sides` has the transaction `txn`, `found_by` does not find any.
 hidden_by : (txn : Qualifiers) (sides : List DeskEntry) (held : DeskEntry)
     → is_none (side_with txn (map side_of sides)) ≡ true → found_by txn_held txn sides ≡ Some held → ⊥
 unfolding side_with
@@ -26,7 +26,7 @@ hidden_by txn sides held none found =
     true≢false (sym none ∙ ap is_none
     (found_mapped txn_held txn_of side_of (λ h. refl) txn sides ∙ ap (option_map side_of) found))
 
--- If no later side has the transaction of `first`, a later side is found after it by its own transaction.
+-- If `sides` lack the transaction of `first`, a side found in `sides` is found in `first ∷ sides` too.
 found_after : (first held : DeskEntry) (sides : List DeskEntry) (same : Bool)
     → is_same_txn (txn_held held) (txn_held first) ≡ same
     → is_none (side_with (txn_held first) (map side_of sides)) ≡ true
@@ -37,7 +37,7 @@ found_after first held sides true same none found =
     absurd (hidden_by (txn_held first) sides held none (ap (λ t. found_by txn_held t sides) (sym of) ∙ found))
 found_after first held sides false same none found = found
 
--- If no two sides are of one transaction, the side at `place` is found by its own.
+-- If all sides have different transactions, `found_by` finds the side at `place` by its transaction.
 apart_found : (sides : List DeskEntry) (place : ℕ) (held : DeskEntry) → are_apart (map side_of sides) ≡ true
     → slice_get sides place ≡ Some held → found_by txn_held (txn_held held) sides ≡ Some held
 unfolding are_apart
@@ -50,7 +50,7 @@ apart_found (first ∷ sides) (suc place) held apart at =
     found_after first held sides (is_same_txn (txn_held held) (txn_held first)) refl parts.0
     (apart_found sides place held parts.1 at)
 
--- If no two sides are of one transaction, the side at `place` is the one held for its own.
+-- If all sides of a desk have different transactions, `held_for` returns the entry at `place` for its transaction.
 pub held_at_place : (live : DeskContents) (place : ℕ) (held : DeskEntry) → are_apart (sides_held live).sides ≡ true
     → slice_get live.held place ≡ Some held → held_for (txn_held held) live ≡ held
 held_at_place live place held apart at =

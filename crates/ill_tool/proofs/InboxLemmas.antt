@@ -1,4 +1,4 @@
--- Mails, and the messages in them.
+-- Proves how the command `inbox` reads the message of a mail and ends a run.
 use Rattle.std.proofs.Common.{◌≡◌, ℕ, ◌+◌, ◌≤◌, List, [], ◌∷◌, ◌++◌, Option, Result, Ok, Err, IfOk, length, drop, refl, ap, sym}
 use Rattle.std.proofs.Common.{arith, ◌∙◌}
 use Rattle.std.proofs.lemmas.List.{length-drop}
@@ -16,18 +16,18 @@ use Rattle.ill_tool.specs.declared.fault.ToolFault.{ToolFault}
 use Rattle.ill_tool.specs.Inbox.{EndedWell, RunsInbox, Sorting, answered_with, concluded, inbox_text, one_message, tally_line}
 use Rattle.ill_tool.specs.Inbox.{tally_of}
 
--- An APDU with further bytes after it is no message.
+-- If bytes follow the APDU `a`, both together are no message: the fault is `Trailing`.
 some_after : (a : Apdu) (rest : List ℕ) → 1 ≤ length rest → one_message (Ok (a, rest)) ≡ Err Trailing
 some_after a [] some = absurd (omega (arith, some))
 some_after a (byte ∷ rest) some = refl
 
--- If an APDU is shorter than the bytes that it begins, the bytes are no message.
+-- If the APDU at the start of `bytes` is shorter than `bytes`, they are no message: the fault is `Trailing`.
 pub trailing_unfit : (bytes : List ℕ) (read : Result (Apdu × List ℕ) DerFault) (found : Apdu × ℕ)
     → found.1 + 1 ≤ length bytes → Views bytes read (Ok found) → Err Trailing ≡ one_message read
 trailing_unfit bytes read found less viewed =
     sym (ap one_message viewed.1 ∙ some_after found.0 (drop found.1 bytes) (omega (arith, length-drop found.1 bytes, less)))
 
--- Sorted mails, with the line of their counts after their lines, are the concluded ones.
+-- If the line of the counts is appended to the lines of sorted mails, the state is the concluded one.
 pub concluded_is : {L : Type 0} (waiting : ℕ) (sorted end : Sorting L) (verdicts : List Verdict) (tally : Tally) (told : List ℕ)
     → sorted ≡ end → verdicts ≡ sorted.verdicts → tally ≡ tally_of verdicts
     → told ≡ sorted.told ++ tally_line tally waiting
@@ -38,7 +38,7 @@ concluded_is waiting sorted end verdicts tally told is all counted text =
     ap (λ told. record { live = sorted.live; verdicts = sorted.verdicts; told = told; kept = sorted.kept }) whole
     ∙ ap (concluded waiting) is
 
--- If a run over `mails` returns verdicts, it has ended well.
+-- If a run of `inbox` over `mails` returns verdicts, it has ended well.
 pub ended_if_ok : {X : Type 0} (items : X → List Verdict) (mails : List Mail) (waiting : ℕ)
     (kept_before kept_after before after : Option (List ℕ)) (old new : HeldAndLanded DeskContents) (result : Result X ToolFault)
     → RunsInbox many_sides mails waiting kept_before kept_after before after old (answered_with items result) new

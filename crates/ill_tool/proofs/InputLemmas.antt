@@ -1,4 +1,4 @@
--- The reading of one piece after another, and the handling of the APDUs in them.
+-- Proves how `handle_input` reads an input piece by piece and handles its APDUs.
 use Rattle.std.proofs.Common.{◌≡◌, inl, inr, ◌⊎◌, ℕ, Bool, if◌then◌else◌, ◌+◌, ◌*◌, ◌-◌, ◌<◌, ◌≤◌, List, [], ◌∷◌, ◌++◌, length}
 use Rattle.std.proofs.Common.{Option, Some, None, Result, Ok, Err, refl, sym, ap, subst, ◌∙◌, arith, append_assoc}
 use Rattle.std.specs.List.{AllByRecursion}
@@ -21,8 +21,10 @@ use Rattle.ill_tool.specs.declared.fault.ToolFault.TheVariants.{Der, Read}
 use Rattle.ill_tool.specs.Input.{spellings, Ends, ReadsInput, answer_at_end, CountsOn}
 
 -- ---- APDUs handled one after another
+-- `handles` relates states, and `seen` relates their views. `as_seen` says that each step by `handles` is one by
+-- `seen`.
 
--- APDUs that were handled by `handles` are handled by `seen` on the views, if each step is.
+-- If `handles` leads from `before` through `apdus` to `after`, `seen` leads so from view to view.
 pub handled_as : {S T F : Type 0} (handles : Handles S F) (seen : Handles T F) (view : S → T)
     → ((s t : S) (apdu : Apdu) (r : Result (Unit {0}) F) → handles s apdu r t → seen (view s) apdu r (view t))
     → (before after : S) (apdus : List Apdu) → Handled handles before apdus after → Handled seen (view before) apdus (view after)
@@ -30,7 +32,7 @@ handled_as handles seen view as_seen before after [] is = ap view is
 handled_as handles seen view as_seen before after (apdu ∷ apdus) is =
     (view is.0, as_seen before is.0 apdu (Ok tt) is.1, handled_as handles seen view as_seen is.0 after apdus is.2)
 
--- An end by `handles` is an end by `seen` on the views, if each step is.
+-- If an input ends by `handles`, it ends by `seen` on the views.
 ends_as : {S T : Type 0} (handles : Handles S ToolFault) (seen : Handles T ToolFault) (view : S → T)
     → ((s t : S) (apdu : Apdu) (r : Result (Unit {0}) ToolFault) → handles s apdu r t → seen (view s) apdu r (view t))
     → (result : Result ℕ ToolFault) (count : ℕ) (bytes : List ℕ) (ahead : List ℕ) (left : Option (List ℕ)) (before after : S)
@@ -41,7 +43,7 @@ ends_as handles seen view as_seen (Err fault) count bytes ahead left before afte
   | inr fails ↦ inr (fails.0, fails.1, fails.2, fails.3, as_seen before after fails.0 (Err fault) fails.4)
 ]
 
--- An input that was read by `handles` is read by `seen` on the views, if each step is.
+-- If an input is read by `handles`, it is read by `seen` on the views.
 pub reads_as : {S T : Type 0} (handles : Handles S ToolFault) (seen : Handles T ToolFault) (view : S → T)
     → ((s t : S) (apdu : Apdu) (r : Result (Unit {0}) ToolFault) → handles s apdu r t → seen (view s) apdu r (view t))
     → (old new : Option (List ℕ)) (before after : S) (result : Result ℕ ToolFault)
@@ -61,7 +63,7 @@ reads_as handles seen view as_seen old new before after result is = (
   },
 )
 
--- A failure by `handles` is a failure by `seen` on the views, if each step is.
+-- If handling the APDUs of a piece fails by `handles`, it fails by `seen` on the views.
 fails_as : {S T F : Type 0} (handles : Handles S F) (seen : Handles T F) (view : S → T)
     → ((s t : S) (apdu : Apdu) (r : Result (Unit {0}) F) → handles s apdu r t → seen (view s) apdu r (view t))
     → (old : Unread) (piece : List ℕ) (before after : S) (fault : F) → FailsAt handles old piece before fault after
@@ -77,7 +79,7 @@ fails_as handles seen view as_seen (Ok held) piece before after fault is = (
 )
 fails_as handles seen view as_seen (Err closed) piece before after fault is = absurd is
 
--- A piece that was handled by `handles` is handled by `seen` on the views, if each step is.
+-- If the APDUs of a piece are handled by `handles`, they are handled by `seen` on the views.
 pub each_as : {S T F : Type 0} (handles : Handles S F) (seen : Handles T F) (view : S → T)
     → ((s t : S) (apdu : Apdu) (r : Result (Unit {0}) F) → handles s apdu r t → seen (view s) apdu r (view t))
     → (old : Unread) (piece : List ℕ) (before : S) (result : Result (Option DerFault) F) (new : Unread) (after : S)
@@ -88,7 +90,8 @@ each_as handles seen view as_seen old piece before (Ok fault) new after is =
 each_as handles seen view as_seen old piece before (Err fault) new after is =
     (is.0, fails_as handles seen view as_seen old piece before after fault is.1)
 
--- APDUs handled to a state, and more handled from it, are handled together.
+-- If `prefix` leads from `before` to `middle`, and `more` from there to `after`, both together lead from `before` to
+-- `after`.
 handled_join : {S F : Type 0} (handles : Handles S F) (before middle after : S) (prefix more : List Apdu)
     → Handled handles before prefix middle → Handled handles middle more after
     → Handled handles before (prefix ++ more) after
@@ -96,7 +99,8 @@ handled_join handles before middle after [] more first second = subst (λ s. Han
 handled_join handles before middle after (apdu ∷ prefix) more first second =
     (first.0, first.1, handled_join handles first.0 middle after prefix more first.2 second)
 
--- APDUs that were handled and counted raise the count by their number, to 100,000 at most, and are handled.
+-- Handling and counting `apdus` raises the count by their number, to at most 100,000. Without the count, `handles` has
+-- handled them.
 counted_on : {S : Type 0} (handles : Handles S ToolFault) (before after : ℕ × S) (apdus : List Apdu)
     → before.0 ≤ 100000 → Handled (CountsOn handles) before apdus after
     → (after.0 ≡ before.0 + length apdus) × (after.0 ≤ 100000) × Handled handles before.1 apdus after.1
@@ -108,14 +112,14 @@ counted_on handles before after (apdu ∷ apdus) few is =
     let on = counted_on handles is.0 after apdus (omega (arith, one.0, one.1)) is.2 in
     (omega (arith, one.1, on.0), on.1, (is.0.1, one.2, on.2))
 
--- A piece was pushed, and its APDUs were counted and handled.
+-- `piece` was pushed into the feed `old`, and its APDUs were counted and handled.
 abbrev pub HandlesCounted : {H C : Type 0} → Handles (H × C) ToolFault → Unread → List ℕ → Counted H × C
     → Result (Option DerFault) ToolFault → Unread → Counted H × C → Type 0
 HandlesCounted handles old piece before result new after =
     HandlesEach (λ s apdu r t. CountsOn handles (s.0.count, (s.0.handler, s.1)) apdu r (t.0.count, (t.0.handler, t.1))) old piece
     before result new after
 
--- A piece handled with a counted handler is handled on the pairs of count and state.
+-- If a counted handler has handled a piece, the piece is handled on pairs of the count and the state.
 each_counted : {H C : Type 0} (handles : Handles (H × C) ToolFault) (old feed : Unread) (piece : List ℕ) (before : Counted H × C)
     (result : Result (Option DerFault) ToolFault) (new : Unread) (after : Counted H × C)
     → feed ≡ old → HandlesCounted handles feed piece before result new after
@@ -129,19 +133,19 @@ each_counted {H = H} {C = C} handles old feed piece before result new after same
 
 -- ---- lists of APDUs
 
--- If all of two lists are APDUs, so are all of their join.
+-- If all APDUs of two lists are in range, all APDUs of their join are.
 all_join : (prefix more : List Apdu) → AllByRecursion IsApdu prefix → AllByRecursion IsApdu more
     → AllByRecursion IsApdu (prefix ++ more)
 all_join [] more all others = others
 all_join (apdu ∷ prefix) more all others = (all.0, all_join prefix more all.1 others)
 
--- If all of a list and one more are APDUs, so are all of the list, and the last.
+-- If all APDUs of `apdus` and then `apdu` are in range, those of `apdus` are, and `apdu` is.
 last_of : (apdus : List Apdu) (apdu : Apdu) → AllByRecursion IsApdu (apdus ++ apdu ∷ [])
     → AllByRecursion IsApdu apdus × IsApdu apdu
 last_of [] apdu all = (tt, all.0)
 last_of (first ∷ apdus) apdu all = (let others = last_of apdus apdu all.1 in ((all.0, others.0), others.1))
 
--- The encodings of two lists, one after the other, are those of their join.
+-- The encodings of `prefix`, and then those of `more`, are the encodings of their join.
 spelled_join : (prefix more : List Apdu) (rest : List ℕ)
     → spellings prefix ++ (spellings more ++ rest) ≡ spellings (prefix ++ more) ++ rest
 spelled_join prefix more rest =
@@ -150,7 +154,8 @@ spelled_join prefix more rest =
 
 -- ---- the APDUs so far
 
--- The APDUs whose encodings were read have been handled, and the bytes `held` after them are held.
+-- The bytes read from `old` to `now` are the encodings of `apdus`, and then `held`. All `count` APDUs were handled,
+-- from the state `before` to `after`. The feed is open and holds `held`, which more bytes may complete to an APDU.
 pub record SoFar {S : Type 0} (handles : Handles S ToolFault) (old now : Option (List ℕ)) (before : S) (count : ℕ) (feed : Unread)
     (after : S) (apdus : List Apdu) (held : List ℕ) : Type 0 where
   pub spelled : AllByRecursion IsApdu apdus
@@ -161,12 +166,12 @@ pub record SoFar {S : Type 0} (handles : Handles S ToolFault) (old now : Option 
   pub opened : feed ≡ Ok held
   pub unfinished : IsUnfinished held
 
--- Some APDUs have been read and handled so far, and some bytes are held.
+-- `SoFar` holds of some list of APDUs and some held bytes.
 abbrev pub ReadSoFar : {S : Type 0} → Handles S ToolFault → Option (List ℕ) → Option (List ℕ) → S → ℕ → Unread → S → Type 0
 ReadSoFar handles old now before count feed after =
     (apdus : List Apdu) × (held : List ℕ) × SoFar handles old now before count feed after apdus held
 
--- At the beginning no APDU is read, and no byte is held.
+-- Before the first read, `ReadSoFar` holds with no APDU and no held byte.
 pub none_read : {S : Type 0} (handles : Handles S ToolFault) (old : Option (List ℕ)) (before : S) (count : ℕ) (feed : Unread)
     → count ≡ 0 → feed ≡ Ok [] → ReadSoFar handles old old before count feed before
 unfolding apdu_at outer_at header_at
@@ -184,15 +189,15 @@ none_read handles old before count feed none empty = (
   },
 )
 
--- If the decoder finds bytes short, it names their number, which is at most 358.
+-- If the decoder returns that `bytes` are short, it names their number, which is at most 358.
 abbrev pub ShortLaw : Type 0
 ShortLaw = (bytes : List ℕ) (n : ℕ) → apdu_at bytes ≡ Err (Short n) → (n ≡ length bytes) × (n ≤ 358)
 
--- If the held bytes are unfinished, they are at most 358.
+-- Unfinished bytes are at most 358.
 few_held : ShortLaw → (held : List ℕ) → IsUnfinished held → length held ≤ 358
 few_held law held is = (law held (length held) is).1
 
--- A piece that is read after the held bytes extends the bytes that were read.
+-- If `piece` is read after `held`, the bytes read end with `held` and then `piece`.
 piece_read : (old now new : Option (List ℕ)) (apdus : List Apdu) (held piece : List ℕ)
     → Consumes old now (spellings apdus ++ held) → Consumes now new piece
     → Consumes old new (spellings apdus ++ (held ++ piece))
@@ -200,7 +205,7 @@ piece_read old now new apdus held piece read more =
     subst (Consumes old new) (append_assoc (spellings apdus) held piece)
     (Consumes-trans old now new (spellings apdus ++ held) piece read more)
 
--- If the held bytes and a piece are APDUs and a rest, those APDUs and the rest were read.
+-- If `held` and `piece` together are the encodings of `more` and a `rest`, all bytes read end with these.
 apdus_read : (old now new : Option (List ℕ)) (apdus more : List Apdu) (held piece rest : List ℕ)
     → Consumes old now (spellings apdus ++ held) → Consumes now new piece → Begins (held ++ piece) more rest
     → Consumes old new (spellings (apdus ++ more) ++ rest)
@@ -210,17 +215,17 @@ apdus_read old now new apdus more held piece rest read piece_is begins =
 
 -- ---- one piece more
 
--- Returns the number of bytes that may still come, at most.
+-- Returns an upper bound of the bytes that may still be read, or 0 if the feed is closed.
 abbrev pub room : ℕ → Unread → ℕ
 room count (Ok held) = 35900359 - (count * 359 + length held)
 room count (Err fault) = 0
 
--- A feed that a push did not close holds bytes.
+-- If the feed `new` has no fault, it is open and holds bytes.
 still_open : (new : Unread) → None ≡ fault_of new → (held : List ℕ) × (new ≡ Ok held)
 still_open (Ok held) e = (held, refl)
 still_open (Err fault) e = absurd cc
 
--- If the held bytes grow, or the count of APDUs does, the room falls.
+-- If the held bytes grow, or the count of APDUs does, the bound of `room` becomes smaller.
 more_room : (n k size more left m : ℕ) → ((k ≡ 0) × (left ≡ size + more)) ⊎ (0 < k) → m ≡ n + k → m ≤ 100000
     → size ≤ 358 → left ≤ 358 → 0 < more
     → 35900359 - (m * 359 + left) < 35900359 - (n * 359 + size)
@@ -229,18 +234,18 @@ more_room n k size more left m grown is few held rest some = elim grown [
   | inr handed ↦ omega (arith, is, few, held, rest, handed, some)
 ]
 
--- A piece makes the held bytes longer, or completes an APDU.
+-- `piece` either completes an APDU or only makes the held bytes longer.
 longer_or_handed : (more : List Apdu) (held piece rest : List ℕ) → held ++ piece ≡ spellings more ++ rest
     → ((length more ≡ 0) × (length rest ≡ length held + length piece)) ⊎ (0 < length more)
 longer_or_handed [] held piece rest e = inl (refl, omega (arith, ap length e, length-append held piece))
 longer_or_handed (apdu ∷ more) held piece rest e = inr (omega arith)
 
--- A text and a rest are as long as the held bytes and the piece that they are.
+-- If `held ++ piece` is `text ++ rest`, the lengths of `text` and `rest` add up to those of `held` and `piece`.
 rest_within : (held piece text rest : List ℕ) → held ++ piece ≡ text ++ rest
     → length text + length rest ≡ length held + length piece
 rest_within held piece text rest e = omega (arith, ap length e, length-append held piece, length-append text rest)
 
--- A piece that is not empty makes the room fall.
+-- A piece that is not empty makes `room` smaller.
 room_falls : ShortLaw → (count m : ℕ) (feed next : Unread) (held now piece : List ℕ) (more : List Apdu)
     → feed ≡ Ok held → next ≡ Ok now → held ++ piece ≡ spellings more ++ now
     → m ≡ count + length more → m ≤ 100000 → IsUnfinished held → IsUnfinished now → 0 < length piece
@@ -251,7 +256,7 @@ room_falls law count m feed next held now piece more was is parts counted few un
     (more_room count (length more) (length held) (length piece) (length now) m (longer_or_handed more held piece now parts)
     counted few (few_held law held unfinished) (few_held law now still) some))
 
--- If a piece was pushed and the feed stayed open, the APDUs so far grow, and the room falls.
+-- If a piece is handled and the feed stays open, `ReadSoFar` holds after it, and `room` is smaller.
 pub one_piece_more : {H C : Type 0} (handles : Handles (H × C) ToolFault) → ShortLaw
     → (old now new : Option (List ℕ)) (before : H × C) (middle after : Counted H × C) (feed next : Unread) (piece : List ℕ)
     → ReadSoFar handles old now before middle.0.count feed (middle.0.handler, middle.1) → Consumes now new piece
@@ -291,7 +296,7 @@ one_piece_more {H = H} {C = C} handles law old now new before middle after feed 
 
 -- ---- the end of an input
 
--- If the input ends with the held bytes, it was read to that end.
+-- If the input ends after `apdus` and the bytes `held`, `ReadsInput` holds of it.
 ends_held : {S : Type 0} (handles : Handles S ToolFault) → ShortLaw
     → (old new : Option (List ℕ)) (before after : S) (count : ℕ) (feed : Unread) (result : Result ℕ ToolFault) (apdus : List Apdu)
     (held : List ℕ)
@@ -312,7 +317,7 @@ ends_held handles law old new before after count feed result apdus held is ended
   },
 )
 
--- At the end of the reader the held bytes decide the end of the input: none is well, others are short.
+-- At the end of the reader, the input ends well if no byte is held, and with `Short` otherwise.
 at_end : {S : Type 0} (handles : Handles S ToolFault) (count : ℕ) (held : List ℕ) (left : Option (List ℕ)) (after : S)
     → IsUnfinished held → IsAtEnd left
     → Ends handles (answer_at_end (end_of (Ok held)) count) count held [] left after after
@@ -323,7 +328,7 @@ at_end handles count (byte ∷ held) left after unfinished end =
     left after after) (sym (eqb-suc-zero (length held)))
     (inl ((unfinished, (refl, end)), refl))
 
--- If the reader is at its end, the input was read with the answer at its end.
+-- If the reader is at its end, `ReadsInput` holds with the answer of `answer_at_end`.
 pub ends_at_end : {S : Type 0} (handles : Handles S ToolFault) → ShortLaw
     → (old new : Option (List ℕ)) (before after : S) (count : ℕ) (feed : Unread)
     → ReadSoFar handles old new before count feed after → IsAtEnd new
@@ -335,7 +340,7 @@ ends_at_end handles law old new before after count feed so_far end =
     (subst (λ (f : Unread). Ends handles (answer_at_end (end_of f) count) count held [] new after after) (sym is.opened)
     (at_end handles count held new after is.unfinished end))
 
--- If no byte more was read, the APDUs so far stay.
+-- If a read gives no byte, `ReadSoFar` still holds.
 pub read_nothing : {S : Type 0} (handles : Handles S ToolFault) (old now new : Option (List ℕ)) (before after : S) (count : ℕ)
     (feed : Unread)
     → ReadSoFar handles old now before count feed after
@@ -358,11 +363,11 @@ read_nothing handles old now new before after count feed so_far read =
       },
     )
 
--- A reader that keeps its input consumes nothing.
+-- A reader whose input stays has consumed nothing.
 kept_nothing : (now new : Option (List ℕ)) → Keeps now new → Consumes now new []
 kept_nothing now new keeps = Consumes-kept now now new [] (Consumes-nil now) keeps
 
--- If the reader failed, the input was read up to its fault.
+-- If the reader fails, `ReadsInput` holds with the fault `Read`.
 pub ends_unread : {S : Type 0} (handles : Handles S ToolFault) → ShortLaw
     → (old now new : Option (List ℕ)) (before after : S) (count : ℕ) (feed : Unread)
     → ReadSoFar handles old now before count feed after
@@ -372,12 +377,12 @@ ends_unread handles law old now new before after count feed so_far keeps =
     ends_held handles law old new before after count feed (Err Read) still.0 still.1 still.2
     (inl ((still.2.unfinished, refl), refl))
 
--- A feed that a push closed with `fault` is that fault.
+-- If a push closes the feed with `fault`, the feed `new` is `Err fault`.
 closed_by : (new : Unread) (fault : DerFault) → Some fault ≡ fault_of new → new ≡ Err fault
 closed_by (Ok held) fault e = absurd cc
 closed_by (Err closed) fault e = (let is : fault ≡ closed = cc in ap (λ (f : DerFault). Err f) (sym is))
 
--- A fault that is not short meets each condition on short ones.
+-- If `fault` is not `Short`, `IfShort fault P` holds of each `P`.
 not_short : (fault : DerFault) (P : Type 0) → IfShort fault ⊥ → IfShort fault P
 not_short (Short at) P none = absurd none
 not_short (Tag at) P none = tt
@@ -385,7 +390,7 @@ not_short (Length at) P none = tt
 not_short (Field at) P none = tt
 not_short OutOfMemory P none = tt
 
--- If the bytes of a piece closed the feed, the input was read up to the fault of these bytes.
+-- If the bytes of a piece close the feed with `fault`, `ReadsInput` holds with that fault.
 pub ends_closed : {H C : Type 0} (handles : Handles (H × C) ToolFault) → ShortLaw
     → (old now new : Option (List ℕ)) (before : H × C) (middle after : Counted H × C) (feed next : Unread) (piece : List ℕ)
     (fault : DerFault)
@@ -420,7 +425,7 @@ ends_closed {H = H} {C = C} handles law old now new before middle after feed nex
       },
     )
 
--- If the APDU in hand is one too many, or its handling failed, the input ends there.
+-- If `apdu` is one too many, or handling it fails, the input ends at `apdu`.
 ends_in_hand : {S : Type 0} (handles : Handles S ToolFault) (state after : ℕ × S) (apdu : Apdu) (fault : ToolFault) (count : ℕ)
     (ahead : List ℕ) (left : Option (List ℕ))
     → IsApdu apdu → count ≡ state.0
@@ -433,7 +438,7 @@ ends_in_hand handles state after apdu fault count ahead left is counted few on =
   | inr fails ↦ inr (apdu, is, refl, omega (arith, fails.0, counted), fails.1)
 ]
 
--- If an APDU of a piece is one too many, or its handling failed, the input ends there.
+-- If an APDU of a piece is one too many, or handling it fails, `ReadsInput` holds with that fault.
 pub ends_failing : {H C : Type 0} (handles : Handles (H × C) ToolFault) → ShortLaw
     → (old now new : Option (List ℕ)) (before : H × C) (middle after : Counted H × C) (feed next : Unread) (piece : List ℕ)
     (fault : ToolFault)

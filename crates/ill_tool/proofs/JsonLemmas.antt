@@ -1,10 +1,10 @@
--- Texts with a comma between two, one after another.
+-- Proves how a text of items, with a comma between two, grows item by item.
 use Rattle.std.proofs.Common.{◌≡◌, ℕ, ◌+◌, ◌≤◌, length, drop, List, [], ◌∷◌, ◌++◌, map, codes, refl, ap, sym, ◌∙◌, append_assoc}
 use Rattle.std.proofs.Common.{append-nil}
 use Rattle.std.proofs.lemmas.List.{at_drop_all}
 use Rattle.ill_tool.specs.Json.{joined}
 
--- With the text of one item more, the texts of the others are left, after a comma.
+-- After the text of the item at `place` is appended, the texts of the later items are left.
 pub one_joined : {X : Type 0} (text : X → List ℕ) (before shown : List ℕ) (items : List X) (place : ℕ) (item : X)
     → drop place items ≡ item ∷ drop (place + 1) items
     → ((shown ++ before) ++ text item) ++ joined text (codes ",") (drop (place + 1) items)
@@ -16,14 +16,14 @@ one_joined text before shown items place item there =
     ∙ append_assoc shown (before ++ text item) left
     ∙ ap (λ items. shown ++ joined text before items) (sym there)
 
--- No text is left after the last item.
+-- After the last item no text is left to append.
 pub all_joined : {X : Type 0} (text : X → List ℕ) (before shown : List ℕ) (items : List X) (place : ℕ)
     → length items ≤ place → shown ++ joined text before (drop place items) ≡ shown
 unfolding joined
 all_joined text before shown items place all =
     ap (λ left. shown ++ left) (at_drop_all (joined text before) items place all) ∙ append-nil shown
 
--- The join of the texts of items under `f` is the join of the texts of the mapped items.
+-- Joining `items` by the text of `f item` equals joining `map f items` by `text`.
 pub joined_map : {X Y : Type 0} (text : Y → List ℕ) (f : X → Y) (before : List ℕ) (items : List X)
     → joined (λ item. text (f item)) before items ≡ joined text before (map f items)
 unfolding joined
@@ -32,7 +32,7 @@ joined_map text f before (item ∷ items) = ap (λ left. before ++ text (f item)
 
 -- ---- further items
 
--- After a comma, the texts of further items follow those of the items before.
+-- With a comma before each item, the join of `items ++ more` is that of `items`, and then that of `more`.
 joined_more : {X : Type 0} (text : X → List ℕ) (items more : List X)
     → joined text (codes ",") (items ++ more) ≡ joined text (codes ",") items ++ joined text (codes ",") more
 unfolding joined
@@ -42,7 +42,7 @@ joined_more text (item ∷ items) more =
     ap (λ left. this ++ left) (joined_more text items more)
     ∙ sym (append_assoc this (joined text (codes ",") items) (joined text (codes ",") more))
 
--- The texts of further items follow those of the first ones.
+-- If `shown` ends with the join of `first ∷ items`, appending that of `more` makes it the join of all.
 pub joined_further : {X : Type 0} (text : X → List ℕ) (before old shown : List ℕ) (first : X) (items more : List X)
     → shown ≡ old ++ joined text before (first ∷ items)
     → shown ++ joined text (codes ",") more ≡ old ++ joined text before ((first ∷ items) ++ more)

@@ -1,4 +1,4 @@
--- The lines of a list, one after another, and the spaces within them.
+-- Proves how the command `list` fills a column with spaces, joins words and selects loans.
 use Rattle.std.proofs.Common.{◌≡◌, ℕ, suc, ◌+◌, ◌-◌, ◌<◌, ◌++◌, Bool, true, false, cond, List, [], ◌∷◌, map, replicate, refl, ap}
 use Rattle.std.proofs.Common.{sym, ◌∙◌, arith}
 use Rattle.std.specs.Prelude.{filter}
@@ -6,25 +6,25 @@ use Rattle.std.specs.List.{flat_map, join_by}
 use Rattle.std.proofs.lemmas.List.{append-nil}
 use Rattle.std.proofs.lemmas.List.Folds.{flat_map-map}
 
--- Before a place within the width one space more is left than after it.
+-- If `place` is less than `width`, one more space is left at `place` than at `place + 1`.
 pub one_space : (width place : ℕ) → place < width
     → replicate {A = ℕ} (width - place) 32 ≡ 32 ∷ replicate {A = ℕ} (width - (place + 1)) 32
 one_space width place within = let e : width - place ≡ suc (width - (place + 1)) = omega arith in
     ap (λ n. replicate {A = ℕ} n 32) e
 
--- A join of items by their texts is the join of their texts.
+-- Joining `items` by `text` equals joining their texts.
 pub joined_as_texts : {X : Type 0} (text : X → List ℕ) (between : List ℕ) (items : List X)
     → join_by text between items ≡ join_by (λ (t : List ℕ). t) between (map text items)
 joined_as_texts text between [] = refl
 joined_as_texts text between (item ∷ items) = ap (λ more. text item ++ more) (sym (flat_map-map (λ t. between ++ t) text items))
 
--- The text of an item, if it is kept, stands before those of the others.
+-- The texts of the kept items begin with that of `item`, if it is kept.
 kept_first : {X : Type 0} (text : X → List ℕ) (is_kept : Bool) (item : X) (items : List X)
     → flat_map text (cond is_kept (item ∷ items) items) ≡ flat_map text (cond is_kept (item ∷ []) []) ++ flat_map text items
 kept_first text true item items = ap (λ first. first ++ flat_map text items) (sym (append-nil (text item)))
 kept_first text false item items = refl
 
--- The texts of the kept items are that of each by itself, if it is kept.
+-- The texts of the kept items equal those of each item filtered by itself.
 pub kept_apart : {X : Type 0} (text : X → List ℕ) (keeps : X → Bool) (items : List X)
     → flat_map text (filter keeps items) ≡ flat_map (λ (item : X). flat_map text (filter keeps (item ∷ []))) items
 kept_apart text keeps [] = refl

@@ -1,17 +1,17 @@
--- The lines of one message after another, and the names of verbs.
+-- Proves how the texts and the names of items are appended item by item.
 use Rattle.std.proofs.Common.{◌≡◌, ℕ, ◌+◌, ◌<◌, ◌≤◌, length, drop, List, [], ◌∷◌, ◌++◌, map, ap, sym, ◌∙◌, append_assoc}
 use Rattle.std.proofs.Common.{append-nil}
 use Rattle.std.specs.List.{flat_map}
 use Rattle.std.proofs.Math.ListN.{get_or}
 use Rattle.std.proofs.lemmas.List.{at_drop_all, drop_more, map-append}
 
--- A list from `place` on begins with the item at that place.
+-- The items from `place` on begin with the item at `place`.
 pub from_place : {X : Type 0} (items : List X) (place : ℕ) (item : X) → place < length items
     → item ≡ get_or items place item → drop place items ≡ item ∷ drop (place + 1) items
 from_place items place item within there =
     drop_more items place item within ∙ ap (λ first. first ∷ drop (place + 1) items) (sym there)
 
--- With the text of one item more, the texts of the others are left.
+-- After the text of the item at `place` is appended, the texts of the later items are left.
 pub one_shown : {X : Type 0} (text : X → List ℕ) (shown : List ℕ) (items : List X) (place : ℕ) (item : X)
     → place < length items → item ≡ get_or items place item
     → (shown ++ text item) ++ flat_map text (drop (place + 1) items) ≡ shown ++ flat_map text (drop place items)
@@ -19,12 +19,12 @@ one_shown text shown items place item within there =
     append_assoc shown (text item) (flat_map text (drop (place + 1) items))
     ∙ ap (λ left. shown ++ flat_map text left) (sym (from_place items place item within there))
 
--- No text is left after the last item.
+-- After the last item no text is left to append.
 pub all_shown : {X : Type 0} (text : X → List ℕ) (shown : List ℕ) (items : List X) (place : ℕ) → length items ≤ place
     → shown ++ flat_map text (drop place items) ≡ shown
 all_shown text shown items place all = ap (λ left. shown ++ left) (at_drop_all (flat_map text) items place all) ∙ append-nil shown
 
--- With the name of one item more, the names of the others are left.
+-- After the name of the item at `place` is appended, the names of the later items are left.
 pub one_named : {X Y : Type 0} (text : Y → List ℕ) (name : X → List ℕ) (named : List Y) (items : List X) (place : ℕ) (item : X)
     (word : Y)
     → place < length items → item ≡ get_or items place item
@@ -36,7 +36,7 @@ one_named text name named items place item word within there is =
     ∙ ap (λ first. map text named ++ (first ∷ map name (drop (place + 1) items))) is
     ∙ ap (λ left. map text named ++ map name left) (sym (from_place items place item within there))
 
--- No name is left after the last item.
+-- After the last item no name is left to append.
 pub all_named : {X Y : Type 0} (text : Y → List ℕ) (name : X → List ℕ) (named : List Y) (items : List X) (place : ℕ)
     → length items ≤ place → map text named ++ map name (drop place items) ≡ map text named
 all_named text name named items place all =

@@ -1,4 +1,4 @@
--- The beginning of a desk, from the results of its calls.
+-- Derives the effect of the command `new` from the results of its calls.
 use Rattle.std.proofs.Common.{rules, ◌≡◌, ◌⊎◌, ℕ, List, Option, Some, None, Result, Ok, Err, inl, inr, refl, ◌∙◌}
 use Rattle.ill_saved.specs.declared.fault.DeskFault.TheVariants.{Store}
 use Rattle.ill_saved.specs.declared.store.StoreFault.TheVariants.{Failed}
@@ -14,7 +14,7 @@ use Rattle.ill_tool.specs.declared.fault.ToolFault.{ToolFault}
 use Rattle.ill_tool.specs.declared.fault.ToolFault.TheVariants.{Desk, Write, OutOfMemory}
 use Rattle.ill_tool.specs.New.{LandsFirst, BeginsOver}
 
--- If a call leaves a spent plan, or spends it once more, the plan is spent.
+-- After one call has spent the plan `old`, a second call that leaves or spends it keeps it spent.
 pub still_spent : (old between new : Option NextCall) → between ≡ spent old → (new ≡ between) ⊎ (new ≡ spent between)
     → new ≡ spent old
 still_spent None between new e (inl is) = is ∙ e
@@ -24,7 +24,7 @@ still_spent (Some plan) between new e (inl is) = is ∙ e
 still_spent (Some plan) None new e (inr is) = search rules
 still_spent (Some plan) (Some next) new e (inr is) = is
 
--- If the plan allowed to load, a first save over no record is a beginning over that store.
+-- If `plan` allows the load, and the store has no record, a first save fulfils `BeginsOver`.
 pub begun_over : (bytes : List ℕ) (plan : Option NextCall) (answer : Result (Unit {0}) ToolFault) (new : Option (List ℕ))
     → Allows {X = Unit {0}} plan (Ok tt)
     → LandsFirst (spent plan) bytes answer None new → BeginsOver bytes plan None answer new
@@ -35,7 +35,7 @@ begun_over bytes (Some plan) (Err (Desk (Store Failed))) new allows lands = absu
 begun_over bytes plan (Err OutOfMemory) new allows lands = lands
 begun_over bytes plan (Err other) new allows lands = absurd lands
 
--- An idle side has issued nothing, so `whole` and `alone` give one entry.
+-- `whole` and `alone` return equal entries for an idle side, since it has issued nothing.
 pub nothing_issued : (role : Role) (txn : Qualifiers) → whole (idle_side role txn) ≡ alone (idle_side role txn)
 nothing_issued Requester txn = refl
 nothing_issued Responder txn = refl

@@ -1,4 +1,4 @@
--- Mails that are put one after another, and their messages.
+-- Proves what a folder or a stream has after the command `outbox`, and which mails ask for an answer.
 use Rattle.std.proofs.Common.{◌≡◌, ℕ, zero, suc, ◌++◌, List, [], ◌∷◌, map, take, drop, Option, Some, None, Result, Ok, Err, refl}
 use Rattle.std.proofs.Common.{ap, sym, subst, ◌∙◌, append_assoc}
 use Rattle.std.specs.Prelude.{slice_get}
@@ -17,35 +17,35 @@ use Rattle.ill_tool.specs.Outbox.{Letter, RunsOutbox, StreamsOutbox, after_all, 
 use Rattle.ill_tool.specs.Outbox.{letters_of, stream_of}
 use Rattle.std.specs.List.{fold}
 
--- The content of an outlet after the mails of messages is that after each of them in turn.
+-- An outlet after the mails of `leaving` is the outlet after putting each message of `leaving` in turn.
 pub each_put : {M : Type 0} (after : M → Letter → M) (leaving : List Leaving) (there : Option M)
     → after_all after (map letter_of (map issue_of leaving)) there
     ≡ fold (λ there message. after_one after there (letter_of (issue_of message))) there leaving
 each_put after [] there = refl
 each_put after (message ∷ leaving) there = each_put after leaving (after_one after there (letter_of (issue_of message)))
 
--- The mails of the first messages are the first mails.
+-- The first `size` mails are the mails of the first `size` messages.
 pub first_mails : (size : ℕ) (leaving : List Leaving)
     → take size (map letter_of (map issue_of leaving)) ≡ map letter_of (map issue_of (take size leaving))
 first_mails size leaving = take-map letter_of size (map issue_of leaving) ∙ ap (map letter_of) (take-map issue_of size leaving)
 
 -- ---- a stream
 
--- A stream after some mails has its old bytes, and then theirs.
+-- A stream that began with `start` has `start`, and then the bytes of the mails.
 streamed : (start : List ℕ) (letters : List Letter)
     → after_all (λ there letter. there ++ letter.bytes) letters (Some start) ≡ Some (start ++ stream_of letters)
 streamed start [] = ap Some (sym (append-nil start))
 streamed start (letter ∷ letters) =
     streamed (start ++ letter.bytes) letters ∙ ap Some (append_assoc start letter.bytes (stream_of letters))
 
--- The bytes on a stream that was empty are those of its mails.
+-- If a stream was empty, its bytes are those of the mails that were put on it.
 stream_has : (letters : List Letter) (start bytes : List ℕ) → start ≡ []
     → Some bytes ≡ after_all (λ there letter. there ++ letter.bytes) letters (Some start) → bytes ≡ stream_of letters
 stream_has letters start bytes empty put =
     some_is _ _ (put ∙ ap (λ start. after_all (λ there letter. there ++ letter.bytes) letters (Some start)) empty
     ∙ streamed [] letters)
 
--- If mails were gathered on an empty stream, and its bytes written, the command has written them.
+-- If the mails are gathered on an empty stream, and its bytes are written, the command has written the mails.
 pub stream_written : (asking : List ℕ) (held : List DeskEntry) (start bytes gathered : List ℕ) (count : ℕ)
     (before after : Option (List ℕ)) (result : Result (Unit {0}) ToolFault)
     → start ≡ [] → gathered ≡ bytes
@@ -66,18 +66,19 @@ stream_written asking held start bytes gathered count before after (Err fault) e
     )
 
 -- ---- the messages that ask
+-- A message asks if its loan at this desk is over. The next outbox answers it.
 
--- No verdicts pair with no mails.
+-- Pairing a list with an empty list gives no pairs.
 zip_nothing : {A B : Type 0} (items : List A) → zip {X = B} items [] ≡ []
 zip_nothing [] = refl
 zip_nothing (item ∷ items) = refl
 
--- A mail without a verdict does not ask.
+-- A mail without a verdict does not ask, so it adds no bytes.
 absent : (live : DeskContents) (mail : Option Mail) (rest : List ℕ) → asks_at live mail None ++ rest ≡ rest
 absent live None rest = refl
 absent live (Some mail) rest = refl
 
--- The bytes that ask from `place` on are those of the mail there, and those of the others.
+-- The bytes that ask from `place` on are those of the mail at `place`, and those of the later mails.
 pub one_asking : (live : DeskContents) (mails : List Mail) (verdicts : List Verdict) (place : ℕ)
     → asks_at live (slice_get mails place) (slice_get verdicts place)
     ++ asked_by live (zip (drop (suc place) mails) (drop (suc place) verdicts))

@@ -1,4 +1,4 @@
--- The arguments that were found in the words of a command line.
+-- Relates the request of a command line to the arguments that the parser has found.
 use Rattle.std.proofs.Common.{rules, ◌≡◌, ℕ, Bool, true, List, Option, Some, None, Result, sym, ap, subst, ◌∙◌}
 use Rattle.std.specs.Prelude.{is_none, Box, option_map}
 use Rattle.std.specs.Box.{box_value}
@@ -23,21 +23,21 @@ use Rattle.ill_tool.specs.Asked.{IsRefusal, text_of, texts_of, day_in, day_said,
 use Rattle.ill_core.specs.State.{state_named}
 use Rattle.ill_core.specs.declared.state.State.{State}
 
--- The text of an argument is the first value under its name.
+-- `text_of` returns the first value that the parser has under the name of `argument`.
 pub text_said : (m : ArgMatches) (id : List ℕ) (argument : Argument) (said : Option (List ℕ)) → id ≡ id_of argument
     → said ≡ first_value (found_of m) id
     → text_of argument (rows_of (found_of m)) ≡ said
 text_said m id argument said named is =
     ap (λ (id : List ℕ). first_of id (rows_of (found_of m))) (sym named) ∙ sym (first_value-rows (found_of m) id) ∙ sym is
 
--- An argument without a value may be refused.
+-- If the parser has no value of `argument`, a refusal of the missing text is right.
 pub none_said : (m : ArgMatches) (id : List ℕ) (argument : Argument) (refusal : Refusal) → id ≡ id_of argument
     → None ≡ first_value (found_of m) id → IsRefusal true refusal
     → IsRefusal (is_none (text_of argument (rows_of (found_of m)))) refusal
 none_said m id argument refusal named is right =
     subst (λ (nothing : Bool). IsRefusal nothing refusal) (sym (ap is_none (text_said m id argument None named is))) right
 
--- The day is read from the text of its argument.
+-- `day_in` returns the day that is read from the text `word` of `argument`.
 pub day_read : (m : ArgMatches) (id word bytes : List ℕ) (argument : Argument) (read : Result Date DayFault)
     → id ≡ id_of argument → Some word ≡ first_value (found_of m) id → bytes ≡ word
     → read ≡ read_date bytes → day_in argument (rows_of (found_of m)) ≡ option_map Some (result_ok read)
@@ -45,7 +45,7 @@ day_read m id word bytes argument read named is same reads =
     ap day_said (text_said m id argument (Some word) named is)
     ∙ ap (λ (read : Result Date DayFault). option_map Some (result_ok read)) (sym (reads ∙ ap read_date same))
 
--- The state is read from the text of its argument.
+-- `state_in` returns the state that is read from the text `word` of its argument.
 pub state_read : (m : ArgMatches) (id word bytes : List ℕ) (read : Option State) → id ≡ id_of InState
     → Some word ≡ first_value (found_of m) id → bytes ≡ word
     → read ≡ state_named bytes → state_in (rows_of (found_of m)) ≡ option_map Some read
@@ -53,21 +53,21 @@ state_read m id word bytes read named is same reads =
     ap state_said (text_said m id InState (Some word) named is)
     ∙ ap (λ (read : Option State). option_map Some read) (sym (reads ∙ ap state_named same))
 
--- The texts of an argument are all values under its name.
+-- `texts_of` returns all values that the parser has under the name of `argument`.
 pub texts_said : (m : ArgMatches) (id : List ℕ) (argument : Argument) (said : Option (List (List ℕ)))
     → id ≡ id_of argument → said ≡ option_map raw_values (matched_of (found_of m) id)
     → texts_of argument (rows_of (found_of m)) ≡ said
 texts_said m id argument said named is =
     ap (λ (id : List ℕ). all_of id (rows_of (found_of m))) (sym named) ∙ sym (raw_values-rows (found_of m) id) ∙ sym is
 
--- Texts that were not found may be refused.
+-- If the parser has no values of `argument`, a refusal of the missing texts is right.
 pub no_texts_said : (m : ArgMatches) (id : List ℕ) (argument : Argument) (refusal : Refusal) → id ≡ id_of argument
     → None ≡ option_map raw_values (matched_of (found_of m) id) → IsRefusal true refusal
     → IsRefusal (is_none (texts_of argument (rows_of (found_of m)))) refusal
 no_texts_said m id argument refusal named is right =
     subst (λ (nothing : Bool). IsRefusal nothing refusal) (sym (ap is_none (texts_said m id argument None named is))) right
 
--- The subcommand that a parse met has its name and its rows.
+-- If the parser met the subcommand `word` with `rows`, `subcommand_rows_of` returns both.
 pub met_with : (m : ArgMatches) (word : List ℕ) (rows : List Row) → Some word ≡ subcommand_name_of m
     → Some rows ≡ option_map (λ (said : Text × List Row). said.1) (subcommand_rows_of m)
     → subcommand_rows_of m ≡ Some (word, rows)
@@ -80,7 +80,7 @@ met_with m word rows named has = go (out-ArgMatches m).subcommand named has
     go None named has = cc
     go (Some sub) named has = cc
 
--- A refusal for one argument is a refusal for all.
+-- A right refusal of the first argument is a right refusal of the request.
 pub refused_on : {A B : Type 0} (said : Option A) (next : A → Option B) (refusal : Refusal)
     → IsRefusal (is_none said) refusal → IsRefusal (is_none (said >>= next)) refusal
 refused_on None next refusal right = right
@@ -89,7 +89,7 @@ refused_on (Some value) next (Fault Arguments) right = search rules
 refused_on (Some value) next (Fault OutOfMemory) right = right
 refused_on (Some value) next (Fault other) right = search rules
 
--- A refusal for the argument after one that was read is a refusal for all.
+-- If the first argument is read, a right refusal of the second is a right refusal of the request.
 pub refused_after : {A B C : Type 0} (first : Option A) (value : A) (second : Option B) (next : A → B → Option C)
     (refusal : Refusal)
     → first ≡ Some value
@@ -98,7 +98,7 @@ refused_after {A} first value second next refusal is right =
     subst (λ (first : Option A). IsRefusal (is_none (first >>= λ value. second >>= next value)) refusal) (sym is)
     (refused_on second (next value) refusal right)
 
--- A refusal for the argument after two that were read is a refusal for all.
+-- If the first two arguments are read, a right refusal of the third is a right refusal of the request.
 pub refused_third : {A B C D : Type 0} (first : Option A) (a : A) (second : Option B) (b : B) (third : Option C)
     (next : A → B → C → Option D) (refusal : Refusal)
     → first ≡ Some a

@@ -1,4 +1,4 @@
--- Desks of a shelf that are visited one after another, and their names.
+-- Proves how the desks of a shelf are visited one after another, and that their names differ.
 use Rattle.std.proofs.Common.{arith, ◌≡◌, ℕ, ◌+◌, ◌<◌, ◌++◌, Bool, true, false, List, [], ◌∷◌, All, length, map, fold, take}
 use Rattle.std.proofs.Common.{get_or, Option, Result, Ok, Err, refl, ap, sym, ◌∙◌, add-one}
 use Rattle.std.specs.List.{list_all}
@@ -19,7 +19,7 @@ use Rattle.ill_tool.specs.Input.{ReadsInput}
 use Rattle.ill_tool.proofs.InputLemmas.{reads_as}
 use Rattle.ill_tool.specs.Shelf.{ShelfTaking, Follow, Headed, Stop, VisitsAll, desk_name, graver, gravest, takes_home}
 
--- A visit from the last output follows the visits before it.
+-- If visits lead from `before` to `between`, and `stop` begins there, `stop` may follow them.
 follow_more : (before between : Option (List ℕ)) (stops : List Stop) (stop : Stop)
     → Follow before stops between → stop.before ≡ between → Follow before (stops ++ stop ∷ []) stop.after
 unfolding Follow
@@ -27,14 +27,14 @@ follow_more before between [] stop is begins = (begins ∙ is, refl)
 follow_more before between (first ∷ stops) stop follows begins =
     (follows.0, follow_more first.after between stops stop follows.1 begins)
 
--- With one visit more, the gravest answer is the graver of the one before and of its own.
+-- Appending `stop` makes the gravest answer the graver of the old one and the answer of `stop`.
 gravest_more : (stops : List Stop) (stop : Stop) → gravest (stops ++ stop ∷ []) ≡ graver (gravest stops) stop.answer
 gravest_more stops stop =
     let answer : Stop → Result Bool ToolFault = λ stop. stop.answer in
     ap (λ answers. fold graver (Ok true) answers) (map-append answer stops (stop ∷ []))
     ∙ fold-append graver (Ok true) (map answer stops) (stop.answer ∷ [])
 
--- If the desks before `place` were visited, and then the one there, one more of `paths` was visited.
+-- If the desks at the first `place` of `paths` were visited, and then the next, the first `place + 1` were visited.
 pub one_more_visit : (is_headed : Bool) (Runs : Option (List ℕ) → Option (List ℕ) → Result Bool ToolFault → Type 0)
     (paths : List (List ℕ)) (place : ℕ) (path : List ℕ)
     (before between after : Option (List ℕ)) (answer next : Result Bool ToolFault)
@@ -56,14 +56,14 @@ one_more_visit is_headed Runs paths place path before between after answer next 
       graver_is,
     )
 
--- Before the first visit no desk was visited.
+-- Before the first visit, `VisitsAll` holds of no paths with the answer true.
 pub no_visit : (is_headed : Bool) (Runs : Option (List ℕ) → Option (List ℕ) → Result Bool ToolFault → Type 0)
     (before : Option (List ℕ))
     → VisitsAll is_headed Runs [] before before (Ok true)
 unfolding Follow
 no_visit is_headed Runs before = ([], refl, refl, All-nil (Headed is_headed Runs), refl)
 
--- An answer that all is well makes no answer graver.
+-- `graver answer (Ok true)` is `answer`.
 pub graver_well : (answer : Result Bool ToolFault) → answer ≡ graver answer (Ok true)
 graver_well (Ok true) = refl
 graver_well (Ok false) = refl
@@ -77,20 +77,20 @@ graver_well (Err Read) = refl
 graver_well (Err Write) = refl
 graver_well (Err OutOfMemory) = refl
 
--- A printable character is a byte.
+-- A printable character is less than 256.
 printable_is_byte : (b : ℕ) → is_printable b ≡ true → b < 256
 printable_is_byte b printable = grind (arith, nat_tests)
 
--- A qualifier has printable characters alone.
+-- All characters of a qualifier are printable.
 qualifier_prints : (text : List ℕ) → IsQualifier text → list_all is_printable text ≡ true
 qualifier_prints text is = grind (arith, nat_tests)
 
--- A qualifier has bytes alone.
+-- All characters of a qualifier are bytes.
 qualifier_bytes : (text : List ℕ) → IsQualifier text → All IsByte text
 qualifier_bytes text is k d within =
     printable_is_byte _ (AllPass-from_list_all is_printable text (qualifier_prints text is) k d within)
 
--- Two groups whose desks have one name are one group.
+-- If the desks of two groups have equal names, the groups are equal.
 pub own_desk : (role : Role) (one other : List ℕ) → IsQualifier one → IsQualifier other
     → desk_name role one ≡ desk_name role other → one ≡ other
 own_desk role one other is_one is_other same =
@@ -98,7 +98,7 @@ own_desk role one other is_one is_other same =
     sym (round_trip ESCAPED one refl (qualifier_bytes one is_one)) ∙ ap percent_decode encoded
     ∙ round_trip ESCAPED other refl (qualifier_bytes other is_other)
 
--- An input that was taken on a handler is taken on the views of its states.
+-- If an input is read by `takes_home` of the views of states, it is read by `takes_home` from view to view.
 pub taken_home : {S : Type 0} (view : S → ShelfTaking) (left rest : Option (List ℕ)) (before after : S)
     (count : Result ℕ ToolFault)
     → ReadsInput (λ (s : S) apdu r (t : S). takes_home (view s) apdu r (view t)) left rest before count after

@@ -1,4 +1,4 @@
--- Items of a list, one after another.
+-- Proves that each entry of a desk consists of its side and the number of its released messages.
 use Rattle.std.proofs.Common.{◌≡◌, ℕ, zero, suc, true, true≢false, ◌++◌, List, [], ◌∷◌, drop, Option, Some, None, refl, ap, sym}
 use Rattle.std.proofs.Common.{◌∙◌}
 use Rattle.std.specs.Prelude.{slice_get, option_map, is_some}
@@ -12,7 +12,7 @@ use Rattle.ill_saved.proofs.Finding.{some_is}
 use Rattle.ill_tool.proofs.HeldLemmas.{held_at_place}
 use Rattle.std.specs.Option.{option_to_list}
 
--- The items from `place` on are the one there and those after it.
+-- The items from `place` on are the item at `place`, if there is one, and the later items.
 pub one_item : {X : Type 0} (items : List X) (place : ℕ)
     → option_to_list (slice_get items place) ++ drop (suc place) items ≡ drop place items
 one_item [] zero = refl
@@ -20,7 +20,7 @@ one_item [] (suc place) = refl
 one_item (item ∷ items) zero = refl
 one_item (item ∷ items) (suc place) = one_item items place
 
--- If the entry `found` at `place` has the side `side` and the number `released`, it is the entry of both.
+-- If the entry `found` at `place` has `side`, and `released` of its messages are released, `found` consists of both.
 held_so : (live : DeskContents) (place : ℕ) (side : Side) (released : ℕ) (found : Option DeskEntry)
     → are_apart (sides_held live).sides ≡ true → slice_get live.held place ≡ found
     → option_map (λ (held : DeskEntry). held.side) found ≡ Some side
@@ -33,7 +33,7 @@ held_so live place side released (Some held) apart at e counted =
     ap (λ s. Some (record { side = s; released = held.released })) is ∙ ap (λ n. Some (record { side = side; released = n })) many
 held_so live place side released None apart at e counted = absurd (true≢false (sym (ap is_some e)))
 
--- The side at `place` of a desk, with the number of its saved messages, is the entry there.
+-- The entry at `place` consists of the side at `place` and the number `released` of its released messages.
 pub held_there : (live : DeskContents) (place : ℕ) (side : Side) (released : ℕ)
     → are_apart (sides_held live).sides ≡ true → slice_get (sides_held live).sides place ≡ Some side
     → released ≡ (held_for (txn_of side) live).released
@@ -42,12 +42,12 @@ held_there live place side released apart at counted =
     held_so live place side released (slice_get live.held place) apart refl
     (sym (slice_get-map (λ (held : DeskEntry). held.side) live.held place) ∙ at) counted
 
--- An entry without a side is none.
+-- If `found` has no side, it is `None`.
 none_so : (found : Option DeskEntry) → option_map (λ (held : DeskEntry). held.side) found ≡ None → found ≡ None
 none_so (Some held) e = absurd (true≢false (ap is_some e))
 none_so None e = refl
 
--- If a desk has no side at `place`, it has no entry there.
+-- If a desk has no side at `place`, it has no entry at `place`.
 pub none_there : (live : DeskContents) (place : ℕ) → slice_get (sides_held live).sides place ≡ None
     → slice_get live.held place ≡ None
 none_there live place at = none_so (slice_get live.held place)

@@ -1,4 +1,4 @@
--- The performance of a script, from the results of its calls.
+-- Derives the effect of the command `simulate` from the results of its calls.
 use Rattle.std.proofs.Common.{◌≡◌, ℕ, List, [], Option, Result, Ok, Err, refl, sym, ap, subst, ◌∙◌}
 use Rattle.std.specs.Prelude.{IsErrAnd}
 use Rattle.std.proofs.KnownBytes.{Consumes-nil, Appends-nil}
@@ -11,12 +11,12 @@ use Rattle.ill_world.specs.Simulation.{Simulates, script}
 use Rattle.ill_tool.specs.declared.fault.ToolFault.{ToolFault}
 use Rattle.ill_tool.specs.Simulate.{sim_fault, tool_answer, Performs, GivesId}
 
--- If memory ran out before anything was read, the simulation has that fault, and nothing was written.
+-- A simulation may end with `OutOfMemory` before it reads or writes anything.
 not_begun : (txn : Qualifiers) (old before : Option (List ℕ)) → Simulates txn old old before before (Err simulation.OutOfMemory)
 unfolding trace_from
 not_begun txn old before = ([], [], Consumes-nil old, Appends-nil before, λ more e. ([], ((script more).events, refl), refl))
 
--- If there was no transaction id, or no memory for it, the command has that fault.
+-- If the transaction id is refused, or memory runs out for it, the command may return that fault and write nothing.
 pub no_id : (id : Result Qualifiers TextFault) (old before : Option (List ℕ)) (fault : ToolFault) (result : Result ℕ ToolFault)
     → GivesId id (Err fault)
     → IsErrAnd result (λ (f : ToolFault). f ≡ fault) → Performs id old old before before result
@@ -27,7 +27,7 @@ no_id (Ok txn) old before fault (Err tool) given failed =
 no_id (Err text) old before fault (Err tool) given failed =
     (ap (λ (f : ToolFault). Err f) (failed ∙ given), Consumes-nil old, Appends-nil before)
 
--- If the script was performed, to its end or up to a fault, the command has its answer.
+-- If the script is performed in the transaction `txn`, the command returns the answer of the simulation.
 pub performed : (id : Result Qualifiers TextFault) (txn : Qualifiers) (old new before after : Option (List ℕ))
     (simulated : Result ℕ SimFault)
     → GivesId id (Ok txn)
@@ -36,7 +36,7 @@ performed (Ok wanted) txn old new before after simulated given done =
     (simulated, subst (λ (t : Qualifiers). Simulates t old new before after simulated) given done, refl)
 performed (Err text) txn old new before after simulated given done = absurd given
 
--- If the script was performed up to `fault`, the command has that fault.
+-- If the script is performed up to `fault`, the command returns that fault.
 pub performed_until : (id : Result Qualifiers TextFault) (txn : Qualifiers) (old new before after : Option (List ℕ))
     (fault : SimFault) (tool : ToolFault)
     → GivesId id (Ok txn)

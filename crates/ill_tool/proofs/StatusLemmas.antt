@@ -1,4 +1,4 @@
--- The marks of a side as text, and the lines of one side after another.
+-- Proves how the command `status` joins words by spaces and appends the texts of sides.
 use Rattle.std.proofs.Common.{◌≡◌, ℕ, zero, suc, true, false, true≢false, ◌==◌, ◌++◌, List, [], ◌∷◌, map, length, drop, Option}
 use Rattle.std.proofs.Common.{Some, None, refl, ap, sym, ◌∙◌}
 use Rattle.std.specs.Prelude.{slice_get, option_map, is_some}
@@ -15,13 +15,13 @@ use Rattle.ill_tool.specs.Objects.{status_of_desk, status_text, text_of_one}
 use Rattle.ill_tool.specs.Status.{spaced_or_dash}
 use Rattle.ill_tool.proofs.HeldLemmas.{held_at_place}
 
--- Texts with a space before each are those of the mapped words with a space before each.
+-- Writing a space and the text of each of `words` equals writing a space and each of their texts.
 all_spaced : {X : Type 0} (text : X → List ℕ) (words : List X)
     → flat_map (λ word. 32 ∷ text word) words ≡ flat_map (λ word. 32 ∷ word) (map text words)
 all_spaced text [] = refl
 all_spaced text (word ∷ words) = ap (λ (more : List ℕ). (32 ∷ text word) ++ more) (all_spaced text words)
 
--- Words that are joined by spaces, if there are any, are their spaced text.
+-- If `words` is not empty, joining the texts by spaces gives the text of `spaced_or_dash`.
 pub joined_by_spaces : {X : Type 0} (text : X → List ℕ) (words : List X) → (length words == 0) ≡ false
     → join_by text (32 ∷ []) words ≡ spaced_or_dash (map text words)
 joined_by_spaces text [] some = search some
@@ -29,7 +29,7 @@ joined_by_spaces text (word ∷ words) some = ap (λ (more : List ℕ). text wor
 
 -- ---- one side after another
 
--- The text of the sides from `place` on is that of the one there, and of the others.
+-- The text of the sides from `place` on is that of the side at `place`, and that of the later ones.
 pub one_further : (form : Form) (sides : List DeskEntry) (place : ℕ)
     → status_of_desk form (drop place sides)
     ≡ text_of_one form (slice_get sides place) ++ status_of_desk form (drop (suc place) sides)
@@ -38,7 +38,7 @@ one_further form [] (suc place) = refl
 one_further form (held ∷ sides) zero = refl
 one_further form (held ∷ sides) (suc place) = one_further form sides place
 
--- If the entry `found` at `place` has the side `side` and the number `released`, its text is theirs.
+-- If the entry `found` at `place` has `side`, and `released` of its messages are released, its text is theirs.
 lines_so : (form : Form) (live : DeskContents) (place : ℕ) (side : Side) (released : ℕ) (found : Option DeskEntry)
     → are_apart (sides_held live).sides ≡ true → slice_get live.held place ≡ found
     → option_map (λ (held : DeskEntry). held.side) found ≡ Some side
@@ -51,13 +51,13 @@ lines_so form live place side released (Some held) apart at e counted =
     ∙ ap (λ s. status_text form s held.released) (sym is)
 lines_so form live place side released None apart at e counted = absurd (true≢false (sym (ap is_some e)))
 
--- An entry without a side has no text.
+-- If `found` has no side, its text is empty.
 no_lines_so : (form : Form) (found : Option DeskEntry) → option_map (λ (held : DeskEntry). held.side) found ≡ None
     → [] ≡ text_of_one form found
 no_lines_so form (Some held) e = absurd (true≢false (ap is_some e))
 no_lines_so form None e = refl
 
--- The text of the side at `place`, with the number of its saved messages, is that of the entry there.
+-- The text of the entry at `place` is that of its side and the number of its released messages.
 pub lines_there : (form : Form) (live : DeskContents) (place : ℕ) (side : Side) (released : ℕ)
     → are_apart (sides_held live).sides ≡ true → slice_get (sides_held live).sides place ≡ Some side
     → released ≡ (held_for (txn_of side) live).released
@@ -66,7 +66,7 @@ lines_there form live place side released apart at counted =
     lines_so form live place side released (slice_get live.held place) apart refl
     (sym (slice_get-map (λ (held : DeskEntry). held.side) live.held place) ∙ at) counted
 
--- If a desk has no side at `place`, no text is there.
+-- If a desk has no side at `place`, the text of the entry at `place` is empty.
 pub no_lines_there : (form : Form) (live : DeskContents) (place : ℕ) → slice_get (sides_held live).sides place ≡ None
     → [] ≡ text_of_one form (slice_get live.held place)
 no_lines_there form live place at =

@@ -1,4 +1,4 @@
--- The taking of one APDU after another.
+-- Proves what the command `take` keeps and counts while it takes one APDU after another.
 use Rattle.std.proofs.Common.{◌≡◌, inl, inr, ℕ, ◌≤◌, Bool, true, List, [], ◌∷◌, Option, Result, Ok, Err, refl, ap, subst, ◌∙◌}
 use Rattle.std.proofs.Common.{arith}
 use Rattle.ill_values.specs.declared.apdu.Apdu.{Apdu}
@@ -19,30 +19,31 @@ use Rattle.ill_tool.proofs.InputLemmas.{reads_as}
 
 -- ---- the properties that an input keeps, since each message does
 
--- If a count has risen from `last` to `after`, it has risen from any number up to `last`.
+-- If a count has risen from `last` to `after`, it has risen from each `before` that is at most `last`.
 risen_from : (before last after : ℕ) → before ≤ last → HasRisen last after → HasRisen before after
 risen_from before last after le is = elim is [
   | inl lt ↦ inl (omega (arith, le, lt))
   | inr most ↦ inr most
 ]
 
--- If a failure was counted from `last` on, it was counted from any number up to `last`.
+-- If `fault` was counted between `last` and `after`, it was counted between `before` and `after`.
 fails_from : (fault : ToolFault) (before last after : ℕ) → before ≤ last
     → ToolFailsCounted {X = Unit {0}} (Err fault) last after → ToolFailsCounted {X = ℕ} (Err fault) before after
 fails_from (Desk (desks.Store stores.Failed)) before last after le is = risen_from before last after le is
 fails_from other before last after le is = tt
 
--- A fault that stopped the reading is no failure of a store.
+-- A fault that stops the reading is no failure of the store, so none has to be counted.
 unfailing : (fault : ToolFault) (count : ℕ) (bytes ahead : List ℕ) (left : Option (List ℕ)) (before after : ℕ)
     → StopsReading fault count bytes ahead left → ToolFailsCounted {X = ℕ} (Err fault) before after
 unfailing (Desk fault) count bytes ahead left before after stops = absurd stops
 unfailing other count bytes ahead left before after stops = tt
 
--- The lent desk, the lent file, and the count of the store's failures.
+-- `name` returns the lent desk, `came` the lent file, and `failures` the count of the store's failures. By `keeps` each
+-- message leaves the first two and counts its failure.
 module _ {S N M : Type 0} (is_kept : Bool) (handles : Handles S ToolFault) (name : S → N) (came : S → M) (failures : S → ℕ)
     (keeps : (s t : S) (apdu : Apdu) (r : Result (Unit {0}) ToolFault) → handles s apdu r t
     → KeepsDesk is_kept r (name s) (name t) (came s) (came t) (failures s) (failures t)) where
-  -- APDUs that were handled keep the lent values, and the count of failures never falls.
+  -- Handling `apdus` leaves the lent desk and file, and never lowers the count of failures.
   handled_keeps : (before after : S) (apdus : List Apdu) → Handled handles before apdus after
       → ((name after ≡ name before) × (came after ≡ came before)) × (failures before ≤ failures after)
   handled_keeps before after [] is = ((ap name is, ap came is), omega (arith, ap failures is))
@@ -51,7 +52,7 @@ module _ {S N M : Type 0} (is_kept : Bool) (handles : Handles S ToolFault) (name
       let on = handled_keeps is.0 after apdus is.2 in
       ((on.0.0 ∙ one.0.0, on.0.1 ∙ one.0.1), omega (arith, one.1.0, on.1))
 
-  -- An input keeps the lent values, and counts the failures of the store, if each message does.
+  -- Reading an input leaves the lent desk and file, and counts each failure of the store.
   pub input_keeps : (old new : Option (List ℕ)) (before after : S) (result : Result ℕ ToolFault)
       → ReadsInput handles old new before result after
       → KeepsDesk is_kept result (name before) (name after) (came before) (came after) (failures before) (failures after)
@@ -82,22 +83,22 @@ module _ {S N M : Type 0} (is_kept : Bool) (handles : Handles S ToolFault) (name
 
 -- ---- the command
 
--- An input whose messages are taken on a lent desk, and kept if messages are kept.
+-- An input is taken on a lent desk. If `is_kept` is true, the bytes of each message that was taken are kept.
 module _ {H S D A B C L N W : Type 0} {n m : ℕ} (is_kept : Bool) (told : Wording) (effects : Effects L N)
     (view : DeskOf H S → HeldAndLanded L) (failures : DeskOf H S → ℕ) (kept : D → Option (List ℕ))
     (contents : W → Option (List ℕ)) where
-  -- Returns the state of the command by the state of its handler.
+  -- Returns the progress of the command from the state `s` of its handler.
   abbrev how_far : TakesEach H S D n m A B C × W → Progress L
   how_far s = progress (view s.0.desk.now) (kept s.0.came.now) (contents s.1) s.0.all_fine
 
-  -- A message is taken, and the lent values are kept.
+  -- `apdu` is taken, which leads from `s` to `t`, and the lent desk and file stay.
   abbrev pub TakesOn : Handles (TakesEach H S D n m A B C × W) ToolFault
   TakesOn s apdu r t =
       takes_each is_kept told effects (how_far s) apdu r (how_far t)
       × KeepsDesk is_kept r s.0.desk.ghost_name t.0.desk.ghost_name s.0.came.ghost_name t.0.came.ghost_name
       (failures s.0.desk.now) (failures t.0.desk.now)
 
-  -- If an input was read by `TakesOn`, the command has taken it, and the lent values are kept.
+  -- If an input is read by `TakesOn`, the command has taken it, and the lent desk and file stay.
   pub input_taken : (old new : Option (List ℕ)) (before after : TakesEach H S D n m A B C × W) (result : Result ℕ ToolFault)
       → before.0.all_fine ≡ true → ReadsInput TakesOn old new before result after
       → RunsTaking is_kept told effects old new (kept before.0.came.now) (kept after.0.came.now) (contents before.1)

@@ -25,7 +25,7 @@ lead : (form : Form) → between form true ≡ []
 lead Lines = refl
 lead Json = refl
 
--- If `one` is appended to `done`, the join grows by its text. The text between two comes before that, unless `done` is
+-- If `one` is appended to `done`, the join grows by its text. Before it comes the text between two, unless `done` is
 -- empty.
 joined_more : {X : Type 0} (form : Form) (text : X → List ℕ) (done : List X) (one : X)
     → join_by text (between form false) (done ++ one ∷ [])

@@ -1,4 +1,4 @@
--- Proves how `written` writes a text, by its first bytes. A terminal may act on an acting character.
+-- Proves how `written` writes a text, by its first bytes. An acting character is one on which a terminal may act.
 use Rattle.std.proofs.Common.{◌≡◌, ℕ, Bool, true, false, ◌++◌, List, [], ◌∷◌, if◌then◌else◌, sym, ap, subst, ◌∙◌}
 use Rattle.std.proofs.lemmas.List.{append-nil}
 use Rattle.ill_tool.specs.declared.escape.Escaping.{Escaping}
@@ -32,8 +32,7 @@ three_left escaping first second third rest pass =
     else byte_text escaping first ++ written escaping (second ∷ third ∷ rest)))
     pass
 
--- If the first three bytes are an acting character, and the first two are none, `written` replaces all three by its
--- escape.
+-- If the first three bytes are an acting character and the first two are none, `written` escapes all three.
 pub three_escape : (escaping : Escaping) (first second third : ℕ) (rest : List ℕ) → two_act first second ≡ false
     → three_act first second third ≡ true
     → written escaping (first ∷ second ∷ third ∷ rest)

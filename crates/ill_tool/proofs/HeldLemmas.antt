@@ -18,7 +18,7 @@ use Rattle.ill_saved.proofs.Finding.{same_is, same_self, some_is, found_mapped}
 abbrev side_of : DeskEntry → Side
 side_of held = held.side
 
--- If no side in `sides` has the transaction `txn`, `found_by` does not find any.
+-- If no side in `sides` has the transaction `txn`, `found_by` finds none.
 hidden_by : (txn : Qualifiers) (sides : List DeskEntry) (held : DeskEntry)
     → is_none (side_with txn (map side_of sides)) ≡ true → found_by txn_held txn sides ≡ Some held → ⊥
 unfolding side_with

@@ -24,7 +24,7 @@ use Rattle.ill_tool.specs.Input.{spellings, Ends, ReadsInput, answer_at_end, Cou
 -- `handles` relates states, and `seen` relates their views. `as_seen` says that each step by `handles` is one by
 -- `seen`.
 
--- If `handles` leads from `before` through `apdus` to `after`, `seen` leads so from view to view.
+-- If `handles` leads from `before` through `apdus` to `after`, `seen` leads so between their views.
 pub handled_as : {S T F : Type 0} (handles : Handles S F) (seen : Handles T F) (view : S → T)
     → ((s t : S) (apdu : Apdu) (r : Result (Unit {0}) F) → handles s apdu r t → seen (view s) apdu r (view t))
     → (before after : S) (apdus : List Apdu) → Handled handles before apdus after → Handled seen (view before) apdus (view after)

@@ -24,7 +24,7 @@ kept_first : {X : Type 0} (text : X → List ℕ) (is_kept : Bool) (item : X) (i
 kept_first text true item items = ap (λ first. first ++ flat_map text items) (sym (append-nil (text item)))
 kept_first text false item items = refl
 
--- The texts of the kept items equal those of each item filtered by itself.
+-- Filtering all items and writing their texts equals filtering and writing each item by itself.
 pub kept_apart : {X : Type 0} (text : X → List ℕ) (keeps : X → Bool) (items : List X)
     → flat_map text (filter keeps items) ≡ flat_map (λ (item : X). flat_map text (filter keeps (item ∷ []))) items
 kept_apart text keeps [] = refl

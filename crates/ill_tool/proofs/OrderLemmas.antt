@@ -133,7 +133,7 @@ module _ {X : Type 0} (lt : X → X → Bool) (o : IsStrictWeakOrder lt) where
   tie_self : (x : X) → ties lt x x ≡ true
   tie_self x = both_tie x x (not_self x) (not_self x)
 
-  -- If `x` fails `test`, and the first kept item of `xs` does, the first kept item `y` of `x ∷ xs` does.
+  -- If `x` and the first kept item of `xs` fail `test`, the first kept item `y` of `x ∷ xs` fails it.
   first_of : (keeps test : X → Bool) (y x : X) (rest xs : List X) (is_kept : Bool)
       → cond is_kept (x ∷ filter keeps xs) (filter keeps xs) ≡ y ∷ rest → test x ≡ false
       → (filter keeps xs ≡ y ∷ rest → test y ≡ false) → test y ≡ false

@@ -17,7 +17,7 @@ use Rattle.ill_tool.specs.Outbox.{Letter, RunsOutbox, StreamsOutbox, after_all, 
 use Rattle.ill_tool.specs.Outbox.{letters_of, stream_of}
 use Rattle.std.specs.List.{fold}
 
--- An outlet after the mails of `leaving` is the outlet after putting each message of `leaving` in turn.
+-- Putting the mails of `leaving` into an outlet equals putting the mail of each message in turn.
 pub each_put : {M : Type 0} (after : M → Letter → M) (leaving : List Leaving) (there : Option M)
     → after_all after (map letter_of (map issue_of leaving)) there
     ≡ fold (λ there message. after_one after there (letter_of (issue_of message))) there leaving

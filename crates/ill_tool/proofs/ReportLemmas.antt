@@ -18,8 +18,7 @@ pub one_desk : (today : Date) (before after file : List ℕ) (sides : List Side)
 one_desk today before after file sides added =
     ((file, sides) ∷ [], added ∙ ap (λ text. before ++ text) (sym (append-nil (desk_text today (file, sides)))))
 
--- If the parts of some desks are appended to a page, and then those of others, `AddsDesks` holds of both steps
--- together.
+-- If `AddsDesks` holds of two steps in a row, it holds of both together.
 pub further_desks : (today : Date) (before between after : List ℕ) → AddsDesks today before between
     → AddsDesks today between after → AddsDesks today before after
 further_desks today before between after (some, first) (others, then) = (

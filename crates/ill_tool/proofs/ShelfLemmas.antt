@@ -98,7 +98,7 @@ own_desk role one other is_one is_other same =
     sym (round_trip ESCAPED one refl (qualifier_bytes one is_one)) ∙ ap percent_decode encoded
     ∙ round_trip ESCAPED other refl (qualifier_bytes other is_other)
 
--- If an input is read by `takes_home` of the views of states, it is read by `takes_home` from view to view.
+-- If an input is read by `takes_home` of views of states, `takes_home` reads it from view to view.
 pub taken_home : {S : Type 0} (view : S → ShelfTaking) (left rest : Option (List ℕ)) (before after : S)
     (count : Result ℕ ToolFault)
     → ReadsInput (λ (s : S) apdu r (t : S). takes_home (view s) apdu r (view t)) left rest before count after

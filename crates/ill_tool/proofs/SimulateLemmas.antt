@@ -16,7 +16,7 @@ not_begun : (txn : Qualifiers) (old before : Option (List ℕ)) → Simulates tx
 unfolding trace_from
 not_begun txn old before = ([], [], Consumes-nil old, Appends-nil before, λ more e. ([], ((script more).events, refl), refl))
 
--- If the transaction id is refused, or memory runs out for it, the command may return that fault and write nothing.
+-- If no transaction id is made, the command returns that fault, and reads and writes nothing.
 pub no_id : (id : Result Qualifiers TextFault) (old before : Option (List ℕ)) (fault : ToolFault) (result : Result ℕ ToolFault)
     → GivesId id (Err fault)
     → IsErrAnd result (λ (f : ToolFault). f ≡ fault) → Performs id old old before before result

@@ -29,7 +29,7 @@ joined_by_spaces text (word ∷ words) some = ap (λ (more : List ℕ). text wor
 
 -- ---- one side after another
 
--- The text of the sides from `place` on is that of the side at `place`, and that of the later ones.
+-- The text of the sides from `place` on is that of the side at `place`, and of the later ones.
 pub one_further : (form : Form) (sides : List DeskEntry) (place : ℕ)
     → status_of_desk form (drop place sides)
     ≡ text_of_one form (slice_get sides place) ++ status_of_desk form (drop (suc place) sides)

@@ -17,7 +17,7 @@ use Rattle.ill_tool.specs.Telling.{Wording}
 use Rattle.ill_tool.specs.Take.{KeepsDesk, Progress, progress, takes_each, answer_of, RunsTaking}
 use Rattle.ill_tool.proofs.InputLemmas.{reads_as}
 
--- ---- the properties that an input keeps, since each message does
+-- ---- properties that each message keeps
 
 -- If a count has risen from `last` to `after`, it has risen from each `before` that is at most `last`.
 risen_from : (before last after : ℕ) → before ≤ last → HasRisen last after → HasRisen before after
@@ -38,8 +38,8 @@ unfailing : (fault : ToolFault) (count : ℕ) (bytes ahead : List ℕ) (left : O
 unfailing (Desk fault) count bytes ahead left before after stops = absurd stops
 unfailing other count bytes ahead left before after stops = tt
 
--- `name` returns the lent desk, `came` the lent file, and `failures` the count of the store's failures. By `keeps` each
--- message leaves the first two and counts its failure.
+-- `name` returns the lent desk, `came` the lent file, and `failures` the count of the store's failures. By `keeps`,
+-- each message leaves the desk and the file, and counts a failure of the store.
 module _ {S N M : Type 0} (is_kept : Bool) (handles : Handles S ToolFault) (name : S → N) (came : S → M) (failures : S → ℕ)
     (keeps : (s t : S) (apdu : Apdu) (r : Result (Unit {0}) ToolFault) → handles s apdu r t
     → KeepsDesk is_kept r (name s) (name t) (came s) (came t) (failures s) (failures t)) where

@@ -27,7 +27,7 @@ sooner_one_way None b first = cc
 sooner_one_way (Some a) None first = refl
 sooner_one_way (Some a) (Some b) first = before_one_way a b first
 
--- If deadline `a` is not sooner than `b`, and `b` is not sooner than `c`, `a` is not sooner than `c`.
+-- If deadline `a` is not sooner than `b`, and `b` not sooner than `c`, `a` is not sooner than `c`.
 sooner_chain : (a b c : Option Date) → is_sooner a b ≡ false → is_sooner b c ≡ false → is_sooner a c ≡ false
 sooner_chain None b c first second = refl
 sooner_chain (Some a) None c first second = cc

@@ -5,6 +5,7 @@ use Rattle.ill_tool.specs.Actions.{action_for}
 use Rattle.ill_tool.proofs.ActionLemmas.{named_by_words, named_by_none}
 use Rattle.ill_tool.proofs.action.action.Goals as goal
 
+-- Proves the contract of `action` if a script may have all words. Then `action_named` is `action_for` of their bytes.
 pub returns-in_ok-words : goal.returns-in_ok-words
 returns-in_ok-words c =
     let words = c.args.words.now in
@@ -14,6 +15,7 @@ returns-in_ok-words c =
     subst (λ (named : Option Action). IfOk c.action_for.result (λ action. action ≡ named))
     (ap (action_for c.args.role c.args.today) same ∙ sym named) c.action_for.ensures
 
+-- Proves the contract of `action` if a script may not have all words. Then `action_named` is `None`.
 pub returns-else-are_words : goal.returns-else-are_words
 returns-else-are_words c =
     sym (named_by_none (λ (word : Bor (List ℕ)). word.now) c.args.role c.args.today c.args.words.now

@@ -5,6 +5,7 @@ use Rattle.std.specs.Slice.Iter.{iter_rest}
 use Rattle.std.proofs.lemmas.Iterator.Consumers.{map_from_collect}
 use Rattle.ill_tool.proofs.action.slices.Goals as goal
 
+-- Proves the contract of `slices`. The iterator maps each word to its bytes, and `collect` keeps their order.
 pub returns : goal.returns
 returns c =
     map_from_collect

@@ -6,6 +6,8 @@ use Rattle.ill_tool.specs.Outbox.{asked_by, asks_at}
 use Rattle.ill_tool.proofs.OutboxLemmas.{one_asking}
 use Rattle.ill_tool.proofs.asked.asked_by.Goals as goal
 
+-- Proves the loop invariant of `asked_by` after one more mail. `one_asking` splits off the bytes of the mail at
+-- `place`.
 pub loop-place-preserved : goal.loop-place-preserved
 loop-place-preserved g c =
     let live = c.args.desk.now.live in

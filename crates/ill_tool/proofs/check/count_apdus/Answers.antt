@@ -4,6 +4,7 @@ use Rattle.ill_tool.specs.Check.{passes}
 use Rattle.ill_tool.proofs.InputLemmas.{reads_as}
 use Rattle.ill_tool.proofs.check.count_apdus.Goals as goal
 
+-- Proves the contract of `count_apdus`. The handler does nothing, so `reads_as` can drop its state.
 pub returns : goal.returns
 returns g c =
     reads_as (λ (s : Passing × Unit {0}) apdu r (t : Passing × Unit {0}). passes tt apdu r tt) passes (λ s. tt)

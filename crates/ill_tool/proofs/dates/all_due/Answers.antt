@@ -6,6 +6,7 @@ use Rattle.ill_tool.specs.Dates.{all_due, due_at}
 use Rattle.ill_tool.proofs.DatesLemmas.{one_further}
 use Rattle.ill_tool.proofs.dates.all_due.Goals as goal
 
+-- Proves the loop invariant of `all_due` after one more loan. `one_further` splits off the deed of the loan at `place`.
 pub loop-place-preserved : goal.loop-place-preserved
 loop-place-preserved c =
     let which = c.args.which in

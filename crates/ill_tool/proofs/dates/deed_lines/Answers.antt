@@ -7,6 +7,7 @@ use Rattle.ill_tool.specs.declared.dates.Due.{Due}
 use Rattle.ill_tool.specs.Dates.{deed_line}
 use Rattle.ill_tool.proofs.dates.deed_lines.Goals as goal
 
+-- Proves the contract of `deed_lines`. After the loop, the deeds so far are all deeds.
 pub returns : goal.returns
 returns g c =
     let line = deed_line g.H.Holdings.effects c.args.desk.now.live in

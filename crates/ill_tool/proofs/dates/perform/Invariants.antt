@@ -1,11 +1,11 @@
--- The loop invariant of `perform` (`src/dates.rt`).
+-- States the loop invariant of `perform` (`src/dates.rt`).
 use Rattle.std.proofs.Common.{◌≡◌, [], map, take, Bor}
 use Rattle.std.specs.Prelude.{fold}
 use Rattle.ill_tool.specs.declared.dates.Due.{Due}
 use Rattle.ill_tool.specs.Dates.{after_deed, doing}
 use Rattle.ill_tool.proofs.dates.perform.Given as goal
 
--- The deeds so far were performed, and nothing has been saved.
+-- The deeds so far are performed, and the store is unchanged.
 abbrev pub invariant-loop-due : goal.invariant-loop-due
 invariant-loop-due g l = record {
   performed : doing l.desk.live (map (λ (due : Bor Due). due.now) l.done.items)

@@ -4,10 +4,12 @@ use Rattle.std.proofs.lemmas.List.{nil_from_length}
 use Rattle.ill_tool.proofs.EscapeLemmas.{first_of_two_stays, last_stays}
 use Rattle.ill_tool.proofs.escape.acting_prefix.Goals as goal
 
+-- Proves the contract of `acting_prefix` if `first` is the last byte. `written` writes this by itself.
 pub returns-in_default : goal.returns-in_default
 returns-in_default c = last_stays c.args._escaping c.args.first c.args.after.now
     (nil_from_length c.args.after.now c.in_default.ensures.cases)
 
+-- Proves the contract of `acting_prefix` if two bytes are left and do not act. `written` writes the first by itself.
 pub returns-in_default-split_first : goal.returns-in_default-split_first
 returns-in_default-split_first c =
     let none = nil_from_length c.in-Some.rest.now c.in_default-split_first.ensures.cases in

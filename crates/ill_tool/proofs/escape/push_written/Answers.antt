@@ -5,6 +5,7 @@ use Rattle.ill_tool.specs.Escape.{written}
 use Rattle.ill_tool.proofs.EscapeLemmas.{none_left}
 use Rattle.ill_tool.proofs.escape.push_written.Goals as goal
 
+-- Proves the contract of `push_written`. After the loop no byte is left to write.
 pub returns : goal.returns
 returns c =
     none_left c.args.escaping c.loop-first.text.items (c.args.text.now.items ++ written c.args.escaping c.args.item.now)

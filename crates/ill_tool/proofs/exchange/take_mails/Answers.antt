@@ -6,6 +6,8 @@ use Rattle.ill_tool.specs.Performing.{view_of}
 use Rattle.ill_tool.specs.Inbox.{RunsInbox}
 use Rattle.ill_tool.proofs.exchange.take_mails.Goals as goal
 
+-- Proves the contract of `take_mails` if the run ends well. `run_desk_inbox` makes the run, and `conclude` settles the
+-- files.
 pub returns-in-Ok : goal.returns-in-Ok
 returns-in-Ok g c =
     let view = view_of g.S.Store.state in
@@ -17,5 +19,6 @@ returns-in-Ok g c =
     (view c.run_desk_inbox-run.new.desk)) c.deref.ensures.value c.in-Ok.ensures.runs in
     inr (c.in_ok-found.found.mails.items, waiting, Ok c.in-Ok.verdicts.items, runs, c.conclude.ensures)
 
+-- Proves the contract of `take_mails` if the run fails. The fault of `run_desk_inbox` is returned.
 pub returns : goal.returns
 returns g c = inr (c.deref.result.now, c.in_ok-found.found.waiting, Err c.in-Err.fault, c.in-Err.ensures.runs, refl)

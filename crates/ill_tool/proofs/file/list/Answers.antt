@@ -4,6 +4,7 @@ use Rattle.std.specs.Prelude.{string_bytes}
 use Rattle.ill_tool.specs.Commands.{ListsDesks}
 use Rattle.ill_tool.proofs.file.list.Goals as goal
 
+-- Proves the contract of `list` if the files are found. `list_files` has listed the desk in each of them.
 pub returns : goal.returns
 returns g c =
     let before = g.W.Write.contents c.args.writer.now in

@@ -5,6 +5,7 @@ use Rattle.std.proofs.lemmas.List.{length-map, get_or-map}
 use Rattle.ill_tool.proofs.DesksLemmas.{one_more}
 use Rattle.ill_tool.proofs.file.list_files.Goals as goal
 
+-- Proves the loop invariant of `list_files` after one more desk. `one_more` appends the desk in the file at `place`.
 pub loop-place-preserved : goal.loop-place-preserved
 loop-place-preserved g c =
     let names = map (λ file. string_bytes file) c.args.files.now in

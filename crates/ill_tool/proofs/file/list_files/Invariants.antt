@@ -1,4 +1,4 @@
--- The loop invariant of `list_files` (`src/file.rt`).
+-- States the loop invariant of `list_files` (`src/file.rt`).
 use Rattle.std.proofs.Common.{◌≡◌, ℕ, List, map, take}
 use Rattle.std.specs.Prelude.{string_bytes}
 use Rattle.std.specs.Io.KnownBytes.{Appends}
@@ -7,7 +7,7 @@ use Rattle.ill_tool.specs.Commands.{are_several}
 use Rattle.ill_tool.specs.Listing.{listed_desks}
 use Rattle.ill_tool.proofs.file.list_files.Given as goal
 
--- The desks so far were listed.
+-- The desks in the first `place` files are listed.
 abbrev pub invariant-loop-place : goal.invariant-loop-place
 invariant-loop-place g l =
     (desks : List (List ℕ × List Side))

@@ -5,6 +5,7 @@ use Rattle.ill_tool.specs.Listing.{gap, heading, list_lines}
 use Rattle.ill_tool.specs.Output.{WritesText}
 use Rattle.ill_tool.proofs.file.list_lines.Goals as goal
 
+-- Proves the contract of `list_lines`. `run_desk_list` writes the gap, the heading and then the lines of the loans.
 pub returns : goal.returns
 returns g c =
     let listed = c.args.listed.now in

@@ -5,6 +5,7 @@ use Rattle.ill_tool.specs.Report.{AddsDesks, page_head}
 use Rattle.ill_tool.proofs.ReportLemmas.{whole_page}
 use Rattle.ill_tool.proofs.file.report.Goals as goal
 
+-- Proves the contract of `report`. The head, the parts of all desks and the end text make up the page.
 pub returns : goal.returns
 returns g c =
     let today = c.args.today in

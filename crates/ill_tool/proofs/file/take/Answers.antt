@@ -3,6 +3,7 @@ use Rattle.std.proofs.Common.{rules, Bool, false, sym, subst}
 use Rattle.ill_tool.specs.Commands.{TakesAtFile}
 use Rattle.ill_tool.proofs.file.take.Goals as goal
 
+-- Proves the contract of `take` if no message is kept. `take_told` takes the input at the desk.
 pub returns : goal.returns
 returns g c =
     let left = g.R.Read.remaining c.args.reader.now in

@@ -4,6 +4,7 @@ use Rattle.ill_der.specs.ShortForm.{apdu_at}
 use Rattle.ill_tool.proofs.InboxLemmas.{trailing_unfit}
 use Rattle.ill_tool.proofs.inbox.one_message.Goals as goal
 
+-- Proves the contract of `one_message` if bytes follow the APDU. By `trailing_unfit` the fault is `Trailing`.
 pub returns-else-size-bytes : goal.returns-else-size-bytes
 returns-else-size-bytes c =
     let bytes = c.args.bytes.now in

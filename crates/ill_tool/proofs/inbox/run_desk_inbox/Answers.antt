@@ -3,6 +3,7 @@ use Rattle.ill_tool.specs.Performing.{view_of}
 use Rattle.ill_tool.proofs.InboxLemmas.{ended_if_ok}
 use Rattle.ill_tool.proofs.inbox.run_desk_inbox.Goals as goal
 
+-- Proves the clause `ended` of `run_desk_inbox`. It follows from the clause `runs` of `run_inbox`.
 pub returns-clause-ended : goal.returns-clause-ended
 returns-clause-ended g c =
     let view = view_of g.S.Store.state in

@@ -3,6 +3,8 @@ use Rattle.ill_tool.specs.Inbox.{after_mails, sorting_of}
 use Rattle.ill_tool.proofs.InboxLemmas.{concluded_is}
 use Rattle.ill_tool.proofs.inbox.sort.Goals as goal
 
+-- Proves the clause `sorted` of `sort`. `sort_mails` sorts the mails, and `push_tally` appends the line of their
+-- counts.
 pub returns-in-Ok-push_tally-clause-sorted : goal.returns-in-Ok-push_tally-clause-sorted
 returns-in-Ok-push_tally-clause-sorted g c =
     let live = c.sort_mails.new.desk.live in

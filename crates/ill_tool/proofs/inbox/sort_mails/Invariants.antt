@@ -1,10 +1,10 @@
--- The loop invariant of `sort_mails` (`src/inbox.rt`).
+-- States the loop invariant of `sort_mails` (`src/inbox.rt`).
 use Rattle.std.proofs.Common.{◌≡◌, take}
 use Rattle.std.specs.Prelude.{fold}
 use Rattle.ill_tool.specs.Inbox.{after_mail, sorting_of, unsorted}
 use Rattle.ill_tool.proofs.inbox.sort_mails.Given as goal
 
--- The mails so far are sorted, and nothing has been saved.
+-- The mails so far are sorted, and the store is unchanged.
 abbrev pub invariant-loop-mail : goal.invariant-loop-mail
 invariant-loop-mail g l = record {
   sorted : sorting_of l.desk.live l.sorted

@@ -6,9 +6,11 @@ use Rattle.ill_tool.proofs.InputLemmas.{none_read, one_piece_more, read_nothing,
 use Rattle.ill_tool.proofs.InputLemmas.{ends_failing}
 use Rattle.ill_tool.proofs.input.handle_input.Goals as goal
 
+-- Proves the loop invariant of `handle_input` before the first read. No APDU is read, and no byte is held.
 pub loop-feed-init : goal.loop-feed-init
 loop-feed-init g c = record { size = search rules; so_far = none_read _ _ _ _ _ c.requires c.new-feed.ensures }
 
+-- Proves the contract of `handle_input` if a read gives no byte. Then the reader is at its end.
 pub returns-in-Ok-eq0 : goal.returns-in-Ok-eq0
 returns-in-Ok-eq0 g c =
     let remaining = g.R.Read.remaining in
@@ -20,6 +22,8 @@ returns-in-Ok-eq0 g c =
     (ends_at_end _ c.short_has_the_size.ensures _ _ _ _ c.loop-feed.counted.count c.loop-feed.feed still
     (c.in-Ok-eq0.ensures.bytes.1 c.in-Ok-eq0.field-0-test (omega (arith, size))))
 
+-- Proves that each pass of the loop of `handle_input` lowers its measure. The piece has a byte, so `room` becomes
+-- smaller.
 pub loop-feed-smaller : goal.loop-feed-smaller
 loop-feed-smaller g c =
     let few : c.in-Ok.size ≤ length c.read.new.buf = search rules in
@@ -33,6 +37,7 @@ loop-feed-smaller g c =
     c.in-Ok-None.field-0-is c.in-Ok-None.ensures in
     more.1
 
+-- Proves the loop invariant of `handle_input` after one more piece. By `one_piece_more` its APDUs join those so far.
 pub loop-feed-preserved : goal.loop-feed-preserved
 loop-feed-preserved g c =
     let few : c.in-Ok.size ≤ length c.read.new.buf = search rules in
@@ -46,6 +51,7 @@ loop-feed-preserved g c =
     c.in-Ok-None.field-0-is c.in-Ok-None.ensures in
     record { size = search rules; so_far = more.0 }
 
+-- Proves the contract of `handle_input` if a piece closes the feed. By `ends_closed` the input ends with that fault.
 pub returns-in-Ok-Some : goal.returns-in-Ok-Some
 returns-in-Ok-Some g c =
     let few : c.in-Ok.size ≤ length c.read.new.buf = search rules in
@@ -57,6 +63,7 @@ returns-in-Ok-Some g c =
     c.in-Ok.ensures.bytes.0 (omega (arith, long, few, size)) c.in-Ok-Some.field-0
     c.in-Ok-Some.field-0-is c.in-Ok-Some.ensures
 
+-- Proves the contract of `handle_input` if handling a piece fails. By `ends_failing` the input ends at an APDU of it.
 pub returns-in-Err-each : goal.returns-in-Err-each
 returns-in-Err-each g c =
     let few : c.in-Ok.size ≤ length c.read.new.buf = search rules in
@@ -67,5 +74,6 @@ returns-in-Err-each g c =
     c.loop-feed.feed c.each.new.self (take c.in-Ok.size c.read.new.buf) c.in-Err-each.fault c.loop-feed.invariant.so_far
     c.in-Ok.ensures.bytes.0 (omega (arith, long, few, size)) c.in-Err-each.ensures
 
+-- Proves the contract of `handle_input` if the reader fails. By `ends_unread` the input ends with the fault `Read`.
 pub returns-in-Err : goal.returns-in-Err
 returns-in-Err g c = ends_unread _ c.short_has_the_size.ensures _ _ _ _ _ _ _ c.loop-feed.invariant.so_far c.in-Err.ensures.bytes

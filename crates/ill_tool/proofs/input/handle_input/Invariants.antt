@@ -1,4 +1,4 @@
--- The loop invariant and the measure of `handle_input` (`src/input.rt`).
+-- States the loop invariant and the measure of `handle_input` (`src/input.rt`).
 use Rattle.std.proofs.Common.{◌≡◌, length}
 use Rattle.ill_tool.proofs.InputLemmas.{ReadSoFar, room}
 use Rattle.ill_tool.proofs.input.handle_input.Given as goal
@@ -12,6 +12,6 @@ invariant-loop-feed g l = record {
       (l.counted.handler, l.context);
 }
 
--- The number of bytes that may still come becomes smaller.
+-- Returns an upper bound of the bytes that may still be read.
 abbrev pub decreases-loop-feed : goal.decreases-loop-feed
 decreases-loop-feed g l = room l.counted.count l.feed

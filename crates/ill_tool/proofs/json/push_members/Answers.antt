@@ -6,6 +6,7 @@ use Rattle.ill_tool.proofs.LoanLemmas.{from_place}
 use Rattle.ill_tool.proofs.JsonLemmas.{one_joined, all_joined}
 use Rattle.ill_tool.proofs.json.push_members.Goals as goal
 
+-- Proves the loop invariant of `push_members` after one more field. By `one_joined` the later fields are left.
 pub loop-field-preserved : goal.loop-field-preserved
 loop-field-preserved c =
     let text : Bor (List ℕ) × Value → List ℕ = λ field. member (field.0.now, value_text field.1) in
@@ -19,6 +20,7 @@ loop-field-preserved c =
           (from_place fields place item c.loop-field-test.true c.field-item.is) ∙ c.loop-field.invariant.shown);
     }
 
+-- Proves the contract of `push_members`. After the loop no field is left.
 pub returns : goal.returns
 returns c =
     let text : Bor (List ℕ) × Value → List ℕ = λ field. member (field.0.now, value_text field.1) in

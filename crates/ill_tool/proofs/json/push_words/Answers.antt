@@ -6,6 +6,7 @@ use Rattle.ill_tool.specs.Json.{joined, quoted}
 use Rattle.ill_tool.proofs.JsonLemmas.{one_joined, all_joined, joined_map}
 use Rattle.ill_tool.proofs.json.push_words.Goals as goal
 
+-- Proves the loop invariant of `push_words` after one more word. By `one_joined` the later words are left.
 pub loop-word-preserved : goal.loop-word-preserved
 loop-word-preserved c =
     let text : Bor (List ℕ) → List ℕ = λ word. quoted word.now in
@@ -23,6 +24,7 @@ loop-word-preserved c =
           ∙ c.loop-word.invariant.shown);
     }
 
+-- Proves the contract of `push_words`. After the loop no word is left, and a bracket closes the array.
 pub returns : goal.returns
 returns c =
     let text : Bor (List ℕ) → List ℕ = λ word. quoted word.now in

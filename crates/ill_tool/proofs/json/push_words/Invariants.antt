@@ -1,9 +1,9 @@
--- The loop invariant of `push_words` (`src/json.rt`).
+-- States the loop invariant of `push_words` (`src/json.rt`).
 use Rattle.std.proofs.Common.{◌≡◌, ◌++◌, [], drop}
 use Rattle.ill_tool.specs.Json.{joined, quoted}
 use Rattle.ill_tool.proofs.json.push_words.Given as goal
 
--- The text so far, with the words that are left, has all words.
+-- `text`, and the words that are left, are the text before the loop and all words.
 abbrev pub invariant-loop-word : goal.invariant-loop-word
 invariant-loop-word l = record {
   shown : l.text.items ++ joined (λ word. quoted word.now) l.before (drop l.word-index l.words)

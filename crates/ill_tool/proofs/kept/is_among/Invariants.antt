@@ -1,4 +1,4 @@
--- The loop invariant of `is_among` (`src/kept.rt`).
+-- States the loop invariant of `is_among` (`src/kept.rt`).
 use Rattle.std.proofs.Common.{◌≡◌, false, take}
 use Rattle.ill_tool.specs.Kept.{is_among}
 use Rattle.ill_tool.proofs.kept.is_among.Given as goal

@@ -8,6 +8,8 @@ use Rattle.ill_saved.proofs.Contents.{held_there, none_held_there}
 use Rattle.ill_tool.specs.Kept.{RunsKeptLoan, WritesKept, kept_text}
 use Rattle.ill_tool.proofs.kept.run_desk_kept_loan.Goals as goal
 
+-- Proves the contract of `run_desk_kept_loan` if the side is held. Its entry consists of the side and its released
+-- number.
 pub returns-in-Some : goal.returns-in-Some
 returns-in-Some g c =
     let live = c.args.desk.now.live in
@@ -23,6 +25,7 @@ returns-in-Some g c =
     (subst (λ (released : ℕ). WritesKept (kept_text c.args.form (record { side = side; released = released })) (txn_of side) bytes
     before after c.write_kept.result) counted c.write_kept.ensures)
 
+-- Proves the contract of `run_desk_kept_loan` if the side is not held. Then the desk has no entry of it.
 pub returns-in-None : goal.returns-in-None
 returns-in-None g c =
     let live = c.args.desk.now.live in

@@ -5,11 +5,12 @@ use Rattle.std.specs.Fmt.{decimal}
 use Rattle.ill_tool.specs.List.{counts_line}
 use Rattle.ill_tool.proofs.list.push_counts_line.Goals as goal
 
--- Nine texts that are joined from the right are those joined from the left.
+-- Joining nine texts from the right equals joining them from the left.
 nine_joined : (a b c d e f g h i : List ℕ)
     → a ++ (b ++ (c ++ (d ++ (e ++ (f ++ (g ++ (h ++ i))))))) ≡ a ++ b ++ c ++ d ++ e ++ f ++ g ++ h ++ i
 nine_joined a b c d e f g h i = simp append_assoc refl
 
+-- Proves the contract of `push_counts_line`. The line joins the nine texts from the left.
 pub returns : goal.returns
 unfolding counts_line
 returns c =

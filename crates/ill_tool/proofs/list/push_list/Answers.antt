@@ -4,6 +4,7 @@ use Rattle.ill_saved.specs.declared.side.Side.{Side}
 use Rattle.ill_tool.specs.Listing.{ordered_lines}
 use Rattle.ill_tool.proofs.list.push_list.Goals as goal
 
+-- Proves the contract of `push_list`. `push_ordered` appends the lines of the sides that `most_urgent_first` returns.
 pub returns : goal.returns
 returns c =
     subst

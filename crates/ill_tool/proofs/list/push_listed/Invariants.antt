@@ -1,11 +1,11 @@
--- The loop invariant of `push_listed` (`src/list.rt`).
+-- States the loop invariant of `push_listed` (`src/list.rt`).
 use Rattle.std.proofs.Common.{◌≡◌, ◌++◌, map, take, Bor}
 use Rattle.std.specs.List.{flat_map}
 use Rattle.ill_saved.specs.declared.side.Side.{Side}
 use Rattle.ill_tool.specs.Listing.{row_text, rows_of}
 use Rattle.ill_tool.proofs.list.push_listed.Given as goal
 
--- The loans of the turns so far are there.
+-- The rows of the turns so far are appended.
 abbrev pub invariant-loop-turn : goal.invariant-loop-turn
 invariant-loop-turn l = record {
   listed : l.text.items ≡ l.initial.text.items

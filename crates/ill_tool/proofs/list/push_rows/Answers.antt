@@ -9,6 +9,7 @@ use Rattle.ill_tool.specs.Listing.{row_text, rows_of}
 use Rattle.ill_tool.proofs.ListLemmas.{kept_apart}
 use Rattle.ill_tool.proofs.list.push_rows.Goals as goal
 
+-- Proves the contract of `push_rows`. After the loop each listed side has added its row.
 pub returns : goal.returns
 returns c =
     let text = row_text c.args.rows.now in

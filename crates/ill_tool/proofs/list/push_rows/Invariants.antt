@@ -1,11 +1,11 @@
--- The loop invariant of `push_rows` (`src/list.rt`).
+-- States the loop invariant of `push_rows` (`src/list.rt`).
 use Rattle.std.proofs.Common.{◌≡◌, ◌++◌, ◌∷◌, [], take, Bor}
 use Rattle.std.specs.List.{flat_map}
 use Rattle.ill_saved.specs.declared.side.Side.{Side}
 use Rattle.ill_tool.specs.Listing.{row_text, rows_of}
 use Rattle.ill_tool.proofs.list.push_rows.Given as goal
 
--- The loans of the sides so far are there.
+-- The rows of the sides so far are appended.
 abbrev pub invariant-loop-side : goal.invariant-loop-side
 invariant-loop-side l = record {
   listed : l.text.items ≡ l.initial.text.items

@@ -7,13 +7,14 @@ use Rattle.ill_tool.specs.Listing.{list_lines}
 use Rattle.ill_tool.specs.Output.{WritesPrefix, WritesText}
 use Rattle.ill_tool.proofs.list.run_desk_list.Goals as goal
 
--- A text that was written whole, or in part by a writer that failed, was written as `WritesText` has it.
+-- If `WritesPrefix` holds of a text, `WritesText` does.
 text_written : (before after : Option (List ℕ)) (bytes : List ℕ) (result : Result (Unit {0}) ToolFault)
     → WritesPrefix before after bytes result → WritesText before after bytes result
 text_written before after bytes (Ok done) written = written
 text_written before after bytes (Err fault) (is, prefix) =
     subst (λ (fault : ToolFault). WritesText before after bytes (Err fault)) (sym is) prefix
 
+-- Proves the contract of `run_desk_list`. `write_whole` writes the heading and then the lines of the loans.
 pub returns : goal.returns
 returns g c =
     let heading = c.args.heading.now in

@@ -4,6 +4,7 @@ use Rattle.ill_tool.specs.Json.{member}
 use Rattle.ill_tool.proofs.JsonLemmas.{joined_further}
 use Rattle.ill_tool.proofs.list_objects.push_row_and_file.Goals as goal
 
+-- Proves the contract of `push_row_and_file`. The field of the file follows the fields of the loan.
 pub returns : goal.returns
 returns c =
     subst (λ (shown : List ℕ). OnOk c.push_file.result (c.push_file.new.text.items ≡ shown))

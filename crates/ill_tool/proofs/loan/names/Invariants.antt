@@ -1,9 +1,9 @@
--- The loop invariant of `names` (`src/loan.rt`).
+-- States the loop invariant of `names` (`src/loan.rt`).
 use Rattle.std.proofs.Common.{◌≡◌, ◌++◌, map, drop}
 use Rattle.ill_core.specs.Verbs.{verb_name}
 use Rattle.ill_tool.proofs.loan.names.Given as goal
 
--- The names so far, with those of the verbs that are left, are all names.
+-- `names`, and the names of the verbs that are left, are all names.
 abbrev pub invariant-loop-verb : goal.invariant-loop-verb
 invariant-loop-verb l = record {
   named : map (λ name. name.now) l.names.items ++ map verb_name (drop l.verb-index l.verbs) ≡ map verb_name l.verbs;

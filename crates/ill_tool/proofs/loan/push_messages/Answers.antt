@@ -5,6 +5,7 @@ use Rattle.ill_tool.specs.Loan.{message_lines}
 use Rattle.ill_tool.proofs.LoanLemmas.{one_shown, all_shown}
 use Rattle.ill_tool.proofs.loan.push_messages.Goals as goal
 
+-- Proves the loop invariant of `push_messages` after one more message. By `one_shown` the later messages are left.
 pub loop-apdu-preserved : goal.loop-apdu-preserved
 loop-apdu-preserved c =
     let text = message_lines c.args.released in
@@ -16,6 +17,7 @@ loop-apdu-preserved c =
           ∙ c.loop-apdu.invariant.shown);
     }
 
+-- Proves the contract of `push_messages`. After the loop no message is left.
 pub returns : goal.returns
 returns c =
     let all : length c.args.apdus.now ≤ c.loop-apdu.apdu-index = omega (arith, c.loop-apdu-test.false) in

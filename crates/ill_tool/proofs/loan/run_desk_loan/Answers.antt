@@ -8,6 +8,7 @@ use Rattle.ill_tool.specs.Output.{WritesText}
 use Rattle.ill_tool.specs.Loan.{RunsLoan, loan_lines}
 use Rattle.ill_tool.proofs.loan.run_desk_loan.Goals as goal
 
+-- Proves the contract of `run_desk_loan` if the side is held. Its entry consists of the side and its released number.
 pub returns-in-Some : goal.returns-in-Some
 returns-in-Some g c =
     let live = c.args.desk.now.live in
@@ -21,6 +22,7 @@ returns-in-Some g c =
     (subst (λ (released : ℕ). WritesText before after (loan_lines side released) c.write_loan.result) counted
     c.write_loan.ensures)
 
+-- Proves the contract of `run_desk_loan` if the side is not held. Then the desk has no entry of it.
 pub returns-in-None : goal.returns-in-None
 returns-in-None g c =
     let live = c.args.desk.now.live in

@@ -3,6 +3,7 @@ use Rattle.std.proofs.Common.{◌<◌, ◌++◌, arith, ap, ◌∙◌, length}
 use Rattle.ill_tool.proofs.LongLemmas.{none_further, one_byte_further}
 use Rattle.ill_tool.proofs.long_lines.push_indented.Goals as goal
 
+-- Proves the loop invariant of `push_indented` after one more byte. By `one_byte_further` the later bytes are left.
 pub loop-byte-preserved : goal.loop-byte-preserved
 loop-byte-preserved c =
     let lt : c.loop-byte.byte-index < length c.args.text.now =
@@ -14,6 +15,7 @@ loop-byte-preserved c =
     c.in_ok-push.ensures.items in
     record { shown = on ∙ c.loop-byte.invariant.shown }
 
+-- Proves the contract of `push_indented`. After the loop no byte is left.
 pub returns : goal.returns
 returns c =
     none_further c.args.text.now c.loop-byte.byte-index c.loop-byte.begins c.loop-byte.lines.items c.loop-byte-test.false

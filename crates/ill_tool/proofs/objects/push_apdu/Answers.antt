@@ -4,6 +4,7 @@ use Rattle.ill_tool.specs.Json.{member}
 use Rattle.ill_tool.proofs.JsonLemmas.{joined_further}
 use Rattle.ill_tool.proofs.objects.push_apdu.Goals as goal
 
+-- Proves the contract of `push_apdu`. The fields of the body follow those of the head.
 pub returns : goal.returns
 returns c =
     subst (λ (shown : List ℕ). OnOk c.push_body.result (c.push_body.new.text.items ≡ shown))

@@ -6,6 +6,7 @@ use Rattle.ill_tool.proofs.LoanLemmas.{from_place}
 use Rattle.ill_tool.proofs.JsonLemmas.{one_joined, all_joined}
 use Rattle.ill_tool.proofs.objects.push_array.Goals as goal
 
+-- Proves the loop invariant of `push_array` after one more message. By `one_joined` the later messages are left.
 pub loop-apdu-preserved : goal.loop-apdu-preserved
 loop-apdu-preserved c =
     let text = message_object c.args.released in
@@ -19,6 +20,7 @@ loop-apdu-preserved c =
           (from_place apdus place apdu c.loop-apdu-test.true c.apdu-item.is) ∙ c.loop-apdu.invariant.shown);
     }
 
+-- Proves the contract of `push_array`. After the loop no message is left, and a bracket closes the array.
 pub returns : goal.returns
 returns c =
     let text = message_object c.args.released in

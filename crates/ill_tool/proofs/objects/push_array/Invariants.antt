@@ -1,10 +1,10 @@
--- The loop invariant of `push_array` (`src/objects.rt`).
+-- States the loop invariant of `push_array` (`src/objects.rt`).
 use Rattle.std.proofs.Common.{◌≡◌, ◌++◌, [], drop}
 use Rattle.ill_tool.specs.Json.{joined}
 use Rattle.ill_tool.specs.Objects.{message_object}
 use Rattle.ill_tool.proofs.objects.push_array.Given as goal
 
--- The text so far, with the messages that are left, has all messages.
+-- `text`, and the messages that are left, are the text before the loop and all messages.
 abbrev pub invariant-loop-apdu : goal.invariant-loop-apdu
 invariant-loop-apdu l = record {
   shown : l.text.items ++ joined (message_object l.released) l.before (drop l.apdu-index l.apdus)

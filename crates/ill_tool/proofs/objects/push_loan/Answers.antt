@@ -6,6 +6,7 @@ use Rattle.ill_tool.specs.Objects.{names_of, sent_fields, status_fields, taken_f
 use Rattle.ill_tool.proofs.JsonLemmas.{joined_further}
 use Rattle.ill_tool.proofs.objects.push_loan.Goals as goal
 
+-- Proves the contract of `push_loan`. By `joined_further` each group of fields follows the one before.
 pub returns : goal.returns
 returns c =
     let old = c.args.text.now.items in

@@ -4,6 +4,7 @@ use Rattle.ill_tool.specs.Json.{member}
 use Rattle.ill_tool.proofs.JsonLemmas.{joined_further}
 use Rattle.ill_tool.proofs.objects.push_loan_and_came.Goals as goal
 
+-- Proves the contract of `push_loan_and_came`. The field of the messages that came follows the fields of the loan.
 pub returns : goal.returns
 returns c =
     subst (λ (shown : List ℕ). OnOk c.push_messages.result (c.push_messages.new.text.items ≡ shown))

@@ -5,6 +5,7 @@ use Rattle.ill_tool.specs.Objects.{apdu_fields, leaves_fields}
 use Rattle.ill_tool.proofs.JsonLemmas.{joined_further}
 use Rattle.ill_tool.proofs.objects.push_message.Goals as goal
 
+-- Proves the contract of `push_message`. The fields of the message come between two braces.
 pub returns : goal.returns
 returns c =
     let old = c.args.text.now.items in

@@ -5,6 +5,8 @@ use Rattle.ill_tool.specs.Commands.{ExchangesAtFile}
 use Rattle.ill_tool.specs.Shelf.{VisitsAll}
 use Rattle.ill_tool.proofs.on_shelf.exchange_of_shelf.Goals as goal
 
+-- Proves the contract of `exchange_of_shelf`. `visit_all` visits the desks, and `graver` combines its answer with that
+-- of `end_night`.
 pub returns : goal.returns
 returns g c =
     let paths = map (λ path. string_bytes path) c.deref.result.now in

@@ -4,6 +4,7 @@ use Rattle.std.specs.Prelude.{string_bytes}
 use Rattle.ill_tool.proofs.ShelfLemmas.{graver_well}
 use Rattle.ill_tool.proofs.on_shelf.status_of_shelf.Goals as goal
 
+-- Proves the contract of `status_of_shelf`. `visit_all` visits the desks, and nothing makes its answer graver.
 pub returns : goal.returns
 returns g c = inr (
   map (λ path. string_bytes path) c.deref.result.now,

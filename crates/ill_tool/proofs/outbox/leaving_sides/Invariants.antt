@@ -1,9 +1,9 @@
--- The loop invariant of `leaving_sides` (`src/outbox.rt`).
+-- States the loop invariant of `leaving_sides` (`src/outbox.rt`).
 use Rattle.std.proofs.Common.{◌≡◌, ◌++◌, map, drop}
 use Rattle.ill_tool.specs.Outbox.{held_of, issue_of, leaving_desk}
 use Rattle.ill_tool.proofs.outbox.leaving_sides.Given as goal
 
--- The messages so far, with those of the sides that are left, are all messages.
+-- `leaving`, and the messages of the sides that are left, are all messages that leave.
 abbrev pub invariant-loop-held : goal.invariant-loop-held
 invariant-loop-held l = record {
   there : map issue_of l.leaving.items ++ leaving_desk l.asking (map held_of (drop l.held-index l.sides))

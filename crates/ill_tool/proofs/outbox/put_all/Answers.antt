@@ -6,6 +6,7 @@ use Rattle.std.proofs.lemmas.List.{length-map, take_all}
 use Rattle.ill_tool.proofs.OutboxLemmas.{each_put, first_mails}
 use Rattle.ill_tool.proofs.outbox.put_all.Goals as goal
 
+-- Proves the contract of `put_all` if putting a mail fails. The outlet then has the mails before it.
 pub returns-in-Err : goal.returns-in-Err
 returns-in-Err g c =
     let after = g.O.Outgoing.after in
@@ -16,6 +17,7 @@ returns-in-Err g c =
     let first = ap (λ letters. after_all after letters before) (first_mails size leaving) in
     (c.in-Err.ensures.0, (size, c.in-Err.ensures.1 ∙ c.loop-message.invariant.there ∙ sym there ∙ sym first))
 
+-- Proves the contract of `put_all` if no mail fails. After the loop, the messages so far are all messages.
 pub returns : goal.returns
 returns g c =
     let leaving = c.args.leaving.now in

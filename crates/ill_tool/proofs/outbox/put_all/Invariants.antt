@@ -1,10 +1,10 @@
--- The loop invariant of `put_all` (`src/outbox.rt`).
+-- States the loop invariant of `put_all` (`src/outbox.rt`).
 use Rattle.std.proofs.Common.{◌≡◌, take}
 use Rattle.std.specs.List.{fold}
 use Rattle.ill_tool.specs.Outbox.{after_one, issue_of, letter_of}
 use Rattle.ill_tool.proofs.outbox.put_all.Given as goal
 
--- The messages so far were put there.
+-- The outlet has the mails of the messages so far.
 abbrev pub invariant-loop-message : goal.invariant-loop-message
 invariant-loop-message g l = record {
   there : g.O.Outgoing.mails l.out

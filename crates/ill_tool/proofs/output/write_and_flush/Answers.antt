@@ -5,6 +5,7 @@ use Rattle.std.specs.Io.KnownBytes.{Appends}
 use Rattle.std.proofs.KnownBytes.{Appends-kept}
 use Rattle.ill_tool.proofs.output.write_and_flush.Goals as goal
 
+-- Proves the contract of `write_and_flush` if the flush fails. The prefix that was written is all of `bytes`.
 pub returns-in_default : goal.returns-in_default
 returns-in_default g c =
     let bytes = c.args.bytes.now in

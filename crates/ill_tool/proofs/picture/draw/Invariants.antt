@@ -1,10 +1,10 @@
--- The loop invariant of `draw` (`src/picture.rt`).
+-- States the loop invariant of `draw` (`src/picture.rt`).
 use Rattle.std.proofs.Common.{◌≡◌, take}
 use Rattle.std.specs.Prelude.{fold}
 use Rattle.ill_tool.specs.Picture.{opening, with_own}
 use Rattle.ill_tool.proofs.picture.draw.Given as goal
 
--- The own messages so far are drawn, with those of theirs that stand among them.
+-- The own messages so far are drawn, with the partner's messages between them.
 abbrev pub invariant-loop-apdu : goal.invariant-loop-apdu
 invariant-loop-apdu l = record {
   drawn : record { lines = l.lines.items; left = l.left }

@@ -8,6 +8,7 @@ use Rattle.ill_tool.specs.Kept.{RunsKeptLoan}
 use Rattle.ill_tool.specs.Picture.{picture}
 use Rattle.ill_tool.proofs.picture.run_desk_picture.Goals as goal
 
+-- Proves the contract of `run_desk_picture` if the side is held. `write_picture` draws its entry.
 pub returns-in-Some : goal.returns-in-Some
 returns-in-Some g c =
     let live = c.args.desk.now.live in
@@ -19,6 +20,7 @@ returns-in-Some g c =
     subst (λ (found : Option DeskEntry). RunsKeptLoan picture found c.args.came.now before after c.write_picture.result)
     (sym (held_there live txn side there)) c.write_picture.ensures
 
+-- Proves the contract of `run_desk_picture` if the side is not held. Then the desk has no entry of it.
 pub returns-in-None : goal.returns-in-None
 returns-in-None g c =
     let live = c.args.desk.now.live in

@@ -1,10 +1,10 @@
--- The loop invariant of `through` (`src/picture.rt`).
+-- States the loop invariant of `through` (`src/picture.rt`).
 use Rattle.std.proofs.Common.{◌≡◌, ◌≤◌, take}
 use Rattle.std.specs.Prelude.{fold}
 use Rattle.ill_tool.specs.Picture.{reach}
 use Rattle.ill_tool.proofs.picture.through.Given as goal
 
--- The last of the messages so far that is linked is found.
+-- `last` is the number of messages up to the last linked one so far.
 abbrev pub invariant-loop-place : goal.invariant-loop-place
 invariant-loop-place l = record {
   reached : record { place = l.place; last = l.last }

@@ -6,6 +6,7 @@ use Rattle.ill_tool.specs.Report.{page_head}
 use Rattle.ill_tool.proofs.ReportLemmas.{three_added}
 use Rattle.ill_tool.proofs.report.push_head.Goals as goal
 
+-- Proves the contract of `push_head`. By `three_added` the three texts that are appended make up the head.
 pub returns : goal.returns
 unfolding page_head
 returns c =

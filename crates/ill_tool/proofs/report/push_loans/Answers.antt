@@ -8,6 +8,7 @@ use Rattle.ill_tool.specs.Report.{is_on, loan_text, loans_text}
 use Rattle.ill_tool.proofs.ListLemmas.{kept_apart}
 use Rattle.ill_tool.proofs.report.push_loans.Goals as goal
 
+-- Proves the contract of `push_loans`. After the loop each loan of the section has added its text.
 pub returns : goal.returns
 returns c =
     let today = c.args.today in

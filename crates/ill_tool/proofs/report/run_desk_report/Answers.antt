@@ -7,6 +7,7 @@ use Rattle.ill_tool.specs.Output.{WritesText}
 use Rattle.ill_tool.specs.Report.{desk_text, page_head}
 use Rattle.ill_tool.proofs.report.run_desk_report.Goals as goal
 
+-- Proves the contract of `run_desk_report`. The head, the part of this desk and the end text make up the page.
 pub returns : goal.returns
 returns g c =
     let today = c.args.today in

@@ -5,6 +5,7 @@ use Rattle.ill_tool.specs.Asked.{ReadsValue, asked, asked_in}
 use Rattle.ill_tool.proofs.RequestLemmas.{met_with}
 use Rattle.ill_tool.proofs.request.found.Goals as goal
 
+-- Proves the contract of `found` if the parser met a subcommand. By `met_with` `named` gets its name and its rows.
 pub returns-in-Some : goal.returns-in-Some
 returns-in-Some c =
     let met = met_with c.args.matches.now c.in-Some.word.now (rows_of (found_of c.in-Some.matches.now)) c.in-Some.ensures.name

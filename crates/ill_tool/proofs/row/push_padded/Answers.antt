@@ -5,6 +5,7 @@ use Rattle.ill_tool.specs.List.{padded}
 use Rattle.ill_tool.proofs.ListLemmas.{one_space}
 use Rattle.ill_tool.proofs.row.push_padded.Goals as goal
 
+-- Proves the loop invariant of `push_padded` after one more space. By `one_space` one space fewer is left.
 pub loop-preserved : goal.loop-preserved
 loop-preserved c =
     let before = c.loop.lines.items in
@@ -13,6 +14,7 @@ loop-preserved c =
     ∙ ap (λ more. before ++ more) (sym (one_space c.args.width c.loop.counter c.loop-test.true)) in
     record { filled = ap (λ items. items ++ left) c.in_ok-push.ensures.items ∙ one_more ∙ c.loop.invariant.filled }
 
+-- Proves the contract of `push_padded`. After the loop no space is left.
 pub returns : goal.returns
 unfolding padded
 returns c =

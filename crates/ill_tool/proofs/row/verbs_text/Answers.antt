@@ -6,6 +6,7 @@ use Rattle.ill_saved.specs.Side.{verbs_of}
 use Rattle.ill_tool.proofs.ListLemmas.{joined_as_texts}
 use Rattle.ill_tool.proofs.row.verbs_text.Goals as goal
 
+-- Proves the contract of `verbs_text`. Joining the names of verbs equals joining the verbs by their names.
 pub returns : goal.returns
 returns c =
     let text : Bor (List ℕ) → List ℕ = λ name. name.now in

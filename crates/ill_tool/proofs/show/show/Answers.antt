@@ -5,6 +5,7 @@ use Rattle.ill_tool.specs.Show.{form_of, shows}
 use Rattle.ill_tool.proofs.InputLemmas.{reads_as}
 use Rattle.ill_tool.proofs.show.show.Goals as goal
 
+-- Proves the contract of `show`. `reads_as` views the state of the handler as the contents of the writer.
 pub returns : goal.returns
 returns g c =
     let contents = g.W.Write.contents in

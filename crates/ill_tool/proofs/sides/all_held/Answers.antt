@@ -6,6 +6,7 @@ use Rattle.ill_tool.specs.Outbox.{held_of}
 use Rattle.ill_tool.proofs.SidesLemmas.{one_item}
 use Rattle.ill_tool.proofs.sides.all_held.Goals as goal
 
+-- Proves the loop invariant of `all_held` after one more entry. `one_item` splits off the entry at `place`.
 pub loop-place-preserved : goal.loop-place-preserved
 loop-place-preserved g c =
     let held = c.args.desk.now.live.held in

@@ -6,6 +6,7 @@ use Rattle.ill_saved.specs.declared.side.Side.{Side}
 use Rattle.ill_tool.proofs.SidesLemmas.{one_item}
 use Rattle.ill_tool.proofs.sides.all_of.Goals as goal
 
+-- Proves the loop invariant of `all_of` after one more side. `one_item` splits off the side at `place`.
 pub loop-place-preserved : goal.loop-place-preserved
 loop-place-preserved c =
     let sides = c.args.sides.now.sides in

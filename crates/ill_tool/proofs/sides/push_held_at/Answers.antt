@@ -10,6 +10,8 @@ use Rattle.ill_tool.specs.Outbox.{held_of}
 use Rattle.ill_tool.proofs.SidesLemmas.{held_there, none_there}
 use Rattle.ill_tool.proofs.sides.push_held_at.Goals as goal
 
+-- Proves the contract of `push_held_at` if a side is at `place`. By `held_there` the entry pushed is the entry at
+-- `place`.
 pub returns-in_ok-push : goal.returns-in_ok-push
 returns-in_ok-push g c =
     let live = c.args.desk.now.live in
@@ -25,6 +27,7 @@ returns-in_ok-push g c =
     map held_of c.push.new.self.items ≡ map held_of c.args.all.now.items ++ option_to_list found)
     (sym (held_there live c.args.place side c.released-released.result c.requires.apart there counted)) pushed
 
+-- Proves the contract of `push_held_at` if no side is at `place`. By `none_there` no entry is to be pushed.
 pub returns-in_default : goal.returns-in_default
 returns-in_default g c =
     let live = c.args.desk.now.live in

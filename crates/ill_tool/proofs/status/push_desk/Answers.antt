@@ -5,6 +5,8 @@ use Rattle.ill_tool.specs.Objects.{status_of_desk, text_of_one}
 use Rattle.ill_tool.proofs.StatusLemmas.{one_further}
 use Rattle.ill_tool.proofs.status.push_desk.Goals as goal
 
+-- Proves the loop invariant of `push_desk` after one more side. `one_further` splits off the text of the entry at
+-- `place`.
 pub loop-place-preserved : goal.loop-place-preserved
 loop-place-preserved g c =
     let held = c.args.desk.now.live.held in

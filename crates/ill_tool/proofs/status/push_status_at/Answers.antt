@@ -7,6 +7,7 @@ use Rattle.ill_saved.specs.ManySides.{held_for, sides_held}
 use Rattle.ill_tool.proofs.StatusLemmas.{lines_there, no_lines_there}
 use Rattle.ill_tool.proofs.status.push_status_at.Goals as goal
 
+-- Proves the contract of `push_status_at` if a side is at `place`. By `lines_there` its text is that of the entry.
 pub returns-in-Some : goal.returns-in-Some
 returns-in-Some g c =
     let live = c.args.desk.now.live in
@@ -16,6 +17,7 @@ returns-in-Some g c =
     subst (λ (lines : List ℕ). OnOk c.push_status_as.result (c.push_status_as.new.lines.items ≡ c.args.lines.now.items ++ lines))
     (lines_there c.args.form live c.args.place side c.released.result c.requires.apart there counted) c.push_status_as.ensures
 
+-- Proves the contract of `push_status_at` if no side is at `place`. By `no_lines_there` no text is to be appended.
 pub returns-in-None : goal.returns-in-None
 returns-in-None g c =
     let live = c.args.desk.now.live in

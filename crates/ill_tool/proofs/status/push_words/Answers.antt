@@ -4,6 +4,7 @@ use Rattle.ill_tool.specs.Lines.{line}
 use Rattle.ill_tool.proofs.StatusLemmas.{joined_by_spaces}
 use Rattle.ill_tool.proofs.status.push_words.Goals as goal
 
+-- Proves the contract of `push_words` if there are words. By `joined_by_spaces` the line has their texts.
 pub returns : goal.returns
 returns c =
     let text : Bor (List ℕ) → List ℕ = λ word. word.now in

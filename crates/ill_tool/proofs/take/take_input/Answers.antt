@@ -5,6 +5,7 @@ use Rattle.ill_tool.specs.Telling.{wording}
 use Rattle.ill_tool.proofs.TakeLemmas.{input_taken}
 use Rattle.ill_tool.proofs.take.take_input.Goals as goal
 
+-- Proves the clause `runs` of `take_input` if the input ends well. It is one part of the lemma `input_taken`.
 pub returns-in-Ok-clause-runs : goal.returns-in-Ok-clause-runs
 returns-in-Ok-clause-runs g c =
     let taken =
@@ -14,6 +15,7 @@ returns-in-Ok-clause-runs g c =
     (Ok c.in-Ok.field-0) c.requires.fine c.in-Ok.ensures in
     taken.0
 
+-- Proves the clause `same_keeper` of `take_input` if the input ends well. It is one part of the lemma `input_taken`.
 pub returns-in-Ok-clause-same_keeper : goal.returns-in-Ok-clause-same_keeper
 returns-in-Ok-clause-same_keeper g c =
     let taken =
@@ -23,6 +25,7 @@ returns-in-Ok-clause-same_keeper g c =
     (Ok c.in-Ok.field-0) c.requires.fine c.in-Ok.ensures in
     taken.1.0.0
 
+-- Proves the clause `same_came` of `take_input` if the input ends well. It is one part of the lemma `input_taken`.
 pub returns-in-Ok-clause-same_came : goal.returns-in-Ok-clause-same_came
 returns-in-Ok-clause-same_came g c =
     let taken =
@@ -32,6 +35,7 @@ returns-in-Ok-clause-same_came g c =
     (Ok c.in-Ok.field-0) c.requires.fine c.in-Ok.ensures in
     taken.1.0.1
 
+-- Proves the clause `counted` of `take_input` if the input ends well. It is one part of the lemma `input_taken`.
 pub returns-in-Ok-clause-counted : goal.returns-in-Ok-clause-counted
 returns-in-Ok-clause-counted g c =
     let taken =
@@ -41,6 +45,7 @@ returns-in-Ok-clause-counted g c =
     (Ok c.in-Ok.field-0) c.requires.fine c.in-Ok.ensures in
     taken.1.1
 
+-- Proves the clause `runs` of `take_input` if the input ends with a fault. It is one part of the lemma `input_taken`.
 pub returns-in-Err-clause-runs : goal.returns-in-Err-clause-runs
 returns-in-Err-clause-runs g c =
     let taken =
@@ -50,6 +55,8 @@ returns-in-Err-clause-runs g c =
     (Err c.in-Err.fault) c.requires.fine c.in-Err.ensures in
     taken.0
 
+-- Proves the clause `same_keeper` of `take_input` if the input ends with a fault. It is one part of the lemma
+-- `input_taken`.
 pub returns-in-Err-clause-same_keeper : goal.returns-in-Err-clause-same_keeper
 returns-in-Err-clause-same_keeper g c =
     let taken =
@@ -59,6 +66,8 @@ returns-in-Err-clause-same_keeper g c =
     (Err c.in-Err.fault) c.requires.fine c.in-Err.ensures in
     taken.1.0.0
 
+-- Proves the clause `same_came` of `take_input` if the input ends with a fault. It is one part of the lemma
+-- `input_taken`.
 pub returns-in-Err-clause-same_came : goal.returns-in-Err-clause-same_came
 returns-in-Err-clause-same_came g c =
     let taken =
@@ -68,6 +77,8 @@ returns-in-Err-clause-same_came g c =
     (Err c.in-Err.fault) c.requires.fine c.in-Err.ensures in
     taken.1.0.1
 
+-- Proves the clause `counted` of `take_input` if the input ends with a fault. It is one part of the lemma
+-- `input_taken`.
 pub returns-in-Err-clause-counted : goal.returns-in-Err-clause-counted
 returns-in-Err-clause-counted g c =
     let taken =

@@ -6,6 +6,8 @@ use Rattle.ill_tool.specs.Shelf.{ShelfTaking, shelf_taking, takes_home}
 use Rattle.ill_tool.proofs.ShelfLemmas.{taken_home}
 use Rattle.ill_tool.proofs.take_home.take_on_shelf.Goals as goal
 
+-- Proves the contract of `take_on_shelf` if the input ends well. By `taken_home` the views of the states show the
+-- effect.
 pub returns-in-Ok : goal.returns-in-Ok
 returns-in-Ok g c =
     let view : TakesHome _ _ _ × _ → ShelfTaking = λ s.
@@ -25,6 +27,7 @@ returns-in-Ok g c =
       refl,
     )
 
+-- Proves the contract of `take_on_shelf` if the input ends with a fault. By `taken_home` the views show the effect.
 pub returns-in-Err : goal.returns-in-Err
 returns-in-Err g c =
     let view : TakesHome _ _ _ × _ → ShelfTaking = λ s.

@@ -5,11 +5,12 @@ use Rattle.std.specs.Fmt.{decimal}
 use Rattle.ill_tool.specs.Inbox.{done_text}
 use Rattle.ill_tool.proofs.tally.push_done.Goals as goal
 
--- Ten texts that are joined from the right are those joined from the left.
+-- Joining ten texts from the right equals joining them from the left.
 ten_joined : (a b c d e f g h i j : List ℕ)
     → a ++ (b ++ (c ++ (d ++ (e ++ (f ++ (g ++ (h ++ (i ++ j)))))))) ≡ a ++ b ++ c ++ d ++ e ++ f ++ g ++ h ++ i ++ j
 ten_joined a b c d e f g h i j = simp append_assoc refl
 
+-- Proves the contract of `push_done`. The text joins the ten texts from the left.
 pub returns : goal.returns
 unfolding done_text
 returns c =

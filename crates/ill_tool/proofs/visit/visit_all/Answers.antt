@@ -6,6 +6,7 @@ use Rattle.ill_tool.specs.Shelf.{RunsVisit, VisitsAll, is_headed}
 use Rattle.ill_tool.proofs.ShelfLemmas.{no_visit, one_more_visit}
 use Rattle.ill_tool.proofs.visit.visit_all.Goals as goal
 
+-- Proves the loop invariant of `visit_all` after one more desk. `one_more_visit` appends the visit at `place`.
 pub loop-place-preserved : goal.loop-place-preserved
 loop-place-preserved g c =
     let names = map (λ path. string_bytes path) c.args.paths.now in
@@ -24,5 +25,6 @@ loop-place-preserved g c =
     (g.W.Write.contents c.args.writer.now) (g.W.Write.contents c.visit_desk-next.new.writer) answer)
     (sym c.graver-answer.ensures) visited
 
+-- Proves the loop invariant of `visit_all` before the first desk. By `no_visit` no path was visited.
 pub loop-place-init : goal.loop-place-init
 loop-place-init g c = no_visit (is_headed c.args.visit.now) (RunsVisit c.args.visit.now) (g.W.Write.contents c.args.writer.now)

@@ -1,10 +1,10 @@
--- The loop invariant of `visit_all` (`src/visit.rt`).
+-- States the loop invariant of `visit_all` (`src/visit.rt`).
 use Rattle.std.proofs.Common.{map, take}
 use Rattle.std.specs.Prelude.{string_bytes}
 use Rattle.ill_tool.specs.Shelf.{RunsVisit, VisitsAll, is_headed}
 use Rattle.ill_tool.proofs.visit.visit_all.Given as goal
 
--- The desks so far were visited.
+-- The desks at the first `place` paths were visited.
 abbrev pub invariant-loop-place : goal.invariant-loop-place
 invariant-loop-place g l =
     VisitsAll (is_headed l.visit) (RunsVisit l.visit) (take l.place (map (λ path. string_bytes path) l.paths))

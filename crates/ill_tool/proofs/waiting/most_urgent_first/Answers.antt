@@ -7,6 +7,7 @@ use Rattle.ill_tool.specs.Waiting.{deadline_of, most_urgent_first}
 use Rattle.ill_tool.proofs.WaitingLemmas.{sorted_by_urgency}
 use Rattle.ill_tool.proofs.waiting.most_urgent_first.Goals as goal
 
+-- Proves the contract of `most_urgent_first`. `sort_by_cached_key` is a stable sort by deadlines.
 pub returns : goal.returns
 returns c =
     let key : Bor Side → Bool × Option Date = λ side. (is_none (deadline_of side.now), deadline_of side.now) in

@@ -5,6 +5,7 @@ use Rattle.ill_tool.specs.Asked.{asked}
 use Rattle.ill_tool.specs.Commands.{Runs}
 use Rattle.ill_tool.proofs.words.run.Goals as goal
 
+-- Proves the contract of `run` for the request `Send`. It is the contract of `send`, which reads no input.
 pub returns-in-Send : goal.returns-in-Send
 returns-in-Send g c =
     let left = g.R.Read.remaining c.args.reader.now in
@@ -12,6 +13,7 @@ returns-in-Send g c =
     (g.W.Write.contents c.send.new.writer) c.send.result)
     (sym c.in-Send.is) (refl, c.send.ensures)
 
+-- Proves the contract of `run` for the request `Loan`. It is the contract of `loan`, which reads no input.
 pub returns-in-Loan : goal.returns-in-Loan
 returns-in-Loan g c =
     let left = g.R.Read.remaining c.args.reader.now in

@@ -7,11 +7,13 @@ use Rattle.ill_tool.specs.Commands.{OutboxAtFile}
 use Rattle.ill_tool.specs.Shelf.{RunsShelf, VisitsShelf}
 use Rattle.ill_tool.proofs.words.run_on_shelf.Goals as goal
 
--- An optional value is there exactly if its image is.
+-- An option and its image under `text` are both `Some` or both `None`.
 is_there : {X Y : Type 0} (text : X → Y) (folder : Option X) → is_some folder ≡ is_some (option_map text folder)
 is_there text (Some folder) = refl
 is_there text None = refl
 
+-- Proves the contract of `run_on_shelf` for the request `Send`. It is the contract of `send_on_shelf`, which reads no
+-- input.
 pub returns-in-Send : goal.returns-in-Send
 returns-in-Send g c =
     let left = g.R.Read.remaining c.args.reader.now in
@@ -19,6 +21,8 @@ returns-in-Send g c =
     (g.W.Write.contents c.send_on_shelf.new.writer) c.send_on_shelf.result)
     (sym c.in-Send.is) (refl, c.send_on_shelf.ensures)
 
+-- Proves the contract of `run_on_shelf` for the request `Status`. It is the contract of `status_of_shelf`, which reads
+-- no input.
 pub returns-in-Status : goal.returns-in-Status
 returns-in-Status g c =
     let left = g.R.Read.remaining c.args.reader.now in
@@ -26,6 +30,8 @@ returns-in-Status g c =
     (g.W.Write.contents c.status_of_shelf.new.writer) c.status_of_shelf.result)
     (sym c.in-Status.is) (refl, c.status_of_shelf.ensures)
 
+-- Proves the contract of `run_on_shelf` for the request `Outbox`. It is the contract of `outbox_of_shelf`, which reads
+-- no input.
 pub returns-in-Outbox : goal.returns-in-Outbox
 returns-in-Outbox g c =
     let left = g.R.Read.remaining c.args.reader.now in
@@ -36,6 +42,8 @@ returns-in-Outbox g c =
     (is_there (λ text. text.now) c.in-Outbox.folder) c.outbox_of_shelf.ensures in
     subst (λ (request : Request). RunsShelf (asked request) left left before after result) (sym c.in-Outbox.is) (refl, sent)
 
+-- Proves the contract of `run_on_shelf` for the request `Exchange`. It is the contract of `exchange_of_shelf`, which
+-- reads no input.
 pub returns-in-Exchange : goal.returns-in-Exchange
 returns-in-Exchange g c =
     let left = g.R.Read.remaining c.args.reader.now in

@@ -1,11 +1,11 @@
--- The loop invariant of `Columns::of` (`src/row.rt`).
+-- States the loop invariant of `Columns::of` (`src/row.rt`).
 use Rattle.std.proofs.Common.{◌≡◌, ℕ, max, length, take, Bor}
 use Rattle.std.specs.Prelude.{fold}
 use Rattle.ill_saved.specs.declared.side.Side.{Side}
 use Rattle.ill_saved.specs.Side.{txn_of}
 use Rattle.ill_tool.proofs.row.Columns.of.Given as goal
 
--- Each column is as wide as the widest of the sides so far.
+-- Each column is as wide as the longest text of the sides so far.
 abbrev pub invariant-loop-side : goal.invariant-loop-side
 invariant-loop-side l = record {
   group : l.columns.group ≡ fold (λ (width : ℕ) (side : Bor Side). max width (length (txn_of side.now).group)) 0

@@ -38,12 +38,13 @@ unfailing : (fault : ToolFault) (count : ℕ) (bytes ahead : List ℕ) (left : O
 unfailing (Desk fault) count bytes ahead left before after stops = absurd stops
 unfailing other count bytes ahead left before after stops = tt
 
--- `name` returns the lent desk, `came` the lent file, and `failures` the count of the store's failures. By `keeps`,
--- each message leaves the desk and the file, and counts a failure of the store.
+-- `name` returns the borrowed desk, `came` the borrowed file, and `failures` the count of the store's failures. By
+-- `keeps`, each message leaves the desk and the file, and never lowers the count. Unless `is_kept`, it raises the count
+-- if it returns a failure.
 module _ {S N M : Type 0} (is_kept : Bool) (handles : Handles S ToolFault) (name : S → N) (came : S → M) (failures : S → ℕ)
     (keeps : (s t : S) (apdu : Apdu) (r : Result (Unit {0}) ToolFault) → handles s apdu r t
     → KeepsDesk is_kept r (name s) (name t) (came s) (came t) (failures s) (failures t)) where
-  -- Handling `apdus` leaves the lent desk and file, and never lowers the count of failures.
+  -- Handling `apdus` leaves the borrowed desk and file, and never lowers the count of failures.
   handled_keeps : (before after : S) (apdus : List Apdu) → Handled handles before apdus after
       → ((name after ≡ name before) × (came after ≡ came before)) × (failures before ≤ failures after)
   handled_keeps before after [] is = ((ap name is, ap came is), omega (arith, ap failures is))
@@ -52,7 +53,8 @@ module _ {S N M : Type 0} (is_kept : Bool) (handles : Handles S ToolFault) (name
       let on = handled_keeps is.0 after apdus is.2 in
       ((on.0.0 ∙ one.0.0, on.0.1 ∙ one.0.1), omega (arith, one.1.0, on.1))
 
-  -- Reading an input leaves the lent desk and file, and counts each failure of the store.
+  -- Reading an input leaves the borrowed desk and file. Unless `is_kept`, it counts a failure of the store that it
+  -- returns.
   pub input_keeps : (old new : Option (List ℕ)) (before after : S) (result : Result ℕ ToolFault)
       → ReadsInput handles old new before result after
       → KeepsDesk is_kept result (name before) (name after) (came before) (came after) (failures before) (failures after)
@@ -83,7 +85,7 @@ module _ {S N M : Type 0} (is_kept : Bool) (handles : Handles S ToolFault) (name
 
 -- ---- the command
 
--- An input is taken on a lent desk. If `is_kept` is true, the bytes of each message that was taken are kept.
+-- An input is taken on a borrowed desk. If `is_kept`, the bytes of each message that was taken are kept.
 module _ {H S D A B C L N W : Type 0} {n m : ℕ} (is_kept : Bool) (told : Wording) (effects : Effects L N)
     (view : DeskOf H S → HeldAndLanded L) (failures : DeskOf H S → ℕ) (kept : D → Option (List ℕ))
     (contents : W → Option (List ℕ)) where
@@ -91,14 +93,14 @@ module _ {H S D A B C L N W : Type 0} {n m : ℕ} (is_kept : Bool) (told : Wordi
   abbrev how_far : TakesEach H S D n m A B C × W → Progress L
   how_far s = progress (view s.0.desk.now) (kept s.0.came.now) (contents s.1) s.0.all_fine
 
-  -- `apdu` is taken, which leads from `s` to `t`, and the lent desk and file stay.
+  -- `apdu` is taken, which leads from `s` to `t`, and the borrowed desk and file stay.
   abbrev pub TakesOn : Handles (TakesEach H S D n m A B C × W) ToolFault
   TakesOn s apdu r t =
       takes_each is_kept told effects (how_far s) apdu r (how_far t)
       × KeepsDesk is_kept r s.0.desk.ghost_name t.0.desk.ghost_name s.0.came.ghost_name t.0.came.ghost_name
       (failures s.0.desk.now) (failures t.0.desk.now)
 
-  -- If an input is read by `TakesOn`, the command has taken it, and the lent desk and file stay.
+  -- If an input is read by `TakesOn`, the command has taken it, and the borrowed desk and file stay.
   pub input_taken : (old new : Option (List ℕ)) (before after : TakesEach H S D n m A B C × W) (result : Result ℕ ToolFault)
       → before.0.all_fine ≡ true → ReadsInput TakesOn old new before result after
       → RunsTaking is_kept told effects old new (kept before.0.came.now) (kept after.0.came.now) (contents before.1)

@@ -6,7 +6,7 @@ use crate::side::{NO_MEMORY, Side};
 use crate::states::{Role, letters_of, role_of, state_of};
 use ill_core::State;
 use ill_test_kit::marks::TRIES;
-use ill_test_kit::{Transitions, Page};
+use ill_test_kit::{Lines, Page};
 use std::alloc::Global;
 use std::mem;
 
@@ -54,8 +54,8 @@ impl Bench {
     }
 
     /// Adds the answer to a line: the name of a state, or the cells of a row. Other lines have none.
-    fn push_answer(&mut self, page: &mut Page, transition: &str) {
-        let Some((name, rest)) = transition.split_once('|') else {
+    fn push_answer(&mut self, page: &mut Page, line: &str) {
+        let Some((name, rest)) = line.split_once('|') else {
             return;
         };
         match rest.split_once('|') {
@@ -127,13 +127,13 @@ impl Bench {
     }
 }
 
-impl Transitions for Bench {
+impl Lines for Bench {
     /// Adds a line with its answer. An answer that the line already has is dropped.
-    fn perform(&mut self, page: &mut Page, transition: &str) {
-        if transition.starts_with('#') {
-            return page.transition(transition);
+    fn perform(&mut self, page: &mut Page, line: &str) {
+        if line.starts_with('#') {
+            return page.line(line);
         }
-        let case = without_answer(transition);
+        let case = without_answer(line);
         page.text(case);
         self.push_answer(page, case);
         page.text("\n");
@@ -146,16 +146,16 @@ impl Transitions for Bench {
 
 /// Returns a line without its answer. The answer follows the bar of a name, or the fourth bar of a row. A ruler has
 /// only four bars, and no answer.
-fn without_answer(transition: &str) -> &str {
-    let bars = transition.matches('|').count();
+fn without_answer(line: &str) -> &str {
+    let bars = line.matches('|').count();
     let fields = match bars {
         1 => 1,
         5 => 4,
-        _ => return transition,
+        _ => return line,
     };
-    match transition.match_indices('|').nth(fields - 1) {
-        Some((at, _)) => transition.get(..=at).unwrap_or(transition),
-        None => transition,
+    match line.match_indices('|').nth(fields - 1) {
+        Some((at, _)) => line.get(..=at).unwrap_or(line),
+        None => line,
     }
 }
 

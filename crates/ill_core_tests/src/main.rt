@@ -15,9 +15,9 @@ mod side;
 mod states;
 
 use bench::Bench;
-use ill_test_kit::answer_transitions;
+use ill_test_kit::answer_lines;
 use std::io;
 
 fn main(rt: HostRuntime) -> io::Result<()> {
-    answer_transitions(&rt, &mut Bench::new(rt.alloc()))
+    answer_lines(&rt, &mut Bench::new(rt.alloc()))
 }

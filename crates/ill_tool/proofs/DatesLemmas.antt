@@ -14,10 +14,10 @@ one_before (Some item) more = refl
 one_before None more = refl
 
 -- The deeds from `place` on begin with the deed of the loan at `place`, if it has one. Those of the later loans follow.
-pub one_further : (which : Dates) (today : Date) (sides : List Side) (place : ℕ)
+pub deeds_split_at : (which : Dates) (today : Date) (sides : List Side) (place : ℕ)
     → all_due which today (drop place sides)
     ≡ option_to_list (due_at which today (slice_get sides place)) ++ all_due which today (drop (suc place) sides)
-one_further which today [] zero = refl
-one_further which today [] (suc place) = refl
-one_further which today (side ∷ sides) zero = one_before (due_in which today side) (filter_map (due_in which today) sides)
-one_further which today (side ∷ sides) (suc place) = one_further which today sides place
+deeds_split_at which today [] zero = refl
+deeds_split_at which today [] (suc place) = refl
+deeds_split_at which today (side ∷ sides) zero = one_before (due_in which today side) (filter_map (due_in which today) sides)
+deeds_split_at which today (side ∷ sides) (suc place) = deeds_split_at which today sides place

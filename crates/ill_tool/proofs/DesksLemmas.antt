@@ -21,16 +21,16 @@ is_nothing [] = true
 is_nothing (item ∷ items) = false
 
 -- No text comes before the first desk.
-lead : (form : Form) → between form true ≡ []
-lead Lines = refl
-lead Json = refl
+no_text_before_first : (form : Form) → between form true ≡ []
+no_text_before_first Lines = refl
+no_text_before_first Json = refl
 
 -- If `one` is appended to `done`, the join grows by its text. Before it comes the text between two, unless `done` is
 -- empty.
 joined_more : {X : Type 0} (form : Form) (text : X → List ℕ) (done : List X) (one : X)
     → join_by text (between form false) (done ++ one ∷ [])
     ≡ join_by text (between form false) done ++ (between form (is_nothing done) ++ text one)
-joined_more form text [] one = append-nil (text one) ∙ ap (λ lead. lead ++ text one) (sym (lead form))
+joined_more form text [] one = append-nil (text one) ∙ ap (λ no_text_before_first. no_text_before_first ++ text one) (sym (no_text_before_first form))
 joined_more {X} form text (first ∷ done) one =
     let later : X → List ℕ = λ item. between form false ++ text item in
     ap (λ more. text first ++ more)
@@ -51,7 +51,7 @@ first_listed (file ∷ files) (desk ∷ desks) zero within is = absurd cc
 first_listed (file ∷ files) (desk ∷ desks) (suc place) within is = sym (not_first place)
 
 -- If the first `place` of `files` are listed, and then the file at `place`, the first `place + 1` are listed.
-pub one_more : (form : Form) (wanted : Wanted) (files : List (List ℕ)) (desks : List (List ℕ × List Side)) (place : ℕ)
+pub one_more_desk_listed : (form : Form) (wanted : Wanted) (files : List (List ℕ)) (desks : List (List ℕ × List Side)) (place : ℕ)
     (file : List ℕ) (is_headed is_first : Bool)
     (before middle after : Option (List ℕ)) (done : Unit {0})
     → place < length files → file ≡ get_or files place file → is_headed ≡ are_several files → is_first ≡ (place == 0)
@@ -60,9 +60,9 @@ pub one_more : (form : Form) (wanted : Wanted) (files : List (List ℕ)) (desks 
     → ListsDesk form wanted is_first is_headed file middle after (Ok done)
     → (desks : List (List ℕ × List Side)) × (map (λ (desk : List ℕ × List Side). desk.0) desks ≡ take (place + 1) files)
     × Appends before after (listed_desks form (are_several files) wanted desks)
-one_more form wanted files desks place file is_headed is_first before middle after done within at headed first listed so_far
+one_more_desk_listed form wanted files desks place file is_headed is_first before middle after done within at headed first listed so_far
     (inl shut) = absurd shut.0
-one_more form wanted files desks place file is_headed is_first before middle after done within at headed first listed so_far
+one_more_desk_listed form wanted files desks place file is_headed is_first before middle after done within at headed first listed so_far
     (inr (sides, written)) =
     let desk : List ℕ × List Side = (file, sides) in
     let path : List ℕ × List Side → List ℕ = λ desk. desk.0 in

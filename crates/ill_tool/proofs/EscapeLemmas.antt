@@ -20,12 +20,12 @@ two_escape escaping first second (third ∷ rest) acts =
     acts
 
 -- If the first two bytes are no acting character, `written` tests the first three.
-three_left : (escaping : Escaping) (first second third : ℕ) (rest : List ℕ) → two_act first second ≡ false
+third_byte_decides : (escaping : Escaping) (first second third : ℕ) (rest : List ℕ) → two_act first second ≡ false
     → written escaping (first ∷ second ∷ third ∷ rest)
     ≡ (if three_act first second third then escape escaping (number_of_three first second third) ++ written escaping rest else
     byte_text escaping first ++ written escaping (second ∷ third ∷ rest))
 unfolding written
-three_left escaping first second third rest pass =
+third_byte_decides escaping first second third rest pass =
     ap
     (λ (act : Bool). if act then escape escaping (number_of_two first second) ++ written escaping (third ∷ rest)
     else (if three_act first second third then escape escaping (number_of_three first second third) ++ written escaping rest
@@ -38,7 +38,7 @@ pub three_escape : (escaping : Escaping) (first second third : ℕ) (rest : List
     → written escaping (first ∷ second ∷ third ∷ rest)
     ≡ escape escaping (number_of_three first second third) ++ written escaping rest
 three_escape escaping first second third rest pass acts =
-    three_left escaping first second third rest pass
+    third_byte_decides escaping first second third rest pass
     ∙ ap (λ (act : Bool). if act then escape escaping (number_of_three first second third) ++ written escaping rest else
     byte_text escaping first ++ written escaping (second ∷ third ∷ rest)) acts
 
@@ -47,7 +47,7 @@ pub first_stays : (escaping : Escaping) (first second third : ℕ) (rest : List 
     → three_act first second third ≡ false
     → written escaping (first ∷ second ∷ third ∷ rest) ≡ byte_text escaping first ++ written escaping (second ∷ third ∷ rest)
 first_stays escaping first second third rest pass passes =
-    three_left escaping first second third rest pass
+    third_byte_decides escaping first second third rest pass
     ∙ ap (λ (act : Bool). if act then escape escaping (number_of_three first second third) ++ written escaping rest else
     byte_text escaping first ++ written escaping (second ∷ third ∷ rest)) passes
 

@@ -19,10 +19,10 @@ abbrev side_of : DeskEntry → Side
 side_of held = held.side
 
 -- If no side in `sides` has the transaction `txn`, `found_by` finds none.
-hidden_by : (txn : Qualifiers) (sides : List DeskEntry) (held : DeskEntry)
+not_found_if_absent : (txn : Qualifiers) (sides : List DeskEntry) (held : DeskEntry)
     → is_none (side_with txn (map side_of sides)) ≡ true → found_by txn_held txn sides ≡ Some held → ⊥
 unfolding side_with
-hidden_by txn sides held none found =
+not_found_if_absent txn sides held none found =
     true≢false (sym none ∙ ap is_none
     (found_mapped txn_held txn_of side_of (λ h. refl) txn sides ∙ ap (option_map side_of) found))
 
@@ -34,7 +34,7 @@ found_after : (first held : DeskEntry) (sides : List DeskEntry) (same : Bool)
     → cond same (Some first) (found_by txn_held (txn_held held) sides) ≡ Some held
 found_after first held sides true same none found =
     let of : txn_held held ≡ txn_held first = same_is (txn_held held) (txn_held first) same in
-    absurd (hidden_by (txn_held first) sides held none (ap (λ t. found_by txn_held t sides) (sym of) ∙ found))
+    absurd (not_found_if_absent (txn_held first) sides held none (ap (λ t. found_by txn_held t sides) (sym of) ∙ found))
 found_after first held sides false same none found = found
 
 -- If all sides have different transactions, `found_by` finds the side at `place` by its transaction.

@@ -17,15 +17,15 @@ use Rattle.ill_tool.specs.Inbox.{EndedWell, RunsInbox, Sorting, answered_with, c
 use Rattle.ill_tool.specs.Inbox.{tally_of}
 
 -- If bytes follow the APDU `a`, both together are no message: the fault is `Trailing`.
-some_after : (a : Apdu) (rest : List ℕ) → 1 ≤ length rest → one_message (Ok (a, rest)) ≡ Err Trailing
-some_after a [] some = absurd (omega (arith, some))
-some_after a (byte ∷ rest) some = refl
+trailing_is_no_message : (a : Apdu) (rest : List ℕ) → 1 ≤ length rest → one_message (Ok (a, rest)) ≡ Err Trailing
+trailing_is_no_message a [] some = absurd (omega (arith, some))
+trailing_is_no_message a (byte ∷ rest) some = refl
 
 -- If the APDU at the start of `bytes` is shorter than `bytes`, they are no message: the fault is `Trailing`.
 pub trailing_unfit : (bytes : List ℕ) (read : Result (Apdu × List ℕ) DerFault) (found : Apdu × ℕ)
     → found.1 + 1 ≤ length bytes → Views bytes read (Ok found) → Err Trailing ≡ one_message read
 trailing_unfit bytes read found less viewed =
-    sym (ap one_message viewed.1 ∙ some_after found.0 (drop found.1 bytes) (omega (arith, length-drop found.1 bytes, less)))
+    sym (ap one_message viewed.1 ∙ trailing_is_no_message found.0 (drop found.1 bytes) (omega (arith, length-drop found.1 bytes, less)))
 
 -- If the line of the counts is appended to the lines of sorted mails, the state is the concluded one.
 pub concluded_is : {L : Type 0} (waiting : ℕ) (sorted end : Sorting L) (verdicts : List Verdict) (tally : Tally) (told : List ℕ)

@@ -25,30 +25,30 @@ use Rattle.ill_tool.specs.Input.{spellings, Ends, ReadsInput, answer_at_end, Cou
 -- `seen`.
 
 -- If `handles` leads from `before` through `apdus` to `after`, `seen` leads so between their views.
-pub handled_as : {S T F : Type 0} (handles : Handles S F) (seen : Handles T F) (view : S → T)
+pub handled_on_views : {S T F : Type 0} (handles : Handles S F) (seen : Handles T F) (view : S → T)
     → ((s t : S) (apdu : Apdu) (r : Result (Unit {0}) F) → handles s apdu r t → seen (view s) apdu r (view t))
     → (before after : S) (apdus : List Apdu) → Handled handles before apdus after → Handled seen (view before) apdus (view after)
-handled_as handles seen view as_seen before after [] is = ap view is
-handled_as handles seen view as_seen before after (apdu ∷ apdus) is =
-    (view is.0, as_seen before is.0 apdu (Ok tt) is.1, handled_as handles seen view as_seen is.0 after apdus is.2)
+handled_on_views handles seen view as_seen before after [] is = ap view is
+handled_on_views handles seen view as_seen before after (apdu ∷ apdus) is =
+    (view is.0, as_seen before is.0 apdu (Ok tt) is.1, handled_on_views handles seen view as_seen is.0 after apdus is.2)
 
 -- If an input ends by `handles`, it ends by `seen` on the views.
-ends_as : {S T : Type 0} (handles : Handles S ToolFault) (seen : Handles T ToolFault) (view : S → T)
+ends_on_views : {S T : Type 0} (handles : Handles S ToolFault) (seen : Handles T ToolFault) (view : S → T)
     → ((s t : S) (apdu : Apdu) (r : Result (Unit {0}) ToolFault) → handles s apdu r t → seen (view s) apdu r (view t))
     → (result : Result ℕ ToolFault) (count : ℕ) (bytes : List ℕ) (ahead : List ℕ) (left : Option (List ℕ)) (before after : S)
     → Ends handles result count bytes ahead left before after → Ends seen result count bytes ahead left (view before) (view after)
-ends_as handles seen view as_seen (Ok n) count bytes ahead left before after is = (is.0, is.1, is.2, ap view is.3)
-ends_as handles seen view as_seen (Err fault) count bytes ahead left before after is = elim is [
+ends_on_views handles seen view as_seen (Ok n) count bytes ahead left before after is = (is.0, is.1, is.2, ap view is.3)
+ends_on_views handles seen view as_seen (Err fault) count bytes ahead left before after is = elim is [
   | inl stops ↦ inl (stops.0, ap view stops.1)
   | inr fails ↦ inr (fails.0, fails.1, fails.2, fails.3, as_seen before after fails.0 (Err fault) fails.4)
 ]
 
 -- If an input is read by `handles`, it is read by `seen` on the views.
-pub reads_as : {S T : Type 0} (handles : Handles S ToolFault) (seen : Handles T ToolFault) (view : S → T)
+pub reads_on_views : {S T : Type 0} (handles : Handles S ToolFault) (seen : Handles T ToolFault) (view : S → T)
     → ((s t : S) (apdu : Apdu) (r : Result (Unit {0}) ToolFault) → handles s apdu r t → seen (view s) apdu r (view t))
     → (old new : Option (List ℕ)) (before after : S) (result : Result ℕ ToolFault)
     → ReadsInput handles old new before result after → ReadsInput seen old new (view before) result (view after)
-reads_as handles seen view as_seen old new before after result is = (
+reads_on_views handles seen view as_seen old new before after result is = (
   is.0,
   is.1,
   is.2,
@@ -58,8 +58,8 @@ reads_as handles seen view as_seen old new before after result is = (
     most = is.4.most;
     few = is.4.few;
     read = is.4.read;
-    handled = handled_as handles seen view as_seen before is.3 is.0 is.4.handled;
-    ended = ends_as handles seen view as_seen result (length is.0) is.1 is.2 new is.3 after is.4.ended;
+    handled = handled_on_views handles seen view as_seen before is.3 is.0 is.4.handled;
+    ended = ends_on_views handles seen view as_seen result (length is.0) is.1 is.2 new is.3 after is.4.ended;
   },
 )
 
@@ -74,20 +74,20 @@ fails_as handles seen view as_seen (Ok held) piece before after fault is = (
   is.2,
   view is.3,
   is.4,
-  handled_as handles seen view as_seen before is.3 is.0 is.5,
+  handled_on_views handles seen view as_seen before is.3 is.0 is.5,
   as_seen is.3 after is.1 (Err fault) is.6,
 )
 fails_as handles seen view as_seen (Err closed) piece before after fault is = absurd is
 
 -- If the APDUs of a piece are handled by `handles`, they are handled by `seen` on the views.
-pub each_as : {S T F : Type 0} (handles : Handles S F) (seen : Handles T F) (view : S → T)
+pub piece_on_views : {S T F : Type 0} (handles : Handles S F) (seen : Handles T F) (view : S → T)
     → ((s t : S) (apdu : Apdu) (r : Result (Unit {0}) F) → handles s apdu r t → seen (view s) apdu r (view t))
     → (old : Unread) (piece : List ℕ) (before : S) (result : Result (Option DerFault) F) (new : Unread) (after : S)
     → HandlesEach handles old piece before result new after
     → HandlesEach seen old piece (view before) result new (view after)
-each_as handles seen view as_seen old piece before (Ok fault) new after is =
-    (is.0, (is.1.0, is.1.1, handled_as handles seen view as_seen before after is.1.0 is.1.2))
-each_as handles seen view as_seen old piece before (Err fault) new after is =
+piece_on_views handles seen view as_seen old piece before (Ok fault) new after is =
+    (is.0, (is.1.0, is.1.1, handled_on_views handles seen view as_seen before after is.1.0 is.1.2))
+piece_on_views handles seen view as_seen old piece before (Err fault) new after is =
     (is.0, fails_as handles seen view as_seen old piece before after fault is.1)
 
 -- If `prefix` leads from `before` to `middle`, and `more` from there to `after`, both together lead from `before` to
@@ -126,7 +126,7 @@ each_counted : {H C : Type 0} (handles : Handles (H × C) ToolFault) (old feed :
     → HandlesEach (CountsOn handles) old piece (before.0.count, (before.0.handler, before.1)) result new
     (after.0.count, (after.0.handler, after.1))
 each_counted {H = H} {C = C} handles old feed piece before result new after same is =
-    each_as (λ (s : Counted H × C) apdu r t.
+    piece_on_views (λ (s : Counted H × C) apdu r t.
     CountsOn handles (s.0.count, (s.0.handler, s.1)) apdu r (t.0.count, (t.0.handler, t.1))) (CountsOn handles)
     (λ s. (s.0.count, (s.0.handler, s.1))) (λ s t apdu r h. h) old piece before result new after
     (subst (λ (f : Unread). HandlesCounted handles f piece before result new after) same is)
@@ -216,16 +216,16 @@ apdus_read old now new apdus more held piece rest read piece_is begins =
 -- ---- one piece more
 
 -- Returns an upper bound of the bytes that may still be read, or 0 if the feed is closed.
-abbrev pub room : ℕ → Unread → ℕ
-room count (Ok held) = 35900359 - (count * 359 + length held)
-room count (Err fault) = 0
+abbrev pub most_bytes_left : ℕ → Unread → ℕ
+most_bytes_left count (Ok held) = 35900359 - (count * 359 + length held)
+most_bytes_left count (Err fault) = 0
 
 -- If the feed `new` has no fault, it is open and holds bytes.
 still_open : (new : Unread) → None ≡ fault_of new → (held : List ℕ) × (new ≡ Ok held)
 still_open (Ok held) e = (held, refl)
 still_open (Err fault) e = absurd cc
 
--- If the held bytes grow, or the count of APDUs does, the bound of `room` becomes smaller.
+-- If the held bytes grow, or the count of APDUs does, the bound of `most_bytes_left` becomes smaller.
 more_room : (n k size more left m : ℕ) → ((k ≡ 0) × (left ≡ size + more)) ⊎ (0 < k) → m ≡ n + k → m ≤ 100000
     → size ≤ 358 → left ≤ 358 → 0 < more
     → 35900359 - (m * 359 + left) < 35900359 - (n * 359 + size)
@@ -245,25 +245,25 @@ rest_within : (held piece text rest : List ℕ) → held ++ piece ≡ text ++ re
     → length text + length rest ≡ length held + length piece
 rest_within held piece text rest e = omega (arith, ap length e, length-append held piece, length-append text rest)
 
--- A piece that is not empty makes `room` smaller.
+-- A piece that is not empty makes `most_bytes_left` smaller.
 room_falls : ShortLaw → (count m : ℕ) (feed next : Unread) (held now piece : List ℕ) (more : List Apdu)
     → feed ≡ Ok held → next ≡ Ok now → held ++ piece ≡ spellings more ++ now
     → m ≡ count + length more → m ≤ 100000 → IsUnfinished held → IsUnfinished now → 0 < length piece
-    → room m next < room count feed
+    → most_bytes_left m next < most_bytes_left count feed
 room_falls law count m feed next held now piece more was is parts counted few unfinished still some =
-    subst (λ (f : Unread). room m next < room count f) (sym was)
-    (subst (λ (f : Unread). room m f < room count (Ok held)) (sym is)
+    subst (λ (f : Unread). most_bytes_left m next < most_bytes_left count f) (sym was)
+    (subst (λ (f : Unread). most_bytes_left m f < most_bytes_left count (Ok held)) (sym is)
     (more_room count (length more) (length held) (length piece) (length now) m (longer_or_handed more held piece now parts)
     counted few (few_held law held unfinished) (few_held law now still) some))
 
--- If a piece is handled and the feed stays open, `ReadSoFar` holds after it, and `room` is smaller.
+-- If a piece is handled and the feed stays open, `ReadSoFar` holds after it, and `most_bytes_left` is smaller.
 pub one_piece_more : {H C : Type 0} (handles : Handles (H × C) ToolFault) → ShortLaw
     → (old now new : Option (List ℕ)) (before : H × C) (middle after : Counted H × C) (feed next : Unread) (piece : List ℕ)
     → ReadSoFar handles old now before middle.0.count feed (middle.0.handler, middle.1) → Consumes now new piece
     → 0 < length piece → (closed : Option DerFault) → closed ≡ None
     → HandlesCounted handles feed piece middle (Ok closed) next after
     → ReadSoFar handles old new before after.0.count next (after.0.handler, after.1)
-    × (room after.0.count next < room middle.0.count feed)
+    × (most_bytes_left after.0.count next < most_bytes_left middle.0.count feed)
 one_piece_more {H = H} {C = C} handles law old now new before middle after feed next piece so_far read some closed none each =
     let apdus = so_far.0 in
     let held = so_far.1 in

@@ -134,11 +134,11 @@ module _ {X : Type 0} (lt : X → X → Bool) (o : IsStrictWeakOrder lt) where
   tie_self x = both_tie x x (not_self x) (not_self x)
 
   -- If `x` and the first kept item of `xs` fail `test`, the first kept item `y` of `x ∷ xs` fails it.
-  first_of : (keeps test : X → Bool) (y x : X) (rest xs : List X) (is_kept : Bool)
+  first_of_two_kept : (keeps test : X → Bool) (y x : X) (rest xs : List X) (is_kept : Bool)
       → cond is_kept (x ∷ filter keeps xs) (filter keeps xs) ≡ y ∷ rest → test x ≡ false
       → (filter keeps xs ≡ y ∷ rest → test y ≡ false) → test y ≡ false
-  first_of keeps test y x rest xs true is not_x others = let same : x ≡ y = cc in ap test (sym same) ∙ not_x
-  first_of keeps test y x rest xs false is not_x others = others is
+  first_of_two_kept keeps test y x rest xs true is not_x others = let same : x ≡ y = cc in ap test (sym same) ∙ not_x
+  first_of_two_kept keeps test y x rest xs false is not_x others = others is
 
   -- If no item of `xs` passes `test`, the first kept item `y` fails it.
   first_kept : (keeps test : X → Bool) (y : X) (rest xs : List X) → filter keeps xs ≡ y ∷ rest → list_any test xs ≡ false
@@ -146,7 +146,7 @@ module _ {X : Type 0} (lt : X → X → Bool) (o : IsStrictWeakOrder lt) where
   first_kept keeps test y rest [] is none = cc
   first_kept keeps test y rest (x ∷ xs) is none =
       let parts = or_parts (test x) (list_any test xs) none in
-      first_of keeps test y x rest xs (keeps x) is parts.0 (λ is. first_kept keeps test y rest xs is parts.1)
+      first_of_two_kept keeps test y x rest xs (keeps x) is parts.0 (λ is. first_kept keeps test y rest xs is parts.1)
 
   -- If the head `x` of a list is kept, it is the first kept item.
   stands_first : (keeps : X → Bool) (x : X) (xs : List X) → keeps x ≡ true → filter keeps (x ∷ xs) ≡ x ∷ filter keeps xs
@@ -158,11 +158,11 @@ module _ {X : Type 0} (lt : X → X → Bool) (o : IsStrictWeakOrder lt) where
   after_first x ys zs false same = same
 
   -- Two lists in order are equal if, for each item `w`, their items that tie with `w` are equal.
-  alike : (ys zs : List X) → IsInOrder ys → IsInOrder zs → ((w : X) → filter (ties lt w) ys ≡ filter (ties lt w) zs) → ys ≡ zs
-  alike [] [] y_order z_order same = refl
-  alike [] (z ∷ zs) y_order z_order same = let e = same z ∙ stands_first (ties lt z) z zs (tie_self z) in cc
-  alike (y ∷ ys) [] y_order z_order same = let e = sym (stands_first (ties lt y) y ys (tie_self y)) ∙ same y in cc
-  alike (y ∷ ys) (z ∷ zs) y_order z_order same =
+  equal_if_ties_equal : (ys zs : List X) → IsInOrder ys → IsInOrder zs → ((w : X) → filter (ties lt w) ys ≡ filter (ties lt w) zs) → ys ≡ zs
+  equal_if_ties_equal [] [] y_order z_order same = refl
+  equal_if_ties_equal [] (z ∷ zs) y_order z_order same = let e = same z ∙ stands_first (ties lt z) z zs (tie_self z) in cc
+  equal_if_ties_equal (y ∷ ys) [] y_order z_order same = let e = sym (stands_first (ties lt y) y ys (tie_self y)) ∙ same y in cc
+  equal_if_ties_equal (y ∷ ys) (z ∷ zs) y_order z_order same =
       let of_y = sym (same y) ∙ stands_first (ties lt y) y ys (tie_self y) in
       let of_z = same z ∙ stands_first (ties lt z) z zs (tie_self z) in
       let not_y = first_kept (ties lt y) (λ v. lt v z) y (filter (ties lt y) ys) (z ∷ zs) of_y
@@ -171,7 +171,7 @@ module _ {X : Type 0} (lt : X → X → Bool) (o : IsStrictWeakOrder lt) where
       (or_from (lt y y) (list_any (λ v. lt v y) ys) (not_self y) y_order.0) in
       let both = sym of_y ∙ stands_first (ties lt y) z zs (both_tie y z not_y not_z) in
       let is : y ≡ z = cc in
-      let after = alike ys zs y_order.1 z_order.1
+      let after = equal_if_ties_equal ys zs y_order.1 z_order.1
       (λ w. after_first y (filter (ties lt w) ys) (filter (ties lt w) zs) (ties lt w y)
       (same w ∙ ap (λ (x : X). filter (ties lt w) (x ∷ zs)) (sym is))) in
       ap (λ (x : X). x ∷ ys) is ∙ ap (λ (rest : List X). z ∷ rest) after
@@ -191,4 +191,4 @@ module _ {X : Type 0} (lt : X → X → Bool) (o : IsStrictWeakOrder lt) where
   -- If `ys` is a stable sort of `xs`, it is `ordered lt xs`.
   pub sorted_is_ordered : (xs ys : List X) → IsSortedBy lt ys → IsStableBy lt xs ys → ys ≡ ordered lt xs
   sorted_is_ordered xs ys sorted stable =
-      alike ys (ordered lt xs) (in_order_from_sorted ys sorted) (ordered_in_order xs) (λ w. stable w ∙ sym (ordered_stable w xs))
+      equal_if_ties_equal ys (ordered lt xs) (in_order_from_sorted ys sorted) (ordered_in_order xs) (λ w. stable w ∙ sym (ordered_stable w xs))

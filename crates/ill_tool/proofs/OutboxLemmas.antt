@@ -74,20 +74,20 @@ zip_nothing [] = refl
 zip_nothing (item ∷ items) = refl
 
 -- A mail without a verdict does not ask, so it adds no bytes.
-absent : (live : DeskContents) (mail : Option Mail) (rest : List ℕ) → asks_at live mail None ++ rest ≡ rest
-absent live None rest = refl
-absent live (Some mail) rest = refl
+mail_without_verdict_is_silent : (live : DeskContents) (mail : Option Mail) (rest : List ℕ) → asks_at live mail None ++ rest ≡ rest
+mail_without_verdict_is_silent live None rest = refl
+mail_without_verdict_is_silent live (Some mail) rest = refl
 
 -- The bytes that ask from `place` on are those of the mail at `place`, and those of the later mails.
-pub one_asking : (live : DeskContents) (mails : List Mail) (verdicts : List Verdict) (place : ℕ)
+pub asking_split_at : (live : DeskContents) (mails : List Mail) (verdicts : List Verdict) (place : ℕ)
     → asks_at live (slice_get mails place) (slice_get verdicts place)
     ++ asked_by live (zip (drop (suc place) mails) (drop (suc place) verdicts))
     ≡ asked_by live (zip (drop place mails) (drop place verdicts))
-one_asking live [] verdicts zero = refl
-one_asking live [] verdicts (suc place) = refl
-one_asking live (mail ∷ mails) [] zero = ap (asked_by live) (zip_nothing mails)
-one_asking live (mail ∷ mails) [] (suc place) =
-    absent live (slice_get mails place) (asked_by live (zip (drop (suc place) mails) []))
+asking_split_at live [] verdicts zero = refl
+asking_split_at live [] verdicts (suc place) = refl
+asking_split_at live (mail ∷ mails) [] zero = ap (asked_by live) (zip_nothing mails)
+asking_split_at live (mail ∷ mails) [] (suc place) =
+    mail_without_verdict_is_silent live (slice_get mails place) (asked_by live (zip (drop (suc place) mails) []))
     ∙ ap (asked_by live) (zip_nothing (drop (suc place) mails) ∙ sym (zip_nothing (drop place mails)))
-one_asking live (mail ∷ mails) (verdict ∷ verdicts) zero = refl
-one_asking live (mail ∷ mails) (verdict ∷ verdicts) (suc place) = one_asking live mails verdicts place
+asking_split_at live (mail ∷ mails) (verdict ∷ verdicts) zero = refl
+asking_split_at live (mail ∷ mails) (verdict ∷ verdicts) (suc place) = asking_split_at live mails verdicts place

@@ -16,7 +16,7 @@ use Rattle.ill_tool.specs.declared.fault.ToolFault.TheVariants.{Arguments, Der, 
 use Rattle.ill_tool.specs.declared.fault.ToolFault.TheVariants.{OutOfMemory}
 use Rattle.ill_tool.specs.declared.shelf.TheConstants.{ESCAPED}
 use Rattle.ill_tool.specs.Input.{ReadsInput}
-use Rattle.ill_tool.proofs.InputLemmas.{reads_as}
+use Rattle.ill_tool.proofs.InputLemmas.{reads_on_views}
 use Rattle.ill_tool.specs.Shelf.{ShelfTaking, Follow, Headed, Stop, VisitsAll, desk_name, graver, gravest, takes_home}
 
 -- If visits lead from `before` to `between`, and `stop` begins there, `stop` may follow them.
@@ -104,5 +104,5 @@ pub taken_home : {S : Type 0} (view : S → ShelfTaking) (left rest : Option (Li
     → ReadsInput (λ (s : S) apdu r (t : S). takes_home (view s) apdu r (view t)) left rest before count after
     → ReadsInput takes_home left rest (view before) count (view after)
 taken_home view left rest before after count is =
-    reads_as (λ s apdu r t. takes_home (view s) apdu r (view t)) takes_home view (λ s t apdu r h. h) left rest before after count
+    reads_on_views (λ s apdu r t. takes_home (view s) apdu r (view t)) takes_home view (λ s t apdu r h. h) left rest before after count
     is

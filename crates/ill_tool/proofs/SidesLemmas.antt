@@ -13,25 +13,25 @@ use Rattle.ill_tool.proofs.HeldLemmas.{held_at_place}
 use Rattle.std.specs.Option.{option_to_list}
 
 -- The items from `place` on are the item at `place`, if there is one, and the later items.
-pub one_item : {X : Type 0} (items : List X) (place : ℕ)
+pub list_split_at : {X : Type 0} (items : List X) (place : ℕ)
     → option_to_list (slice_get items place) ++ drop (suc place) items ≡ drop place items
-one_item [] zero = refl
-one_item [] (suc place) = refl
-one_item (item ∷ items) zero = refl
-one_item (item ∷ items) (suc place) = one_item items place
+list_split_at [] zero = refl
+list_split_at [] (suc place) = refl
+list_split_at (item ∷ items) zero = refl
+list_split_at (item ∷ items) (suc place) = list_split_at items place
 
 -- If the entry `found` at `place` has `side`, and `released` of its messages are released, `found` consists of both.
-held_so : (live : DeskContents) (place : ℕ) (side : Side) (released : ℕ) (found : Option DeskEntry)
+entry_of_parts : (live : DeskContents) (place : ℕ) (side : Side) (released : ℕ) (found : Option DeskEntry)
     → are_apart (sides_held live).sides ≡ true → slice_get live.held place ≡ found
     → option_map (λ (held : DeskEntry). held.side) found ≡ Some side
     → released ≡ (held_for (txn_of side) live).released → found ≡ Some (record { side = side; released = released })
-held_so live place side released (Some held) apart at e counted =
+entry_of_parts live place side released (Some held) apart at e counted =
     let is : held.side ≡ side = some_is held.side side e in
     let there : held_for (txn_of side) live ≡ held =
     ap (λ s. held_for (txn_of s) live) (sym is) ∙ held_at_place live place held apart at in
     let many : held.released ≡ released = sym (counted ∙ ap (λ (h : DeskEntry). h.released) there) in
     ap (λ s. Some (record { side = s; released = held.released })) is ∙ ap (λ n. Some (record { side = side; released = n })) many
-held_so live place side released None apart at e counted = absurd (true≢false (sym (ap is_some e)))
+entry_of_parts live place side released None apart at e counted = absurd (true≢false (sym (ap is_some e)))
 
 -- The entry at `place` consists of the side at `place` and the number `released` of its released messages.
 pub held_there : (live : DeskContents) (place : ℕ) (side : Side) (released : ℕ)
@@ -39,16 +39,16 @@ pub held_there : (live : DeskContents) (place : ℕ) (side : Side) (released : �
     → released ≡ (held_for (txn_of side) live).released
     → slice_get live.held place ≡ Some (record { side = side; released = released })
 held_there live place side released apart at counted =
-    held_so live place side released (slice_get live.held place) apart refl
+    entry_of_parts live place side released (slice_get live.held place) apart refl
     (sym (slice_get-map (λ (held : DeskEntry). held.side) live.held place) ∙ at) counted
 
 -- If `found` has no side, it is `None`.
-none_so : (found : Option DeskEntry) → option_map (λ (held : DeskEntry). held.side) found ≡ None → found ≡ None
-none_so (Some held) e = absurd (true≢false (ap is_some e))
-none_so None e = refl
+no_side_no_entry : (found : Option DeskEntry) → option_map (λ (held : DeskEntry). held.side) found ≡ None → found ≡ None
+no_side_no_entry (Some held) e = absurd (true≢false (ap is_some e))
+no_side_no_entry None e = refl
 
 -- If a desk has no side at `place`, it has no entry at `place`.
 pub none_there : (live : DeskContents) (place : ℕ) → slice_get (sides_held live).sides place ≡ None
     → slice_get live.held place ≡ None
-none_there live place at = none_so (slice_get live.held place)
+none_there live place at = no_side_no_entry (slice_get live.held place)
     (sym (slice_get-map (λ (held : DeskEntry). held.side) live.held place) ∙ at)

@@ -17,30 +17,30 @@ unfolding trace_from
 not_begun txn old before = ([], [], Consumes-nil old, Appends-nil before, λ more e. ([], ((script more).events, refl), refl))
 
 -- If no transaction id is made, the command returns that fault, and reads and writes nothing.
-pub no_id : (id : Result Qualifiers TextFault) (old before : Option (List ℕ)) (fault : ToolFault) (result : Result ℕ ToolFault)
+pub fault_without_id : (id : Result Qualifiers TextFault) (old before : Option (List ℕ)) (fault : ToolFault) (result : Result ℕ ToolFault)
     → GivesId id (Err fault)
     → IsErrAnd result (λ (f : ToolFault). f ≡ fault) → Performs id old old before before result
-no_id id old before fault (Ok count) given failed = absurd failed
-no_id (Ok txn) old before fault (Err tool) given failed =
+fault_without_id id old before fault (Ok count) given failed = absurd failed
+fault_without_id (Ok txn) old before fault (Err tool) given failed =
     subst (λ (f : ToolFault). Performs (Ok txn) old old before before (Err f)) (sym (failed ∙ given))
     (Err simulation.OutOfMemory, not_begun txn old before, refl)
-no_id (Err text) old before fault (Err tool) given failed =
+fault_without_id (Err text) old before fault (Err tool) given failed =
     (ap (λ (f : ToolFault). Err f) (failed ∙ given), Consumes-nil old, Appends-nil before)
 
--- If the script is performed in the transaction `txn`, the command returns the answer of the simulation.
-pub performed : (id : Result Qualifiers TextFault) (txn : Qualifiers) (old new before after : Option (List ℕ))
+-- If the script is simulation_performed in the transaction `txn`, the command returns the answer of the simulation.
+pub simulation_performed : (id : Result Qualifiers TextFault) (txn : Qualifiers) (old new before after : Option (List ℕ))
     (simulated : Result ℕ SimFault)
     → GivesId id (Ok txn)
     → Simulates txn old new before after simulated → Performs id old new before after (tool_answer simulated)
-performed (Ok wanted) txn old new before after simulated given done =
+simulation_performed (Ok wanted) txn old new before after simulated given done =
     (simulated, subst (λ (t : Qualifiers). Simulates t old new before after simulated) given done, refl)
-performed (Err text) txn old new before after simulated given done = absurd given
+simulation_performed (Err text) txn old new before after simulated given done = absurd given
 
--- If the script is performed up to `fault`, the command returns that fault.
+-- If the script is simulation_performed up to `fault`, the command returns that fault.
 pub performed_until : (id : Result Qualifiers TextFault) (txn : Qualifiers) (old new before after : Option (List ℕ))
     (fault : SimFault) (tool : ToolFault)
     → GivesId id (Ok txn)
     → Simulates txn old new before after (Err fault) → tool ≡ sim_fault fault → Performs id old new before after (Err tool)
 performed_until id txn old new before after fault tool given done is =
     subst (λ (f : ToolFault). Performs id old new before after (Err f)) (sym is)
-    (performed id txn old new before after (Err fault) given done)
+    (simulation_performed id txn old new before after (Err fault) given done)

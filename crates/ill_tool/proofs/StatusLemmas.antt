@@ -30,32 +30,32 @@ joined_by_spaces text (word ∷ words) some = ap (λ (more : List ℕ). text wor
 -- ---- one side after another
 
 -- The text of the sides from `place` on is that of the side at `place`, and of the later ones.
-pub one_further : (form : Form) (sides : List DeskEntry) (place : ℕ)
+pub status_split_at : (form : Form) (sides : List DeskEntry) (place : ℕ)
     → status_of_desk form (drop place sides)
     ≡ text_of_one form (slice_get sides place) ++ status_of_desk form (drop (suc place) sides)
-one_further form [] zero = refl
-one_further form [] (suc place) = refl
-one_further form (held ∷ sides) zero = refl
-one_further form (held ∷ sides) (suc place) = one_further form sides place
+status_split_at form [] zero = refl
+status_split_at form [] (suc place) = refl
+status_split_at form (held ∷ sides) zero = refl
+status_split_at form (held ∷ sides) (suc place) = status_split_at form sides place
 
 -- If the entry `found` at `place` has `side`, and `released` of its messages are released, its text is theirs.
-lines_so : (form : Form) (live : DeskContents) (place : ℕ) (side : Side) (released : ℕ) (found : Option DeskEntry)
+status_text_of_entry : (form : Form) (live : DeskContents) (place : ℕ) (side : Side) (released : ℕ) (found : Option DeskEntry)
     → are_apart (sides_held live).sides ≡ true → slice_get live.held place ≡ found
     → option_map (λ (held : DeskEntry). held.side) found ≡ Some side
     → released ≡ (held_for (txn_of side) live).released → status_text form side released ≡ text_of_one form found
-lines_so form live place side released (Some held) apart at e counted =
+status_text_of_entry form live place side released (Some held) apart at e counted =
     let is : held.side ≡ side = some_is held.side side e in
     let there : held_for (txn_of side) live ≡ held =
     ap (λ s. held_for (txn_of s) live) (sym is) ∙ held_at_place live place held apart at in
     ap (status_text form side) (counted ∙ ap (λ (h : DeskEntry). h.released) there)
     ∙ ap (λ s. status_text form s held.released) (sym is)
-lines_so form live place side released None apart at e counted = absurd (true≢false (sym (ap is_some e)))
+status_text_of_entry form live place side released None apart at e counted = absurd (true≢false (sym (ap is_some e)))
 
 -- If `found` has no side, its text is empty.
-no_lines_so : (form : Form) (found : Option DeskEntry) → option_map (λ (held : DeskEntry). held.side) found ≡ None
+no_side_no_text : (form : Form) (found : Option DeskEntry) → option_map (λ (held : DeskEntry). held.side) found ≡ None
     → [] ≡ text_of_one form found
-no_lines_so form (Some held) e = absurd (true≢false (ap is_some e))
-no_lines_so form None e = refl
+no_side_no_text form (Some held) e = absurd (true≢false (ap is_some e))
+no_side_no_text form None e = refl
 
 -- The text of the entry at `place` is that of its side and the number of its released messages.
 pub lines_there : (form : Form) (live : DeskContents) (place : ℕ) (side : Side) (released : ℕ)
@@ -63,11 +63,11 @@ pub lines_there : (form : Form) (live : DeskContents) (place : ℕ) (side : Side
     → released ≡ (held_for (txn_of side) live).released
     → status_text form side released ≡ text_of_one form (slice_get live.held place)
 lines_there form live place side released apart at counted =
-    lines_so form live place side released (slice_get live.held place) apart refl
+    status_text_of_entry form live place side released (slice_get live.held place) apart refl
     (sym (slice_get-map (λ (held : DeskEntry). held.side) live.held place) ∙ at) counted
 
 -- If a desk has no side at `place`, the text of the entry at `place` is empty.
 pub no_lines_there : (form : Form) (live : DeskContents) (place : ℕ) → slice_get (sides_held live).sides place ≡ None
     → [] ≡ text_of_one form (slice_get live.held place)
 no_lines_there form live place at =
-    no_lines_so form (slice_get live.held place) (sym (slice_get-map (λ (held : DeskEntry). held.side) live.held place) ∙ at)
+    no_side_no_text form (slice_get live.held place) (sym (slice_get-map (λ (held : DeskEntry). held.side) live.held place) ∙ at)

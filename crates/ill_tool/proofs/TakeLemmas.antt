@@ -15,7 +15,7 @@ use Rattle.ill_saved.specs.Holdings.{Effects}
 use Rattle.ill_tool.specs.Performing.{HeldAndLanded, ToolFailsCounted}
 use Rattle.ill_tool.specs.Telling.{Wording}
 use Rattle.ill_tool.specs.Take.{KeepsDesk, Progress, progress, takes_each, answer_of, RunsTaking}
-use Rattle.ill_tool.proofs.InputLemmas.{reads_as}
+use Rattle.ill_tool.proofs.InputLemmas.{reads_on_views}
 
 -- ---- properties that each message keeps
 
@@ -109,7 +109,7 @@ module _ {H S D A B C L N W : Type 0} {n m : ℕ} (is_kept : Bool) (told : Wordi
       × KeepsDesk is_kept result before.0.desk.ghost_name after.0.desk.ghost_name before.0.came.ghost_name after.0.came.ghost_name
       (failures before.0.desk.now) (failures after.0.desk.now)
   input_taken old new before after result fine is =
-      let taken = reads_as TakesOn (takes_each is_kept told effects) how_far (λ s t apdu r h. h.0) old new before after result
+      let taken = reads_on_views TakesOn (takes_each is_kept told effects) how_far (λ s t apdu r h. h.0) old new before after result
       is in
       let first = progress (view before.0.desk.now) (kept before.0.came.now) (contents before.1) in (
         (

@@ -3,10 +3,10 @@ use Rattle.std.proofs.Common.{◌≡◌, ◌+◌, ◌++◌, drop, ap, ◌∙◌,
 use Rattle.std.specs.Prelude.{slice_get}
 use Rattle.std.specs.List.{zip}
 use Rattle.ill_tool.specs.Outbox.{asked_by, asks_at}
-use Rattle.ill_tool.proofs.OutboxLemmas.{one_asking}
+use Rattle.ill_tool.proofs.OutboxLemmas.{asking_split_at}
 use Rattle.ill_tool.proofs.asked.asked_by.Goals as goal
 
--- Proves the loop invariant of `asked_by` after one more mail. `one_asking` splits off the bytes of the mail at
+-- Proves the loop invariant of `asked_by` after one more mail. `asking_split_at` splits off the bytes of the mail at
 -- `place`.
 pub loop-place-preserved : goal.loop-place-preserved
 loop-place-preserved g c =
@@ -19,7 +19,7 @@ loop-place-preserved g c =
     let left = asked_by live (zip (drop (place + 1) mails) (drop (place + 1) verdicts)) in
     let further : here ++ left ≡ asked_by live (zip (drop place mails) (drop place verdicts)) =
     ap (λ n. here ++ asked_by live (zip (drop n mails) (drop n verdicts))) (add-one place)
-    ∙ one_asking live mails verdicts place in
+    ∙ asking_split_at live mails verdicts place in
     record {
       there = ap (λ items. items ++ left) c.in_ok-push_asking_at.ensures ∙ append_assoc so_far here left
           ∙ ap (λ items. so_far ++ items) further ∙ c.loop-place.invariant.there;

@@ -3,10 +3,10 @@ use Rattle.std.proofs.Common.{◌≡◌, ◌+◌, ◌++◌, drop, ap, sym, ◌�
 use Rattle.std.specs.Prelude.{slice_get}
 use Rattle.std.specs.Option.{option_to_list}
 use Rattle.ill_tool.specs.Dates.{all_due, due_at}
-use Rattle.ill_tool.proofs.DatesLemmas.{one_further}
+use Rattle.ill_tool.proofs.DatesLemmas.{deeds_split_at}
 use Rattle.ill_tool.proofs.dates.all_due.Goals as goal
 
--- Proves the loop invariant of `all_due` after one more loan. `one_further` splits off the deed of the loan at `place`.
+-- Proves the loop invariant of `all_due` after one more loan. `deeds_split_at` splits off the deed of the loan at `place`.
 pub loop-place-preserved : goal.loop-place-preserved
 loop-place-preserved c =
     let which = c.args.which in
@@ -17,7 +17,7 @@ loop-place-preserved c =
     let here = option_to_list (due_at which today (slice_get sides place)) in
     let left = all_due which today (drop (place + 1) sides) in
     let further : here ++ left ≡ all_due which today (drop place sides) =
-    ap (λ n. here ++ all_due which today (drop n sides)) (add-one place) ∙ sym (one_further which today sides place) in
+    ap (λ n. here ++ all_due which today (drop n sides)) (add-one place) ∙ sym (deeds_split_at which today sides place) in
     record {
       all = ap (λ items. items ++ left) c.in_ok-push_due_at.ensures ∙ append_assoc so_far here left
           ∙ ap (λ items. so_far ++ items) further ∙ c.loop-place.invariant.all;

@@ -1,6 +1,6 @@
 -- States the loop invariant and the measure of `handle_input` (`src/input.rt`).
 use Rattle.std.proofs.Common.{◌≡◌, length}
-use Rattle.ill_tool.proofs.InputLemmas.{ReadSoFar, room}
+use Rattle.ill_tool.proofs.InputLemmas.{ReadSoFar, most_bytes_left}
 use Rattle.ill_tool.proofs.input.handle_input.Given as goal
 
 -- The APDUs whose encodings were read have been handled, and the bytes after them are held.
@@ -14,4 +14,4 @@ invariant-loop-feed g l = record {
 
 -- Returns an upper bound of the bytes that may still be read.
 abbrev pub decreases-loop-feed : goal.decreases-loop-feed
-decreases-loop-feed g l = room l.counted.count l.feed
+decreases-loop-feed g l = most_bytes_left l.counted.count l.feed

@@ -3,10 +3,10 @@ use Rattle.std.proofs.Common.{◌≡◌, ◌+◌, ◌++◌, map, drop, ap, ◌�
 use Rattle.std.specs.Prelude.{slice_get}
 use Rattle.std.specs.Option.{option_to_list}
 use Rattle.ill_tool.specs.Outbox.{held_of}
-use Rattle.ill_tool.proofs.SidesLemmas.{one_item}
+use Rattle.ill_tool.proofs.SidesLemmas.{list_split_at}
 use Rattle.ill_tool.proofs.sides.all_held.Goals as goal
 
--- Proves the loop invariant of `all_held` after one more entry. `one_item` splits off the entry at `place`.
+-- Proves the loop invariant of `all_held` after one more entry. `list_split_at` splits off the entry at `place`.
 pub loop-place-preserved : goal.loop-place-preserved
 loop-place-preserved g c =
     let held = c.args.desk.now.live.held in
@@ -14,7 +14,7 @@ loop-place-preserved g c =
     let so_far = map held_of c.loop-place.all.items in
     let here = option_to_list (slice_get held place) in
     let left = drop (place + 1) held in
-    let further : here ++ left ≡ drop place held = ap (λ n. here ++ drop n held) (add-one place) ∙ one_item held place in
+    let further : here ++ left ≡ drop place held = ap (λ n. here ++ drop n held) (add-one place) ∙ list_split_at held place in
     record {
       all = ap (λ items. items ++ left) c.in_ok-push_held_at.ensures ∙ append_assoc so_far here left
           ∙ ap (λ items. so_far ++ items) further ∙ c.loop-place.invariant.all;

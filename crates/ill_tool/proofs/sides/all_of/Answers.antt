@@ -3,10 +3,10 @@ use Rattle.std.proofs.Common.{◌≡◌, ◌+◌, ◌++◌, map, drop, Bor, ap, 
 use Rattle.std.specs.Prelude.{slice_get}
 use Rattle.std.specs.Option.{option_to_list}
 use Rattle.ill_saved.specs.declared.side.Side.{Side}
-use Rattle.ill_tool.proofs.SidesLemmas.{one_item}
+use Rattle.ill_tool.proofs.SidesLemmas.{list_split_at}
 use Rattle.ill_tool.proofs.sides.all_of.Goals as goal
 
--- Proves the loop invariant of `all_of` after one more side. `one_item` splits off the side at `place`.
+-- Proves the loop invariant of `all_of` after one more side. `list_split_at` splits off the side at `place`.
 pub loop-place-preserved : goal.loop-place-preserved
 loop-place-preserved c =
     let sides = c.args.sides.now.sides in
@@ -14,7 +14,7 @@ loop-place-preserved c =
     let so_far = map (λ (side : Bor Side). side.now) c.loop-place.all.items in
     let here = option_to_list (slice_get sides place) in
     let left = drop (place + 1) sides in
-    let further : here ++ left ≡ drop place sides = ap (λ n. here ++ drop n sides) (add-one place) ∙ one_item sides place in
+    let further : here ++ left ≡ drop place sides = ap (λ n. here ++ drop n sides) (add-one place) ∙ list_split_at sides place in
     record {
       all = ap (λ items. items ++ left) c.in_ok-push_at.ensures ∙ append_assoc so_far here left
           ∙ ap (λ items. so_far ++ items) further ∙ c.loop-place.invariant.all;

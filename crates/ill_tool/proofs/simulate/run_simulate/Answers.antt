@@ -1,15 +1,15 @@
 -- Answers the contract of `run_simulate` (`src/simulate.rt`).
 use Rattle.std.proofs.Common.{Ok}
-use Rattle.ill_tool.proofs.SimulateLemmas.{no_id, performed, performed_until}
+use Rattle.ill_tool.proofs.SimulateLemmas.{fault_without_id, simulation_performed, performed_until}
 use Rattle.ill_tool.proofs.simulate.run_simulate.Goals as goal
 
--- Proves the contract of `run_simulate` if no transaction id is made. By `no_id` that fault is the answer.
+-- Proves the contract of `run_simulate` if no transaction id is made. By `fault_without_id` that fault is the answer.
 pub returns-in_err-txn : goal.returns-in_err-txn
-returns-in_err-txn g c = no_id _ _ _ c.in_err-txn.field-0.0 c.from_residual.result c.in_err-txn.ensures c.from_residual.ensures.1
+returns-in_err-txn g c = fault_without_id _ _ _ c.in_err-txn.field-0.0 c.from_residual.result c.in_err-txn.ensures c.from_residual.ensures.1
 
--- Proves the contract of `run_simulate` if the script is performed to its end. By `performed` the count is the answer.
+-- Proves the contract of `run_simulate` if the script is simulation_performed to its end. By `simulation_performed` the count is the answer.
 pub returns-in-Ok : goal.returns-in-Ok
-returns-in-Ok g c = performed _ _ _ _ _ _ (Ok c.in-Ok.count) c.in_ok-txn.ensures c.in-Ok.ensures.simulates
+returns-in-Ok g c = simulation_performed _ _ _ _ _ _ (Ok c.in-Ok.count) c.in_ok-txn.ensures c.in-Ok.ensures.simulates
 
 -- Proves the contract of `run_simulate` if the simulation fails. By `performed_until` that fault is the answer.
 pub returns : goal.returns

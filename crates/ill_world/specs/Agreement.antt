@@ -1,4 +1,4 @@
--- The promises on which both sides may rely in every world of every run (this profile's own).
+-- These promises hold in every world of every run, and both sides may rely on them. They are this profile's own.
 use Rattle.std.specs.Prelude.{◌≡◌, ◌⊎◌, ℕ, true, false, List, [], ◌∷◌, Option, Some, take}
 use Rattle.ill_values.specs.Day.{Date}
 use Rattle.ill_values.specs.declared.apdu.Apdu.{Apdu}
@@ -29,23 +29,24 @@ use Rattle.ill_world.specs.Safety.{OfBoth}
 
 -- ---- one answer, and one end
 
--- No two APDUs at different numbers answer one number.
+-- No two messages answer one number.
 abbrev pub AnswersOnce : (Body → Option ℕ) → (ℕ → Option Apdu) → Type 0
 AnswersOnce answered at =
     (m n k : ℕ) (a b : Apdu) → at m ≡ Some a → at n ≡ Some b →
     answered a.body ≡ Some k → answered b.body ≡ Some k → m ≡ n
 
--- No two APDUs in memory answer one number, and no two that were sent.
+-- No two messages of the live side answer one number. Nor do two messages that were sent.
 abbrev pub AnswersOnceBoth : (Body → Option ℕ) → Party → Type 0
 AnswersOnceBoth answered p = AnswersOnce answered (message (issued_of p.live)) × AnswersOnce answered (sent_message p.sent)
 
--- No conditions have two replies, and no Cancel and no Renew has two answers: in memory, and among the sent.
+-- No conditions have two replies, and no Cancel and no Renew has two answers. This holds of the live lists and of the
+-- sent messages.
 pub record EachAnsweredOnce (w : Parties) : Type 0 where
   pub conditions : AnswersOnceBoth replied_number w.requester
   pub cancels : AnswersOnceBoth (answered_number MayCancel) w.responder
   pub renewals : AnswersOnceBoth (answered_number MayRenew) w.responder
 
--- If message n of `side` ends the request, it is the last that does. So no two do.
+-- If message n of `side` ends the request, it is the last one that does. So no two messages end it.
 abbrev pub EndsOnce : Side → Type 0
 EndsOnce side =
     (n : ℕ) (a : Apdu) → message (issued_of side) n ≡ Some a → is_end a.body ≡ true →
@@ -58,19 +59,19 @@ abbrev pub Facing : (RequesterRecord → ResponderRecord → Type 0) → Side �
 Facing P (sides.Requester x) (sides.Responder y) = P x y
 Facing P requester responder = ⊥
 
--- If a responder has conditions c as accepted, the requester has sent a Conditional-Reply yes to c. It has this
--- message in memory.
+-- If a responder has conditions c as accepted, the requester has sent a Conditional-Reply yes to c. The live requester
+-- has this message.
 abbrev pub AcceptedBy : Parties → Side → Type 0
 AcceptedBy w (sides.Responder y) =
     (c : ℕ) → y.accepted ≡ Some c → (n : ℕ) × (a : Apdu) × (sent_message w.requester.sent n ≡ Some a)
     × (message (issued_of w.requester.live) n ≡ Some a) × (accepts a.body ≡ Some c)
 AcceptedBy w (sides.Requester x) = ⊥
 
--- If the requester has a due date, the responder has one, and no earlier one.
+-- If the requester has a due date, the responder has one that is not earlier.
 abbrev pub IsNotLater : RequesterRecord → ResponderRecord → Type 0
 IsNotLater x y = (d : Date) → x.due ≡ Some d → (e : Date) × (due_of y ≡ Some e) × (is_before e d ≡ false)
 
--- Either record is right on the other side: on a return, a cancellation, a receipt and a check-in.
+-- Each record's claims on the other side are right: on a return, a cancellation, a receipt and a check-in.
 pub record SaysTrue (x : RequesterRecord) (y : ResponderRecord) : Type 0 where
   pub returned : is_among (states.Returned ∷ states.CheckedIn ∷ []) y.state ≡ true → x.state ≡ states.Returned
   pub cancelled : y.state ≡ states.Cancelled →
@@ -80,8 +81,9 @@ pub record SaysTrue (x : RequesterRecord) (y : ResponderRecord) : Type 0 where
 
 -- ---- worlds
 
--- The sides of `w` agree: each question has one answer and the request one end, at most. Acceptances were given, and
--- the dates and the records of both fit.
+-- The sides of `w` agree. Each question has at most one answer, and the request at most one end. The requester has
+-- accepted the conditions that the responder has as accepted. The due dates fit, and each record's claims on the other
+-- side are right.
 pub record Agrees (w : Parties) : Type 0 where
   pub answered : EachAnsweredOnce w
   pub ended : EndsOnce w.responder.live × EndsOnce w.responder.landed
@@ -95,13 +97,13 @@ IsAgreeingRun w events = (n : ℕ) → Agrees (run_of w (take n events))
 
 -- ---- events
 
--- The requester's live due date stays or rises, if there was one, unless the requester restarts.
+-- If the requester has a live due date, an event other than its restart keeps or raises it.
 abbrev pub KeepsLiveDate : Event → Party → Party → Type 0
 KeepsLiveDate (Restart Requester) old new = Unit {0}
 KeepsLiveDate event old new = KeepsDue (due_date_of old.live) (due_date_of new.live)
 
--- The requester's landed due date stays or rises, if there was one. So does the live one, unless the requester
--- restarts.
+-- If the requester has a landed due date, an event keeps or raises it. It keeps or raises the live one too, unless it
+-- is the requester's restart.
 abbrev pub KeepsDates : Parties → Event → Parties → Type 0
 KeepsDates old event new =
     KeepsLiveDate event old.requester new.requester
@@ -118,8 +120,8 @@ abbrev pub Settles : List State → Outcome → Side → Type 0
 Settles among outcome side =
     ((outcome ≡ Answered Taken) ⊎ (outcome ≡ Answered Repeat)) × (is_among among (state_of side) ≡ true)
 
--- A delivery of a sent end of the request leads the requester to its outcome. One of a sent Returned leaves the
--- responder in RETURNED or CHECKED-IN.
+-- A delivery of a message that ends the request settles the requester in the states of `settled_by`. A delivery of a
+-- Returned settles the responder in RETURNED or CHECKED-IN.
 abbrev pub Arrives : Parties → Event → Type 0
 Arrives w (Deliver Requester n) =
     (a : Apdu) → sent_message w.responder.sent n ≡ Some a → is_end a.body ≡ true →

@@ -1,5 +1,5 @@
--- The events of two desks that are of a transaction, and those that no run may have, each by its fault. By the laws
--- the definitions on two desks take the first, and exclude the others.
+-- These are the events of two desks that belong to a transaction, and events that no run may have. By the laws the
+-- definitions on desks take the former, and exclude the latter.
 use Rattle.std.specs.Prelude.{◌≡◌, ◌⊎◌, ℕ, true, List, [], ◌∷◌, Some}
 use Rattle.ill_values.specs.Day.{Date}
 use Rattle.ill_values.specs.TxnId.{Qualifiers}
@@ -33,7 +33,7 @@ Names txn (Send who named n) = named ≡ txn
 Names txn (Deliver who named n) = named ≡ txn
 Names txn other = ⊥
 
--- The outcome is NoSuchTransaction or DeskFull.
+-- The outcome is NoSuchTransaction or DeskFull: the event reaches no side.
 abbrev pub IsNotReached : DeskOutcome → Type 0
 IsNotReached outcome = (outcome ≡ NoSuchTransaction) ⊎ (outcome ≡ DeskFull)
 
@@ -50,7 +50,7 @@ ChangesUnreached outcome old new = IsNotReached outcome × (new ≡ old → ⊥)
 
 -- ---- deliveries
 
--- The APDU ends the request, and has to lead the requester to one of these states.
+-- The APDU ends the request, and must lead the requester to one of these states.
 pub data EndsIn : Body → List State → Type 0 where
   shipped : (due : Date) → EndsIn (bodies.Shipped due) later
   cancelled : (c : ℕ) → EndsIn (bodies.CancelReply c true) (states.Cancelled ∷ [])
@@ -58,12 +58,13 @@ pub data EndsIn : Body → List State → Type 0 where
   refused : (answer : AnswerResult) → is_final answer ≡ true →
       EndsIn (bodies.IllAnswer answer) (states.NotSupplied ∷ [])
 
--- The delivery does not reach its transaction, or is unheeded there.
+-- The delivery does not reach its transaction, or `IsUnheeded` holds there.
 abbrev pub IsUnheededAt : List State → DeskOutcome → Side → Type 0
 IsUnheededAt among (Plain outcome) side = IsUnheeded among outcome side
 IsUnheededAt among other side = Unit {0}
 
--- A message sent in a transaction arrives in vain: an end at the requester's desk, or a Returned at the responder's.
+-- A message sent in a transaction arrives in vain. It ends the request and reaches the requester's desk, or is a
+-- Returned and reaches the responder's.
 pub data ArrivesInVainAt (w : DeskParties) : DeskEvent → Type 0 where
   end_in_vain : (txn : Qualifiers) (n : ℕ) (a : Apdu) (among : List State) →
       sent_message (sent_for txn w.responder.sent) n ≡ Some a → EndsIn a.body among →

@@ -1,5 +1,5 @@
--- Rounds without one message, and a world for each side in which that message is needed. By the law a whole round
--- brings both sides in step there, and such a round does not.
+-- For each side there is a world in which its last message is needed. A whole round brings both sides in step there. A
+-- round without this message does not.
 use Rattle.std.specs.Prelude.{◌-◌, List, [], ◌∷◌, ◌++◌, length, None, codes}
 use Rattle.ill_values.specs.TxnId.{Qualifiers}
 use Rattle.ill_values.specs.declared.apdu.AnswerResult.TheVariants.{Unfilled}
@@ -24,9 +24,9 @@ abbrev pub cut_round : Who → Parties → List Event
 cut_round Requester w = cut_half Requester w ++ half_of Responder (run_of w (cut_half Requester w))
 cut_round Responder w = half_of Requester w ++ cut_half Responder (run_of w (half_of Requester w))
 
--- ---- a world in which the message is wanted
+-- ---- a world in which the message is needed
 
--- The transaction of both worlds.
+-- The two worlds are of this transaction.
 abbrev pub named_loan : Qualifiers
 named_loan = record { group = codes "North-2025"; transaction = codes "17" }
 
@@ -34,17 +34,17 @@ named_loan = record { group = codes "North-2025"; transaction = codes "17" }
 abbrev pub request : List Event
 request = Wish (wishes.Request None (codes "A History of Maps")) ∷ []
 
--- The request reaches the responder, which cannot supply the item.
+-- The request reaches the responder, which answers that it cannot supply the item.
 abbrev pub refusal : List Event
 refusal =
     Save Requester ∷ Send Requester 1 ∷ Deliver Responder 1
     ∷ Deed (deeds.Answer Unfilled) (record { year = 2025; month = 3; day = 1 }) ∷ []
 
--- Returns events that end with a message of the given party, which the other one has not heard.
+-- Returns events that end with an issued message of `who`. It has not reached the other party.
 abbrev pub until_unheard : Who → List Event
 until_unheard Requester = request
 until_unheard Responder = request ++ refusal
 
--- Returns the world in which the other party has not heard the last message of `who`.
+-- Returns the world after these events, in which the last message of `who` has not reached the other party.
 abbrev pub last_unheard : Who → Parties
 last_unheard who = run_of (first_world named_loan) (until_unheard who)

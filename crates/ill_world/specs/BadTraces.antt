@@ -1,13 +1,13 @@
--- Texts that no simulation may have written when the writer failed or memory ran out, each by its fault.
+-- These texts no simulation may have written when the writer failed or memory ran out. Each case has its own fault.
 use Rattle.std.specs.Prelude.{◌≡◌, ℕ, List, ◌∷◌, ◌++◌}
 
--- The bytes written are no prefix of the trace: they go on after its end, or differ at some place.
+-- The bytes written are no prefix of `trace`. They go on after its end, or differ from it in some byte.
 pub data Leaves (written trace : List ℕ) : Type 0 where
   goes_on : (byte : ℕ) (rest : List ℕ) → written ≡ trace ++ byte ∷ rest → Leaves written trace
   differs : (common rest more : List ℕ) (byte other : ℕ) → written ≡ common ++ byte ∷ rest →
       trace ≡ common ++ other ∷ more → (byte ≡ other → ⊥) → Leaves written trace
 
--- The bytes written are the trace of no prefix of `events`.
+-- No prefix of `events` has the bytes written as its trace.
 abbrev pub IsOfNoPrefix : {E : Type 0} → (List E → List ℕ) → List E → List ℕ → Type 0
 IsOfNoPrefix {E = E} trace_of events written =
     (prefix more : List E) → events ≡ prefix ++ more → written ≡ trace_of prefix → ⊥

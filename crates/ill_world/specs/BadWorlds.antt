@@ -1,5 +1,5 @@
--- Worlds that no run may lead to, and events that no world may have, each by its fault. By the laws such a world is
--- not safe, or its sides do not agree. No such event keeps the promises on events.
+-- These are worlds that no run may lead to, and events that no world may have. Each case has its own fault. By the laws
+-- such a world is not safe, or its sides do not agree. Such an event breaks a promise on events.
 use Rattle.std.specs.Prelude.{◌≡◌, ◌⊎◌, ℕ, Bool, true, false, List, [], ◌∷◌, Option, Some}
 use Rattle.ill_values.specs.Day.{Date}
 use Rattle.ill_values.specs.declared.apdu.Apdu.{Apdu}
@@ -30,7 +30,7 @@ use Rattle.ill_world.specs.World.{Party, Parties, happens, sent_message}
 abbrev pub Has : Party → Side → Type 0
 Has p side = (p.live ≡ side) ⊎ (p.landed ≡ side)
 
--- `says` holds of the body of no message.
+-- `says` holds of no message's body.
 abbrev pub NoneSays : (ℕ → Option Apdu) → (Body → Type 0) → Type 0
 NoneSays at says = (n : ℕ) (a : Apdu) → at n ≡ Some a → says a.body → ⊥
 
@@ -41,30 +41,30 @@ TwoSay at this that =
 
 -- ---- safety
 
--- The responder's record contradicts the requester's.
+-- The responder's record contradicts the requester's. Each case gives one reason.
 pub data Contradicts (requester responder : Side) : Type 0 where
-  -- one has given the request up, and the other has not
+  -- The requester is in NOT-SUPPLIED or CANCELLED, and the responder is not.
   not_supplied : state_of requester ≡ states.NotSupplied →
       (state_of responder ≡ states.NotSupplied → ⊥) → Contradicts requester responder
   cancelled : state_of requester ≡ states.Cancelled →
       (state_of responder ≡ states.Cancelled → ⊥) → Contradicts requester responder
-  -- one is in SHIPPED or later, and the other has not shipped
+  -- The requester is in SHIPPED or later, and the responder has issued no Shipped.
   never_shipped : is_among later (state_of requester) ≡ true →
       has is_shipped (issued_of responder) ≡ false → Contradicts requester responder
-  -- one has a due date that the other has not granted
+  -- The requester has a due date that the responder has not granted.
   never_granted : (due : Date) → due_date_of requester ≡ Some due →
       NoneSays (message (issued_of responder)) (λ body. grant_in body ≡ Some due) → Contradicts requester responder
 
--- A record of the requester is contradicted by one of the responder.
+-- A record of the responder contradicts one of the requester.
 pub data IsUnsafe (w : Parties) : Type 0 where
   contradicted : (requester responder : Side) → Has w.requester requester → Has w.responder responder →
       Contradicts requester responder → IsUnsafe w
 
 -- ---- agreement
 
--- One of the two records is wrong on the other side.
+-- A claim of one record on the other side is wrong.
 pub data Misleads (x : RequesterRecord) (y : ResponderRecord) : Type 0 where
-  -- the due date is after each that the responder has
+  -- The requester's due date is after each due date that the responder has.
   due_later : (due : Date) → x.due ≡ Some due →
       ((granted : Date) → due_of y ≡ Some granted → is_before granted due ≡ true) → Misleads x y
   not_returned : y.state ≡ states.Returned → (x.state ≡ states.Returned → ⊥) → Misleads x y
@@ -74,11 +74,11 @@ pub data Misleads (x : RequesterRecord) (y : ResponderRecord) : Type 0 where
   not_received : y.received ≡ true → has is_received x.issued ≡ false → Misleads x y
   not_checked_in : x.checked_in ≡ true → (y.state ≡ states.CheckedIn → ⊥) → Misleads x y
 
--- `at` gives the messages that `p` has in memory, or those that it has sent.
+-- `at` gives the messages of the live side of `p`, or those that `p` has sent.
 abbrev pub HasMessages : Party → (ℕ → Option Apdu) → Type 0
 HasMessages p at = (at ≡ message (issued_of p.live)) ⊎ (at ≡ sent_message p.sent)
 
--- The sides of `w` do not agree.
+-- The sides of `w` do not agree. Each case gives one reason.
 pub data Disagrees (w : Parties) : Type 0 where
   conditions_twice : (at : ℕ → Option Apdu) (k : ℕ) (said again : Bool) → HasMessages w.requester at →
       TwoSay at (λ body. body ≡ ConditionalReply k said) (λ body. body ≡ ConditionalReply k again) → Disagrees w
@@ -88,7 +88,7 @@ pub data Disagrees (w : Parties) : Type 0 where
       TwoSay at (λ body. body ≡ RenewAnswer k due) (λ body. body ≡ RenewAnswer k again) → Disagrees w
   ended_twice : (responder : Side) → Has w.responder responder →
       TwoSay (message (issued_of responder)) (λ body. is_end body ≡ true) (λ body. is_end body ≡ true) → Disagrees w
-  -- conditions are held as accepted, and no yes to them was sent, or none is in memory
+  -- The responder has conditions as accepted. But the requester has sent no yes to them, or has no such yes in memory.
   never_accepted : (y : ResponderRecord) (c : ℕ) → Has w.responder (sides.Responder y) → y.accepted ≡ Some c →
       NoneSays (sent_message w.requester.sent) (λ body. accepts body ≡ Some c) → Disagrees w
   acceptance_forgotten : (y : ResponderRecord) (c : ℕ) → Has w.responder (sides.Responder y) → y.accepted ≡ Some c →
@@ -98,12 +98,13 @@ pub data Disagrees (w : Parties) : Type 0 where
 
 -- ---- events
 
--- There was a due date, and now there is none or an earlier one.
+-- The `old` due date exists, and the `new` one does not, or is earlier.
 abbrev pub IsTakenBack : Option Date → Option Date → Type 0
 IsTakenBack old new =
     (due : Date) × (old ≡ Some due) × ((now : Date) → new ≡ Some now → is_before now due ≡ true)
 
--- The requester's due date is taken back: in memory by an event other than its restart, or in its landed record.
+-- The event takes the requester's due date back. It is the live date and the event is no restart, or it is the landed
+-- one.
 pub data TakesBack (old : Parties) (event : Event) (new : Parties) : Type 0 where
   in_memory : (event ≡ Restart Requester → ⊥) →
       IsTakenBack (due_date_of old.requester.live) (due_date_of new.requester.live) → TakesBack old event new
@@ -115,7 +116,8 @@ abbrev pub IsUnheeded : List State → Outcome → Side → Type 0
 IsUnheeded among outcome side =
     ((outcome ≡ Answered Taken → ⊥) × (outcome ≡ Answered Repeat → ⊥)) ⊎ (is_among among (state_of side) ≡ false)
 
--- A sent message arrives in vain: an end of the request at the requester, or a Returned at the responder.
+-- A sent message arrives in vain. It ends the request and reaches the requester, or is a Returned and reaches the
+-- responder.
 pub data ArrivesInVain (w : Parties) : Event → Type 0 where
   shipped_in_vain : (n : ℕ) (a : Apdu) (due : Date) → sent_message w.responder.sent n ≡ Some a →
       a.body ≡ Shipped due →

@@ -1,4 +1,4 @@
--- The changes that an event may make, and the outcomes that it may have (this profile's own).
+-- These definitions state the changes that an event may make, and the outcomes that it may have.
 use Rattle.std.specs.Prelude.{◌≡◌, ℕ, Bool, true, false, Some}
 use Rattle.ill_values.specs.declared.apdu.Apdu.{Apdu}
 use Rattle.ill_core.specs.declared.refusal.Refusal.{Refusal}
@@ -9,17 +9,17 @@ use Rattle.ill_world.specs.declared.event.Outcome.{Outcome}
 use Rattle.ill_world.specs.declared.event.Outcome.TheVariants.{Done, Saved, Faulted, Sent, Answered, Refused, Restarted}
 use Rattle.ill_world.specs.World.{Party, Parties, party, sent_message}
 
--- At most the landed side of a party has changed.
+-- A party has changed in its landed side at most.
 pub record OnlyLands (old new : Party) : Type 0 where
   pub live : new.live ≡ old.live
   pub released : new.released ≡ old.released
   pub sent : new.sent ≡ old.sent
 
--- At most the landed sides of the two parties have changed.
+-- Both parties have changed in their landed sides at most.
 abbrev pub OnlyLandedChanges : Parties → Parties → Type 0
 OnlyLandedChanges old new = OnlyLands old.requester new.requester × OnlyLands old.responder new.responder
 
--- The outcome allows the change from `old` to `new`. A failed save allows what `Landed` says.
+-- The outcome allows the change from `old` to `new`. After a failed save `Landed` holds of `old` and `new`.
 abbrev pub MayChange : {P : Type 0} → (P → P → Type 0) → Outcome → P → P → Type 0
 MayChange Landed Done old new = Unit {0}
 MayChange Landed Saved old new = Unit {0}
@@ -29,19 +29,19 @@ MayChange Landed (Answered Taken) old new = Unit {0}
 MayChange Landed Faulted old new = Landed old new
 MayChange Landed other old new = new ≡ old
 
--- Each message that either party had sent is sent still, under its number.
+-- Each message that either party had sent is still in its `sent`, under its number.
 abbrev pub KeepsSent : Parties → Parties → Type 0
 KeepsSent old new =
     (who : Who) (n : ℕ) (a : Apdu) → sent_message (party old who).sent n ≡ Some a →
     sent_message (party new who).sent n ≡ Some a
 
--- Returns true if a refusal can be an outcome: any but WrongRole and OutOfMemory.
+-- Returns true if a refusal can be an outcome. Only WrongRole and OutOfMemory cannot.
 abbrev pub can_refuse : Refusal → Bool
 can_refuse WrongRole = false
 can_refuse OutOfMemory = false
 can_refuse other = true
 
--- Returns true if an event can have this outcome: any but the refusals WrongRole and OutOfMemory.
+-- Returns true if an event can have this outcome. Only the refusals WrongRole and OutOfMemory cannot be one.
 abbrev pub can_be_seen : Outcome → Bool
 can_be_seen (Refused refusal) = can_refuse refusal
 can_be_seen other = true

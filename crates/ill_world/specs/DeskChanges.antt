@@ -1,4 +1,4 @@
--- The changes that an event of desks may make, and when it reaches a side (this profile's own).
+-- These definitions state the changes that an event of desks may make, and the sides that it reaches.
 use Rattle.std.specs.Prelude.{◌≡◌, nat_lt, Bool, true, false, length, Option, Some, None}
 use Rattle.ill_values.specs.TxnId.{Qualifiers}
 use Rattle.ill_values.specs.declared.apdu.Apdu.{Apdu}
@@ -17,32 +17,32 @@ use Rattle.ill_world.specs.World.{Party, Parties, party, sent_message}
 use Rattle.ill_world.specs.Changes.{MayChange, OnlyLandedChanges}
 use Rattle.ill_world.specs.Desks.{Sending, DeskParty, DeskParties, txn_sent, sent_for, desks_happen}
 
--- What a desk holds of a transaction, what has landed of it and what was sent in it is what it shows of it.
+-- `shown` has what the desk holds of `txn`, what has landed of it, and what was sent in it.
 pub record ProjectsTo (p : DeskParty) (txn : Qualifiers) (shown : Party) : Type 0 where
   pub live : (held : DeskEntry) → found_by txn_held txn p.live.held ≡ Some held →
       (shown.live ≡ held.side) × (shown.released ≡ held.released)
   pub landed : (side : Side) → side_with txn p.landed.sides ≡ Some side → shown.landed ≡ side
   pub sent : (sending : Sending) → found_by txn_sent txn p.sent ≡ Some sending → shown.sent ≡ sending.sent
 
--- The outcome is one of an event in one transaction.
+-- The outcome is that of an event in one transaction: neither NoSuchTransaction nor DeskFull.
 abbrev pub IsPlain : DeskOutcome → Type 0
 IsPlain (Plain outcome) = Unit {0}
 IsPlain other = ⊥
 
--- By whether an event may begin a transaction, whether there is room, and the side that is held: the event reaches
--- this side, or one that it begins.
+-- If the side is held, the event reaches it. Else it reaches a new side, if it may begin one and there is room.
+-- Otherwise the outcome is DeskFull or NoSuchTransaction.
 abbrev pub Reaches : Bool → Bool → Option DeskEntry → DeskOutcome → Type 0
 Reaches may_begin has_room (Some held) outcome = IsPlain outcome
 Reaches true true None outcome = IsPlain outcome
 Reaches true false None outcome = outcome ≡ DeskFull
 Reaches false has_room None outcome = outcome ≡ NoSuchTransaction
 
--- The event reaches a side of `txn` at desk `p`, which holds 1,000 sides at most.
+-- The event reaches a side of `txn` at desk `p`, which has room below 1,000 sides.
 abbrev pub ReachesAt : Bool → DeskParty → Qualifiers → DeskOutcome → Type 0
 ReachesAt may_begin p txn outcome =
     Reaches may_begin (nat_lt (length p.live.held) 1000) (found_by txn_held txn p.live.held) outcome
 
--- The event reaches a side. Only a Request, and an ILL-Request that was sent, may begin one.
+-- The event reaches a side. Only a Request, and an ILL-Request that was sent, may begin a new one.
 abbrev pub ReachesSide : DeskParties → DeskEvent → Type 0
 ReachesSide w (Wish txn wish) =
     ReachesAt (begins (actions.Wish wish)) w.requester txn (desks_happen w (Wish txn wish)).0
@@ -53,7 +53,7 @@ ReachesSide w (Deliver who txn n) =
     ReachesAt (is_ill_request a.body) (party w who) txn (desks_happen w (Deliver who txn n)).0
 ReachesSide w event = IsPlain (desks_happen w event).0
 
--- The outcome allows the change of the projection. An event that is not reached changes nothing.
+-- The outcome allows the change of the projection. An event that reaches no side changes nothing.
 abbrev pub DeskMayChange : DeskOutcome → Parties → Parties → Type 0
 DeskMayChange (Plain outcome) old new = MayChange OnlyLandedChanges outcome old new
 DeskMayChange other old new = new ≡ old

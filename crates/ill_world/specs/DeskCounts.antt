@@ -1,5 +1,5 @@
--- The transactions of two desks, by which each message finds room: no desk has one twice, and the requester's has all
--- of the responder's (this profile's own).
+-- Each message finds room at its desk. For no desk has a transaction twice, and the requester's desk has all
+-- transactions of the responder's.
 use Rattle.std.specs.Prelude.{◌≡◌, ◌≤◌, Bool, true, false, List, [], ◌∷◌, length, map}
 use Rattle.std.specs.List.{list_any}
 use Rattle.ill_values.specs.TxnId.{Qualifiers}
@@ -18,7 +18,7 @@ is_one_of txn txns = list_any (is_same_txn txn) txns
 abbrev pub AreAmong : List Qualifiers → List Qualifiers → Type 0
 AreAmong these those = (txn : Qualifiers) → is_one_of txn these ≡ true → is_one_of txn those ≡ true
 
--- No transaction stands twice in the list.
+-- No transaction is twice in the list.
 abbrev pub AreApart : List Qualifiers → Type 0
 AreApart [] = Unit {0}
 AreApart (txn ∷ txns) = (is_one_of txn txns ≡ false) × AreApart txns
@@ -33,15 +33,15 @@ live_txns p = map txn_held p.live.held
 abbrev pub landed_txns : DeskParty → List Qualifiers
 landed_txns p = map txn_of p.landed.sides
 
--- No transaction stands twice in `txns`, which are 1,000 at most.
+-- No transaction is twice in `txns`, and `txns` are 1,000 at most.
 abbrev pub AreFew : List Qualifiers → Type 0
 AreFew txns = AreApart txns × (length txns ≤ 1000)
 
--- No transaction stands twice in `txns`. Each is one of `live`, and one of `landed`.
+-- No transaction is twice in `txns`. Each is one of `live`, and one of `landed`.
 abbrev pub AreKnown : List Qualifiers → List Qualifiers → List Qualifiers → Type 0
 AreKnown live landed txns = AreApart txns × AreAmong txns live × AreAmong txns landed
 
--- Both lists of the requester's desk, live and landed, have 1,000 transactions at most. Each has all of the
+-- The requester's desk has 1,000 transactions at most, live and landed. Both lists have each transaction of the
 -- responder's two lists. No list has one twice.
 abbrev pub Counts : List Qualifiers → List Qualifiers → List Qualifiers → List Qualifiers → Type 0
 Counts live landed others others_landed =

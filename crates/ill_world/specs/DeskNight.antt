@@ -1,4 +1,4 @@
--- A night of two desks (this profile's own): a night of both sides in each transaction that a desk holds.
+-- A night of two desks is a night of both sides in each transaction that a desk holds. It is this profile's own.
 use Rattle.std.specs.Prelude.{Bool, false, List, ◌++◌, filter}
 use Rattle.ill_saved.specs.declared.side.Side.{Side}
 use Rattle.ill_saved.specs.Side.{txn_of}

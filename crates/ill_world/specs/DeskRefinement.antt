@@ -1,4 +1,4 @@
--- The view that the model of two desks has of a desk's memory, store and sent messages.
+-- The model of two desks sees a desk by its memory, its store and its sent messages. These definitions relate both.
 use Rattle.std.specs.Prelude.{◌≡◌, true, List, map, Option, Some, None, Result, Ok, Err}
 use Rattle.std.specs.Map.{set_value}
 use Rattle.ill_values.specs.TxnId.{Qualifiers}
@@ -22,7 +22,7 @@ use Rattle.ill_world.specs.Desks.{Sending, DeskParty, fault_seen}
 abbrev pub sendings_of : List (Qualifiers × List (Option Apdu)) → List Sending
 sendings_of entries = map (λ e. record { txn = e.0; sent = e.1 }) entries
 
--- If something was sent in `txn`, its entry becomes `next` of it. Else `a` comes back, and nothing changes.
+-- If a message was sent in `txn`, its entry becomes `next` of it. Else `a` comes back, and nothing changes.
 abbrev pub BecomesAmong : Qualifiers → (List (Option Apdu) → List (Option Apdu)) → List (Qualifiers × List (Option Apdu)) →
     Option (List (Option Apdu)) → Option Apdu → Apdu → List (Qualifiers × List (Option Apdu)) → Type 0
 BecomesAmong txn next old None back a new = (back ≡ Some a) × (new ≡ old)
@@ -34,11 +34,12 @@ BecomesAmong txn next old (Some sent) back a new = (back ≡ None) × (new ≡ s
 abbrev pub landed_at : DeskOf DeskContents MemoryStoreState → SidesOf
 landed_at desk = sides_held (read_or desk.live (landed_live many_sides desk.store.landed desk.live))
 
--- Returns the desk of the model for which `desk` and the messages `sent` from it stand.
+-- Returns the desk of the model that `desk` and the messages `sent` from it represent.
 abbrev pub desk_party_of : DeskOf DeskContents MemoryStoreState → List Sending → DeskParty
 desk_party_of desk sent = record { live = desk.live; landed = landed_at desk; sent = sent }
 
--- Between two events the next call of the store works. The landed sides have the desk's role.
+-- The next call of the store works. The landed sides can be read, and have the desk's role. This holds between two
+-- events.
 pub record IsReadyDesk (desk : DeskOf DeskContents MemoryStoreState) : Type 0 where
   pub works : desk.store.next ≡ Works
   pub landed : landed_live many_sides desk.store.landed desk.live ≡ Ok (whole_of (landed_at desk))
@@ -51,7 +52,7 @@ abbrev pub CanBeSeen : DeskFault → Type 0
 CanBeSeen faults.OutOfMemory = Unit {0}
 CanBeSeen fault = is_refusal fault ≡ true
 
--- The result is the outcome of a fault of an action or a message. If memory runs out, there is none.
+-- The result is the outcome of the fault. If memory runs out, there is no outcome.
 abbrev pub FaultSeen : {M : Type 0} → DeskFault → Result DeskOutcome M → Type 0
 FaultSeen faults.OutOfMemory (Err memory) = Unit {0}
 FaultSeen faults.OutOfMemory (Ok outcome) = ⊥

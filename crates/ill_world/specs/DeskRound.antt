@@ -1,4 +1,4 @@
--- A round of two desks (this profile's own): a round of both sides in each transaction that a desk holds.
+-- A round of two desks is a round of both sides in each transaction that a desk holds. It is this profile's own.
 use Rattle.std.specs.Prelude.{List, ◌∷◌, ◌++◌, length, map, flat_map}
 use Rattle.ill_saved.specs.declared.side.Side.{Side}
 use Rattle.ill_saved.specs.Side.{issued_of, txn_of}

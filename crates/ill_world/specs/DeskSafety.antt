@@ -1,4 +1,4 @@
--- The promises of two desks in every run (this profile's own): in each transaction, those of a world of two parties.
+-- In every run of two desks each transaction has the promises of a world of two parties. They are this profile's own.
 use Rattle.std.specs.Prelude.{◌≡◌, ℕ, true, List, ◌∷◌, [], Some, take}
 use Rattle.ill_values.specs.TxnId.{Qualifiers}
 use Rattle.ill_values.specs.declared.apdu.Apdu.{Apdu}
@@ -22,11 +22,11 @@ use Rattle.ill_world.specs.Invariant.{Invariant}
 
 -- ---- why
 
--- The desk is of `role`, in memory and as it has landed.
+-- The desk has this role, and so have its landed sides.
 abbrev pub IsDeskOf : Who → DeskParty → Type 0
 IsDeskOf role p = (p.live.role ≡ role) × (p.landed.role ≡ role)
 
--- Each desk is of its role, and `DesksCount` holds. The projection of each transaction keeps the invariant.
+-- Each desk has its role, and `DesksCount` holds. The projection to each transaction satisfies the invariant.
 pub record DesksStand (w : DeskParties) : Type 0 where
   pub requester : IsDeskOf Requester w.requester
   pub responder : IsDeskOf Responder w.responder
@@ -35,14 +35,14 @@ pub record DesksStand (w : DeskParties) : Type 0 where
 
 -- ---- runs
 
--- After `events`, from two desks on that hold nothing, each transaction's projection is the world after its own
--- events.
+-- The desks hold nothing before `events`. Afterwards the projection to each transaction is the world after the events
+-- of this transaction.
 abbrev pub IsRunOfEach : List DeskEvent → Type 0
 IsRunOfEach events =
     (txn : Qualifiers) →
     project txn (desks_run first_desks events) ≡ run_of (first_world txn) (events_for txn first_desks events)
 
--- The projection of each transaction is safe after each prefix of `events`, from `w` on.
+-- The projection to each transaction is safe after each prefix of `events`, from `w` on.
 abbrev pub IsSafeDeskRun : DeskParties → List DeskEvent → Type 0
 IsSafeDeskRun w events = (txn : Qualifiers) (n : ℕ) → Safe (project txn (desks_run w (take n events)))
 
@@ -57,8 +57,8 @@ abbrev pub SettlesAt : List State → DeskOutcome → Side → Type 0
 SettlesAt among (Plain outcome) side = Settles among outcome side
 SettlesAt among other side = ⊥
 
--- A delivery of a sent end of a request leads the requester's side to its outcome. One of a sent Returned leaves the
--- responder's in RETURNED or CHECKED-IN.
+-- A delivery of a message that ends the request settles the requester's side in the states of `settled_by`. A delivery
+-- of a Returned settles the responder's side in RETURNED or CHECKED-IN.
 abbrev pub ArrivesAt : DeskParties → DeskEvent → Type 0
 ArrivesAt w (Deliver Requester txn n) =
     let after = desks_happen w (Deliver Requester txn n) in

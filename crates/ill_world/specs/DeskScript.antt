@@ -1,5 +1,5 @@
--- The meaning of a line of a script of two desks (this profile's own). It is an event at one of two sides, or the
--- transaction of the lines after it.
+-- A line of a script of two desks has a meaning. It is an event at one of the two sides, or it puts a transaction in
+-- use. It is this profile's own.
 use Rattle.std.specs.Prelude.{◌≡◌, ℕ, bytes_eq, codes, if◌then◌else◌, List, [], ◌∷◌, Option, Some, None, Result, Ok, Err}
 use Rattle.ill_values.specs.declared.fault.TextFault.{TextFault}
 use Rattle.ill_values.specs.TxnId.{Qualifiers, txn_id_of}
@@ -20,7 +20,7 @@ abbrev pub use_of : Result Qualifiers TextFault → DeskLine
 use_of (Ok txn) = Use txn
 use_of (Err fault) = Plain lines.Bad
 
--- Returns the meaning of the words after `use`: two qualifiers, or else a bad line.
+-- Returns the meaning of the words after `use`. They are two qualifiers, or the line is bad.
 abbrev pub use_line : List (List ℕ) → DeskLine
 use_line (group ∷ transaction ∷ []) = use_of (txn_id_of group transaction)
 use_line words = Plain lines.Bad
@@ -37,12 +37,12 @@ desk_meaning line = if is_remark line then Plain lines.Skipped else desk_line_of
 
 -- ---- the transaction in use
 
--- An event, and the transaction in use, of which a trace shows both sides.
+-- An event has the transaction in use beside it. A trace shows both sides of this transaction.
 pub record EventIn : Type 0 where
   pub txn : Qualifiers
   pub event : DeskEvent
 
--- Returns an event of `txn` as an event of two desks.
+-- Returns the event of two desks that is `event` in `txn`.
 abbrev pub in_txn : Qualifiers → Event → DeskEvent
 in_txn txn (events.Wish wish) = Wish txn wish
 in_txn txn (events.Deed deed today) = Deed txn deed today
@@ -61,14 +61,15 @@ IsInTxn txn (Send who named n) = named ≡ txn
 IsInTxn txn (Deliver who named n) = named ≡ txn
 IsInTxn txn other = Unit {0}
 
--- Nothing happens before a transaction is in use.
+-- Returns the meaning of a line with the transaction in use. An event before the first transaction in use is a bad
+-- line.
 abbrev pub line_in : Option Qualifiers → ScriptLine Event → ScriptLine EventIn
 line_in in_use lines.Skipped = lines.Skipped
 line_in (Some txn) (lines.Event event) = lines.Event (record { txn = txn; event = in_txn txn event })
 line_in None (lines.Event event) = lines.Bad
 line_in in_use lines.Bad = lines.Bad
 
--- what a line says with the transaction in use, and the one in use after it
+-- Returns the meaning of a line with the transaction in use, and the transaction in use after it.
 abbrev pub says_in : Option Qualifiers → DeskLine → ScriptLine EventIn × Option Qualifiers
 says_in in_use (Use txn) = (lines.Skipped, Some txn)
 says_in in_use (Plain line) = (line_in in_use line, in_use)

@@ -1,4 +1,4 @@
--- The script of two desks, and the trace of the run that it describes (this profile's own).
+-- A script of two desks describes a run, and the run has a trace. It is this profile's own.
 use Rattle.std.specs.Prelude.{ℕ, ◌+◌, List, [], ◌∷◌, ◌++◌, length, map, Option, None, Result}
 use Rattle.ill_values.specs.TxnId.{Qualifiers}
 use Rattle.ill_world.specs.declared.event.DeskEvent.{DeskEvent}
@@ -8,7 +8,7 @@ use Rattle.ill_world.specs.DeskScript.{EventIn, desk_meaning, says_in}
 use Rattle.ill_world.specs.Trace.{desk_line}
 use Rattle.ill_world.specs.Play.{Play, Said, ends, says_on, trace_from, Plays}
 
--- The play of two desks. Each line says its meaning in the transaction in use, which is carried from line to line.
+-- In the play of two desks each line has its meaning in the transaction in use, which is carried from line to line.
 abbrev pub two_desks : Play DeskParties EventIn (Option Qualifiers)
 two_desks = record {
   says = λ in_use bytes. says_in in_use (desk_meaning bytes);

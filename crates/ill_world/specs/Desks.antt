@@ -1,5 +1,5 @@
--- The model of two desks (this profile's own). Each holds sides of many transactions, has landed sides, and has sent
--- messages in each. Of one transaction a desk shows a party of the two-party model.
+-- The model of two desks is this profile's own. A desk holds sides of many transactions, has landed sides, and has sent
+-- messages in each. Of each transaction it shows a party of the two-party model.
 use Rattle.std.specs.Prelude.{◌≡◌, ℕ, nat_le, Bool, true, false, if◌then◌else◌, List, [], ◌∷◌, Option, Some, None, Result, Ok}
 use Rattle.std.specs.Prelude.{Err}
 use Rattle.ill_values.specs.declared.apdu.Apdu.{Apdu}
@@ -32,18 +32,18 @@ use Rattle.ill_world.specs.World.{happens_at, run_by}
 
 -- ---- the desks
 
--- The messages sent in `txn`: message n stands at place n - 1, if it was sent.
+-- These are the messages that a desk has sent in `txn`. Message n is at place n - 1 of `sent`, if it was sent.
 pub record Sending : Type 0 where
   pub txn : Qualifiers
   pub sent : List (Option Apdu)
 
--- A desk: its contents in memory, the sides that have landed, and the messages that it has sent, by transaction.
+-- A desk has its contents in memory, its landed sides, and the messages that it has sent in each transaction.
 pub record DeskParty : Type 0 where
   pub live : DeskContents
   pub landed : SidesOf
   pub sent : List Sending
 
--- A world of two desks.
+-- A world of desks is two desks, of a requester and of a responder.
 abbrev pub DeskParties : Type 0
 DeskParties = TwoOf DeskParty
 
@@ -55,7 +55,7 @@ first_desk role = record {
   sent = [];
 }
 
--- The two desks that hold nothing yet.
+-- The first two desks hold nothing.
 abbrev pub first_desks : DeskParties
 first_desks = record { requester = first_desk Requester; responder = first_desk Responder }
 
@@ -63,7 +63,7 @@ first_desks = record { requester = first_desk Requester; responder = first_desk 
 abbrev pub txn_sent : Sending → Qualifiers
 txn_sent sending = sending.txn
 
--- Returns the messages sent in `txn`. They are none if `all` has no entry for it.
+-- Returns the messages of `all` that were sent in `txn`. If `all` has no entry for it, no message was sent.
 abbrev pub sent_for : Qualifiers → List Sending → List (Option Apdu)
 sent_for txn all = (found_or (record { txn = txn; sent = nothing_sent }) (found_by txn_sent txn all)).sent
 
@@ -73,7 +73,7 @@ with_sent_for txn all n a = put_by txn_sent (record { txn = txn; sent = with_sen
 
 -- ---- one event
 
--- Returns an event of desks as one of a transaction: of the one that it names, or of each.
+-- Returns the event of the two-party model: `event` without its transaction.
 abbrev pub plain : DeskEvent → Event
 plain (Wish txn wish) = events.Wish wish
 plain (Deed txn deed today) = events.Deed deed today
@@ -84,27 +84,27 @@ plain (Deliver who txn n) = events.Deliver who n
 plain (Noise who bytes) = events.Noise who bytes
 plain (Restart who) = events.Restart who
 
--- Returns the outcome of a fault of an action or a message: a refusal, DeskFull or NoSuchTransaction.
+-- Returns the outcome if an action or a message has this fault.
 abbrev pub fault_seen : DeskFault → DeskOutcome
 fault_seen (faults.Core refusal) = Plain (Refused refusal)
 fault_seen faults.DeskFull = DeskFull
 fault_seen other = NoSuchTransaction
 
--- a decision of the library, in one transaction
+-- Returns the outcome and the desk after a decision of the library in one transaction.
 abbrev pub desk_decides : DeskParty → Result DeskContents DeskFault → DeskOutcome × DeskParty
 desk_decides p (Ok new) = (Plain Done, record p { live = new })
 desk_decides p (Err fault) = (fault_seen fault, p)
 
--- A save lands all sides that are live, and releases all their messages.
+-- A save lands all live sides, and releases all their messages.
 abbrev pub desk_saves : DeskParty → DeskParty
 desk_saves p = record p { live = whole_of (sides_held p.live); landed = sides_held p.live }
 
--- A save that fails may have landed. It releases nothing.
+-- A save that fails lands the live sides if the Bool is true. It releases nothing.
 abbrev pub desk_fails_to_save : DeskParty → Bool → DeskParty
 desk_fails_to_save p true = record p { landed = sides_held p.live }
 desk_fails_to_save p false = p
 
--- A message of a transaction that is held may be sent once it is released.
+-- Returns the outcome of a Send, and the desk after it. A message may be sent if its side is held and has released it.
 abbrev pub desk_sends : DeskParty → Qualifiers → ℕ → Option DeskEntry → DeskOutcome × DeskParty
 desk_sends p txn n None = (NoSuchTransaction, p)
 desk_sends p txn n (Some held) =
@@ -121,19 +121,19 @@ taking_seen (Err fault) = fault_seen fault
 abbrev pub desk_takes_message : DeskParty → Apdu → DeskOutcome × DeskParty
 desk_takes_message p a = (taking_seen (desk_takes p.live a).0, record p { live = (desk_takes p.live a).1 })
 
--- Only a message that the other desk has sent in the transaction is delivered.
+-- Returns the outcome of a delivery, and the desk after it. Only a message that the other desk has sent is delivered.
 abbrev pub desk_receives : DeskParty → Option Apdu → DeskOutcome × DeskParty
 desk_receives p None = (Plain NotSent, p)
 desk_receives p (Some a) = desk_takes_message p a
 
--- Returns the outcome of noise, by the APDU with which its bytes begin. Noise changes nothing: nobody forges an APDU
--- of any transaction.
+-- Returns the outcome of noise, by the APDU with which its bytes begin. Noise changes nothing, since nobody forges an
+-- APDU of any transaction.
 abbrev pub desk_hears : Result (Apdu × List ℕ) DerFault → Outcome
 desk_hears (Ok (a, [])) = Forged
 desk_hears (Ok (a, byte ∷ rest)) = Garbled
 desk_hears (Err fault) = Garbled
 
--- A restart takes the sides that have landed, and releases all their messages.
+-- A restart replaces the live sides by the landed ones, and releases all their messages.
 abbrev pub desk_restarts : DeskParty → DeskParty
 desk_restarts p = record p { live = whole_of p.landed }
 
@@ -158,7 +158,7 @@ desks_run w events = run_by desks_happen w events
 
 -- ---- one transaction
 
--- Returns the party of `txn` that desk `p` shows. A side that is not held, or has not landed, is idle.
+-- Returns the party that desk `p` shows of `txn`. A side that is not held, or has not landed, is idle.
 abbrev pub party_for : Qualifiers → DeskParty → Party
 party_for txn p = record {
   live = (held_for txn p.live).side;
@@ -167,11 +167,11 @@ party_for txn p = record {
   sent = sent_for txn p.sent;
 }
 
--- Returns the projection of two desks: the world of `txn` that they show.
+-- Returns the projection of two desks to `txn`: the two parties of `txn` that they show.
 abbrev pub project : Qualifiers → DeskParties → Parties
 project txn w = record { requester = party_for txn w.requester; responder = party_for txn w.responder }
 
--- Returns true if an event names `txn`, or is a save, failed save or restart of a whole desk.
+-- Returns true if the event names `txn`, or happens to a whole desk: a save, a failed save or a restart.
 abbrev pub concerns : Qualifiers → DeskEvent → Bool
 concerns txn (Wish named wish) = is_same_txn txn named
 concerns txn (Deed named deed today) = is_same_txn txn named
@@ -182,29 +182,28 @@ concerns txn (Deliver who named n) = is_same_txn txn named
 concerns txn (Noise who bytes) = false
 concerns txn (Restart who) = true
 
--- Returns `may_be` if an event reaches its transaction, and else false.
+-- Returns `may_be` if the event reaches its transaction. Else returns false.
 abbrev pub if_reached : DeskOutcome → Bool → Bool
 if_reached (Plain outcome) may_be = may_be
 if_reached other may_be = false
 
--- Returns true if an event of desks is one of `txn`: it concerns `txn`, and reaches it.
+-- Returns true if the event is one of `txn`: it concerns `txn`, and reaches it.
 abbrev pub is_event_of : Qualifiers → DeskParties → DeskEvent → Bool
 is_event_of txn w event = if_reached (desks_happen w event).0 (concerns txn event)
 
--- Returns the events of `txn` among events of desks, in their order.
+-- Returns the events of `txn` among the events of desks, in order.
 unfoldable pub events_for : Qualifiers → DeskParties → List DeskEvent → List Event
 events_for txn w [] = []
 events_for txn w (event ∷ events) =
     let others = events_for txn (desks_happen w event).1 events in
     if is_event_of txn w event then plain event ∷ others else others
 
--- If the Bool is true, outcome and projection are as expected of an event of the transaction. Else the projection
--- stays as it was.
+-- If the Bool is true, the outcome and the new projection are the expected ones. Else the projection stays unchanged.
 abbrev pub IsSeenAs : {P : Type 0} → Bool → Outcome × P → P → DeskOutcome → P → Type 0
 IsSeenAs true expected old outcome new = (outcome ≡ Plain expected.0) × (new ≡ expected.1)
 IsSeenAs false expected old outcome new = new ≡ old
 
--- An event of desks is one event of `txn`, with its outcome, or leaves the projection of `txn`.
+-- An event of desks is one event of `txn`, with its outcome, or leaves the projection to `txn` unchanged.
 abbrev pub Projects : Qualifiers → DeskParties → DeskEvent → Type 0
 Projects txn w event =
     let after = desks_happen w event in

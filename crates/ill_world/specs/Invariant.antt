@@ -1,5 +1,5 @@
--- The invariant by which every world is safe. Each record keeps its own rules, and shows only what messages of the
--- other side tell. No part of it joins the two sides' records.
+-- The invariant holds in every world, and makes each safe. Each record keeps its own rules. It claims only what sent
+-- messages of the other side say. No part of the invariant compares the two sides' records.
 use Rattle.std.specs.Prelude.{◌≡◌, ℕ, ◌≤◌, true, List, length, Option, Some}
 use Rattle.ill_values.specs.TxnId.{Qualifiers}
 use Rattle.ill_values.specs.declared.apdu.Apdu.{Apdu}
@@ -41,14 +41,14 @@ abbrev pub RequesterNotes : RequesterRecord → List (Option Apdu) → Type 0
 RequesterNotes x sent =
     (notice : Notice) → Reflects x notice → (a : Apdu) × WasSent sent a × Attests a.number a.body notice
 
--- Each Cancel and each Renew that a responder was asked is a message that the requester has sent.
+-- For each Cancel and each Renew that a responder was asked, the requester has sent a message with this number.
 abbrev pub ResponderHeard : ResponderRecord → List (Option Apdu) → Type 0
 ResponderHeard y sent =
     (question : Question) (number : ℕ) → WasAsked question y number →
     (a : Apdu) × WasSent sent a × (asks question a.body ≡ true) × (a.number ≡ number)
 
--- A requester's record is of `txn`, keeps its rules, and replies to no conditions twice. The messages in `sent` tell
--- what it shows.
+-- A requester's record is of `txn`, keeps its rules, and replies to no conditions twice. The messages in `sent` are
+-- evidence of its claims. It has at most 255 messages.
 pub record RequesterStands (txn : Qualifiers) (x : RequesterRecord) (sent : List (Option Apdu)) : Type 0 where
   pub same_txn : x.txn ≡ txn
   pub rules : RequesterRules x
@@ -57,8 +57,9 @@ pub record RequesterStands (txn : Qualifiers) (x : RequesterRecord) (sent : List
   pub notices : RequesterNotes x sent
   pub few : length x.issued ≤ 255
 
--- A responder's record is of `txn`, keeps its rules, ends the request once at most, and answers in order. The messages
--- in `sent` tell what it shows.
+-- A responder's record is of `txn`, and keeps its rules. It ends the request once at most, and answers each question
+-- once. The messages in `sent` are evidence of its claims. The other parts are of the order of its messages, and of
+-- their number.
 pub record ResponderStands (txn : Qualifiers) (y : ResponderRecord) (sent : List (Option Apdu)) : Type 0 where
   pub same_txn : y.txn ≡ txn
   pub rules : ResponderRules y
@@ -75,12 +76,12 @@ pub record ResponderStands (txn : Qualifiers) (y : ResponderRecord) (sent : List
   pub grants_first : GrantsBeforeOverdue y.issued
   pub few : length y.issued ≤ 255
 
--- The side is a requester's, and its record stands by the messages in `sent`.
+-- The side is a requester's, and its record satisfies `RequesterStands` with `sent`.
 abbrev pub RequesterSideStands : Qualifiers → Side → List (Option Apdu) → Type 0
 RequesterSideStands txn (sides.Requester x) sent = RequesterStands txn x sent
 RequesterSideStands txn (sides.Responder y) sent = ⊥
 
--- The side is a responder's, and its record stands by the messages in `sent`.
+-- The side is a responder's, and its record satisfies `ResponderStands` with `sent`.
 abbrev pub ResponderSideStands : Qualifiers → Side → List (Option Apdu) → Type 0
 ResponderSideStands txn (sides.Requester x) sent = ⊥
 ResponderSideStands txn (sides.Responder y) sent = ResponderStands txn y sent
@@ -88,14 +89,15 @@ ResponderSideStands txn (sides.Responder y) sent = ResponderStands txn y sent
 -- ---- a party, and the messages that it has sent
 
 -- Each sent message has landed, and only landed messages are released. The landed list is a prefix of the live one.
--- There is a place for each number.
+-- `p.sent` has a place for each number.
 pub record SendsSaved (p : Party) : Type 0 where
   pub landed : (n : ℕ) (a : Apdu) → sent_message p.sent n ≡ Some a → message (issued_of p.landed) n ≡ Some a
   pub prefix : IsPrefix (issued_of p.landed) (issued_of p.live)
   pub released : p.released ≤ length (issued_of p.landed)
   pub places : length p.sent ≡ 255
 
--- A party sends only what it has saved. `K` holds of its live and its landed side with the messages in `partner_sent`.
+-- A party sends only messages that have landed. `K` holds of its live and its landed side with `partner_sent`, the
+-- messages that the other party has sent.
 pub record PartyStands (K : Side → List (Option Apdu) → Type 0) (p : Party) (partner_sent : List (Option Apdu)) : Type 0 where
   pub saved : SendsSaved p
   pub live : K p.live partner_sent
@@ -103,6 +105,8 @@ pub record PartyStands (K : Side → List (Option Apdu) → Type 0) (p : Party) 
 
 -- ---- a world
 
+-- Both parties of `w` satisfy `PartyStands` for `txn`. The requester's live due date is not earlier than its landed
+-- one.
 pub record Invariant (txn : Qualifiers) (w : Parties) : Type 0 where
   pub requester : PartyStands (RequesterSideStands txn) w.requester w.responder.sent
   pub responder : PartyStands (ResponderSideStands txn) w.responder w.requester.sent

@@ -1,5 +1,5 @@
--- A night, and the facts after it (this profile's own): a round in which a side is silent if its loan is over. A
--- responder that was asked is not silent.
+-- A night is a round in which a side is silent if its loan is over. A responder is not silent if it was asked in this
+-- night. The night is this profile's own.
 use Rattle.std.specs.Prelude.{◌≡◌, ◌⊎◌, Bool, true, false, not, ◌&&◌, ◌||◌, List, [], ◌∷◌, ◌++◌}
 use Rattle.ill_core.specs.declared.turn.Turn.{Turn}
 use Rattle.ill_core.specs.declared.turn.Turn.TheVariants.{Over, Mine, Theirs}
@@ -20,29 +20,29 @@ use Rattle.ill_world.specs.Round.{half_of, faced_in, AreInStep}
 
 -- ---- the sides that send
 
--- Returns true if the turn is nobody's.
+-- Returns true if nobody acts next.
 abbrev pub is_nobodys : Turn → Bool
 is_nobodys Over = true
 is_nobodys Mine = false
 is_nobodys Theirs = false
 
--- Returns true if nobody acts in the loan any more, as far as `side` knows.
+-- Returns true if the loan is over for `side`: nobody acts next, as far as its record tells.
 abbrev pub is_over : Side → Bool
 is_over side = is_nobodys (turn_of side)
 
--- Returns true if the loan is not over for the side. It is true too for a responder that was asked: a message of the
--- loan came in this night.
+-- Returns true if `side` sends its messages in this night. It does if its loan is not over. A responder does so too if
+-- it was asked: a message of the loan came in this night.
 abbrev pub wants_sending : Bool → Side → Bool
 wants_sending was_asked (sides.Requester x) = not (is_over (sides.Requester x))
 wants_sending was_asked (sides.Responder y) = not (is_over (sides.Responder y)) || was_asked
 
--- Returns true if the requester wants sending, and has issued a message.
+-- Returns true if the requester sends its messages in this night, and has issued one.
 abbrev pub asks : Side → Bool
 asks requester = wants_sending false requester && not (is_none (issued_of requester))
 
 -- ---- the events of a night
 
--- Returns the half of a round of `who` if the Bool is true, or else its save alone.
+-- Returns the half of a round of `who` if the Bool is true. Else it returns the save of `who` alone.
 abbrev pub half_if : Bool → Who → Parties → List Event
 half_if true who w = half_of who w
 half_if false who w = Save who ∷ []
@@ -51,7 +51,7 @@ half_if false who w = Save who ∷ []
 abbrev pub asking_half : Parties → List Event
 asking_half w = half_if (wants_sending false w.requester.live) Requester w
 
--- Returns the requester's half of a night, and then the responder's. The responder was asked if the requester asks.
+-- Returns the requester's half of a night, and then the responder's. The responder was asked if the requester `asks`.
 abbrev pub night_of : Parties → List Event
 night_of w =
     let between = run_of w (asking_half w) in
@@ -59,7 +59,7 @@ night_of w =
 
 -- ---- the two records after it
 
--- The loan is over for both, and their states face each other.
+-- The loan is over for both records, and their states face each other.
 pub record AtRest (x : RequesterRecord) (y : ResponderRecord) : Type 0 where
   pub requester : is_over (sides.Requester x) ≡ true
   pub responder : is_over (sides.Responder y) ≡ true

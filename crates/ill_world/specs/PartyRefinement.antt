@@ -1,4 +1,4 @@
--- The view that the two-party model has of a party's memory and store.
+-- The two-party model sees a party by its memory and its store. These definitions relate both.
 use Rattle.std.specs.Prelude.{◌≡◌, ℕ, Bool, false, List, [], ◌∷◌, Option, Result, Ok, Err}
 use Rattle.ill_values.specs.declared.apdu.Apdu.{Apdu}
 use Rattle.ill_values.specs.TxnId.{Qualifiers}
@@ -17,16 +17,16 @@ use Rattle.ill_world.specs.World.{Party}
 
 -- ---- messages
 
--- The APDU that stands for bytes that are none.
+-- This APDU represents bytes that are no APDU.
 abbrev no_apdu : Apdu
 no_apdu = record { txn = record { group = []; transaction = [] }; number = 0; body = Cancel }
 
--- Returns the APDU with which bytes begin, or else `no_apdu`.
+-- Returns the APDU with which the bytes begin, or `no_apdu` if there is none.
 abbrev pub apdu_of : Result (Apdu × List ℕ) DerFault → Apdu
 apdu_of (Ok (a, rest)) = a
 apdu_of (Err fault) = no_apdu
 
--- Returns true if bytes are exactly one APDU, and it is of `txn`.
+-- Returns true if the bytes are exactly one APDU, and it is of `txn`.
 abbrev pub is_of : Qualifiers → Result (Apdu × List ℕ) DerFault → Bool
 is_of txn (Ok (a, [])) = is_same_txn a.txn txn
 is_of txn (Ok (a, byte ∷ rest)) = false
@@ -43,13 +43,13 @@ read_or live (Err fault) = live
 abbrev pub landed_of : DeskOf DeskEntry MemoryStoreState → Side
 landed_of desk = (read_or desk.live (landed_live one_side desk.store.landed desk.live)).side
 
--- Returns the party for which `desk` and the messages `sent` from it stand.
+-- Returns the party of the model that `desk` and the messages `sent` from it represent.
 abbrev pub party_of : DeskOf DeskEntry MemoryStoreState → List (Option Apdu) → Party
 party_of desk sent =
     record { live = desk.live.side; landed = landed_of desk; released = desk.live.released; sent = sent }
 
--- Between two events the next call of the store works. The landed side has the role and the transaction of the live
--- one.
+-- The next call of the store works. The landed side can be read, and has the role and the transaction of the live one.
+-- This holds between two events.
 pub record IsReady (desk : DeskOf DeskEntry MemoryStoreState) : Type 0 where
   pub works : desk.store.next ≡ Works
   pub landed : landed_live one_side desk.store.landed desk.live ≡ Ok (whole (landed_of desk))
@@ -57,8 +57,7 @@ pub record IsReady (desk : DeskOf DeskEntry MemoryStoreState) : Type 0 where
 
 -- ---- answers
 
--- what a party answers to an event, and the party after it: as expected, or nothing has changed for
--- want of memory
+-- The outcome and the party after an event are as expected. If memory runs out, the party stays unchanged.
 abbrev pub GivesOutcome : {O M P : Type 0} → O × P → P → Result O M → P → Type 0
 GivesOutcome expected old (Ok outcome) new = expected ≡ (outcome, new)
 GivesOutcome expected old (Err memory) new = new ≡ old

@@ -1,4 +1,4 @@
--- A script and its trace, for any language of lines and any world (this profile's own).
+-- A play defines scripts and traces, for any language of lines and any world. It is this profile's own.
 use Rattle.std.specs.Prelude.{◌≡◌, ℕ, ◌+◌, Bool, ◌&&◌, ◌==◌, nat_le, List, [], ◌∷◌, ◌++◌, length, Option, Some, None, Result, Ok}
 use Rattle.std.specs.Prelude.{Err, if◌then◌else◌}
 use Rattle.std.specs.List.{slice_split}
@@ -9,8 +9,8 @@ use Rattle.ill_world.specs.declared.script.ScriptLine.TheVariants as lines
 use Rattle.ill_world.specs.declared.fault.SimFault.{SimFault}
 use Rattle.ill_world.specs.declared.fault.SimFault.TheVariants.{Script, Read, Write, OutOfMemory}
 
--- A play: `says` gives the meaning of a line, and carries a value from line to line. `next` gives the world after an
--- event, and `text` shows an event with its number and the world before it.
+-- In a play `says` gives the meaning of a line, and carries a value from line to line. `next` gives the world after an
+-- event. `text` shows an event, with its number and the world before it.
 pub record Play (W E C : Type 0) : Type 0 where
   pub says : C → List ℕ → ScriptLine E × C
   pub next : W → E → W
@@ -18,41 +18,42 @@ pub record Play (W E C : Type 0) : Type 0 where
 
 -- ---- the reading of a script
 
--- The events of a script before its first bad line, and the number of that line, if there is one.
+-- A reading has the events of a script before its first bad line, and the number of this line, if there is one.
 pub record Said (E : Type 0) : Type 0 where
   pub events : List E
   pub bad : Option ℕ
 
--- The reading of a text without events and without a bad line.
+-- The reading of an empty text has no event and no bad line.
 abbrev pub says_nothing : {E : Type 0} → Said E
 says_nothing = record { events = []; bad = None }
 
--- Returns true if n is at most 100,000, and `bytes` are at most 1,024.
+-- Returns true if n is at most 100,000, and `bytes` has at most 1,024 bytes.
 abbrev pub is_within : ℕ → List ℕ → Bool
 is_within n bytes = nat_le n 100000 && nat_le (length bytes) 1024
 
--- what line n says, and what is carried on
+-- Returns the meaning of line n, and the value for the next line. A line beyond the limits is bad.
 abbrev pub line_at : {W E C : Type 0} → Play W E C → C → ℕ → List ℕ → ScriptLine E × C
 line_at play c n bytes = if is_within n bytes then play.says c bytes else (lines.Bad, c)
 
--- line n, and what the lines after it say
+-- Returns the reading of line n with this meaning, followed by the lines that `more` reads.
 abbrev pub then_says : {E : Type 0} → ScriptLine E → ℕ → Said E → Said E
 then_says lines.Skipped n more = more
 then_says (lines.Event event) n more = record { events = event ∷ more.events; bad = more.bad }
 then_says lines.Bad n more = record { events = []; bad = Some n }
 
--- Reads the bytes after the last LF at the end of a text: they are line n, unless they are empty.
+-- Returns the reading of the bytes after the last LF of a whole text. They are line n, unless they are empty.
 abbrev pub ends : {W E C : Type 0} → Play W E C → C → ℕ → List ℕ → Said E
 ends play c n [] = says_nothing
 ends play c n (byte ∷ bytes) = then_says (line_at play c n (byte ∷ bytes)).0 n says_nothing
 
--- Reads the bytes after the last LF when the reader fails: no line, or a bad one if they are beyond the limits.
+-- Returns the reading of the bytes after the last LF if the reader fails. They are no line, or a bad one beyond the
+-- limits.
 abbrev pub breaks_off : {E C : Type 0} → C → ℕ → List ℕ → Said E
 breaks_off c n [] = says_nothing
 breaks_off c n (byte ∷ bytes) =
     if is_within n (byte ∷ bytes) then says_nothing else record { events = []; bad = Some n }
 
--- Reads lines from line n on. `end` reads the last, which follows the last LF.
+-- Returns the reading of these lines, from line n on. `end` reads the last, which follows the last LF.
 unfoldable pub says_from : {W E C : Type 0} → Play W E C → (C → ℕ → List ℕ → Said E) → C → ℕ →
     List (List ℕ) → Said E
 says_from play end c n [] = says_nothing
@@ -64,7 +65,7 @@ says_from play end c n (first ∷ second ∷ more) =
 abbrev pub lines_in : List ℕ → List (List ℕ)
 lines_in text = slice_split (λ byte. byte == 10) text
 
--- Reads `text` from line n on. `end` reads the bytes after the last LF.
+-- Returns the reading of `text`, from line n on. `end` reads the bytes after the last LF.
 abbrev pub says_on : {W E C : Type 0} → Play W E C → (C → ℕ → List ℕ → Said E) → C → ℕ → List ℕ → Said E
 says_on play end c n text = says_from play end c n (lines_in text)
 
@@ -77,12 +78,12 @@ trace_from play n w (event ∷ events) = play.text n w event ++ trace_from play 
 
 -- ---- performing a script
 
--- of what was read, with whatever the reader has left
+-- `P` holds of the whole text: of `text` and all bytes that the reader has left, if these are known.
 abbrev pub OfAll : List ℕ → Option (List ℕ) → (List ℕ → Type 0) → Type 0
 OfAll text left P = (more : List ℕ) → left ≡ Some more → P (text ++ more)
 
 -- The result and `trace` fit the `text` that was read and the bytes `left` in the reader. `whole` reads a whole text,
--- and `broken` one that breaks off; `count` events had happened before.
+-- and `broken` one at whose end the reader fails. `count` events had happened before.
 abbrev pub Answers : {E : Type 0} → (List ℕ → Said E) → (List ℕ → Said E) → (List E → List ℕ) → ℕ →
     Result ℕ SimFault → List ℕ → Option (List ℕ) → List ℕ → Type 0
 Answers whole broken trace_of count (Ok total) text left trace =

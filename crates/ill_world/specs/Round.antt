@@ -1,5 +1,5 @@
--- A round, and the facts after it (this profile's own). All messages of the requester reach the responder, and then
--- all of the responder reach the requester, in order.
+-- In a round all messages of the requester reach the responder, in order. Then all messages of the responder reach the
+-- requester. After it both records are in step. The round is this profile's own.
 use Rattle.std.specs.Prelude.{◌≡◌, ◌⊎◌, ℕ, zero, suc, ◌+◌, ◌<◌, true, false, List, [], ◌∷◌, ◌++◌, length, Result, Ok, Err}
 use Rattle.ill_core.specs.declared.state.State.{State}
 use Rattle.ill_core.specs.declared.state.State.TheVariants as states
@@ -25,7 +25,7 @@ sends_and_delivers who number zero = []
 sends_and_delivers who number (suc count) =
     Send who number ∷ Deliver (other who) number ∷ sends_and_delivers who (number + 1) count
 
--- Returns a half of a round: `who` saves, and all its messages are passed on.
+-- Returns the events of a half of a round: `who` saves, and all its messages are sent and delivered.
 abbrev pub half_of : Who → Parties → List Event
 half_of who w = Save who ∷ sends_and_delivers who 1 (length (issued_of (party w who).live))
 
@@ -33,7 +33,7 @@ half_of who w = Save who ∷ sends_and_delivers who 1 (length (issued_of (party 
 abbrev pub round_of : Parties → List Event
 round_of w = half_of Requester w ++ half_of Responder (run_of w (half_of Requester w))
 
--- The world is the one after `events`, from `old` on. If memory ran out, it is the one after a prefix of them.
+-- The new world is the one after `events`, from `old` on. If memory ran out, it is the one after a prefix of them.
 abbrev pub Performs : {W E M : Type 0} → (W → List E → W) → List E → W → Result (Unit {0}) M → W → Type 0
 Performs run events old (Ok done) new = new ≡ run old events
 Performs {E = E} run events old (Err memory) new = (first : List E) × IsPrefix first events × (new ≡ run old first)
@@ -58,8 +58,8 @@ faced_in states.Recall = states.Recall ∷ []
 faced_in states.Returned = states.Returned ∷ states.CheckedIn ∷ []
 faced_in other = []
 
--- The records are in step: their states face each other, no declined conditions stand, and receipt and check-in are
--- known. The due dates are equal, unless the item was recalled or returned.
+-- The two records are in step. Their states face each other, and no conditions are declined. Either side knows of a
+-- receipt and a check-in. The due dates are equal, unless the item was recalled or returned.
 pub record InStep (x : RequesterRecord) (y : ResponderRecord) : Type 0 where
   pub faced : is_among (faced_in x.state) y.state ≡ true
   pub undeclined : is_declined x ≡ false
@@ -71,7 +71,7 @@ pub record InStep (x : RequesterRecord) (y : ResponderRecord) : Type 0 where
 abbrev pub AreInStep : Parties → Type 0
 AreInStep w = Facing InStep w.requester.live w.responder.live
 
--- The responder can answer a Conditional-Reply no: it has ended the request, or a number is left.
+-- The responder can answer a Conditional-Reply no: it has ended the request, or has a number left.
 abbrev pub CanAnswer : Side → Type 0
 CanAnswer side = (has is_end (issued_of side) ≡ true) ⊎ (length (issued_of side) < 255)
 
@@ -94,17 +94,17 @@ facing_in states.Returned = states.Returned ∷ []
 facing_in states.CheckedIn = states.Returned ∷ []
 facing_in other = []
 
--- The two records are not in step. Each case has one reason.
+-- The two records are not in step. Each case gives one reason.
 pub data OutOfStep (x : RequesterRecord) (y : ResponderRecord) : Type 0 where
   unfaced : is_among (facing_in y.state) x.state ≡ false → OutOfStep x y
-  -- the conditions were declined, and the request goes on
+  -- The conditions were declined, and the requester is still in CONDITIONAL.
   declined : x.state ≡ states.Conditional → has declines x.issued ≡ true → OutOfStep x y
-  -- the item was received, and the responder does not know it; or it was not, and the responder says so
+  -- The item was received, and the responder lacks the mark. Or it was not, and the responder has the mark.
   unmarked : is_among later y.state ≡ true → has is_received x.issued ≡ true → y.received ≡ false → OutOfStep x y
   unreceived : is_among later y.state ≡ true → has is_received x.issued ≡ false → y.received ≡ true → OutOfStep x y
-  -- the item was checked in, and the requester does not know it; or it was not, and the requester says so
+  -- The item was checked in, and the requester lacks the mark. Or it was not, and the requester has the mark.
   not_yet_checked_in : y.state ≡ states.CheckedIn → x.checked_in ≡ false → OutOfStep x y
   checked_in_early : (y.state ≡ states.CheckedIn → ⊥) → x.checked_in ≡ true → OutOfStep x y
-  -- the due dates differ, and the item was neither recalled nor returned
+  -- The due dates differ, and the item was neither recalled nor returned.
   due_apart : is_among (states.Recall ∷ states.Returned ∷ []) x.state ≡ false → (x.due ≡ due_of y → ⊥) →
       OutOfStep x y

@@ -1,5 +1,5 @@
--- Safety, which holds in every world of every run: no side acts on what the other's record contradicts (this profile's
--- own).
+-- Safety holds in every world of every run: no side acts on a claim that the other's record contradicts. It is this
+-- profile's own.
 use Rattle.std.specs.Prelude.{◌≡◌, ℕ, true, List, Some, take}
 use Rattle.ill_values.specs.Day.{Date}
 use Rattle.ill_values.specs.declared.apdu.Apdu.{Apdu}
@@ -15,13 +15,13 @@ use Rattle.ill_world.specs.World.{Parties, run_of}
 
 -- ---- a requester's side, and the responder's that it faces
 
--- A requester in CANCELLED faces a responder in CANCELLED. One in NOT-SUPPLIED faces one in NOT-SUPPLIED.
+-- If the requester is in CANCELLED or NOT-SUPPLIED, the responder is in this state too.
 abbrev pub EndsAlike : Side → Side → Type 0
 EndsAlike requester responder =
     (state_of requester ≡ Cancelled → state_of responder ≡ Cancelled)
     × (state_of requester ≡ NotSupplied → state_of responder ≡ NotSupplied)
 
--- A requester in SHIPPED or later faces a responder that has issued a Shipped.
+-- If the requester is in SHIPPED or later, the responder has issued a Shipped.
 abbrev pub WasShipped : Side → Side → Type 0
 WasShipped requester responder =
     is_among later (state_of requester) ≡ true → has is_shipped (issued_of responder) ≡ true
@@ -30,7 +30,7 @@ WasShipped requester responder =
 abbrev pub Grants : List Apdu → Date → Type 0
 Grants apdus due = (n : ℕ) × (a : Apdu) × (message apdus n ≡ Some a) × (grant_in a.body ≡ Some due)
 
--- A requester's due date is one that the responder has granted.
+-- If the requester has a due date, the responder has granted this date.
 abbrev pub WasGranted : Side → Side → Type 0
 WasGranted requester responder =
     (due : Date) → due_date_of requester ≡ Some due → Grants (issued_of responder) due

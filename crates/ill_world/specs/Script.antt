@@ -1,4 +1,4 @@
--- The meaning of a line of a script (this profile's own).
+-- A line of a script of two sides has a meaning. It is this profile's own.
 use Rattle.std.specs.Prelude.{ℕ, Bool, false, not, ◌==◌, if◌then◌else◌, List, [], ◌∷◌, length, bytes_eq, codes, Option, Some}
 use Rattle.std.specs.Prelude.{None, option_map}
 use Rattle.std.specs.List.{slice_split, filter}
@@ -9,11 +9,11 @@ use Rattle.ill_world.specs.declared.script.ScriptLine.{ScriptLine}
 use Rattle.ill_world.specs.declared.script.ScriptLine.TheVariants as lines
 use Rattle.ill_world.specs.Words.{◌>>=◌, named, who_named, landed_named, day_of, number_of, bytes_of, wish_of, deed_of}
 
--- Returns the words of a line: the parts between its spaces that are not empty.
+-- Returns the words of a line: its nonempty parts between spaces.
 unfoldable pub words_of : List ℕ → List (List ℕ)
 words_of line = filter (λ word. not (length word == 0)) (slice_split (λ byte. byte == 0x20) line)
 
--- Returns the event that the words after `responder` say: a day, and a deed.
+-- Returns the event of the words after `responder`: a day, and a deed.
 abbrev pub deed_event : List (List ℕ) → Option Event
 deed_event [] = None
 deed_event (today ∷ words) = do
@@ -21,11 +21,11 @@ deed_event (today ∷ words) = do
   deed ← deed_of None words
   Some (Deed deed day)
 
--- Returns the event at `who` that the verb says alone.
+-- Returns the event of a verb and the side `who`, without further words.
 abbrev pub bare_event : List ℕ → Who → Option Event
 bare_event verb who = named ((codes "save", Save who) ∷ (codes "restart", Restart who) ∷ []) verb
 
--- Returns the event at `who` that the verb and the word after the side say.
+-- Returns the event of a verb, the side `who` and one more word.
 abbrev pub event_with : List ℕ → List ℕ → Who → Option Event
 event_with verb word who =
     if bytes_eq verb (codes "save-fault") then option_map (SaveFault who) (landed_named word)
@@ -34,13 +34,13 @@ event_with verb word who =
     else if bytes_eq verb (codes "noise") then option_map (Noise who) (bytes_of word)
     else None
 
--- Returns the event that a verb and the words after it say, of which the first names a side.
+-- Returns the event of a verb and the words after it. The first of these names a side.
 abbrev pub side_event : List ℕ → List (List ℕ) → Option Event
 side_event verb (side ∷ []) = who_named side >>= bare_event verb
 side_event verb (side ∷ word ∷ []) = who_named side >>= event_with verb word
 side_event verb words = None
 
--- Returns the event that `words` say, if they say one.
+-- Returns the event of `words`, if they say one.
 unfoldable pub event_of : List (List ℕ) → Option Event
 event_of [] = None
 event_of (first ∷ words) =
@@ -48,11 +48,12 @@ event_of (first ∷ words) =
     else if bytes_eq first (codes "responder") then deed_event words
     else side_event first words
 
+-- Returns a line with this event, or a bad line if there is none.
 abbrev pub line_with : Option Event → ScriptLine Event
 line_with (Some event) = lines.Event event
 line_with None = lines.Bad
 
--- what the words of a line say, which is nothing where there are none
+-- Returns the meaning of the words of a line. A line without words is skipped.
 abbrev pub line_of : List (List ℕ) → ScriptLine Event
 line_of [] = lines.Skipped
 line_of (word ∷ words) = line_with (event_of (word ∷ words))
@@ -62,6 +63,6 @@ abbrev pub is_remark : List ℕ → Bool
 is_remark [] = false
 is_remark (byte ∷ bytes) = byte == 0x23
 
--- what a line says, which is nothing where it is a remark
+-- Returns the meaning of a line. A remark is skipped.
 unfoldable pub meaning : List ℕ → ScriptLine Event
 meaning line = if is_remark line then lines.Skipped else line_of (words_of line)

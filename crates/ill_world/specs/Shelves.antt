@@ -1,5 +1,5 @@
--- The model of two shelves (this profile's own). A shelf is a folder of the desks of one library. Each group of
--- transactions has a desk there, and the group of a transaction names its desk.
+-- The model of two shelves is this profile's own. A shelf is a folder of the desks of one library. It has one desk for
+-- each group of transactions.
 use Rattle.std.specs.Prelude.{ℕ, bytes_eq, if◌then◌else◌, List, [], ◌∷◌, map, take}
 use Rattle.ill_values.specs.TxnId.{Qualifiers}
 use Rattle.ill_world.specs.declared.event.DeskEvent.{DeskEvent}
@@ -12,11 +12,11 @@ use Rattle.ill_world.specs.Agreement.{Agrees}
 
 -- ---- the shelves
 
--- Two shelves: at each group two desks, one of each library.
+-- Two shelves have two desks at each group, one of each library.
 abbrev pub Shelves : Type 0
 Shelves = List ℕ → DeskParties
 
--- The first shelves: the desks at each group hold nothing.
+-- The desks of the first shelves hold nothing, at each group.
 abbrev pub first_shelves : Shelves
 first_shelves = λ group. first_desks
 
@@ -26,7 +26,8 @@ with_desks w at desks = λ group. if bytes_eq group at then desks else w group
 
 -- ---- one event
 
--- An event of desks, said with a group. A restart of a machine is a list of restarts, one for each group.
+-- An event of shelves is an event of desks, with a group. A restart of a machine is a list of restarts, one for each
+-- group.
 pub record ShelfEvent : Type 0 where
   pub group : List ℕ
   pub event : DeskEvent
@@ -39,11 +40,11 @@ group_of said (Send who txn n) = txn.group
 group_of said (Deliver who txn n) = txn.group
 group_of said whole = said
 
--- Returns the group at whose desks an event happens. So a transaction has one home.
+-- Returns the group at whose desks the event happens. So a transaction has one home.
 abbrev pub home : ShelfEvent → List ℕ
 home e = group_of e.group e.event
 
--- Returns `events`, each said with `group`.
+-- Returns `events`, each with `group`.
 abbrev pub said_in : List ℕ → List DeskEvent → List ShelfEvent
 said_in group events = map (λ event. record { group = group; event = event }) events
 

@@ -1,4 +1,4 @@
--- The script of two sides, and the trace of the run that it describes (this profile's own).
+-- A script of two sides describes a run, and the run has a trace. It is this profile's own.
 use Rattle.std.specs.Prelude.{ℕ, ◌+◌, List, [], ◌∷◌, ◌++◌, length, Option, Result}
 use Rattle.ill_values.specs.TxnId.{Qualifiers}
 use Rattle.ill_world.specs.declared.event.Event.{Event}
@@ -8,7 +8,7 @@ use Rattle.ill_world.specs.Script.{meaning}
 use Rattle.ill_world.specs.Trace.{line}
 use Rattle.ill_world.specs.Play.{Play, Said, ends, breaks_off, says_on, trace_from, Plays}
 
--- The play of two sides: each line says its meaning, and nothing is carried from line to line.
+-- In the play of two sides each line has its own meaning, and no value is carried from line to line.
 abbrev pub two_sides : Play Parties Event (Unit {0})
 two_sides = record {
   says = λ none bytes. (meaning bytes, none);
@@ -20,7 +20,7 @@ two_sides = record {
 abbrev pub script : List ℕ → Said Event
 script text = says_on two_sides (ends two_sides) tt 1 text
 
--- Returns the reading of a text after which the reader failed.
+-- Returns the reading of a text at whose end the reader failed.
 abbrev pub script_read : List ℕ → Said Event
 script_read text = says_on two_sides breaks_off tt 1 text
 
@@ -28,7 +28,7 @@ script_read text = says_on two_sides breaks_off tt 1 text
 abbrev pub trace_of : Qualifiers → List Event → List ℕ
 trace_of txn events = trace_from two_sides 1 (first_world txn) events
 
--- Returns the line of `event` in a trace, after `events`: its number, its outcome, and the world after it.
+-- Returns the line of `event` in a trace, after `events`. It has its number, its outcome, and both sides after it.
 abbrev pub line_after : Qualifiers → List Event → Event → List ℕ
 line_after txn events event =
     line (length events + 1) (happens (run_of (first_world txn) events) event).0

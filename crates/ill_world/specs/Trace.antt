@@ -1,4 +1,4 @@
--- The trace of a run (this profile's own): a line for each event, with its outcome and both sides after it.
+-- A trace of a run has a line for each event, with its outcome and both sides after it. It is this profile's own.
 use Rattle.std.specs.Prelude.{ℕ, List, ◌++◌, Option, Some, None, codes}
 use Rattle.std.specs.Fmt.{decimal}
 use Rattle.ill_values.specs.Day.{Date, date_text}
@@ -20,14 +20,14 @@ use Rattle.ill_saved.specs.ManySides.{held_for}
 use Rattle.ill_world.specs.World.{Party, Parties}
 use Rattle.ill_world.specs.Desks.{DeskParty, DeskParties}
 
--- Returns the word of the answer to a message.
+-- Returns the word that a trace shows for the answer to a message.
 abbrev pub taking_word : Taking → List ℕ
 taking_word Taken = codes "taken"
 taking_word Repeat = codes "repeat"
 taking_word Stale = codes "stale"
 taking_word (Conflict state) = codes "conflict"
 
--- Returns the word of a refusal.
+-- Returns the word that a trace shows for a refusal.
 abbrev pub refusal_word : Refusal → List ℕ
 refusal_word refusals.OtherTransaction = codes "other-transaction"
 refusal_word refusals.WrongRole = codes "wrong-role"
@@ -39,7 +39,7 @@ refusal_word refusals.NotExpired = codes "not-expired"
 refusal_word refusals.NumbersUsed = codes "numbers-used"
 refusal_word refusals.OutOfMemory = codes "memory"
 
--- Returns the word of an outcome.
+-- Returns the word that a trace shows for an outcome.
 abbrev pub outcome_word : Outcome → List ℕ
 outcome_word Done = codes "done"
 outcome_word Saved = codes "saved"
@@ -54,7 +54,7 @@ outcome_word Garbled = codes "garbled"
 outcome_word Forged = codes "forged"
 outcome_word Restarted = codes "restarted"
 
--- Returns the word of an outcome at a desk.
+-- Returns the word that a trace shows for an outcome at a desk.
 abbrev pub desk_outcome_word : DeskOutcome → List ℕ
 desk_outcome_word (Plain outcome) = outcome_word outcome
 desk_outcome_word NoSuchTransaction = codes "no-such-transaction"
@@ -79,21 +79,21 @@ shown_text shown =
 abbrev pub side_text : Side → ℕ → List ℕ
 side_text side released = shown_text (shown_of side released)
 
--- Returns the text of the number of an event, and of the word of its outcome.
+-- Returns the text of an event: its number, and the word of its outcome.
 abbrev pub event_text : ℕ → List ℕ → List ℕ
 event_text number word = decimal number ++ codes " " ++ word
 
--- Returns the text of both sides.
+-- Returns the text of both sides, each after its role.
 abbrev pub sides_text : Shown → Shown → List ℕ
 sides_text requester responder =
     codes " requester " ++ shown_text requester ++ codes " responder " ++ shown_text responder
 
--- Returns the line with this number, the word of an outcome, and both sides.
+-- Returns the line with this number, this word of an outcome, and both sides.
 abbrev pub line_of : ℕ → List ℕ → Shown → Shown → List ℕ
 line_of number word requester responder =
     event_text number word ++ sides_text requester responder ++ codes "\n"
 
--- Returns the line of the event with this number, by its outcome and the world after it.
+-- Returns the line of event `number`, by its outcome and the world after it.
 unfoldable pub line : ℕ → Outcome → Parties → List ℕ
 line number outcome after =
     line_of number (outcome_word outcome) (party_shown after.requester) (party_shown after.responder)
@@ -102,7 +102,7 @@ line number outcome after =
 abbrev pub desk_shown : Qualifiers → DeskParty → Shown
 desk_shown txn p = shown_of (held_for txn p.live).side (held_for txn p.live).released
 
--- Returns the line of the event with this number, and both sides of `txn` after it.
+-- Returns the line of event `number`, with both sides of `txn` after it.
 unfoldable pub desk_line : ℕ → Qualifiers → DeskOutcome → DeskParties → List ℕ
 desk_line number txn outcome after =
     line_of number (desk_outcome_word outcome) (desk_shown txn after.requester) (desk_shown txn after.responder)

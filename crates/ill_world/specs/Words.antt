@@ -1,4 +1,5 @@
--- The words of a script and of a command line (this profile's own): the meaning of one word, of a wish, and of a deed.
+-- These definitions give the meaning of a word, a wish and a deed, in a script and on a command line. They are this
+-- profile's own.
 use Rattle.std.specs.Prelude.{ℕ, ◌+◌, ◌-◌, ◌*◌, ◌&&◌, fold, nat_le, Bool, true, false, if◌then◌else◌, ◌==◌, List, [], ◌∷◌, ◌++◌}
 use Rattle.std.specs.Prelude.{length, flat_map, bytes_eq, codes, Option, Some, None, option_map}
 use Rattle.std.specs.List.{list_all}
@@ -17,14 +18,14 @@ use Rattle.ill_saved.specs.declared.role.Role.{Role as Who}
 use Rattle.ill_saved.specs.declared.role.Role.TheVariants.{Requester, Responder}
 
 infixl 10 ◌>>=◌
--- Returns `next` of a value, or none if there is no value.
+-- Returns `next` of a value, or None if there is no value.
 abbrev pub ◌>>=◌ : {A B : Type 0} → Option A → (A → Option B) → Option B
 Some value >>= next = next value
 None >>= next = None
 
 -- ---- one word
 
--- Returns the value beside `word` in a table, if `word` stands there.
+-- Returns the value beside `word` in a table, if the table has `word`.
 abbrev pub named : {A : Type 0} → List (List ℕ × A) → List ℕ → Option A
 named [] word = None
 named ((name, value) ∷ more) word = if bytes_eq word name then Some value else named more word
@@ -41,7 +42,7 @@ who_named = named ((codes "requester", Requester) ∷ (codes "responder", Respon
 abbrev pub landed_named : List ℕ → Option Bool
 landed_named = named ((codes "new", true) ∷ (codes "old", false) ∷ [])
 
--- Returns the day of eight digits.
+-- Returns the day of a word of eight digits.
 abbrev pub day_of : List ℕ → Option Date
 day_of word = result_ok (read_date word)
 
@@ -49,45 +50,45 @@ day_of word = result_ok (read_date word)
 abbrev pub is_numeral : ℕ → List ℕ → Bool
 is_numeral most word = nat_le 1 (length word) && nat_le (length word) most && list_all is_ascii_digit word
 
--- Returns the number for which decimal digits stand.
+-- Returns the value of decimal digits.
 abbrev pub decimal_value : List ℕ → ℕ
 decimal_value digits = fold (λ n digit. 10 * n + (digit - 0x30)) 0 digits
 
--- Returns the day that lies one to five decimal `digits` of days after `from`.
+-- Returns the day that is a number of days after `from`. The number has one to five decimal digits.
 abbrev pub days_after : Date → List ℕ → Option Date
 days_after from digits =
     if is_numeral 5 digits then result_ok (day_after (decimal_value digits) from) else None
 
--- Returns the due day of a word: a day or, if `from` is given, a plus sign and days after it.
+-- Returns the due day of a word. It is a day or, if `from` is given, a plus sign and a number of days after it.
 abbrev pub due_of : Option Date → List ℕ → Option Date
 due_of None word = day_of word
 due_of (Some from) [] = day_of []
 due_of (Some from) (byte ∷ digits) = if byte == 0x2B then days_after from digits else day_of (byte ∷ digits)
 
--- Returns the day of a word, or no day for `none`.
+-- Returns the day of a word, or no day for the word `none`.
 abbrev pub optional_day_of : List ℕ → Option (Option Date)
 optional_day_of word = if bytes_eq word (codes "none") then Some None else option_map Some (day_of word)
 
--- Returns true if a message may have the number n: 1 to 255.
+-- Returns true if n can be the number of a message: 1 to 255.
 abbrev pub is_number : ℕ → Bool
 is_number n = nat_le 1 n && nat_le n 255
 
--- Returns the number of a message: one to three digits, with or without leading zeros.
+-- Returns the number of a message. It has one to three digits, with or without leading zeros.
 abbrev pub number_of : List ℕ → Option ℕ
 number_of word = if is_numeral 3 word && is_number (decimal_value word) then Some (decimal_value word) else None
 
--- Returns the bytes for which hexadecimal digits stand, two for each. The word `none` stands for no bytes.
+-- Returns the bytes that hexadecimal digits spell, two for each byte. The word `none` spells no bytes.
 abbrev pub bytes_of : List ℕ → Option (List ℕ)
 bytes_of word = if bytes_eq word (codes "none") then Some [] else result_ok (decode_of word)
 
 -- ---- a requester's wish
 
--- Returns the wish of one word.
+-- Returns the wish of a single word.
 abbrev pub bare_wish_of : List ℕ → Option Wish
 bare_wish_of =
     named ((codes "cancel", Cancel) ∷ (codes "receive", Receive) ∷ (codes "return", Return) ∷ [])
 
--- Returns the wish that a verb and one more word say.
+-- Returns the wish of a verb and one more word.
 abbrev pub wish_with : List ℕ → List ℕ → Option Wish
 wish_with verb word =
     if bytes_eq verb (codes "reply") then option_map Reply (yes_of word)
@@ -98,14 +99,14 @@ wish_with verb word =
 abbrev pub spaced : List ℕ → List (List ℕ) → List ℕ
 spaced first more = first ++ flat_map (λ word. 0x20 ∷ word) more
 
--- Returns a Request for the item of `text`, until the day `expiry` or without an end.
+-- Returns a Request for the item of `text`, with the expiry date `expiry`, or without one.
 abbrev pub request_of : List ℕ → List ℕ → Option Wish
 request_of expiry text = do
   day ← optional_day_of expiry
   item ← result_ok (item_of text)
   Some (Request day item)
 
--- Returns the wish that words say, if they say one.
+-- Returns the wish of these words, if they say one.
 unfoldable pub wish_of : List (List ℕ) → Option Wish
 wish_of [] = None
 wish_of (verb ∷ []) = bare_wish_of verb
@@ -115,7 +116,7 @@ wish_of (verb ∷ expiry ∷ first ∷ more) =
 
 -- ---- a responder's deed
 
--- Returns the deed of one word.
+-- Returns the deed of a single word.
 abbrev pub bare_deed_of : List ℕ → Option Deed
 bare_deed_of = named (
     (codes "overdue", Overdue)
@@ -128,7 +129,7 @@ bare_deed_of = named (
 abbrev pub refusal_of : List ℕ → Option Deed
 refusal_of = named ((codes "no", RenewAnswer None) ∷ [])
 
--- Returns the deed that a verb and one more word say. A due day may be counted from `from`.
+-- Returns the deed of a verb and one more word. A due day may be counted from `from`.
 unfoldable pub deed_with : Option Date → List ℕ → List ℕ → Option Deed
 deed_with from verb word =
     if bytes_eq verb (codes "answer") then option_map Answer (result_named word)
@@ -137,14 +138,14 @@ deed_with from verb word =
     else if bytes_eq verb (codes "renew-answer") then refusal_of word
     else None
 
--- Returns a Renew-Answer yes until the day `due`, if the first two words say so.
+-- Returns a Renew-Answer yes with the date `due`, if the first two words are `renew-answer yes`.
 unfoldable pub grant_with : Option Date → List ℕ → List ℕ → List ℕ → Option Deed
 grant_with from verb word due =
     if bytes_eq verb (codes "renew-answer") && bytes_eq word (codes "yes")
     then option_map (λ day. RenewAnswer (Some day)) (due_of from due)
     else None
 
--- Returns the deed that words say, if they say one. A due day may be counted from `from`.
+-- Returns the deed of these words, if they say one. A due day may be counted from `from`.
 unfoldable pub deed_of : Option Date → List (List ℕ) → Option Deed
 deed_of from (verb ∷ []) = bare_deed_of verb
 deed_of from (verb ∷ word ∷ []) = deed_with from verb word

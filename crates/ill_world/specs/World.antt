@@ -1,5 +1,5 @@
--- The two-party model: two sides, what has landed of each, and what each has sent (this profile's
--- own). It knows no bytes but those of noise, and no stores.
+-- The two-party model has two sides, the landed record of each, and the messages that each has sent. It knows no bytes
+-- but those of noise, and no stores. It is this profile's own.
 use Rattle.std.specs.Prelude.{ℕ, zero, suc, Bool, true, false, nat_le, List, [], ◌∷◌, length, replicate, slice_get, Option, Some}
 use Rattle.std.specs.Prelude.{None, Result, Ok, Err, if◌then◌else◌}
 use Rattle.std.specs.List.{slice_set}
@@ -25,24 +25,24 @@ use Rattle.ill_world.specs.declared.event.Outcome.TheVariants.{NotSaved, NotSent
 
 -- ---- the world
 
--- A party: its side in memory, the landed one (idle if nothing has landed), and the count of released messages. `sent`
--- has message n at place n - 1, if it was sent.
+-- A party has its side in memory, its landed side, and the count of its released messages. The landed side is idle if
+-- nothing has landed. `sent` has message n at place n - 1, if it was sent.
 pub record Party : Type 0 where
   pub live : Side
   pub landed : Side
   pub released : ℕ
   pub sent : List (Option Apdu)
 
--- A value for the requester of a loan, and one for its responder.
+-- A pair has one value for the requester of a loan, and one for its responder.
 pub record TwoOf (P : Type 0) : Type 0 where
   pub requester : P
   pub responder : P
 
--- A world: the two parties of a transaction.
+-- A world is the two parties of a transaction.
 abbrev pub Parties : Type 0
 Parties = TwoOf Party
 
--- The messages of a party that has sent none: 255 empty places.
+-- A party that has sent no message has 255 empty places.
 abbrev pub nothing_sent : List (Option Apdu)
 nothing_sent = replicate 255 None
 
@@ -57,7 +57,7 @@ first_world txn = record {
   responder = first_party (idle_side Responder txn);
 }
 
--- Returns the one of the two in `w` that has the given role.
+-- Returns the member of `w` that has the given role.
 abbrev pub party : {P : Type 0} → TwoOf P → Who → P
 party w Requester = w.requester
 party w Responder = w.responder
@@ -67,7 +67,7 @@ abbrev pub with_party : {P : Type 0} → TwoOf P → Who → P → TwoOf P
 with_party w Requester p = record w { requester = p }
 with_party w Responder p = record w { responder = p }
 
--- Returns message n, if it was sent. No message has the number 0.
+-- Returns message n of `sent`, if it was sent. No message has the number 0.
 abbrev pub sent_message : List (Option Apdu) → ℕ → Option Apdu
 sent_message sent zero = None
 sent_message sent (suc n) = option_flatten (slice_get sent n)
@@ -79,7 +79,7 @@ with_sent sent (suc n) a = slice_set sent n (Some a)
 
 -- ---- one event
 
--- Returns the outcome and the party after a decision of its library: a new live side, or a refusal.
+-- Returns the outcome and the party after a decision of its library. The result is the new live side, or a refusal.
 abbrev pub decides : Party → Result Side Refusal → Outcome × Party
 decides p (Ok new) = (Done, record p { live = new })
 decides p (Err refusal) = (Refused refusal, p)
@@ -88,22 +88,23 @@ decides p (Err refusal) = (Refused refusal, p)
 abbrev pub saves : Party → Party
 saves p = record p { landed = p.live; released = length (issued_of p.live) }
 
--- A save that fails may have landed. It releases nothing.
+-- A save that fails lands the live side if the Bool is true. It releases nothing.
 abbrev pub fails_to_save : Party → Bool → Party
 fails_to_save p true = record p { landed = p.live }
 fails_to_save p false = p
 
--- Returns the outcome of a Send, and the party after it. A message is sent if it is issued and released.
+-- Returns the outcome of a Send, and the party after it. A message is sent if it is issued and released. `sending`
+-- gives the party after it.
 abbrev pub sends_by : {P : Type 0} → P → (Apdu → P) → Option Apdu → Bool → Outcome × P
 sends_by p sending None is_released = (NoSuchMessage, p)
 sends_by p sending (Some a) false = (NotSaved, p)
 sends_by p sending (Some a) true = (Sent, sending a)
 
--- Returns the outcome of a Send of message n, and the party after it. The message joins `p.sent` if it is sent.
+-- Returns the outcome of a Send of message n, and the party after it. If the message is sent, it joins `p.sent`.
 abbrev pub sends : Party → ℕ → Option Apdu → Bool → Outcome × Party
 sends p n issued is_released = sends_by p (λ a. record p { sent = with_sent p.sent n a }) issued is_released
 
--- Returns the outcome of a delivered message.
+-- Returns the outcome of a delivered message, by its answer or its refusal.
 abbrev pub answer_to : Result Taking Refusal → Outcome
 answer_to (Ok taking) = Answered taking
 answer_to (Err refusal) = Refused refusal
@@ -112,19 +113,19 @@ answer_to (Err refusal) = Refused refusal
 abbrev pub takes_message : Party → Apdu → Outcome × Party
 takes_message p a = (answer_to (takes p.live a).0, record p { live = (takes p.live a).1 })
 
--- Only a message that the other party has sent is delivered.
+-- Returns the outcome of a delivery, and the party after it. Only a message that the other party has sent is delivered.
 abbrev pub receives : Party → Option Apdu → Outcome × Party
 receives p None = (NotSent, p)
 receives p (Some a) = takes_message p a
 
--- Returns the outcome of noise, by the APDU with which its bytes begin. Noise changes nothing: nobody forges an APDU
--- of the transaction, and one of another is refused.
+-- Returns the outcome of noise, by the APDU with which its bytes begin. Noise changes nothing. Nobody forges an APDU of
+-- the transaction, and an APDU of another is refused.
 abbrev pub hears : Party → Result (Apdu × List ℕ) DerFault → Outcome
 hears p (Ok (a, [])) = if is_same_txn a.txn (txn_of p.live) then Forged else Refused OtherTransaction
 hears p (Ok (a, byte ∷ rest)) = Garbled
 hears p (Err fault) = Garbled
 
--- A restart takes the landed side into memory, and releases all its messages.
+-- A restart replaces the live side by the landed one, and releases all its messages.
 abbrev pub restarts : Party → Party
 restarts p = record p { live = p.landed; released = length (issued_of p.landed) }
 
@@ -150,8 +151,8 @@ who_of (Deliver who n) = who
 who_of (Noise who bytes) = who
 who_of (Restart who) = who
 
--- Returns the outcome of `happening` at the one in role `who`, and both after it. The other one, which `happening`
--- takes too, stays as it is.
+-- Returns the outcome of `happening` at the member with role `who`, and the world after it. `happening` takes the other
+-- member too, which stays unchanged.
 abbrev pub happens_at : {P O : Type 0} → TwoOf P → Who → (P → P → O × P) → O × TwoOf P
 happens_at w who happening =
     let after = happening (party w who) (party w (other who)) in
@@ -163,7 +164,7 @@ happens w event = happens_at w (who_of event) (λ p partner. happens_to p partne
 
 -- ---- a run: one event after another
 
--- Returns the world after events, one after another by `happening`.
+-- Returns the world after `events`, one after another by `happening`.
 unfoldable pub run_by : {W E O : Type 0} → (W → E → O × W) → W → List E → W
 run_by happening w [] = w
 run_by happening w (event ∷ events) = run_by happening (happening w event).1 events

@@ -1,4 +1,5 @@
--- Why the two records are in step once each has responder_sent all messages of the other.
+-- After each record has taken all messages of the other, the two records are in step. Either then satisfies
+-- `has_heard`: no message of the other would change it now.
 use Rattle.std.proofs.Common.{rules, arith, ◌≡◌, ◌⊎◌, inl, inr, ℕ, zero, suc, ◌≤◌, ◌<◌, Bool, true, false, not, ◌&&◌, nat_lt}
 use Rattle.std.proofs.Common.{List, [], ◌∷◌, length, Option, Some, None, is_some, refl, sym, ap, ◌∙◌, subst}
 use Rattle.std.specs.Prelude.{◌==◌}
@@ -42,8 +43,8 @@ use Rattle.ill_world.proofs.Claims.{not_supplied_faces, shipped_by, ships_before
 use Rattle.ill_world.proofs.Agreements.{says_true, cancel_is_open, cancels_with, tells_cancel, tells_refused, at_most_one}
 use Rattle.ill_world.proofs.Arrivals.{not_none}
 
--- Each record has responder_sent what the other has issued: a requester all but conditions, of which it has
--- responder_sent the last message alone; and the responder can answer a no.
+-- Neither record would be changed now by a message that the other has issued: `has_heard` holds. The requester has it
+-- of all plain messages, and of the last one. The responder can answer a Conditional-Reply no.
 pub record HaveHeard (x : RequesterRecord) (y : ResponderRecord) : Type 0 where
   pub requester : (n : ℕ) (a : Apdu) → message y.issued n ≡ Some a → names_conditions a.body ≡ false
       → notices.has_heard x a.number a.body ≡ true
@@ -63,60 +64,60 @@ alike false false there back = refl
 implied : (a b : Bool) → implies a b ≡ true → a ≡ true → b ≡ true
 implied a b implies_it is = search rules
 
--- ---- a message that was responder_sent
+-- ---- a message of which `has_heard` holds
 
--- A responder that has responder_sent the ILL-Request is not in IDLE.
+-- If `has_heard` holds of an ILL-Request, the responder is not in IDLE.
 request_heard : (y : ResponderRecord) (n : ℕ) (body : Body) → is_ill_request body ≡ true
     → records.has_heard y n body ≡ true → is_among (states.Idle ∷ []) y.state ≡ false
 request_heard y n (types.IllRequest expiry item) is responder_sent = not-true _ responder_sent
 request_heard y n body is responder_sent = search rules
 
--- A requester that has responder_sent that the item is not supplied is in no undecided state.
+-- If `has_heard` holds of a message that ends the request without the item, the requester is in no undecided state.
 end_heard : (x : RequesterRecord) (n : ℕ) (body : Body) → is_unsupplied body ≡ true
     → notices.has_heard x n body ≡ true → is_among undecided x.state ≡ false
 end_heard x n (types.IllAnswer answer) is responder_sent = search rules
 end_heard x n types.Expired is responder_sent = not-true _ responder_sent
 end_heard x n body is responder_sent = search rules
 
--- A requester that has responder_sent a Shipped is in no undecided state.
+-- If `has_heard` holds of a Shipped, the requester is in no undecided state.
 shipped_heard : (x : RequesterRecord) (n : ℕ) (body : Body) → is_shipped body ≡ true
     → notices.has_heard x n body ≡ true → is_among undecided x.state ≡ false
 shipped_heard x n (types.Shipped due) is responder_sent = not-true _ responder_sent
 shipped_heard x n body is responder_sent = search rules
 
--- An undecided responder that has responder_sent a Cancel has taken that one or a later one.
+-- If `has_heard` holds of a Cancel, an undecided responder has taken this one or a later one.
 cancel_heard : (y : ResponderRecord) (n : ℕ) (body : Body) → is_cancel body ≡ true → records.has_heard y n body ≡ true
     → is_among records.undecided y.state ≡ true → is_at_most n y.last_cancel ≡ true
 cancel_heard y n types.Cancel is responder_sent is_open = implied _ _ responder_sent is_open
 cancel_heard y n body is responder_sent is_open = search rules
 
--- A responder in SHIPPED or OVERDUE that has responder_sent a Renew has taken that one or a later one.
+-- If `has_heard` holds of a Renew, a responder in SHIPPED or OVERDUE has taken this one or a later one.
 renew_heard : (y : ResponderRecord) (n : ℕ) (body : Body) → is_renew body ≡ true → records.has_heard y n body ≡ true
     → is_among (states.Shipped ∷ states.Overdue ∷ []) y.state ≡ true
     → is_at_most n y.last_renew ≡ true
 renew_heard y n (types.Renew wished) is responder_sent here = implied _ _ responder_sent here
 renew_heard y n body is responder_sent here = search rules
 
--- A responder that has responder_sent a Returned is in no lent state.
+-- If `has_heard` holds of a Returned, the responder is in no lent state.
 returned_heard : (y : ResponderRecord) (n : ℕ) (body : Body) → is_returned body ≡ true
     → records.has_heard y n body ≡ true → is_among records.lent y.state ≡ false
 returned_heard y n types.Returned is responder_sent = not-true _ responder_sent
 returned_heard y n body is responder_sent = search rules
 
--- A responder in SHIPPED or later that has responder_sent a Received has the received mark.
+-- If `has_heard` holds of a Received, a responder in SHIPPED or later has the received mark.
 received_heard : (y : ResponderRecord) (n : ℕ) (body : Body) → is_received body ≡ true
     → records.has_heard y n body ≡ true → is_among shipped_states y.state ≡ true → y.received ≡ true
 received_heard y n types.Received is responder_sent shipped = implied _ _ responder_sent shipped
 received_heard y n body is responder_sent shipped = search rules
 
--- An undecided responder that has responder_sent a Conditional-Reply no has no number left.
+-- If `has_heard` holds of a Conditional-Reply no, an undecided responder has no number left.
 no_heard : (y : ResponderRecord) (n : ℕ) (body : Body) → declines body ≡ true → records.has_heard y n body ≡ true
     → is_among records.undecided y.state ≡ true → nat_lt (length y.issued) 255 ≡ false
 no_heard y n (types.ConditionalReply c false) is responder_sent is_open = not-true _ (implied _ _ responder_sent is_open)
 no_heard y n (types.ConditionalReply c true) is responder_sent is_open = search rules
 no_heard y n body is responder_sent is_open = search rules
 
--- A responder that has responder_sent a Conditional-Reply yes does not wait for an answer to those conditions.
+-- If `has_heard` holds of a Conditional-Reply yes, the responder does not wait for an answer to these conditions.
 yes_heard : (y : ResponderRecord) (n c : ℕ) (body : Body) → accepts body ≡ Some c → records.has_heard y n body ≡ true
     → is_the c (outstanding_number y) ≡ false
 yes_heard y n c (types.ConditionalReply k true) is responder_sent = let same : k ≡ c = search rules in
@@ -124,19 +125,19 @@ yes_heard y n c (types.ConditionalReply k true) is responder_sent = let same : k
 yes_heard y n c (types.ConditionalReply k false) is responder_sent = search rules
 yes_heard y n c body is responder_sent = search rules
 
--- A requester that has responder_sent a Recall is in no lent state.
+-- If `has_heard` holds of a Recall, the requester is in no lent state.
 recall_heard : (x : RequesterRecord) (n : ℕ) (body : Body) → is_recall body ≡ true → notices.has_heard x n body ≡ true
     → is_among lent x.state ≡ false
 recall_heard x n types.Recall is responder_sent = not-true _ responder_sent
 recall_heard x n body is responder_sent = search rules
 
--- A requester in RETURNED that has responder_sent a Checked-In has the checked-in mark.
+-- If `has_heard` holds of a Checked-In, a requester in RETURNED has the checked-in mark.
 checked_in_heard : (x : RequesterRecord) (n : ℕ) (body : Body) → is_checked_in body ≡ true
     → notices.has_heard x n body ≡ true → is_among (states.Returned ∷ []) x.state ≡ true → x.checked_in ≡ true
 checked_in_heard x n types.CheckedIn is responder_sent back = implied _ _ responder_sent back
 checked_in_heard x n body is responder_sent back = search rules
 
--- A requester that has responder_sent an answer to a Cancel does not wait for it.
+-- If `has_heard` holds of an answer to Cancel c, the requester does not wait for an answer to Cancel c.
 cancel_reply_heard : (x : RequesterRecord) (n c : ℕ) (body : Body) → answered_number MayCancel body ≡ Some c
     → notices.has_heard x n body ≡ true → awaits_cancel x c ≡ false
 cancel_reply_heard x n c (types.CancelReply k is_yes) is responder_sent = let same : k ≡ c = search rules in
@@ -145,7 +146,8 @@ cancel_reply_heard x n c body is responder_sent = search rules
 
 -- ---- states
 
--- The state of a requester fits that of a responder, in all that one tells of the other.
+-- `s` is the state of a requester and `t` that of a responder. Each group of states has `s` exactly if the matching
+-- group has `t`.
 record StatesFit (s t : State) : Type 0 where
   role : is_among (states.InProcess ∷ states.CheckedIn ∷ []) s ≡ false
   other_role : is_among (states.Pending ∷ states.Received ∷ states.NotReceivedOverdue ∷ []) t ≡ false
@@ -164,7 +166,7 @@ record StatesFit (s t : State) : Type 0 where
 
 -- ---- kinds of messages
 
--- A message that the item is not supplied names no conditions.
+-- A message that ends the request without the item names no conditions.
 unsupplied_is_plain : (body : Body) → is_unsupplied body ≡ true → names_conditions body ≡ false
 unsupplied_is_plain (types.IllAnswer answer) is = search rules
 unsupplied_is_plain types.Expired is = refl
@@ -197,7 +199,7 @@ renew_answer (types.RenewAnswer k granted) c is = let same : k ≡ c = search ru
     (granted, ap (λ i. types.RenewAnswer i granted) same)
 renew_answer body c is = search rules
 
--- A message that tells of the request is an ILL-Request.
+-- A message that is evidence of a request is an ILL-Request.
 tells_requested : (n : ℕ) (body : Body) → responder.IsEvidence n body responder.Requested → is_ill_request body ≡ true
 tells_requested n (types.IllRequest expiry item) tells = refl
 tells_requested n body tells = search rules
@@ -212,13 +214,13 @@ attests_named : (n c : ℕ) (body : Body) → notices.Attests n body (notices.Na
 attests_named n c (types.IllAnswer results.Conditional) attests = attests
 attests_named n c body attests = search rules
 
--- A message that attests that a Renew was answered is an answer to it.
+-- A message that attests an answer to a Renew is that answer.
 attests_answered : (n renew : ℕ) (day : Date) (body : Body) → notices.Attests n body (notices.Answered renew day)
     → answered_number MayRenew body ≡ Some renew
 attests_answered n renew day (types.RenewAnswer c granted) attests = ap Some attests.0
 attests_answered n renew day body attests = search rules
 
--- A message that attests a date granted before a Renew grants it, and answers a lower number.
+-- A message that attests a date granted before a Renew grants this date, and answers a lower number.
 attests_grant : (n renew : ℕ) (due : Date) (body : Body) → 0 < renew
     → notices.Attests n body (notices.GrantedBefore renew due)
     → (c : ℕ) × (grant_of body ≡ Some (grant c due)) × (c < renew)
@@ -227,9 +229,9 @@ attests_grant n renew due (types.RenewAnswer c (Some d)) some attests = (c, ap (
 attests_grant n renew due (types.RenewAnswer c None) some attests = absurd attests
 attests_grant n renew due body some attests = search rules
 
--- ---- one state, and the states that it is not
+-- ---- a state, by the groups that have it or lack it
 
--- A requester with an open Cancel for which it does not wait is in CANCELLED.
+-- A requester that has an open Cancel, and does not wait for its answer, is in CANCELLED.
 cancelled_left : (s : State) (the : Bool) → (is_among (states.CancelPending ∷ states.Cancelled ∷ []) s && the) ≡ true
     → (is_among (states.CancelPending ∷ []) s && the) ≡ false → is_among (states.Cancelled ∷ []) s ≡ true
 cancelled_left states.CancelPending true may waits = search rules
@@ -237,7 +239,7 @@ cancelled_left states.CancelPending false may waits = search rules
 cancelled_left states.Cancelled the may waits = refl
 cancelled_left s the may waits = search rules
 
--- A state with an open Cancel that is not CANCELLED is CANCEL-PENDING.
+-- A requester that may have an open Cancel, and is not in CANCELLED, is in CANCEL-PENDING.
 waits_left : (s : State) → is_among (states.CancelPending ∷ states.Cancelled ∷ []) s ≡ true
     → is_among (states.Cancelled ∷ []) s ≡ false → is_among (states.CancelPending ∷ []) s ≡ true
 waits_left states.CancelPending may cancelled = refl
@@ -268,7 +270,7 @@ given_up : (t : State) → is_among (states.NotSupplied ∷ []) t ≡ true
 given_up states.NotSupplied is = (refl, refl, refl)
 given_up t is = search rules
 
--- A side in CANCEL-PENDING has an open Cancel, and is in no other state.
+-- A side in CANCEL-PENDING may have an open Cancel, and is in no other group of states.
 waiting : (s : State) → is_among (states.CancelPending ∷ []) s ≡ true
     → (is_among (states.Idle ∷ []) s ≡ false) × (is_among (states.Cancelled ∷ []) s ≡ false)
     × (is_among (states.NotSupplied ∷ []) s ≡ false) × (is_among later s ≡ false) × (is_among shipped_states s ≡ false)
@@ -276,7 +278,7 @@ waiting : (s : State) → is_among (states.CancelPending ∷ []) s ≡ true
 waiting states.CancelPending is = (refl, refl, refl, refl, refl, refl)
 waiting s is = search rules
 
--- A responder that has begun, not ended, not shipped and is not undecided is in CANCEL-PENDING.
+-- A responder that has begun, has not ended or shipped, and is not undecided, is in CANCEL-PENDING.
 cancel_left : (t : State) → is_among (states.Pending ∷ states.Received ∷ states.NotReceivedOverdue ∷ []) t ≡ false
     → is_among (states.Idle ∷ []) t ≡ false → is_among (states.Cancelled ∷ []) t ≡ false
     → is_among (states.NotSupplied ∷ []) t ≡ false → is_among shipped_states t ≡ false
@@ -284,19 +286,20 @@ cancel_left : (t : State) → is_among (states.Pending ∷ states.Received ∷ s
 cancel_left states.CancelPending role idle cancelled unsupplied shipped decided = refl
 cancel_left t role idle cancelled unsupplied shipped decided = search rules
 
--- An undecided responder has left no Cancel unanswered.
+-- An undecided responder has answered each Cancel.
 open_answers : (t : State) → is_among records.undecided t ≡ true → is_among (records.unanswered MayCancel) t ≡ false
 open_answers states.CancelPending is = search rules
 open_answers t is = search rules
 
--- A responder in SHIPPED or OVERDUE has left no Renew unanswered.
+-- A responder in SHIPPED or OVERDUE has answered each Renew.
 settled_answers : (t : State) → is_among (states.Shipped ∷ states.Overdue ∷ []) t ≡ true
     → is_among (records.unanswered MayRenew) t ≡ false
 settled_answers states.Shipped is = refl
 settled_answers states.Overdue is = refl
 settled_answers t is = search rules
 
--- A responder that has shipped, and is in none of SHIPPED, OVERDUE, RECALL, RETURNED, CHECKED-IN, has a waiting Renew.
+-- A responder that has shipped, and is in none of SHIPPED, OVERDUE, RECALL, RETURNED and CHECKED-IN, waits to answer a
+-- Renew.
 renew_left : (t : State) → is_among shipped_states t ≡ true → is_among (states.Recall ∷ []) t ≡ false
     → is_among (states.Returned ∷ states.CheckedIn ∷ []) t ≡ false
     → is_among (states.Shipped ∷ states.Overdue ∷ []) t ≡ false
@@ -305,7 +308,7 @@ renew_left states.RenewPending shipped recalled returned settled = refl
 renew_left states.RenewOverdue shipped recalled returned settled = refl
 renew_left t shipped recalled returned settled = search rules
 
--- A side with a waiting Renew is in SHIPPED or later, and in none of RECALL, RETURNED, CHECKED-IN.
+-- A side in RENEW/PENDING or RENEW/OVERDUE is in SHIPPED or later, and in none of RECALL, RETURNED and CHECKED-IN.
 renewing : (s : State) → is_among (states.RenewPending ∷ states.RenewOverdue ∷ []) s ≡ true
     → (is_among later s ≡ true) × (is_among shipped_states s ≡ true) × (is_among (states.Recall ∷ []) s ≡ false)
     × (is_among (states.Returned ∷ []) s ≡ false)
@@ -345,7 +348,7 @@ recall_at : (s : State) → is_among later s ≡ true → is_among (states.Retur
 recall_at states.Recall shipped returned home = refl
 recall_at s shipped returned home = search rules
 
--- A responder in CONDITIONAL is in no other state.
+-- A responder in CONDITIONAL is in no other group of states.
 conditional : (t : State) → is_among (states.Conditional ∷ []) t ≡ true
     → (is_among (states.Idle ∷ []) t ≡ false) × (is_among (states.Cancelled ∷ []) t ≡ false)
     × (is_among (states.NotSupplied ∷ []) t ≡ false) × (is_among (states.CancelPending ∷ []) t ≡ false)
@@ -353,7 +356,7 @@ conditional : (t : State) → is_among (states.Conditional ∷ []) t ≡ true
 conditional states.Conditional is = (refl, refl, refl, refl, refl)
 conditional t is = search rules
 
--- A requester in no other state of a requester is in CONDITIONAL.
+-- A requester in no other group of states is in CONDITIONAL.
 conditional_left : (s : State) → is_among (states.InProcess ∷ states.CheckedIn ∷ []) s ≡ false
     → is_among (states.Idle ∷ []) s ≡ false → is_among (states.Cancelled ∷ []) s ≡ false
     → is_among (states.NotSupplied ∷ []) s ≡ false → is_among (states.CancelPending ∷ []) s ≡ false
@@ -377,17 +380,17 @@ some_of : {X : Type 0} (o : Option X) → is_some o ≡ true → (v : X) × (o �
 some_of None is = search rules
 some_of (Some v) is = (v, refl)
 
--- A number that is at most an option is at most the number in it.
+-- A number that is at most an option is at most the value of this option.
 most : (k : ℕ) (o : Option ℕ) → is_at_most k o ≡ true → (m : ℕ) × (o ≡ Some m) × (k ≤ m)
 most k None is = search rules
 most k (Some m) is = (m, refl, leb-true k m is)
 
--- A number is that of an option that has it.
+-- If `o` has the value n, `is_the` holds of n and `o`.
 itself : (n : ℕ) (o : Option ℕ) → o ≡ Some n → is_the n o ≡ true
 itself n None is = search rules
 itself n (Some m) is = search rules
 
--- No number is below an option that has it.
+-- If `o` has the value n, n is not below `o`.
 not_below : (n : ℕ) (o : Option ℕ) → o ≡ Some n → is_below n o ≡ true → ⊥
 not_below n None is below = search rules
 not_below n (Some m) is below = search rules
@@ -398,7 +401,7 @@ neither : (s : State) → is_among (states.NotSupplied ∷ []) s ≡ false → i
 neither states.NotSupplied unsupplied shipped = search rules
 neither s unsupplied shipped = shipped
 
--- A state that is neither RECALL nor RETURNED is none of the two.
+-- A state that is neither RECALL nor RETURNED is in the list of neither.
 either_gone : (s : State) → is_among (states.Recall ∷ []) s ≡ false → is_among (states.Returned ∷ []) s ≡ false
     → is_among (states.Recall ∷ states.Returned ∷ []) s ≡ false
 either_gone states.Recall recalled returned = search rules
@@ -414,7 +417,7 @@ home_is_back t is = search rules
 second_false : (a b : Bool) → (a && b) ≡ false → a ≡ true → b ≡ false
 second_false a b none is = search rules
 
--- A list that ends with conditions has a last message, and that names them.
+-- If the last message of a list names conditions, the list has a last message, and it names them.
 last_names : (apdus : List Apdu) → was names_conditions apdus (length apdus) ≡ true
     → (a : Apdu) × (message apdus (length apdus) ≡ Some a) × (names_conditions a.body ≡ true)
 last_names apdus is = go (message apdus (length apdus)) refl is
@@ -424,7 +427,7 @@ last_names apdus is = go (message apdus (length apdus)) refl is
     go None e is = search rules
     go (Some a) e is = (a, e, is)
 
--- A requester in PENDING that has responder_sent conditions has accepted these or later ones.
+-- If `has_heard` holds of conditions, a requester in PENDING has accepted these or later ones.
 conditions_heard : (x : RequesterRecord) (n : ℕ) (body : Body) → names_conditions body ≡ true
     → notices.has_heard x n body ≡ true → is_among (states.Pending ∷ []) x.state ≡ true
     → is_at_most n (accepted_number x) ≡ true
@@ -436,7 +439,7 @@ message_within : (apdus : List Apdu) (n : ℕ) (a : Apdu) → message apdus n �
 message_within apdus zero a at = search rules
 message_within apdus (suc i) a at = omega (arith, slice_get_within apdus i a at)
 
--- The conditions that wait in CONDITIONAL have the number of the last message.
+-- If message n is the last and the responder is in CONDITIONAL, n is outstanding.
 waits_outstanding : (y : ResponderRecord) (n : ℕ) {a : Apdu} → is_among (states.Conditional ∷ []) y.state ≡ true
     → n ≡ length y.issued → message y.issued (length y.issued) ≡ Some a
     → is_the n (outstanding_number y) ≡ true
@@ -468,19 +471,19 @@ grants_shipped apdus n a due first at is = elim (grant_kind a.body due is) [
   | inr renewal ↦ ships_before apdus first (message_says is_renewal apdus n a at (ap is_renewal renewal.1))
 ]
 
--- A message that answers a Renew is among the answers.
+-- If a message answers Renew c, c is among the answered numbers.
 is_among_answers : (apdus : List Apdu) (n : ℕ) (a : Apdu) (c : ℕ) → message apdus n ≡ Some a
     → answered_number MayRenew a.body ≡ Some c
     → list_any (λ m. m == c) (filter_map (λ b. answered_number MayRenew b.body) apdus) ≡ true
 is_among_answers apdus zero a c at answers = search rules
 is_among_answers apdus (suc i) a c at answers = found_among (λ b. answered_number MayRenew b.body) apdus i a c at answers
 
--- A Renew-Answer that attests that nothing after a date was granted grants no later one.
+-- A Renew-Answer that attests the due date `due` grants no later date.
 attests_not_after : (n c : ℕ) (due granted : Date) (body : Body) → body ≡ types.RenewAnswer c (Some granted)
     → notices.Attests n body (notices.Answered c due) → is_before due granted ≡ false
 attests_not_after n c due granted body is attests = (subst (λ b. notices.Attests n b (notices.Answered c due)) is attests).1
 
--- A message that attests that a due date has passed is an Overdue for it.
+-- A message that attests that a due date is past is an Overdue for it.
 attests_overdue : (n : ℕ) (due : Date) (body : Body) → notices.Attests n body (notices.PastDue due)
     → is_overdue_of due body ≡ true
 attests_overdue n due (types.Overdue day) attests = subst (λ d. is_same_day day d ≡ true) attests (same_itself day)
@@ -490,7 +493,7 @@ attests_overdue n due body attests = search rules
 first_false : (a b : Bool) → (a && b) ≡ false → b ≡ true → a ≡ false
 first_false a b none is = search rules
 
--- A requester that has responder_sent an Overdue for its due date is not in time.
+-- If `has_heard` holds of an Overdue for its due date, the requester is not in time.
 overdue_heard : (x : RequesterRecord) (n : ℕ) (due : Date) (body : Body) → is_overdue_of due body ≡ true
     → x.due ≡ Some due → notices.has_heard x n body ≡ true → is_among in_time x.state ≡ false
 overdue_heard x n due (types.Overdue day) is its responder_sent =
@@ -528,7 +531,7 @@ overdue_left states.Overdue may recalled returned = refl
 overdue_left states.RenewOverdue may recalled returned = refl
 overdue_left t may recalled returned = search rules
 
--- A requester in SHIPPED or later, not in time, and in neither RECALL nor RETURNED, is overdue.
+-- A requester in SHIPPED or later that is not in time, and is in neither RECALL nor RETURNED, is overdue.
 overdue_at : (s : State) → is_among later s ≡ true → is_among (states.Recall ∷ []) s ≡ false
     → is_among (states.Returned ∷ []) s ≡ false → is_among in_time s ≡ false
     → is_among (states.NotReceivedOverdue ∷ states.Overdue ∷ states.RenewOverdue ∷ []) s ≡ true
@@ -631,7 +634,7 @@ module _ (txn : Qualifiers) (x : RequesterRecord) (y : ResponderRecord) (request
 
   -- ---- questions
 
-  -- The number of the last question that the requester asked is not below that of the last one that came.
+  -- The last Cancel or Renew that the responder took is not later than the last one that the requester issued.
   asked_last : (question : Question) (says : Body → Bool) (m n : ℕ)
       → ((body : Body) → responder.asks question body ≡ true → says body ≡ true) → responder.last_asked question y ≡ Some m
       → last_of (number_if says) x.issued ≡ Some n → m ≤ n
@@ -641,7 +644,7 @@ module _ (txn : Qualifiers) (x : RequesterRecord) (y : ResponderRecord) (request
       subst (λ k. k ≤ n) asked.3 (not_above_last says x.txn x.issued at.0 n asked.0 borrower.rules.numbered at.1
       (is_so asked.0.body asked.2) own)
 
-  -- The responder has issued an answer to the last question that came, if it left none unanswered.
+  -- If the responder has no unanswered question, it has issued an answer to the last one.
   answer_to : (question : Question) (n : ℕ) → responder.last_asked question y ≡ Some n
       → is_among (records.unanswered question) y.state ≡ false
       → Finds (λ a. answered_number question a.body) y.issued n
@@ -650,7 +653,7 @@ module _ (txn : Qualifiers) (x : RequesterRecord) (y : ResponderRecord) (request
 
   -- ---- CANCEL-PENDING
 
-  -- No Cancel waits that the responder has answered.
+  -- If the responder has answered the last Cancel, the requester is not in CANCEL-PENDING.
   cancel_answered : (n : ℕ) → is_among (states.CancelPending ∷ []) x.state ≡ true → last_cancel x ≡ Some n
       → Finds (λ a. answered_number MayCancel a.body) y.issued n → ⊥
   cancel_answered n is last found =
@@ -658,7 +661,7 @@ module _ (txn : Qualifiers) (x : RequesterRecord) (y : ResponderRecord) (request
       (hear.requester found.0 found.1 found.2 (cancel_reply_is_plain found.1.body n found.3)))
       (and_from _ _ is (itself n (last_cancel x) last))
 
-  -- An undecided responder faces no requester in CANCEL-PENDING.
+  -- A requester in CANCEL-PENDING does not face an undecided responder.
   not_open : is_among (states.CancelPending ∷ []) x.state ≡ true → is_among records.undecided y.state ≡ true → ⊥
   not_open is is_open =
       let own = has_last is_cancel None x.issued (implied _ _ borrower.rules.issued.cancel (waiting x.state is).5) in
@@ -676,7 +679,7 @@ module _ (txn : Qualifiers) (x : RequesterRecord) (y : ResponderRecord) (request
       cancel_left y.state lender.rules.parts.role (sym idle_alike ∙ no.0) (sym cancelled_alike ∙ no.1)
       (sym unsupplied_alike ∙ no.2) (sym later_alike ∙ no.3) (false_from_ne_true _ (not_open is))
 
-  -- A Cancel that waits at the responder is open at the requester.
+  -- The last Cancel of a responder in CANCEL-PENDING is open at the requester.
   cancel_is_waiting : (c : ℕ) → is_among (states.CancelPending ∷ []) y.state ≡ true → y.last_cancel ≡ Some c
       → requester.is_open x c ≡ true
   cancel_is_waiting c is last =
@@ -751,7 +754,7 @@ module _ (txn : Qualifiers) (x : RequesterRecord) (y : ResponderRecord) (request
 
   -- ---- RENEW/PENDING and RENEW/OVERDUE
 
-  -- The responder has granted no Renew that waits.
+  -- If the requester awaits the answer to Renew n, the responder has not granted it.
   not_granted : (n : ℕ) (due granted : Date) (i : ℕ) (a : Apdu) → 0 < n → awaits x n ≡ true → x.due ≡ Some due
       → message y.issued i ≡ Some a → a.body ≡ types.RenewAnswer n (Some granted) → ⊥
   not_granted n due granted i a some waits is at body =
@@ -763,7 +766,7 @@ module _ (txn : Qualifiers) (x : RequesterRecord) (y : ResponderRecord) (request
       ap (notices.has_heard x a.number) (sym body) ∙ hear.requester i a at (ap names_conditions body) in
       both_ways _ (subst (λ o. is_after_due granted o ≡ false) is (second_false _ _ (not-true _ unheard) waits)) rises
 
-  -- No Renew waits that the responder has answered.
+  -- If the requester awaits the answer to Renew n, the responder has not answered it.
   renew_answered : (n : ℕ) (due : Date) → 0 < n → awaits x n ≡ true → x.due ≡ Some due
       → Finds (λ a. answered_number MayRenew a.body) y.issued n → ⊥
   renew_answered n due some waits is (i, a, at, answers) = go (renew_answer a.body n answers)
@@ -780,7 +783,7 @@ module _ (txn : Qualifiers) (x : RequesterRecord) (y : ResponderRecord) (request
   message_some apdus zero a at = search rules
   message_some apdus (suc n) a at = omega arith
 
-  -- A responder in SHIPPED or OVERDUE faces no requester with a waiting Renew.
+  -- A requester in RENEW/PENDING or RENEW/OVERDUE does not face a responder in SHIPPED or OVERDUE.
   not_settled : is_among (states.RenewPending ∷ states.RenewOverdue ∷ []) x.state ≡ true
       → is_among (states.Shipped ∷ states.Overdue ∷ []) y.state ≡ true → ⊥
   not_settled is settled =
@@ -795,7 +798,7 @@ module _ (txn : Qualifiers) (x : RequesterRecord) (y : ResponderRecord) (request
       (and_from _ _ is (itself own.0 (last_renew x) own.1)) due.1
       (answer_to MayRenew own.0 (heard_it.1 ∙ ap Some same) (settled_answers y.state settled))
 
-  -- A Renew waits at the responder if one waits at the requester.
+  -- The responder is in RENEW/PENDING or RENEW/OVERDUE if the requester is.
   renew_there : is_among (states.RenewPending ∷ states.RenewOverdue ∷ []) x.state ≡ true
       → is_among (states.RenewPending ∷ states.RenewOverdue ∷ []) y.state ≡ true
   renew_there is =
@@ -803,7 +806,7 @@ module _ (txn : Qualifiers) (x : RequesterRecord) (y : ResponderRecord) (request
       renew_left y.state (sym later_alike ∙ no.0) (sym recalled_alike ∙ no.2) (sym returned_alike ∙ no.3)
       (false_from_ne_true _ (not_settled is))
 
-  -- A Renew that waits at the responder waits at the requester.
+  -- If the responder is in RENEW/PENDING or RENEW/OVERDUE, the requester awaits the answer to its last Renew.
   renew_is_waiting : (n : ℕ) → is_among (states.RenewPending ∷ states.RenewOverdue ∷ []) y.state ≡ true → y.last_renew ≡ Some n
       → awaits x n ≡ true
   renew_is_waiting n is last =
@@ -824,21 +827,21 @@ module _ (txn : Qualifiers) (x : RequesterRecord) (y : ResponderRecord) (request
       there.0 known.0 n (lender.renewals.below is) there.1
       (attests_answered known.0.number n due.0 known.0.body known.2)))
 
-  -- A Renew waits at the requester if one waits at the responder.
+  -- The requester is in RENEW/PENDING or RENEW/OVERDUE if the responder is.
   renew_here : is_among (states.RenewPending ∷ states.RenewOverdue ∷ []) y.state ≡ true
       → is_among (states.RenewPending ∷ states.RenewOverdue ∷ []) x.state ≡ true
   renew_here is =
       let last = some_of y.last_renew (implied _ _ lender.rules.parts.renew is) in
       (and_parts _ _ (renew_is_waiting last.0 is last.1)).0
 
-  -- A Renew waits at the requester exactly if one waits at the responder.
+  -- The requester is in RENEW/PENDING or RENEW/OVERDUE exactly if the responder is.
   renew_alike : is_among (states.RenewPending ∷ states.RenewOverdue ∷ []) x.state
       ≡ is_among (states.RenewPending ∷ states.RenewOverdue ∷ []) y.state
   renew_alike = alike _ _ renew_there renew_here
 
   -- ---- due dates
 
-  -- The answer to a Renew grants no date after the due date of the requester.
+  -- A Renew-Answer of the responder grants no date after the due date of the requester.
   answer_not_after : (c : ℕ) (due granted : Date) (j : ℕ) (b : Apdu) → x.due ≡ Some due
       → is_among (states.Recall ∷ states.Returned ∷ []) x.state ≡ false → message y.issued j ≡ Some b
       → b.body ≡ types.RenewAnswer c (Some granted) → is_before due granted ≡ false
@@ -861,7 +864,7 @@ module _ (txn : Qualifiers) (x : RequesterRecord) (y : ResponderRecord) (request
       attests_not_after known.0.number c due granted known.0.body (ap (λ (o : Apdu). o.body) (same_apdu known.0 b same) ∙ body)
       known.2
 
-  -- No date that was granted is after the due date of the requester.
+  -- No granted date is after the due date of the requester.
   last_not_after : (due granted : Date) (i j : ℕ) (a b : Apdu) → x.due ≡ Some due
       → is_among (states.Recall ∷ states.Returned ∷ []) x.state ≡ false → message y.issued i ≡ Some a
       → grant_in a.body ≡ Some due → message y.issued j ≡ Some b → grant_in b.body ≡ Some granted → is_before granted due ≡ false
@@ -892,7 +895,7 @@ module _ (txn : Qualifiers) (x : RequesterRecord) (y : ResponderRecord) (request
           absurd (both_ways _ not_earlier
           (lender.grants j i 0 c b a granted due at_j at_i (ap grant_of last) (ap grant_of body) some))
 
-  -- The due dates of both are equal if the requester is in neither RECALL nor RETURNED.
+  -- The two due dates are equal if the requester is in neither RECALL nor RETURNED.
   same_due : is_among (states.Recall ∷ states.Returned ∷ []) x.state ≡ false → x.due ≡ due_of y
   same_due out_there = go x.due refl
     where
@@ -953,7 +956,7 @@ module _ (txn : Qualifiers) (x : RequesterRecord) (y : ResponderRecord) (request
 
   -- ---- CONDITIONAL
 
-  -- A responder in CONDITIONAL faces no requester in PENDING.
+  -- A requester in PENDING does not face a responder in CONDITIONAL.
   not_accepted : is_among (states.Conditional ∷ []) y.state ≡ true → is_among (states.Pending ∷ []) x.state ≡ true → ⊥
   not_accepted is pending =
       let at = last_names y.issued (implied _ _ lender.rules.issued.conditions is) in
@@ -980,7 +983,7 @@ module _ (txn : Qualifiers) (x : RequesterRecord) (y : ResponderRecord) (request
 
   -- ---- in step
 
-  -- The states of both fit each other.
+  -- The states of both satisfy `StatesFit`.
   states_fit : StatesFit x.state y.state
   states_fit = record {
     role = borrower.rules.parts.role;
@@ -1001,7 +1004,7 @@ module _ (txn : Qualifiers) (x : RequesterRecord) (y : ResponderRecord) (request
   face : is_among (faced_in x.state) y.state ≡ true
   face = fits_face x.state y.state states_fit
 
-  -- No conditions stand that were declined.
+  -- The requester is not in CONDITIONAL with declined conditions.
   not_declined : is_declined x ≡ true → ⊥
   not_declined is =
       let parts = and_parts _ _ is in

@@ -1,5 +1,5 @@
--- A line of a script of two desks has a meaning. It is an event at one of the two sides, or it puts a transaction in
--- use. It is this profile's own.
+-- These definitions give the meaning of a line of a script of two desks. A line is an event at one of the two sides, or
+-- it puts a transaction in use. They are this profile's own.
 use Rattle.std.specs.Prelude.{◌≡◌, ℕ, bytes_eq, codes, if◌then◌else◌, List, [], ◌∷◌, Option, Some, None, Result, Ok, Err}
 use Rattle.ill_values.specs.declared.fault.TextFault.{TextFault}
 use Rattle.ill_values.specs.TxnId.{Qualifiers, txn_id_of}

@@ -8,7 +8,8 @@ use Rattle.ill_world.specs.DeskScript.{EventIn, desk_meaning, says_in}
 use Rattle.ill_world.specs.Trace.{desk_line}
 use Rattle.ill_world.specs.Play.{Play, Said, ends, says_on, trace_from, Plays}
 
--- In the play of two desks each line has its meaning in the transaction in use, which is carried from line to line.
+-- In the play of two desks each line has its meaning in the transaction in use. This transaction is carried from line
+-- to line.
 abbrev pub two_desks : Play DeskParties EventIn (Option Qualifiers)
 two_desks = record {
   says = λ in_use bytes. says_in in_use (desk_meaning bytes);

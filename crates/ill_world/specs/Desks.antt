@@ -171,7 +171,7 @@ party_for txn p = record {
 abbrev pub project : Qualifiers → DeskParties → Parties
 project txn w = record { requester = party_for txn w.requester; responder = party_for txn w.responder }
 
--- Returns true if the event names `txn`, or happens to a whole desk: a save, a failed save or a restart.
+-- Returns true if the event names `txn`, or happens to a whole desk. A save, a failed save and a restart do so.
 abbrev pub concerns : Qualifiers → DeskEvent → Bool
 concerns txn (Wish named wish) = is_same_txn txn named
 concerns txn (Deed named deed today) = is_same_txn txn named

@@ -18,7 +18,7 @@ pub record Play (W E C : Type 0) : Type 0 where
 
 -- ---- the reading of a script
 
--- A reading has the events of a script before its first bad line, and the number of this line, if there is one.
+-- A reading has the events of a script before its first bad line. It also has the number of this line, if there is one.
 pub record Said (E : Type 0) : Type 0 where
   pub events : List E
   pub bad : Option ℕ

@@ -1,4 +1,4 @@
--- A line of a script of two sides has a meaning. It is this profile's own.
+-- These definitions give the meaning of a line of a script of two sides. They are this profile's own.
 use Rattle.std.specs.Prelude.{ℕ, Bool, false, not, ◌==◌, if◌then◌else◌, List, [], ◌∷◌, length, bytes_eq, codes, Option, Some}
 use Rattle.std.specs.Prelude.{None, option_map}
 use Rattle.std.specs.List.{slice_split, filter}

@@ -122,7 +122,7 @@ abbrev pub IsBeforeEnd : Option (List ℕ) → Type 0
 IsBeforeEnd None = Unit {0}
 IsBeforeEnd (Some bytes) = 1 ≤ length bytes
 
--- After the last line that is allowed, the reader is at the end of the text, has another byte, or fails.
+-- After the last allowed line the reader is at the end of the text, has another byte, or fails.
 abbrev pub FindsEnd : ℕ → Option (List ℕ) → Option (List ℕ) → Result ℕ SimFault → Type 0
 FindsEnd count old new (Ok total) = (total ≡ count) × Consumes old new [] × IsAtEnd new
 FindsEnd count old new (Err (Script n)) = (n ≡ 100001) × Consumes old new [] × IsBeforeEnd new

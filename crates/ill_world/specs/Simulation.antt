@@ -8,7 +8,7 @@ use Rattle.ill_world.specs.Script.{meaning}
 use Rattle.ill_world.specs.Trace.{line}
 use Rattle.ill_world.specs.Play.{Play, Said, ends, breaks_off, says_on, trace_from, Plays}
 
--- In the play of two sides each line has its own meaning, and no value is carried from line to line.
+-- In the play of two sides each line has its own meaning. No value is carried from line to line.
 abbrev pub two_sides : Play Parties Event (Unit {0})
 two_sides = record {
   says = λ none bytes. (meaning bytes, none);

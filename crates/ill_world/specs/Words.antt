@@ -1,5 +1,5 @@
--- These definitions give the meaning of a word, a wish and a deed, in a script and on a command line. They are this
--- profile's own.
+-- These definitions give the meaning of a word, a wish and a deed. Scripts and command lines have these words. They are
+-- this profile's own.
 use Rattle.std.specs.Prelude.{ℕ, ◌+◌, ◌-◌, ◌*◌, ◌&&◌, fold, nat_le, Bool, true, false, if◌then◌else◌, ◌==◌, List, [], ◌∷◌, ◌++◌}
 use Rattle.std.specs.Prelude.{length, flat_map, bytes_eq, codes, Option, Some, None, option_map}
 use Rattle.std.specs.List.{list_all}

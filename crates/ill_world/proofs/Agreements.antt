@@ -1,4 +1,4 @@
--- Why both sides of a world that stands agree.
+-- If a world satisfies the invariant, both sides agree. The reason is the evidence for each claim of either record.
 use Rattle.std.proofs.Common.{rules, ◌≡◌, ◌⊎◌, inl, inr, ℕ, ◌≤◌, Bool, true, false, List, [], ◌∷◌, Option, Some, if◌then◌else◌}
 use Rattle.std.proofs.Common.{refl, sym, ap, ◌∙◌, arith}
 use Rattle.std.proofs.lemmas.Bool.{and_parts, eq-eqb}
@@ -33,32 +33,39 @@ use Rattle.ill_world.proofs.Claims.{landed_issues, live_issues}
 
 -- ---- evidence
 
+-- A message that is evidence of a return is a Returned.
 tells_sent_back : (n : ℕ) (body : Body) → responder.IsEvidence n body responder.SentBack → is_returned body ≡ true
 tells_sent_back n types.Returned tells = refl
 tells_sent_back n body tells = search rules
 
+-- A message that is evidence of a receipt is a Received.
 tells_arrived : (n : ℕ) (body : Body) → responder.IsEvidence n body responder.Arrived → is_received body ≡ true
 tells_arrived n types.Received tells = refl
 tells_arrived n body tells = search rules
 
+-- A message that is evidence of a request is an ILL-Request.
 pub tells_requested : (n : ℕ) (body : Body) → responder.IsEvidence n body responder.Requested → is_ill_request body ≡ true
 tells_requested n (types.IllRequest expiry item) tells = refl
 tells_requested n body tells = search rules
 
+-- A message that is evidence of Cancel c is a Cancel with the number c.
 pub tells_cancel : (n c : ℕ) (body : Body) → responder.IsEvidence n body (responder.CancelAsked c) → (is_cancel body ≡ true)
     × (n ≡ c)
 tells_cancel n c types.Cancel tells = (refl, tells)
 tells_cancel n c body tells = search rules
 
+-- A message that is evidence of accepted conditions c is a Conditional-Reply yes to c.
 tells_accepted : (n c : ℕ) (body : Body) → responder.IsEvidence n body (responder.Accepted c) → accepts body ≡ Some c
 tells_accepted n c (types.ConditionalReply k true) tells = ap Some tells
 tells_accepted n c (types.ConditionalReply k false) tells = absurd tells
 tells_accepted n c body tells = search rules
 
+-- A message that is evidence of a check-in is a Checked-In.
 tells_given_back : (body : Body) → requester.IsEvidence body requester.GivenBack → is_checked_in body ≡ true
 tells_given_back types.CheckedIn tells = refl
 tells_given_back body tells = search rules
 
+-- A message that is evidence of a refused Cancel c is a Cancel-Reply no to c.
 pub tells_refused : (body : Body) (c : ℕ) → requester.IsEvidence body (requester.Refused c) → body ≡ types.CancelReply c false
 tells_refused (types.CancelReply k false) c tells = ap (λ n. types.CancelReply n false) tells
 tells_refused (types.CancelReply k true) c tells = absurd tells
@@ -70,33 +77,33 @@ cancels_with (types.CancelReply c true) is = (c, refl)
 cancels_with (types.CancelReply c false) is = search rules
 cancels_with body is = search rules
 
--- A state that is one of RETURNED alone is RETURNED.
+-- A state among RETURNED alone is RETURNED.
 is_in_returned : (state : State) → is_among (states.Returned ∷ []) state ≡ true → state ≡ states.Returned
 is_in_returned states.Returned e = refl
 is_in_returned state e = search rules
 
--- A state that is one of CHECKED-IN alone is CHECKED-IN.
+-- A state among CHECKED-IN alone is CHECKED-IN.
 is_in_checked_in : (state : State) → is_among (states.CheckedIn ∷ []) state ≡ true → state ≡ states.CheckedIn
 is_in_checked_in states.CheckedIn e = refl
 is_in_checked_in state e = search rules
 
 -- ---- a requester's record and a responder's
 
--- `P` holds of a requester's and a responder's record that stand, if each has issued the messages that the other was
--- sent.
+-- `P` holds of two records that satisfy `RequesterStands` and `ResponderStands`. Each has issued all messages that were
+-- sent to the other.
 abbrev pub PairOf : (RequesterRecord → ResponderRecord → Type 0) → Type 0
 PairOf P =
     (txn : Qualifiers) (x : RequesterRecord) (y : ResponderRecord) (requester_sent responder_sent : List (Option Apdu))
     → RequesterStands txn x requester_sent → ResponderStands txn y responder_sent → AreIssued requester_sent y.issued
     → AreIssued responder_sent x.issued → P x y
 
--- A state that is one of NOT-SUPPLIED, SHIPPED and later is NOT-SUPPLIED, or one of SHIPPED and later.
+-- A state among NOT-SUPPLIED, SHIPPED and later is NOT-SUPPLIED, or is SHIPPED or later.
 split_final : (state : State) → is_among (states.NotSupplied ∷ later) state ≡ true
     → (state ≡ states.NotSupplied) ⊎ (is_among later state ≡ true)
 split_final states.NotSupplied is = inl refl
 split_final state is = inr is
 
--- A responder that stands, and has issued a Shipped, is not in CANCELLED.
+-- A responder that has issued a Shipped is not in CANCELLED.
 shipped_is_later : (y : ResponderRecord) (txn : Qualifiers) (responder_sent : List (Option Apdu))
     → ResponderStands txn y responder_sent
     → has is_shipped y.issued ≡ true → y.state ≡ states.Cancelled → ⊥
@@ -167,7 +174,7 @@ cancel_is_open txn x y requester_sent responder_sent requester_stands responder_
         let bodies : types.CancelReply c true ≡ types.CancelReply c false = sym is ∙ body_of a refused.0 same ∙ no in
         search rules
 
--- Two records that stand by each other's messages are right on each other.
+-- `SaysTrue` holds of two such records: each record's claims on the other side are right.
 pub says_true : PairOf SaysTrue
 says_true txn x y requester_sent responder_sent requester_stands responder_stands issued heeded = record {
   returned =
@@ -194,7 +201,7 @@ says_true txn x y requester_sent responder_sent requester_stands responder_stand
       ∙ has_issued y.issued requester_sent is_checked_in known.0 issued known.1 (tells_given_back known.0.body known.2));
 }
 
--- Of two records that stand by each other's messages, the requester's due date is not later than the responder's.
+-- Of two such records, the requester's due date is not later than the responder's.
 not_later : PairOf IsNotLater
 not_later txn x y requester_sent responder_sent requester_stands responder_stands issued heeded =
     λ d e.
@@ -202,9 +209,9 @@ not_later txn x y requester_sent responder_sent requester_stands responder_stand
     let at = issued known.0 known.1 in
     granted_not_later y.issued at.0 known.0 d responder_stands.rules.rising at.1 (tells_grant known.0.body d known.2)
 
--- ---- both records of either
+-- ---- live and landed records
 
--- A fact of all such pairs of records holds of two sides that stand by each other's messages.
+-- If `P` holds of all such pairs of records, it holds of the records of two such sides.
 facing : (P : RequesterRecord → ResponderRecord → Type 0) → PairOf P
     → (txn : Qualifiers) (x y : Side) (requester_sent responder_sent : List (Option Apdu))
     → RequesterSideStands txn x requester_sent
@@ -217,6 +224,7 @@ facing P pair txn (sides.Responder x) y requester_sent responder_sent requester_
 facing P pair txn (sides.Requester x) (sides.Requester y) requester_sent responder_sent requester_stands responder_stands issued
     heeded = absurd responder_stands
 
+-- If `P` holds of all such pairs, it holds of all four pairs of sides in a world that satisfies the invariant.
 of_both_facing : (P : RequesterRecord → ResponderRecord → Type 0) → PairOf P → (txn : Qualifiers) (w : Parties) → Invariant txn w
     → OfBoth (Facing P) w
 of_both_facing P pair txn w stands =
@@ -239,13 +247,13 @@ of_both_facing P pair txn w stands =
 
 -- ---- one answer, and one end
 
--- If no two landed messages answer one number, no two messages that were sent do.
+-- If no two landed messages answer one number, no two sent messages do.
 once_sent : (answered : Body → Option ℕ) (p : Party) → SendsSaved p
     → AnswersOnce answered (message (issued_of p.landed)) → AnswersOnce answered (sent_message p.sent)
 once_sent answered p saved once = λ m n k a b at_m at_n is_a is_b.
     once m n k a b (saved.landed m a at_m) (saved.landed n b at_n) is_a is_b
 
--- No two messages of a requester's side that stands reply to one number.
+-- No two messages of a requester's side reply to one number.
 replies_once : (txn : Qualifiers) (side : Side) (requester_sent : List (Option Apdu))
     → RequesterSideStands txn side requester_sent
     → AnswersOnce requester.replied_number (message (issued_of side))
@@ -253,7 +261,7 @@ replies_once txn (sides.Requester x) requester_sent stands =
     answers_once requester.replied_number x.issued stands.replies.distinct
 replies_once txn (sides.Responder y) requester_sent stands = absurd stands
 
--- No two messages of a responder's side that stands answer one Cancel.
+-- No two messages of a responder's side answer one Cancel.
 cancels_once : (txn : Qualifiers) (side : Side) (requester_sent : List (Option Apdu))
     → ResponderSideStands txn side requester_sent
     → AnswersOnce (responder.answered_number responder.MayCancel) (message (issued_of side))
@@ -261,7 +269,7 @@ cancels_once txn (sides.Responder y) requester_sent stands =
     answers_once (responder.answered_number responder.MayCancel) y.issued stands.cancels.distinct
 cancels_once txn (sides.Requester x) requester_sent stands = absurd stands
 
--- No two messages of a responder's side that stands answer one Renew.
+-- No two messages of a responder's side answer one Renew.
 renewals_once : (txn : Qualifiers) (side : Side) (requester_sent : List (Option Apdu))
     → ResponderSideStands txn side requester_sent
     → AnswersOnce (responder.answered_number responder.MayRenew) (message (issued_of side))
@@ -269,12 +277,12 @@ renewals_once txn (sides.Responder y) requester_sent stands =
     answers_once (responder.answered_number responder.MayRenew) y.issued stands.renewals.distinct
 renewals_once txn (sides.Requester x) requester_sent stands = absurd stands
 
--- A Bool counts as one at most.
+-- A Bool counts for 1 at most.
 pub at_most_one : (b : Bool) → (if b then 1 else 0) ≤ 1
 at_most_one true = omega arith
 at_most_one false = omega arith
 
--- A message of a responder's side that stands, if it ends the request, is the last that does.
+-- No two messages of a responder's side end the request.
 ends_once : (txn : Qualifiers) (side : Side) (requester_sent : List (Option Apdu)) → ResponderSideStands txn side requester_sent
     → EndsOnce side
 ends_once txn (sides.Responder y) requester_sent stands =
@@ -282,7 +290,7 @@ ends_once txn (sides.Responder y) requester_sent stands =
     (omega (arith, stands.ends.once, at_most_one (is_among responder.ended y.state))) at is
 ends_once txn (sides.Requester x) requester_sent stands = absurd stands
 
--- If a responder's side that stands has conditions as accepted, the requester has sent the acceptance, and has it.
+-- If a responder's side has conditions as accepted, the requester has sent the acceptance, and has it in memory.
 accepted_by : (txn : Qualifiers) (w : Parties) (side : Side) → SendsSaved w.requester
     → ResponderSideStands txn side w.requester.sent → AcceptedBy w side
 accepted_by txn w (sides.Responder y) saved stands =
@@ -294,6 +302,7 @@ accepted_by txn w (sides.Responder y) saved stands =
     (sent.0, known.0, sent.1, live, tells_accepted known.0.number c known.0.body known.2)
 accepted_by txn w (sides.Requester x) saved stands = absurd stands
 
+-- If a world satisfies the invariant, both sides agree.
 pub agrees : (txn : Qualifiers) (w : Parties) → Invariant txn w → Agrees w
 agrees txn w stands =
     let requester_stands = stands.requester in

@@ -1,4 +1,4 @@
--- One arrival of the end of a request, or of a Returned, is enough.
+-- One arrival of the message that ends a request is enough, and so is one of a Returned.
 use Rattle.std.proofs.Common.{rules, ◌≡◌, ◌⊎◌, inl, inr, ℕ, Bool, true, false, ◌&&◌, ◌||◌, List, [], ◌∷◌, Option, Some, Result}
 use Rattle.std.proofs.Common.{Ok, refl, sym, ap, ◌∙◌, subst}
 use Rattle.ill_values.specs.Day.{Date}
@@ -37,8 +37,8 @@ use Rattle.ill_world.proofs.Claims.{AreIssued, has_issued, cancelled_faces, not_
 use Rattle.ill_world.proofs.Claims.{live_issues}
 use Rattle.ill_world.proofs.Agreements.{tells_requested, cancel_is_open}
 
--- The rows lead a requester that takes an end of the request to its states. They lead a responder that takes a
--- Returned to RETURNED or CHECKED-IN.
+-- These facts of the tables are assumed here. A requester that takes an end of the request gets to its states. A
+-- responder that takes a Returned gets to RETURNED or CHECKED-IN.
 pub record RowsFollow : Type 0 where
   pub shipped : (x : RequesterRecord) (a : Apdu) (due : Date) → is_same_txn a.txn x.txn ≡ true → a.body ≡ types.Shipped due
       → is_among (states.Pending ∷ states.Conditional ∷ states.CancelPending ∷ later) x.state ≡ true
@@ -56,7 +56,7 @@ pub record RowsFollow : Type 0 where
 
 -- ---- states
 
--- A requester in none of IDLE, CANCELLED and NOT-SUPPLIED is in a state in which it may take a Shipped.
+-- A requester in none of IDLE, CANCELLED and NOT-SUPPLIED is in a state in which it takes a Shipped.
 may_ship : (state : State) → is_among (states.InProcess ∷ states.CheckedIn ∷ []) state ≡ false
     → is_among (states.Idle ∷ []) state ≡ false → (state ≡ states.Cancelled → ⊥)
     → (state ≡ states.NotSupplied → ⊥)
@@ -65,7 +65,7 @@ may_ship states.Cancelled role idle cancelled ended = absurd (cancelled refl)
 may_ship states.NotSupplied role idle cancelled ended = absurd (ended refl)
 may_ship state role idle cancelled ended = search rules
 
--- A requester in none of IDLE, CANCELLED, SHIPPED and later is in a state in which it may take a no.
+-- A requester in none of IDLE, CANCELLED, SHIPPED and later is in a state in which it takes an end without the item.
 may_end : (state : State) → is_among (states.InProcess ∷ states.CheckedIn ∷ []) state ≡ false
     → is_among (states.Idle ∷ []) state ≡ false → (state ≡ states.Cancelled → ⊥)
     → (is_among later state ≡ true → ⊥)
@@ -81,7 +81,7 @@ may_end states.Recall role idle cancelled shipped = absurd (shipped refl)
 may_end states.Returned role idle cancelled shipped = absurd (shipped refl)
 may_end state role idle cancelled shipped = search rules
 
--- A responder in a state that has ended the request is not in IDLE.
+-- A responder that has ended the request is not in IDLE.
 ended_not_idle : (state : State) → is_among responder.ended state ≡ true → is_among (states.Idle ∷ []) state ≡ false
 ended_not_idle states.Idle ended = search rules
 ended_not_idle state ended = refl
@@ -97,7 +97,7 @@ unsupplied_is_ended : (state : State) → is_among (states.NotSupplied ∷ []) s
 unsupplied_is_ended states.NotSupplied e = refl
 unsupplied_is_ended state e = search rules
 
--- A state that is one of NOT-SUPPLIED alone is neither SHIPPED nor later.
+-- A state among NOT-SUPPLIED alone is neither SHIPPED nor later.
 not_shipped : (state : State) → is_among (states.NotSupplied ∷ []) state ≡ true → is_among shipped_states state ≡ true → ⊥
 not_shipped states.NotSupplied e shipped = search rules
 not_shipped state e shipped = search rules
@@ -117,7 +117,7 @@ not_cancelled_too : (state : State) → state ≡ states.Cancelled → is_among 
 not_cancelled_too state e ended = let no : is_among (states.NotSupplied ∷ []) states.Cancelled ≡ true =
     subst (λ s. is_among (states.NotSupplied ∷ []) s ≡ true) e ended in search rules
 
--- A list that has an APDU of which `says` holds is not empty.
+-- A list with an APDU of which `says` holds is not empty.
 pub not_none : (says : Body → Bool) (apdus : List Apdu) → has says apdus ≡ true → is_none apdus ≡ false
 not_none says [] is = search rules
 not_none says (a ∷ apdus) is = refl
@@ -143,12 +143,13 @@ same_txn_as txn x y requester_sent responder_sent n a requester_stands responder
     subst (λ t. is_same_txn a.txn t ≡ true) (responder_stands.same_txn ∙ sym requester_stands.same_txn)
     (message_number y.txn y.issued n a responder_stands.rules.numbered at).0
 
+-- A message that ends the request without the item is evidence of this end.
 tells_end : (body : Body) → is_unsupplied body ≡ true → requester.IsEvidence body requester.Ended
 tells_end (types.IllAnswer answer) is = is
 tells_end types.Expired is = tt
 tells_end body is = search rules
 
--- A Shipped that the responder has issued leads a requester that takes it to SHIPPED or later.
+-- If the requester takes a Shipped that the responder has issued, it gets to SHIPPED or later.
 shipped_arrives : RowsFollow
     → (txn : Qualifiers) (x : RequesterRecord) (y : ResponderRecord) (requester_sent responder_sent : List (Option Apdu)) (n : ℕ)
     (a : Apdu) (due : Date)
@@ -169,7 +170,7 @@ shipped_arrives rows txn x y requester_sent responder_sent n a due requester_sta
     (λ e. not_unsupplied y.state (not_supplied_faces txn x y requester_sent responder_sent requester_stands responder_stands
     issued e) shipped))
 
--- A message of the responder that the item is not supplied leads a requester that takes it to NOT-SUPPLIED.
+-- If the requester takes an end without the item that the responder has issued, it gets to NOT-SUPPLIED.
 end_arrives : RowsFollow
     → (txn : Qualifiers) (x : RequesterRecord) (y : ResponderRecord) (requester_sent responder_sent : List (Option Apdu)) (n : ℕ)
     (a : Apdu)
@@ -198,7 +199,7 @@ both_of : (a b : Bool) → (a && b) ≡ true → (a ≡ true) × (b ≡ true)
 both_of true b is = (refl, is)
 both_of false b is = search rules
 
--- A Cancel-Reply yes that the responder has issued leads a requester that takes it to CANCELLED.
+-- If the requester takes a Cancel-Reply yes that the responder has issued, it gets to CANCELLED.
 yes_arrives : RowsFollow
     → (txn : Qualifiers) (x : RequesterRecord) (y : ResponderRecord) (requester_sent responder_sent : List (Option Apdu))
     (n c : ℕ) (a : Apdu)
@@ -213,11 +214,11 @@ yes_arrives rows txn x y requester_sent responder_sent n c a requester_stands re
     rows.cancelled x a c (same_txn_as txn x y requester_sent responder_sent n a requester_stands responder_stands at) is parts.1
     parts.0
 
--- Requester `x`, when it takes `a`, is led to the states to which an end with `body` leads.
+-- Requester `x` gets by `a` to the states in which an end with `body` settles it.
 abbrev Leads : RequesterRecord → Apdu → Body → Type 0
 Leads x a body = requester.LeadsTo (settled_by body) (requester_deliveries.takes x a)
 
--- An end of the request that the responder has issued leads a requester that takes it to its states.
+-- If the requester takes an end of the request that the responder has issued, it gets to the states of this end.
 arrives_as : RowsFollow
     → (txn : Qualifiers) (x : RequesterRecord) (y : ResponderRecord) (requester_sent responder_sent : List (Option Apdu)) (n : ℕ)
     (a : Apdu) (body : Body)
@@ -255,7 +256,7 @@ answers : (answer : Result Taking Refusal) → (answer ≡ Ok Taken) ⊎ (answer
 answers answer (inl taken) = inl (ap answer_to taken)
 answers answer (inr repeat) = inr (ap answer_to repeat)
 
--- An end of the request that the responder has issued settles the requester's party that receives it.
+-- An end of the request that the responder has issued settles the requester that receives it.
 settles_requester : RowsFollow
     → (txn : Qualifiers) (p : Party) (side : Side) (requester_sent responder_sent : List (Option Apdu)) (n : ℕ) (a : Apdu)
     (found : Option Apdu)
@@ -288,7 +289,7 @@ returned_is : (body : Body) → is_returned body ≡ true → body ≡ types.Ret
 returned_is types.Returned is = refl
 returned_is body is = search rules
 
--- RETURNED is one of SHIPPED and later.
+-- RETURNED is a state of SHIPPED or later.
 returned_is_later : (state : State) → is_among (states.Returned ∷ []) state ≡ true → is_among later state ≡ true
 returned_is_later states.Returned is = refl
 returned_is_later state is = search rules
@@ -303,7 +304,7 @@ shipped_before txn x y requester_sent responder_sent n a requester_stands respon
     shipped_by txn x y requester_sent responder_sent x.due requester_stands responder_stands issued refl
     (requester_stands.rules.parts.due ∙ returned_is_later x.state returned)
 
--- A Returned that the requester has issued leads a responder that takes it to RETURNED or CHECKED-IN.
+-- If the responder takes a Returned that the requester has issued, it gets to RETURNED or CHECKED-IN.
 returned_arrives : RowsFollow
     → (txn : Qualifiers) (x : RequesterRecord) (y : ResponderRecord) (requester_sent responder_sent : List (Option Apdu)) (n : ℕ)
     (a : Apdu)
@@ -317,7 +318,7 @@ returned_arrives rows txn x y requester_sent responder_sent n a requester_stands
     (message_number x.txn x.issued n a requester_stands.rules.numbered at).0 in
     rows.returned y a same (returned_is a.body is) (sym responder_stands.ends.shipped ∙ shipped)
 
--- A Returned that the requester has issued settles the responder's party that receives it.
+-- A Returned that the requester has issued settles the responder that receives it.
 settles_responder : RowsFollow
     → (txn : Qualifiers) (p : Party) (side : Side) (requester_sent responder_sent : List (Option Apdu)) (n : ℕ) (a : Apdu)
     (found : Option Apdu)
@@ -342,6 +343,7 @@ settles_responder rows txn p side requester_sent responder_sent n a found reques
     go (sides.Responder y) live requester_stands responder_stands issued at = absurd requester_stands
     go (sides.Requester x) (sides.Requester y) requester_stands responder_stands issued at = absurd responder_stands
 
+-- If a world satisfies the invariant, one arrival is enough (`Arrives`).
 pub arrives : RowsFollow → (txn : Qualifiers) (w : Parties) (event : Event) → Invariant txn w → Arrives w event
 arrives rows txn w (events.Deliver who.Requester n) stands =
     λ a sent ends.

@@ -1,4 +1,4 @@
--- The changes that an event may make to a party, and so to the world.
+-- Each event changes only the parts of a party that its outcome allows, and so of the world.
 use Rattle.std.proofs.Common.{◌≡◌, ◌⊎◌, inl, inr, ℕ, Bool, true, false, List, [], ◌∷◌, ◌++◌, Option, Some, None, Result, Ok, Err}
 use Rattle.std.proofs.Common.{refl, sym, ap, subst}
 use Rattle.ill_values.specs.TxnId.{Qualifiers}
@@ -26,7 +26,7 @@ use Rattle.ill_world.specs.Changes.{OnlyLands, OnlyLandedChanges, MayChange, Kee
 use Rattle.ill_world.specs.Invariant.{SendsSaved, Invariant}
 use Rattle.ill_world.proofs.Kept.{stays_sent}
 
--- By the laws of the rows, a message that is not taken changes nothing.
+-- These facts of the tables are assumed here. A delivery that is not Taken changes nothing.
 pub record Quiet : Type 0 where
   pub requester : (x : RequesterRecord) (a : Apdu)
       → ((requester_deliveries.takes x a).0 ≡ Ok Taken) ⊎ ((requester_deliveries.takes x a).1 ≡ x)
@@ -35,11 +35,11 @@ pub record Quiet : Type 0 where
 
 -- ---- one party
 
--- A party that stays as it is has changed at most its landed side.
+-- An unchanged party satisfies `OnlyLands`.
 same_lands : (p : Party) → OnlyLands p p
 same_lands p = record { live = refl; released = refl; sent = refl }
 
--- Each outcome allows a party to stay as it is.
+-- Each outcome allows a party to stay unchanged.
 nothing_changes : (outcome : Outcome) (p : Party) → MayChange OnlyLands outcome p p
 nothing_changes Done p = tt
 nothing_changes Saved p = tt
@@ -52,7 +52,7 @@ nothing_changes (Answered (Conflict state)) p = refl
 nothing_changes Faulted p = same_lands p
 nothing_changes other p = refl
 
--- The outcome of a decision allows its change.
+-- The outcome of a decision allows the change that it makes.
 decides_changes : (p : Party) (result : Result Side Refusal) → MayChange OnlyLands (decides p result).0 p (decides p result).1
 decides_changes p (Ok new) = tt
 decides_changes p (Err refusal) = refl
@@ -63,19 +63,19 @@ fails_changes : (p : Party) (partner_sent : List (Option Apdu)) (of : Who) (land
 fails_changes p partner_sent of true = record { live = refl; released = refl; sent = refl }
 fails_changes p partner_sent of false = same_lands p
 
--- The outcome of a Send allows its change.
+-- The outcome of a Send allows the change that it makes.
 sends_changes : (p : Party) (n : ℕ) (found : Option Apdu) (released : Bool)
     → MayChange OnlyLands (sends p n found released).0 p (sends p n found released).1
 sends_changes p n None released = refl
 sends_changes p n (Some a) true = tt
 sends_changes p n (Some a) false = refl
 
--- A message that a side does not take changes nothing of it.
+-- A delivery is Taken, or leaves the side unchanged.
 pub quiet : Quiet → (side : Side) (a : Apdu) → ((takes side a).0 ≡ Ok Taken) ⊎ ((takes side a).1 ≡ side)
 quiet rows (sides.Requester x) a = elim (rows.requester x a) [ inl taken ↦ inl taken | inr same ↦ inr (ap sides.Requester same) ]
 quiet rows (sides.Responder y) a = elim (rows.responder y a) [ inl taken ↦ inl taken | inr same ↦ inr (ap sides.Responder same) ]
 
--- The outcome of a delivery allows its change.
+-- The outcome of a delivery allows the change that it makes.
 receives_changes : Quiet → (p : Party) (found : Option Apdu) → MayChange OnlyLands (receives p found).0 p (receives p found).1
 receives_changes rows p None = refl
 receives_changes rows p (Some a) =
@@ -85,7 +85,7 @@ receives_changes rows p (Some a) =
           (nothing_changes (receives p (Some a)).0 p)
     ]
 
--- The outcome of each event allows the change of the party.
+-- The outcome of each event allows the change of its party.
 party_changes : Quiet → (p : Party) (partner_sent : List (Option Apdu)) (event : Event)
     → MayChange OnlyLands (happens_to p partner_sent event).0 p (happens_to p partner_sent event).1
 party_changes rows p partner_sent (events.Wish wish) = decides_changes p (acts p.live (actions.Wish wish))
@@ -99,17 +99,17 @@ party_changes rows p partner_sent (events.Restart of) = tt
 
 -- ---- the world
 
--- If at most the landed side of one party has changed, so it is of the world.
+-- If at most the landed side of one party has changed, `OnlyLandedChanges` holds of the world.
 landed_of_one : (w : Parties) (of : Who) (new : Party) → OnlyLands (party w of) new → OnlyLandedChanges w (with_party w of new)
 landed_of_one w who.Requester new lands = (lands, same_lands w.responder)
 landed_of_one w who.Responder new lands = (same_lands w.requester, lands)
 
--- A world in which a party is replaced by itself stays as it is.
+-- If a party is replaced by itself, the world is unchanged.
 same_world : (w : Parties) (of : Who) (new : Party) → new ≡ party w of → with_party w of new ≡ w
 same_world w who.Requester new same = ap (with_party w who.Requester) same
 same_world w who.Responder new same = ap (with_party w who.Responder) same
 
--- If an outcome allows the change of one party, it allows that of the world.
+-- If an outcome allows the change of one party, it allows the change of the world.
 changes_of_one : (outcome : Outcome) (w : Parties) (of : Who) (new : Party)
     → MayChange OnlyLands outcome (party w of) new → MayChange OnlyLandedChanges outcome w (with_party w of new)
 changes_of_one Done w of new changes = tt
@@ -123,7 +123,7 @@ changes_of_one (Answered (Conflict state)) w of new changes = same_world w of ne
 changes_of_one Faulted w of new changes = landed_of_one w of new changes
 changes_of_one other w of new changes = same_world w of new changes
 
--- Each outcome allows a world to stay as it is.
+-- Each outcome allows a world to stay unchanged.
 pub same_changes : (w : Parties) (outcome : Outcome) → MayChange OnlyLandedChanges outcome w w
 same_changes w outcome = changes_of_one outcome w who.Requester w.requester (nothing_changes outcome w.requester)
 
@@ -135,7 +135,7 @@ world_changes rows w event =
 
 -- ---- sent messages
 
--- If one party keeps what it had sent, and the other stays, the world keeps what was sent.
+-- If one party keeps its sent messages, and the other is unchanged, the world keeps all sent messages.
 sent_by_one : (w : Parties) (of : Who) (new : Party)
     → ((n : ℕ) (a : Apdu) → sent_message (party w of).sent n ≡ Some a → sent_message new.sent n ≡ Some a)
     → KeepsSent w (with_party w of new)
@@ -144,19 +144,22 @@ sent_by_one w who.Requester new keeps who.Responder n a was = was
 sent_by_one w who.Responder new keeps who.Responder n a was = keeps n a was
 sent_by_one w who.Responder new keeps who.Requester n a was = was
 
+-- If a world satisfies the invariant, `SendsSaved` holds of both parties.
 saved_by : (txn : Qualifiers) (w : Parties) (of : Who) → Invariant txn w → SendsSaved (party w of)
 saved_by txn w who.Requester stands = stands.requester.saved
 saved_by txn w who.Responder stands = stands.responder.saved
 
+-- Each event keeps all sent messages.
 pub event_keeps_sent : (txn : Qualifiers) (w : Parties) (event : Event) → Invariant txn w → KeepsSent w (happens w event).1
 event_keeps_sent txn w event stands =
     let of = who_of event in
     sent_by_one w of _ (stays_sent (party w of) (party w (other of)).sent event (saved_by txn w of stands))
 
--- An event keeps the invariant.
+-- Each event keeps the invariant.
 abbrev pub After : Qualifiers → Type 0
 After txn = (w : Parties) (event : Event) → Invariant txn w → Invariant txn (happens w event).1
 
+-- Further events keep all messages that were sent in `w`.
 further_keeps_sent : (txn : Qualifiers) → After txn → (w : Parties) (more : List Event) → Invariant txn w
     → KeepsSent w (run_of w more)
 unfolding run_by
@@ -165,6 +168,7 @@ further_keeps_sent txn after w (event ∷ more) stands =
     λ of n a was. further_keeps_sent txn after (happens w event).1 more (after w event stands) of n a
     (event_keeps_sent txn w event stands of n a was)
 
+-- All messages that were sent after `events` are still sent after `more`.
 pub run_keeps_sent : (txn : Qualifiers) → After txn → (w : Parties) (events more : List Event) → Invariant txn w
     → KeepsSent (run_of w events) (run_of w (events ++ more))
 unfolding run_by

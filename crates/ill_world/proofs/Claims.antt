@@ -1,4 +1,4 @@
--- A world with the invariant is safe, by a requester's record and a responder's that it faces.
+-- If a world satisfies the invariant, it is safe. The reason is the evidence for each claim of the requester's record.
 use Rattle.std.proofs.Common.{rules, ◌≡◌, ◌⊎◌, inl, inr, ℕ, Bool, true, false, not, ◌&&◌, ◌||◌, List, [], ◌∷◌, Option, Some, None}
 use Rattle.std.proofs.Common.{is_some, refl, sym, ap, ◌∙◌}
 use Rattle.ill_values.specs.Day.{Date}
@@ -27,23 +27,26 @@ use Rattle.ill_world.proofs.Sendings.{prefix_message}
 
 -- ---- evidence
 
+-- A message that is evidence of a cancellation is a Cancel-Reply yes.
 tells_cancelled : (body : Body) → requester.IsEvidence body requester.Cancelled → responder.is_cancelled body ≡ true
 tells_cancelled (types.CancelReply c true) tells = refl
 tells_cancelled (types.CancelReply c false) tells = absurd tells
 tells_cancelled body tells = search rules
 
+-- A message that is evidence of an end without the item tells such an end.
 tells_ended : (body : Body) → requester.IsEvidence body requester.Ended → responder.is_unsupplied body ≡ true
 tells_ended (types.IllAnswer answer) tells = tells
 tells_ended types.Expired tells = refl
 tells_ended body tells = search rules
 
--- it grants a date
+-- A message that is evidence of a due date grants this date.
 pub tells_grant : (body : Body) (due : Date) → requester.IsEvidence body (requester.Granted due) → grant_in body ≡ Some due
 tells_grant (types.Shipped d) due tells = ap Some tells
 tells_grant (types.RenewAnswer c (Some d)) due tells = ap Some tells
 tells_grant (types.RenewAnswer c None) due tells = absurd tells
 tells_grant body due tells = search rules
 
+-- A message that is evidence of a due date is a Shipped or a Renew-Answer yes.
 tells_shipped : (body : Body) (due : Date) → requester.IsEvidence body (requester.Granted due)
     → (is_shipped body ≡ true) ⊎ (is_renewal body ≡ true)
 tells_shipped (types.Shipped d) due tells = inl refl
@@ -53,17 +56,17 @@ tells_shipped body due tells = search rules
 
 -- ---- a responder's record
 
--- A state that is one of CANCELLED alone is CANCELLED.
+-- A state among CANCELLED alone is CANCELLED.
 pub is_in_cancelled : (state : State) → is_among (states.Cancelled ∷ []) state ≡ true → state ≡ states.Cancelled
 is_in_cancelled states.Cancelled e = refl
 is_in_cancelled state e = search rules
 
--- A state that is one of NOT-SUPPLIED alone is NOT-SUPPLIED.
+-- A state among NOT-SUPPLIED alone is NOT-SUPPLIED.
 pub is_in_not_supplied : (state : State) → is_among (states.NotSupplied ∷ []) state ≡ true → state ≡ states.NotSupplied
 is_in_not_supplied states.NotSupplied e = refl
 is_in_not_supplied state e = search rules
 
--- If a Shipped stands before each renewal, a list that has a renewal has a Shipped.
+-- If each Renew-Answer yes follows a Shipped, a list with a Renew-Answer yes has a Shipped.
 pub ships_before : (apdus : List Apdu) → ships_first apdus ≡ true → has is_renewal apdus ≡ true → has is_shipped apdus ≡ true
 unfolding ships_first
 ships_before [] first renewed = search rules
@@ -78,22 +81,23 @@ ships_before (a ∷ apdus) first renewed = go (is_shipped a.body) (is_renewal a.
 
 -- ---- a requester's record and a responder's
 
--- Each message that was sent is among the `apdus` issued.
+-- Each message of `sent` is one of `apdus`, under some number.
 abbrev pub AreIssued : List (Option Apdu) → List Apdu → Type 0
 AreIssued sent apdus = (a : Apdu) → WasSent sent a → (n : ℕ) × (message apdus n ≡ Some a)
 
--- `P` holds of two sides that stand, if the responder's has issued the messages by which the requester's stands.
+-- `P` holds of two sides that satisfy `RequesterSideStands` and `ResponderSideStands`. The responder's side has issued
+-- all messages that were sent to the requester.
 abbrev Pair : (Side → Side → Type 0) → Type 0
 Pair P = (txn : Qualifiers) (x y : Side) (requester_sent responder_sent : List (Option Apdu))
     → RequesterSideStands txn x requester_sent → ResponderSideStands txn y responder_sent → AreIssued requester_sent (issued_of y)
     → P x y
 
--- If `says` holds of a message that was sent, and those are issued, it holds of one that is issued.
+-- All sent messages were issued. So if `says` holds of a sent message, it holds of an issued one.
 pub has_issued : (apdus : List Apdu) (requester_sent : List (Option Apdu)) (says : Body → Bool) (a : Apdu)
     → AreIssued requester_sent apdus → WasSent requester_sent a → says a.body ≡ true → has says apdus ≡ true
 has_issued apdus requester_sent says a issued was is = let at = issued a was in message_says says apdus at.0 a at.1 is
 
--- A requester in CANCELLED faces a responder in CANCELLED, if both stand.
+-- If the requester is in CANCELLED, the responder is in CANCELLED.
 pub cancelled_faces : (txn : Qualifiers) (x : RequesterRecord) (y : ResponderRecord)
     (requester_sent responder_sent : List (Option Apdu))
     → RequesterStands txn x requester_sent → ResponderStands txn y responder_sent → AreIssued requester_sent y.issued
@@ -103,7 +107,7 @@ cancelled_faces txn x y requester_sent responder_sent requester_stands responder
     is_in_cancelled y.state (sym responder_stands.ends.cancelled
     ∙ has_issued y.issued requester_sent responder.is_cancelled known.0 issued known.1 (tells_cancelled known.0.body known.2))
 
--- A requester in NOT-SUPPLIED faces a responder in NOT-SUPPLIED, if both stand.
+-- If the requester is in NOT-SUPPLIED, the responder is in NOT-SUPPLIED.
 pub not_supplied_faces : (txn : Qualifiers) (x : RequesterRecord) (y : ResponderRecord)
     (requester_sent responder_sent : List (Option Apdu))
     → RequesterStands txn x requester_sent → ResponderStands txn y responder_sent
@@ -113,7 +117,7 @@ not_supplied_faces txn x y requester_sent responder_sent requester_stands respon
     is_in_not_supplied y.state (sym responder_stands.ends.unsupplied
     ∙ has_issued y.issued requester_sent responder.is_unsupplied known.0 issued known.1 (tells_ended known.0.body known.2))
 
--- `EndsAlike` holds of two sides that stand.
+-- `EndsAlike` holds of two such sides.
 ends_pair : Pair EndsAlike
 ends_pair txn (sides.Requester x) (sides.Responder y) requester_sent responder_sent requester_stands responder_stands issued = (
   cancelled_faces txn x y requester_sent responder_sent requester_stands responder_stands issued,
@@ -124,7 +128,7 @@ ends_pair txn (sides.Responder x) y requester_sent responder_sent requester_stan
 ends_pair txn (sides.Requester x) (sides.Requester y) requester_sent responder_sent requester_stands responder_stands issued =
     absurd responder_stands
 
--- `WasGranted` holds of two sides that stand.
+-- `WasGranted` holds of two such sides.
 grant_pair : Pair WasGranted
 grant_pair txn (sides.Requester x) (sides.Responder y) requester_sent responder_sent requester_stands responder_stands issued =
     λ due e.
@@ -136,7 +140,7 @@ grant_pair txn (sides.Responder x) y requester_sent responder_sent requester_sta
 grant_pair txn (sides.Requester x) (sides.Requester y) requester_sent responder_sent requester_stands responder_stands issued =
     absurd responder_stands
 
--- If a requester has a due date, the responder has issued a Shipped, if both stand.
+-- If a requester has a due date, the responder has issued a Shipped.
 pub shipped_by : (txn : Qualifiers) (x : RequesterRecord) (y : ResponderRecord)
     (requester_sent responder_sent : List (Option Apdu)) (due : Option Date)
     → RequesterStands txn x requester_sent → ResponderStands txn y responder_sent
@@ -150,7 +154,7 @@ shipped_by txn x y requester_sent responder_sent (Some d) requester_stands respo
           (has_issued y.issued requester_sent is_renewal known.0 issued known.1 renewal)
     ]
 
--- `WasShipped` holds of two sides that stand.
+-- `WasShipped` holds of two such sides.
 shipped_pair : Pair WasShipped
 shipped_pair txn (sides.Requester x) (sides.Responder y) requester_sent responder_sent requester_stands responder_stands issued =
     λ is. shipped_by txn x y requester_sent responder_sent x.due requester_stands responder_stands issued refl
@@ -160,19 +164,20 @@ shipped_pair txn (sides.Responder x) y requester_sent responder_sent requester_s
 shipped_pair txn (sides.Requester x) (sides.Requester y) requester_sent responder_sent requester_stands responder_stands issued =
     absurd responder_stands
 
--- ---- both records of either
+-- ---- live and landed records
 
--- A party that sends only what it has saved has sent only messages of its landed side.
+-- The landed side of a party has issued all messages that the party has sent.
 pub landed_issues : (p : Party) → SendsSaved p → AreIssued p.sent (issued_of p.landed)
 landed_issues p saved = λ a was. (was.0, saved.landed was.0 a was.1)
 
--- A party that sends only what it has saved has sent only messages of its live side.
+-- The live side of a party has issued all messages that the party has sent.
 pub live_issues : (p : Party) → SendsSaved p → AreIssued p.sent (issued_of p.live)
 live_issues p saved = λ a was. (
   was.0,
   prefix_message (issued_of p.landed) (issued_of p.live) was.0 a saved.prefix (saved.landed was.0 a was.1),
 )
 
+-- `P` holds of all four pairs of sides, live or landed, in a world that satisfies the invariant.
 of_both : (P : Side → Side → Type 0) → Pair P → (txn : Qualifiers) (w : Parties) → Invariant txn w → OfBoth P w
 of_both P pair txn w stands =
     let sent = w.responder.sent in
@@ -189,11 +194,14 @@ of_both P pair txn w stands =
           landed;
     }
 
+-- `EndsAlike` holds of all four pairs of sides in a world that satisfies the invariant.
 pub ends_alike : (txn : Qualifiers) (w : Parties) → Invariant txn w → OfBoth EndsAlike w
 ends_alike = of_both EndsAlike ends_pair
 
+-- `WasShipped` holds of all four pairs of sides in a world that satisfies the invariant.
 pub was_shipped : (txn : Qualifiers) (w : Parties) → Invariant txn w → OfBoth WasShipped w
 was_shipped = of_both WasShipped shipped_pair
 
+-- `WasGranted` holds of all four pairs of sides in a world that satisfies the invariant.
 pub was_granted : (txn : Qualifiers) (w : Parties) → Invariant txn w → OfBoth WasGranted w
 was_granted = of_both WasGranted grant_pair

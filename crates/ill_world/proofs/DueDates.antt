@@ -1,4 +1,4 @@
--- The requester's due date, from event to event.
+-- Each event keeps or raises the requester's due date.
 use Rattle.std.proofs.Common.{rules, ◌≡◌, inl, inr, ℕ, Bool, true, false, nat_le, List, Option, Some, None, is_some, Result, Ok}
 use Rattle.std.proofs.Common.{Err, refl, sym, ap, subst}
 use Rattle.ill_values.specs.Day.{Date}
@@ -37,17 +37,18 @@ keeps_on (Some x) (Some y) c (inr (inr raised)) (inr (inl same)) =
 keeps_on (Some x) (Some y) None (inr (inr raised)) (inr (inr again)) = search rules
 keeps_on (Some x) (Some y) (Some z) (inr (inr raised)) (inr (inr again)) = inr (inr (before_on x y z raised again))
 
--- A wish leaves the requester's due date, and a message that it takes keeps or raises it.
+-- These facts of the tables are assumed here. A wish leaves the requester's due date unchanged. A message that it takes
+-- keeps or raises it.
 pub record RowsKeepDue : Type 0 where
   pub acts : (x new : RequesterRecord) (wish : Wish) → requester_actions.acts x wish ≡ Ok new → new.due ≡ x.due
   pub takes : (x : RequesterRecord) (a : Apdu) → is_some x.due ≡ is_among later x.state
       → KeepsDue x.due (requester_deliveries.takes x a).1.due
 
--- A due date that stays is kept.
+-- An unchanged due date is kept.
 stays : (due : Option Date) → KeepsDue due due
 stays due = inr (inl refl)
 
--- If the record that is made has the old due date, so has its side.
+-- If `result` makes a record with an unchanged due date, its side has an unchanged due date.
 made_due : (x : RequesterRecord) (result : Result RequesterRecord Refusal) (new : Side)
     → ((made : RequesterRecord) → result ≡ Ok made → made.due ≡ x.due) → done_by sides.Requester result ≡ Ok new
     → due_date_of new ≡ x.due
@@ -55,7 +56,7 @@ made_due x (Ok made) new keeps e = let is : sides.Requester made ≡ new = searc
     subst (λ side. due_date_of side ≡ x.due) is (keeps made refl)
 made_due x (Err refusal) new keeps e = search rules
 
--- An action that is done leaves the due date of a requester's side.
+-- An action that is done leaves the due date of a requester's side unchanged.
 acts_due : RowsKeepDue → (txn : Qualifiers) (old new : Side) (action : Action) (partner_sent : List (Option Apdu))
     → acts old action ≡ Ok new → RequesterSideStands txn old partner_sent → due_date_of new ≡ due_date_of old
 acts_due rows txn (sides.Requester x) new (actions.Wish wish) partner_sent e stands =
@@ -69,7 +70,7 @@ takes_due : RowsKeepDue → (txn : Qualifiers) (old : Side) (a : Apdu) (partner_
 takes_due rows txn (sides.Requester x) a partner_sent stands = rows.takes x a stands.rules.parts.due
 takes_due rows txn (sides.Responder y) a partner_sent stands = absurd stands
 
--- A decision keeps or raises the requester's live due date, and leaves its landed side.
+-- A decision keeps or raises the requester's live due date, and leaves its landed side unchanged.
 decides_due : RowsKeepDue
     → (txn : Qualifiers) (p : Party) (partner_sent : List (Option Apdu)) (action : Action) (result : Result Side Refusal)
     → acts p.live action ≡ result → RequesterSideStands txn p.live partner_sent
@@ -78,33 +79,33 @@ decides_due rows txn p partner_sent action (Ok new) e stands =
     (inr (inl (acts_due rows txn p.live new action partner_sent e stands)), refl)
 decides_due rows txn p partner_sent action (Err refusal) e stands = (stays (due_date_of p.live), refl)
 
--- A delivery keeps or raises the requester's live due date, and leaves its landed side.
+-- A delivery keeps or raises the requester's live due date, and leaves its landed side unchanged.
 receives_due : RowsKeepDue → (txn : Qualifiers) (p : Party) (partner_sent : List (Option Apdu)) (found : Option Apdu)
     → RequesterSideStands txn p.live partner_sent
     → KeepsDue (due_date_of p.live) (due_date_of (receives p found).1.live) × ((receives p found).1.landed ≡ p.landed)
 receives_due rows txn p partner_sent None stands = (stays (due_date_of p.live), refl)
 receives_due rows txn p partner_sent (Some a) stands = (takes_due rows txn p.live a partner_sent stands, refl)
 
--- A Send leaves the live and the landed side.
+-- A Send leaves the live and the landed side unchanged.
 sends_same : (p : Party) (n : ℕ) (found : Option Apdu) (released : Bool)
     → ((sends p n found released).1.live ≡ p.live) × ((sends p n found released).1.landed ≡ p.landed)
 sends_same p n None released = (refl, refl)
 sends_same p n (Some a) false = (refl, refl)
 sends_same p n (Some a) true = (refl, refl)
 
--- If two parties have equal sides, and one's live due date is the landed one or later, so is the other's.
+-- If q has the sides of p, and `KeepsDue` holds from the landed to the live date of p, it holds for q.
 same_dates : (p q : Party) → (q.live ≡ p.live) × (q.landed ≡ p.landed)
     → KeepsDue (due_date_of p.landed) (due_date_of p.live) → KeepsDue (due_date_of q.landed) (due_date_of q.live)
 same_dates p q same kept = subst (λ side. KeepsDue (due_date_of side) (due_date_of q.live)) (sym same.1)
     (subst (λ side. KeepsDue (due_date_of p.landed) (due_date_of side)) (sym same.0) kept)
 
--- Beside an unchanged landed side, a live due date that is kept or raised stays the landed one or later.
+-- If q has the landed side of p, and a kept or raised live date, `KeepsDue` stays true from landed to live.
 live_kept : (p q : Party) → KeepsDue (due_date_of p.live) (due_date_of q.live) × (q.landed ≡ p.landed)
     → KeepsDue (due_date_of p.landed) (due_date_of p.live) → KeepsDue (due_date_of q.landed) (due_date_of q.live)
 live_kept p q both kept = subst (λ side. KeepsDue (due_date_of side) (due_date_of q.live)) (sym both.1)
     (keeps_on (due_date_of p.landed) (due_date_of p.live) (due_date_of q.live) kept both.0)
 
--- After each event the requester's live due date is the landed one or later, if it was so before.
+-- After each event the requester's live due date is not earlier than its landed one, if this held before.
 pub due_after : RowsKeepDue → (txn : Qualifiers) (p : Party) (partner_sent : List (Option Apdu)) (event : Event)
     → RequesterSideStands txn p.live partner_sent → KeepsDue (due_date_of p.landed) (due_date_of p.live)
     → KeepsDue (due_date_of (happens_to p partner_sent event).1.landed) (due_date_of (happens_to p partner_sent event).1.live)
@@ -130,7 +131,7 @@ due_after rows txn p partner_sent (events.Restart of) stands kept = stays (due_d
 same_date : (a b : Side) → b ≡ a → KeepsDue (due_date_of a) (due_date_of b)
 same_date a b e = inr (inl (ap due_date_of e))
 
--- the dates of the requester, at every event
+-- Each event keeps or raises the requester's due dates, live and landed, as `KeepsDates` states.
 pub dates_kept : RowsKeepDue → (txn : Qualifiers) (w : Parties) (event : Event) → Invariant txn w
     → KeepsDates w event (happens w event).1
 dates_kept rows txn w (events.Wish wish) stands =

@@ -1,4 +1,5 @@
--- A record that takes all messages of the other side has heard them.
+-- `has_heard` holds of a message if it would not change the record now. It holds of all messages of the other side
+-- after the record takes them in order, unless one reopens an earlier one.
 use Rattle.std.proofs.Common.{rules, arith, ◌≡◌, ℕ, zero, suc, ◌<◌, Bool, true, false, List, [], ◌∷◌, Some, refl, sym, subst}
 use Rattle.std.specs.Prelude.{slice_get}
 use Rattle.ill_values.specs.declared.apdu.Apdu.{Apdu}
@@ -11,14 +12,15 @@ module _ {R : Type 0} (take : R → Apdu → R) where
   taking r [] = r
   taking r (a ∷ apdus) = taking (take r a) apdus
 
-  -- A fact that each APDU keeps is kept by all.
+  -- If each APDU keeps a fact of the record, all APDUs keep it.
   pub keeps_all : (P : R → Type 0) → ((r : R) (a : Apdu) → P r → P (take r a)) → (r : R) (apdus : List Apdu) → P r
       → P (taking r apdus)
   unfolding taking
   keeps_all P keeps r [] holds = holds
   keeps_all P keeps r (a ∷ apdus) holds = keeps_all P keeps (take r a) apdus (keeps r a holds)
 
-  -- An APDU is heard at once, and stays heard unless it is reopened: of such records, and of such APDUs.
+  -- For records of which `Is` holds, and messages of which `Of` holds: a taken message satisfies `has_heard` at once.
+  -- It does so until a message that reopens it is taken.
   pub record Hears (Is : R → Type 0) (Of : Apdu → Type 0) (has_heard : R → ℕ → Body → Bool) (reopens : Body → Body → Bool) : Type
       0 where
     pub keeps : (r : R) (a : Apdu) → Is r → Is (take r a)
@@ -28,7 +30,7 @@ module _ {R : Type 0} (take : R → Apdu → R) where
 
   module _ (Is : R → Type 0) (Of : Apdu → Type 0) (has_heard : R → ℕ → Body → Bool) (reopens : Body → Body → Bool)
       (hears : Hears Is Of has_heard reopens) where
-    -- A message stays heard while none reopens it.
+    -- If `has_heard` holds of a message, it holds after further messages, if none of them reopens it.
     stays_heard : (r : R) (apdus : List Apdu) (number : ℕ) (body : Body)
         → ((i : ℕ) (b : Apdu) → slice_get apdus i ≡ Some b → reopens b.body body ≡ false) → has_heard r number body ≡ true
         → has_heard (taking r apdus) number body ≡ true
@@ -38,7 +40,7 @@ module _ {R : Type 0} (take : R → Apdu → R) where
         stays_heard (take r b) apdus number body (λ i c at. none (suc i) c at)
         (hears.stays r b number body (none zero b refl) heard)
 
-    -- After a record takes all APDUs, it has heard each that no later one reopens.
+    -- After a record takes all APDUs, `has_heard` holds of each that no later one reopens.
     pub heard_later : (r : R) (apdus : List Apdu) (i : ℕ) (a : Apdu) → Is r → slice_get apdus i ≡ Some a → Of a
         → ((j : ℕ) (b : Apdu) → slice_get apdus j ≡ Some b → i < j → reopens b.body a.body ≡ false)
         → has_heard (taking r apdus) a.number a.body ≡ true

@@ -13,13 +13,13 @@ use Rattle.ill_world.specs.World.{Party, sent_message, decides, sends, receives,
 use Rattle.ill_world.specs.Invariant.{WasSent, SendsSaved, PartyStands}
 use Rattle.ill_world.proofs.Sendings.{live_grows, saved_now, saved_by_fault, saved_at_restart, saved_by_send, sent_stays}
 
--- ---- facts of the rows
+-- ---- facts of the tables
 
--- A row takes no message away, and keeps the role and the transaction.
+-- A transition takes no message away, and keeps the role and the transaction.
 abbrev pub RowsGrow : Type 0
 RowsGrow = (old new : Side) → IsStep old new → Grows old new
 
--- An action keeps `K`, and so do a message that was sent and is taken, and further messages.
+-- An action keeps `K`, and so does a taken message of `partner_sent`. Further messages in `partner_sent` keep it too.
 pub record Keeps (K : Side → List (Option Apdu) → Type 0) : Type 0 where
   pub acts : (old new : Side) (action : Action) (partner_sent : List (Option Apdu)) → acts old action ≡ Ok new
       → K old partner_sent → K new partner_sent
@@ -30,7 +30,7 @@ pub record Keeps (K : Side → List (Option Apdu) → Type 0) : Type 0 where
 
 -- ---- one event
 
--- A party that stands does so after a decision.
+-- A decision keeps `PartyStands`.
 party_decides : (K : Side → List (Option Apdu) → Type 0) (p : Party) (partner_sent : List (Option Apdu)) (action : Action)
     (result : Result Side Refusal)
     → RowsGrow → Keeps K → acts p.live action ≡ result
@@ -42,7 +42,7 @@ party_decides K p partner_sent action (Ok new) grows keeps e stands = record {
 }
 party_decides K p partner_sent action (Err refusal) grows keeps e stands = stands
 
--- A party that stands does so after it receives a message that was sent to it.
+-- The delivery of a message of `partner_sent` keeps `PartyStands`.
 party_receives : (K : Side → List (Option Apdu) → Type 0) (p : Party) (partner_sent : List (Option Apdu)) (n : ℕ)
     (found : Option Apdu)
     → RowsGrow → Keeps K → sent_message partner_sent n ≡ found
@@ -54,14 +54,14 @@ party_receives K p partner_sent n (Some a) grows keeps e stands = record {
   landed = stands.landed;
 }
 
--- A party that stands does so after a save that fails.
+-- A failed save keeps `PartyStands`.
 party_fails : (K : Side → List (Option Apdu) → Type 0) (p : Party) (partner_sent : List (Option Apdu)) (who : _) (landed : Bool)
     → PartyStands K p partner_sent → PartyStands K (happens_to p partner_sent (events.SaveFault who landed)).1 partner_sent
 party_fails K p partner_sent who true stands =
     record { saved = saved_by_fault p true stands.saved; live = stands.live; landed = stands.live }
 party_fails K p partner_sent who false stands = stands
 
--- A party that stands does so after a Send.
+-- A Send keeps `PartyStands`.
 party_sends : (K : Side → List (Option Apdu) → Type 0) (p : Party) (partner_sent : List (Option Apdu)) (n : ℕ)
     (found : Option Apdu) (released : Bool)
     → message (issued_of p.live) n ≡ found
@@ -71,7 +71,7 @@ party_sends K p partner_sent n (Some a) false is e stands = stands
 party_sends K p partner_sent n (Some a) true is e stands =
     record { saved = saved_by_send p n (Some a) true is e stands.saved; live = stands.live; landed = stands.landed }
 
--- A party that stands does so after each event.
+-- Each event keeps `PartyStands`.
 pub party_kept : (K : Side → List (Option Apdu) → Type 0) (p : Party) (partner_sent : List (Option Apdu)) (event : Event)
     → RowsGrow → Keeps K → PartyStands K p partner_sent
     → PartyStands K (happens_to p partner_sent event).1 partner_sent
@@ -90,7 +90,7 @@ party_kept K p partner_sent (events.Noise who bytes) grows keeps stands = stands
 party_kept K p partner_sent (events.Restart who) grows keeps stands =
     record { saved = saved_at_restart p stands.saved; live = stands.landed; landed = stands.landed }
 
--- A party that stands by `partner_sent` stands by `more`, if each message of `partner_sent` is in `more`.
+-- `PartyStands` holds with `more` if it holds with `partner_sent`, and `more` has each message of `partner_sent`.
 pub more_sent : (K : Side → List (Option Apdu) → Type 0) (p : Party) (partner_sent more : List (Option Apdu)) → Keeps K
     → ((a : Apdu) → WasSent partner_sent a → WasSent more a) → PartyStands K p partner_sent
     → PartyStands K p more
@@ -103,23 +103,23 @@ more_sent K p partner_sent more keeps stays stands =
 
 -- ---- sent messages
 
--- A decision leaves the messages sent.
+-- A decision leaves the sent messages unchanged.
 decides_sends : (p : Party) (result : Result Side Refusal) → (decides p result).1.sent ≡ p.sent
 decides_sends p (Ok new) = refl
 decides_sends p (Err refusal) = refl
 
--- A delivery leaves the messages that the receiving party has sent.
+-- A delivery leaves the messages that the receiving party has sent unchanged.
 receives_sends : (p : Party) (found : Option Apdu) → (receives p found).1.sent ≡ p.sent
 receives_sends p None = refl
 receives_sends p (Some a) = refl
 
--- A failed save leaves the messages sent.
+-- A failed save leaves the sent messages unchanged.
 fails_sends : (p : Party) (partner_sent : List (Option Apdu)) (who : _) (landed : Bool)
     → (happens_to p partner_sent (events.SaveFault who landed)).1.sent ≡ p.sent
 fails_sends p partner_sent who true = refl
 fails_sends p partner_sent who false = refl
 
--- A message that a party has sent stays sent, under its number, at each event.
+-- A message that a party has sent stays sent, under its number, after each event.
 pub stays_sent : (p : Party) (partner_sent : List (Option Apdu)) (event : Event) → SendsSaved p → (m : ℕ) (a : Apdu)
     → sent_message p.sent m ≡ Some a → sent_message (happens_to p partner_sent event).1.sent m ≡ Some a
 stays_sent p partner_sent (events.Wish wish) saved m a was =
@@ -136,7 +136,7 @@ stays_sent p partner_sent (events.Deliver who n) saved m a was =
 stays_sent p partner_sent (events.Noise who bytes) saved m a was = was
 stays_sent p partner_sent (events.Restart who) saved m a was = was
 
--- A message that a party has sent is sent still, after each event.
+-- A message that a party has sent stays sent, under some number, after each event.
 pub was_sent_still : (p : Party) (partner_sent : List (Option Apdu)) (event : Event) → SendsSaved p → (a : Apdu)
     → WasSent p.sent a → WasSent (happens_to p partner_sent event).1.sent a
 was_sent_still p partner_sent event saved a was = (was.0, stays_sent p partner_sent event saved was.0 a was.1)

@@ -1,4 +1,4 @@
--- After a round both sides are in step.
+-- After a round both sides are in step. In a round each side takes all messages of the other, in order.
 use Rattle.std.proofs.Common.{rules, arith, ◌≡◌, ◌⊎◌, inl, inr, ℕ, zero, suc, ◌≤◌, ◌<◌, Bool, true, false, not, ◌&&◌, ◌||◌, List}
 use Rattle.std.proofs.Common.{[], ◌∷◌, length, Option, Some, refl, sym, ap, ◌∙◌, subst, append-nil}
 use Rattle.std.specs.Prelude.{slice_get}
@@ -53,8 +53,8 @@ asks x a = (requester_deliveries.takes x a).1
 abbrev lends : ResponderRecord → Apdu → ResponderRecord
 lends y a = (responder_deliveries.takes y a).1
 
--- A record that takes a message has responder_sent it, until a later one reopens it. While it takes messages, a
--- responder issues nothing but an ILL-Answer unfilled.
+-- These facts of the tables are assumed here. If a record takes a message, `has_heard` holds of it, until a later one
+-- reopens it. A responder that takes messages issues nothing but an ILL-Answer unfilled.
 pub record RowsHear : Type 0 where
   pub requester_txn : (x : RequesterRecord) (a : Apdu) → (asks x a).txn ≡ x.txn
   pub requester_issues : (x : RequesterRecord) (a : Apdu) → (asks x a).issued ≡ x.issued
@@ -74,14 +74,14 @@ pub record RowsHear : Type 0 where
 
 -- ---- a side and its record
 
--- A side of a requester takes APDUs as its record does.
+-- A requester's side takes APDUs as its record does.
 requester_taking : (x : RequesterRecord) (apdus : List Apdu)
     → takes_all (sides.Requester x) apdus ≡ sides.Requester (taking asks x apdus)
 unfolding takes_all taking
 requester_taking x [] = refl
 requester_taking x (a ∷ apdus) = requester_taking (asks x a) apdus
 
--- A side of a responder takes APDUs as its record does.
+-- A responder's side takes APDUs as its record does.
 responder_taking : (y : ResponderRecord) (apdus : List Apdu)
     → takes_all (sides.Responder y) apdus ≡ sides.Responder (taking lends y apdus)
 unfolding takes_all taking
@@ -98,7 +98,7 @@ same_responder y z same = search rules
 
 -- ---- lists
 
--- A test that all APDUs pass is passed by each.
+-- If all APDUs of a list pass a test, each passes it.
 each : (p : Body → Bool) (apdus : List Apdu) (i : ℕ) (a : Apdu) → list_all (λ b. p b.body) apdus ≡ true
     → slice_get apdus i ≡ Some a → p a.body ≡ true
 each p [] i a all at = search rules
@@ -106,7 +106,7 @@ each p (b ∷ apdus) zero a all at = let same : b ≡ a = search rules in
     subst (λ (c : Apdu). p c.body ≡ true) same (and_parts _ _ all).0
 each p (b ∷ apdus) (suc i) a all at = each p apdus i a (and_parts _ _ all).1 at
 
--- No message says it if the list of APDUs does not.
+-- If `says` holds of no APDU of a list, it does not hold of the APDU at place i.
 none_there : (says : Body → Bool) (apdus : List Apdu) (i : ℕ) (a : Apdu) → has says apdus ≡ false
     → slice_get apdus i ≡ Some a → says a.body ≡ false
 none_there says apdus i a none at = go (says a.body) refl
@@ -115,13 +115,13 @@ none_there says apdus i a none at = go (says a.body) refl
     go false e = refl
     go true e = let both : true ≡ false = sym (message_says says apdus (suc i) a at e) ∙ none in search rules
 
--- No message but the first is an ILL-Request.
+-- In a requester's list no message but the first is an ILL-Request.
 first_alone : (apdus : List Apdu) (j : ℕ) (b : Apdu) → begins_with_request apdus ≡ true
     → slice_get apdus (suc j) ≡ Some b → is_ill_request b.body ≡ false
 first_alone [] j b begins at = search rules
 first_alone (a ∷ apdus) j b begins at = none_there is_ill_request apdus j b (not-true _ (and_parts _ _ begins).1) at
 
--- A list says all that a prefix of it says.
+-- If `says` holds of a message of a prefix, it holds of a message of the whole list.
 has_prefix : (says : Body → Bool) (prefix apdus : List Apdu) → IsPrefix prefix apdus → has says prefix ≡ true
     → has says apdus ≡ true
 has_prefix says prefix apdus is there =
@@ -129,7 +129,7 @@ has_prefix says prefix apdus is there =
 
 -- ---- messages that reopen others
 
--- No APDU but an ILL-Request reopens another one at a responder.
+-- Only an ILL-Request reopens another APDU at a responder.
 only_request : (first second : Body) → is_ill_request first ≡ false → records.reopens first second ≡ false
 only_request (types.IllRequest expiry item) second is = search rules
 only_request first second is = refl
@@ -139,7 +139,7 @@ abbrev GrantsOverdue : Body → Body → Type 0
 GrantsOverdue first second = (c : ℕ) × (due day : Date) × (grant_of first ≡ Some (grant c due)) × (second ≡ types.Overdue day)
     × (is_same_day day due ≡ true)
 
--- A plain APDU is reopened only as a Recall by a Shipped, or as an Overdue by its grant.
+-- Only a Shipped reopens a Recall at a requester, and only its grant an Overdue. Nothing reopens another plain APDU.
 plain_reopens : (first second : Body) → names_conditions second ≡ false
     → (is_shipped first ≡ true → is_recall second ≡ true → ⊥) → (GrantsOverdue first second → ⊥)
     → notices.reopens first second ≡ false
@@ -157,7 +157,7 @@ plain_reopens first second plain order dates = search rules
 -- ---- the responder, while it takes all messages of the requester
 
 module _ (rows : RowsHear) where
-  -- A responder that takes APDUs keeps all that it has issued.
+  -- A responder that takes APDUs keeps all messages that it has issued.
   responder_grows : (y : ResponderRecord) (apdus : List Apdu) → IsPrefix y.issued (taking lends y apdus).issued
   unfolding taking
   responder_grows y [] = prefix_of_itself y.issued
@@ -168,7 +168,7 @@ module _ (rows : RowsHear) where
       grown (inl same) = ([], same ∙ sym (append-nil y.issued))
       grown (inr more) = (next_apdu y.txn y.issued (types.IllAnswer results.Unfilled) ∷ [], more.1)
 
-  -- A responder in NOT-SUPPLIED stays there.
+  -- A responder in NOT-SUPPLIED stays there when it takes APDUs.
   unsupplied_stays : (y : ResponderRecord) (apdus : List Apdu) → is_among (states.NotSupplied ∷ []) y.state ≡ true
       → is_among (states.NotSupplied ∷ []) (taking lends y apdus).state ≡ true
   unsupplied_stays y apdus is =
@@ -186,14 +186,14 @@ module _ (rows : RowsHear) where
   not_undecided states.NotSupplied is undecided = search rules
   not_undecided s is undecided = search rules
 
-  -- A state that the ILL-Answer unfilled ends in is NOT-SUPPLIED.
+  -- A responder in NOT-SUPPLIED is in a state of an end, as the ILL-Answer unfilled leaves it.
   ends_there : (s : State) → (true && is_among (states.NotSupplied ∷ []) s
       || (false && is_among (states.Cancelled ∷ []) s || false && is_among later s)) ≡ true
       → is_among (states.NotSupplied ∷ []) s ≡ true
   ends_there states.NotSupplied is = refl
   ends_there s is = search rules
 
-  -- A responder that is undecided after it took APDUs has issued nothing meanwhile.
+  -- If a responder is undecided after it took APDUs, it has issued nothing meanwhile.
   issues_nothing : (y : ResponderRecord) (apdus : List Apdu) → is_among records.undecided (taking lends y apdus).state ≡ true
       → (taking lends y apdus).issued ≡ y.issued
   unfolding taking
@@ -206,7 +206,7 @@ module _ (rows : RowsHear) where
           let ended = rows.responder_ends y a (next_apdu y.txn y.issued (types.IllAnswer results.Unfilled)) more.1 refl in
           not_undecided _ (unsupplied_stays (lends y a) apdus (ends_there (lends y a).state ended.1)) undecided
 
-  -- ---- both
+  -- ---- both records
 
   module _ (txn : Qualifiers) (x : RequesterRecord) (y : ResponderRecord)
       (responder_sent requester_sent requester_sent_after : List (Option Apdu)) where
@@ -214,13 +214,13 @@ module _ (rows : RowsHear) where
     abbrev lender_new : ResponderRecord
     lender_new = taking lends y x.issued
 
-    -- Returns the requester after it takes all messages that the responder has issued then.
+    -- Returns the requester after it takes all messages that the responder has then issued.
     abbrev borrower_new : RequesterRecord
     borrower_new = taking asks x lender_new.issued
 
     module _ (borrower : RequesterStands txn x responder_sent) (lender : ResponderStands txn y requester_sent)
         (lender_after : ResponderStands txn lender_new requester_sent_after) where
-      -- The requester has responder_sent message i + 1, unless a later one reopens it.
+      -- `has_heard` holds of message i + 1 at the requester, unless a later message reopens it.
       requester_heard : (i : ℕ) (a : Apdu) → slice_get lender_new.issued i ≡ Some a
           → ((j : ℕ) (b : Apdu) → slice_get lender_new.issued j ≡ Some b → i < j → notices.reopens b.body a.body ≡ false)
           → notices.has_heard borrower_new a.number a.body ≡ true
@@ -236,7 +236,7 @@ module _ (rows : RowsHear) where
             not-true _ (each (λ body. not (is_requesters body)) lender_new.issued i a lender_after.rules.role at),
           ) none
 
-      -- The responder has responder_sent message i + 1 of the requester.
+      -- `has_heard` holds of message i + 1 of the requester at the responder.
       responder_heard : (i : ℕ) (a : Apdu) → slice_get x.issued i ≡ Some a → records.has_heard lender_new a.number a.body ≡ true
       responder_heard i a at =
           heard_later lends (λ r. r.txn ≡ txn) (λ b. (is_same_txn b.txn txn ≡ true) × (is_requesters b.body ≡ true))
@@ -250,17 +250,17 @@ module _ (rows : RowsHear) where
             each is_requesters x.issued i a borrower.rules.role at,
           ) (λ j b there later. later_request j b there later)
         where
-          -- No later message of the requester is an ILL-Request that reopens this one.
+          -- No later message of the requester reopens message i + 1, since none is an ILL-Request.
           later_request : (j : ℕ) (b : Apdu) → slice_get x.issued j ≡ Some b → i < j → records.reopens b.body a.body ≡ false
           later_request zero b there later = absurd (omega (arith, later))
           later_request (suc j) b there later = only_request b.body a.body (first_alone x.issued j b borrower.rules.request there)
 
-      -- The requester has issued nothing meanwhile.
+      -- The requester issues nothing while it takes messages.
       requester_same : borrower_new.issued ≡ x.issued
       requester_same = keeps_all asks (λ r. r.issued ≡ x.issued) (λ r a is. rows.requester_issues r a ∙ is) x lender_new.issued
           refl
 
-      -- A responder that has issued an end is not undecided.
+      -- A responder that has issued a message that ends the request is not undecided.
       ended_decides : has is_end lender_new.issued ≡ true → is_among records.undecided lender_new.state ≡ true → ⊥
       ended_decides ended undecided =
           go (is_unsupplied at.1.body) (is_cancelled at.1.body) (is_shipped at.1.body) refl refl refl at.3
@@ -268,7 +268,7 @@ module _ (rows : RowsHear) where
           at : (n : ℕ) × (a : Apdu) × (message lender_new.issued n ≡ Some a) × (is_end a.body ≡ true)
           at = says_message is_end lender_new.issued ended
 
-          -- A state of an end is not undecided.
+          -- A state in which the request has ended is not undecided.
           apart : {P : Type 0} (s : State)
               → (is_among (states.NotSupplied ∷ []) s ≡ true) ⊎ (is_among (states.Cancelled ∷ []) s ≡ true) ⊎
               (is_among later s ≡ true) → is_among records.undecided s ≡ true → P
@@ -299,11 +299,11 @@ module _ (rows : RowsHear) where
           absurd (ended_decides (has_prefix is_end y.issued lender_new.issued (responder_grows y x.issued) ended) undecided)
       number_left (inr left) undecided = subst (λ l. length l < 255) (sym (issues_nothing y x.issued undecided)) left
 
-      -- If the responder could answer before the round, each record has responder_sent all that the other has issued.
+      -- If the responder could answer before the round, `HaveHeard` holds of both records after it.
       pub have_heard : (has is_end y.issued ≡ true) ⊎ (length y.issued < 255) → HaveHeard borrower_new lender_new
       have_heard can = record { requester = plain_heard; last = last_heard; responder = all_heard; can_answer = number_left can }
         where
-          -- The requester has responder_sent each plain message.
+          -- `has_heard` holds of each plain message at the requester.
           plain_heard : (n : ℕ) (a : Apdu) → message lender_new.issued n ≡ Some a → names_conditions a.body ≡ false
               → notices.has_heard borrower_new a.number a.body ≡ true
           plain_heard zero a at plain = search rules
@@ -317,7 +317,7 @@ module _ (rows : RowsHear) where
               before_itself : {i j : ℕ} → suc j < suc i → i < j → ⊥
               before_itself first later = omega (arith, first, later)
 
-          -- The requester has responder_sent the last message.
+          -- `has_heard` holds of the last message at the requester.
           last_heard : (a : Apdu) → message lender_new.issued (length lender_new.issued) ≡ Some a
               → notices.has_heard borrower_new a.number a.body ≡ true
           last_heard a at = go (length lender_new.issued) refl at
@@ -328,7 +328,7 @@ module _ (rows : RowsHear) where
               go (suc i) is at = requester_heard i a at
                   (λ j b there later. absurd (omega (arith, is, later, slice_get_within lender_new.issued j b there)))
 
-          -- The responder has responder_sent each message.
+          -- `has_heard` holds of each message at the responder.
           all_heard : (n : ℕ) (a : Apdu) → message borrower_new.issued n ≡ Some a
               → records.has_heard lender_new a.number a.body ≡ true
           all_heard zero a at = search rules
@@ -336,19 +336,20 @@ module _ (rows : RowsHear) where
 
   -- ---- worlds
 
-  -- A requester that stands has issued at most 255 messages.
+  -- If `RequesterSideStands` holds of a side, the side has issued at most 255 messages.
   requester_few : (txn : Qualifiers) (side : Side) (requester_sent : List (Option Apdu))
       → RequesterSideStands txn side requester_sent → length (issued_of side) ≤ 255
   requester_few txn (sides.Requester x) requester_sent stands = stands.few
   requester_few txn (sides.Responder y) requester_sent stands = absurd stands
 
-  -- A responder that stands has issued at most 255 messages.
+  -- If `ResponderSideStands` holds of a side, the side has issued at most 255 messages.
   responder_few : (txn : Qualifiers) (side : Side) (requester_sent : List (Option Apdu))
       → ResponderSideStands txn side requester_sent → length (issued_of side) ≤ 255
   responder_few txn (sides.Responder y) requester_sent stands = stands.few
   responder_few txn (sides.Requester x) requester_sent stands = absurd stands
 
-  -- If each side has taken all messages of the other, and the responder could answer, the two are in step.
+  -- Each side has taken all messages of the other, and the responder could answer before. Then the two sides are in
+  -- step.
   sides_in_step : (txn : Qualifiers) (requester responder requester_after responder_after : Side)
       (responder_sent requester_sent responder_sent_after requester_sent_after : List (Option Apdu))
       → RequesterSideStands txn requester responder_sent
@@ -384,7 +385,7 @@ module _ (rows : RowsHear) where
       requester_sent responder_sent_after requester_sent_after borrower lender borrower_after lender_after issued heeded can
       lends_it asks_it = absurd lender_after
 
-  -- Both sides of a world that stands are in step after a round.
+  -- If a world satisfies the invariant, and the responder can answer, both sides are in step after a round.
   pub one_round : (txn : Qualifiers) → ((w : Parties) (event : Event) → Invariant txn w → Invariant txn (happens w event).1)
       → (w : Parties) → Invariant txn w → CanAnswer w.responder.live → AreInStep (run_of w (round_of w))
   one_round txn after w stands can =

@@ -1,4 +1,4 @@
--- The events of a round: each side takes all messages of the other, one after another.
+-- In a round each side takes all messages of the other, one after another.
 use Rattle.std.proofs.Common.{rules, arith, ◌≡◌, ℕ, zero, suc, ◌+◌, ◌≤◌, ◌<◌, Bool, true, false, nat_le, List, [], ◌∷◌, ◌++◌}
 use Rattle.std.proofs.Common.{length, Option, Some, None, Result, Ok, Err, refl, sym, ap, ◌∙◌, subst, append_assoc, append-nil}
 use Rattle.std.proofs.Common.{length-append}
@@ -27,32 +27,32 @@ takes_all side (a ∷ apdus) = takes_all (takes side a).1 apdus
 
 -- ---- one message
 
--- After `a` is put at a place of a list, it stands there.
+-- If `a` is put at place i of a list, the list has `a` there.
 put_here : (slots : List (Option Apdu)) (i : ℕ) (a : Apdu) → i < length slots
     → option_flatten (slice_get (slice_set slots i (Some a)) i) ≡ Some a
 put_here [] i a within = absurd (omega (arith, within))
 put_here (slot ∷ slots) zero a within = refl
 put_here (slot ∷ slots) (suc i) a within = put_here slots i a (omega (arith, within))
 
--- In a list of `prefix`, `a` and more, `a` stands at the place that is the length of `prefix`.
+-- The list of `prefix`, `a` and `more` has `a` at the index that is the length of `prefix`.
 at_prefix : (prefix more : List Apdu) (a : Apdu) → slice_get (prefix ++ a ∷ more) (length prefix) ≡ Some a
 at_prefix [] more a = refl
 at_prefix (b ∷ prefix) more a = at_prefix prefix more a
 
--- If message n is issued as `a`, and released, a Send of n adds `a` to the messages sent.
+-- If message n is `a`, and is released, a Send of n adds `a` to the sent messages.
 sent_is : (p : Party) (n : ℕ) (a : Apdu) (found : Option Apdu) (released : Bool) → found ≡ Some a → released ≡ true
     → (sends p n found released).1 ≡ record p { sent = with_sent p.sent n a }
 sent_is p n a (Some b) true is free = let same : b ≡ a = search rules in ap (λ c. record p { sent = with_sent p.sent n c }) same
 sent_is p n a (Some b) false is free = search rules
 sent_is p n a None released is free = search rules
 
--- If a message was found as `a`, the party receives it: its live side takes `a`.
+-- If the other party has sent message `a`, the live side of the receiving party takes it.
 taken_is : (q : Party) (a : Apdu) (found : Option Apdu) → found ≡ Some a
     → (receives q found).1 ≡ record q { live = (takes q.live a).1 }
 taken_is q a (Some b) is = let same : b ≡ a = search rules in ap (λ c. record q { live = (takes q.live c).1 }) same
 taken_is q a None is = search rules
 
--- Returns the world after one party has sent `a` as message n, and it was delivered to the other.
+-- Returns the world after the party `of` sends `a` as message n, and the other party takes it.
 abbrev passed : Parties → Who → ℕ → Apdu → Parties
 passed w who.Requester n a = record {
   requester = record w.requester { sent = with_sent w.requester.sent n a };
@@ -63,7 +63,7 @@ passed w who.Responder n a = record {
   responder = record w.responder { sent = with_sent w.responder.sent n a };
 }
 
--- If a party may send `a` as message n, its Send and its Deliver lead to `passed`.
+-- If the party `of` may send `a` as message n, its Send and its Deliver lead to `passed`.
 passes : (of : Who) (w : Parties) (n : ℕ) (a : Apdu) → message (issued_of (party w of).live) n ≡ Some a
     → nat_le n (party w of).released ≡ true → sent_message (with_sent (party w of).sent n a) n ≡ Some a
     → (happens (happens w (events.Send of n)).1 (events.Deliver (other of) n)).1 ≡ passed w of n a
@@ -84,19 +84,19 @@ passes who.Responder w n a at free there =
 
 -- ---- all messages of a party
 
--- A party has issued `apdus`, which are 255 at most, and all are released.
+-- A party has issued `apdus`, and all are released. They are at most 255.
 record MaySend (p : Party) (apdus : List Apdu) : Type 0 where
   issued : issued_of p.live ≡ apdus
   released : length apdus ≤ p.released
   few : length apdus ≤ 255
   places : length p.sent ≡ 255
 
--- The live side of `of` is as before, and that of the other party has taken all `apdus`.
+-- The live side of the party `of` is unchanged. The live side of the other party has taken all `apdus`.
 pub record HasPassed (of : Who) (old new : Parties) (apdus : List Apdu) : Type 0 where
   pub live : (party new of).live ≡ (party old of).live
   pub taken : (party new (other of)).live ≡ takes_all (party old (other of)).live apdus
 
--- After message n was passed, a party may send what it might send before.
+-- After message n was passed, the party may still send all of `apdus`.
 may_still : (of : Who) (w : Parties) (n : ℕ) (a : Apdu) (apdus : List Apdu) → MaySend (party w of) apdus
     → MaySend (party (passed w of n a) of) apdus
 may_still who.Requester w n a apdus may =
@@ -104,14 +104,14 @@ may_still who.Requester w n a apdus may =
 may_still who.Responder w n a apdus may =
     record { issued = may.issued; released = may.released; few = may.few; places = places_kept w.responder.sent n a ∙ may.places }
 
--- If `a` and then `apdus` were passed, all of `a ∷ apdus` were passed.
+-- If `a` was passed, and then `apdus`, then `a ∷ apdus` were passed.
 passed_on : (of : Who) (w new : Parties) (n : ℕ) (a : Apdu) (apdus : List Apdu)
     → HasPassed of (passed w of n a) new apdus → HasPassed of w new (a ∷ apdus)
 unfolding takes_all
 passed_on who.Requester w new n a apdus has = record { live = has.live; taken = has.taken }
 passed_on who.Responder w new n a apdus has = record { live = has.live; taken = has.taken }
 
--- If a party may send `prefix ++ rest`, the events of `sends_and_delivers` from the end of `prefix` on pass `rest`.
+-- If a party may send `prefix ++ rest`, `sends_and_delivers` passes `rest` from the end of `prefix` on.
 pass_all : (of : Who) (w : Parties) (n : ℕ) (prefix rest : List Apdu) → n ≡ length prefix + 1
     → MaySend (party w of) (prefix ++ rest) → HasPassed of w (run_of w (sends_and_delivers of n (length rest))) rest
 unfolding sends_and_delivers run_by takes_all
@@ -136,11 +136,11 @@ pass_all of w n prefix (a ∷ rest) is may =
 
 -- ---- a half of a round
 
--- A party that saves may send all that it has issued.
+-- After a save a party may send all messages that it has issued.
 may_after : (p : Party) → length (issued_of p.live) ≤ 255 → length p.sent ≡ 255 → MaySend (saves p) (issued_of p.live)
 may_after p few places = record { issued = refl; released = omega arith; few = few; places = places }
 
--- In a half of a round the other party takes all messages of this one.
+-- In a half of a round the other party takes all messages of the party `of`.
 pub half_passes : (of : Who) (w : Parties) → length (issued_of (party w of).live) ≤ 255
     → length (party w of).sent ≡ 255 → HasPassed of w (run_of w (half_of of w)) (issued_of (party w of).live)
 unfolding run_by
@@ -153,12 +153,13 @@ half_passes who.Responder w few places =
     let has = pass_all who.Responder (record w { responder = saves p }) 1 [] (issued_of p.live) refl (may_after p few places) in
     record { live = has.live; taken = has.taken }
 
--- After a round the responder has taken all messages of the requester, and then the requester all of the responder.
+-- After a round the responder has taken all messages of the requester. Then the requester has taken all messages of the
+-- responder.
 pub record Rounds (w new : Parties) : Type 0 where
   pub responder : new.responder.live ≡ takes_all w.responder.live (issued_of w.requester.live)
   pub requester : new.requester.live ≡ takes_all w.requester.live (issued_of new.responder.live)
 
--- A round does so, if each party has issued 255 messages at most when it saves.
+-- A round does so if each party has issued at most 255 messages when it saves.
 pub round_passes : (w : Parties)
     → let between = run_of w (half_of who.Requester w) in length (issued_of w.requester.live) ≤ 255
     → length w.requester.sent ≡ 255 → length (issued_of between.responder.live) ≤ 255
@@ -175,9 +176,9 @@ round_passes w few places few_more places_more =
           ∙ ap (λ side. takes_all w.requester.live (issued_of side)) (sym second.live));
     })
 
--- ---- the events of a half as a list that grows
+-- ---- the events of a half, as a list that grows
 
--- After the two events of message n are added, those of one message fewer are left.
+-- After the two events of message n are added, the events of one message fewer are left.
 pub passes_grow : (of partner : Who) (n number size left : ℕ) (before sent delivered all : List Event)
     → partner ≡ other of → number ≡ n → size ≡ suc left → sent ≡ before ++ events.Send of number ∷ []
     → delivered ≡ sent ++ events.Deliver partner number ∷ [] → before ++ sends_and_delivers of n size ≡ all
@@ -194,7 +195,7 @@ passes_grow of partner n number size left before sent delivered all is_other is_
     subst (λ k. before ++ sends_and_delivers of n k ≡ all) is_size is_all in
     ap (λ l. l ++ rest) two ∙ append_assoc before (events.Send of n ∷ events.Deliver (other of) n ∷ []) rest ∙ whole
 
--- Of no message there are no events.
+-- For a count of 0 there are no events to add.
 pub passes_none : (before : List Event) (of : Who) (n count : ℕ) → count ≡ 0 → before ≡ before ++ sends_and_delivers of n count
 unfolding sends_and_delivers
 passes_none before of n zero none = sym (append-nil before)
@@ -203,13 +204,14 @@ passes_none before of n (suc count) none = absurd (omega (arith, none))
 -- ---- events that are performed
 
 module _ {W E O M : Type 0} (happening : W → E → O × W) where
-  -- Events are performed if memory ran out and the first of them have led here.
+  -- If memory ran out, and a prefix of the events has led to this world, the events were performed in the sense of
+  -- `Performs`.
   pub performs_prefix : (events first : List E) (old new : W) (result : Result (Unit {0}) M) → IsErr result
       → IsPrefix first events → new ≡ run_by happening old first → Performs (run_by happening) events old result new
   performs_prefix events first old new (Ok done) failed prefix is = search rules
   performs_prefix events first old new (Err memory) failed prefix is = (first, prefix, is)
 
-  -- If `first` has led to a world, and `second` was performed from there, both joined were performed.
+  -- If `first` has led to a world, and `second` was performed from there, `first ++ second` was performed.
   pub performs_both : (first second : List E) (old between new : W) (result : Result (Unit {0}) M)
       → between ≡ run_by happening old first → Performs (run_by happening) second between result new
       → Performs (run_by happening) (first ++ second) old result new
@@ -221,12 +223,12 @@ module _ {W E O M : Type 0} (happening : W → E → O × W) where
     is ∙ ap (λ w. run_by happening w some) led ∙ sym (run_both happening old first some),
   )
 
-  -- A fact of the world to which events lead holds after they were performed, if memory did not run out.
+  -- If `P` holds of the world after events, and memory did not run out, it holds after they were performed.
   pub performed : (P : W → Type 0) (events : List E) (old new : W) (result : Result (Unit {0}) M)
       → Performs (run_by happening) events old result new → P (run_by happening old events) → OnOk result (P new)
   performed P events old new (Ok done) performs there = subst P (sym performs) there
   performed P events old new (Err memory) performs there = tt
 
--- The first events of some are the first of more.
+-- A prefix of `events` is a prefix of `events ++ more`.
 pub prefix_further : {E : Type 0} (first events more : List E) → IsPrefix first events → IsPrefix first (events ++ more)
 prefix_further first events more prefix = (prefix.0 ++ more, ap (λ l. l ++ more) prefix.1 ∙ append_assoc first prefix.0 more)

@@ -1,4 +1,4 @@
--- The messages that a party has issued, saved and sent.
+-- A party sends only messages that have landed (`SendsSaved`), and each event keeps this.
 use Rattle.std.proofs.Common.{rules, arith, ◌≡◌, ◌⊎◌, inl, inr, ℕ, zero, suc, ◌+◌, ◌≤◌, Bool, true, false, nat_le, List, [], ◌∷◌}
 use Rattle.std.proofs.Common.{◌++◌, length, Option, Some, None, refl, sym, ap, ◌∙◌, subst, append_assoc, append-nil}
 use Rattle.std.proofs.Common.{length-append}
@@ -15,7 +15,7 @@ use Rattle.ill_world.specs.Invariant.{SendsSaved}
 
 -- ---- lists
 
--- A message at place j, after `a` was put at place i, is `a` at place i, or stood there before.
+-- After `a` was put at place i, a message at place j is `a` with j equal to i, or was there before.
 put_there : (slots : List (Option Apdu)) (i j : ℕ) (a b : Apdu)
     → option_flatten (slice_get (slice_set slots i (Some a)) j) ≡ Some b
     → ((j ≡ i) × (b ≡ a)) ⊎ (option_flatten (slice_get slots j) ≡ Some b)
@@ -26,7 +26,7 @@ put_there (slot ∷ slots) (suc i) zero a b e = inr e
 put_there (slot ∷ slots) (suc i) (suc j) a b e =
     elim (put_there slots i j a b e) [ inl here ↦ inl (ap suc here.0, here.1) | inr before ↦ inr before ]
 
--- Message b stays at place j after `a` is put at place i, if `a` is b when i is j.
+-- After `a` is put at place i, message b stays at place j, if `a` is b when i is j.
 still_there : (slots : List (Option Apdu)) (i j : ℕ) (a b : Apdu) → option_flatten (slice_get slots j) ≡ Some b
     → (j ≡ i → a ≡ b) → option_flatten (slice_get (slice_set slots i (Some a)) j) ≡ Some b
 still_there [] i j a b e same = e
@@ -41,53 +41,57 @@ set_length [] i o = refl
 set_length (slot ∷ slots) zero o = refl
 set_length (slot ∷ slots) (suc i) o = ap suc (set_length slots i o)
 
--- Sending a message keeps the places.
+-- A sent message leaves the number of places unchanged.
 pub places_kept : (sent : List (Option Apdu)) (n : ℕ) (a : Apdu) → length (with_sent sent n a) ≡ length sent
 places_kept sent zero a = refl
 places_kept sent (suc n) a = set_length sent n (Some a)
 
--- An APDU at a place of `prefix` stands at this place of a longer list.
+-- If `prefix` has an APDU at index i, a longer list has it there too.
 get_prefix : (prefix more : List Apdu) (i : ℕ) (a : Apdu) → slice_get prefix i ≡ Some a → slice_get (prefix ++ more) i ≡ Some a
 get_prefix [] more i a e = search rules
 get_prefix (b ∷ prefix) more zero a e = e
 get_prefix (b ∷ prefix) more (suc i) a e = get_prefix prefix more i a e
 
--- An APDU at a place within `prefix` of a longer list stands at this place of `prefix`.
+-- If a list has an APDU at an index within its prefix, the prefix has it there too.
 get_within : (prefix more : List Apdu) (i : ℕ) (a : Apdu) → i + 1 ≤ length prefix → slice_get (prefix ++ more) i ≡ Some a
     → slice_get prefix i ≡ Some a
 get_within [] more i a less e = absurd (omega (arith, less))
 get_within (b ∷ prefix) more zero a less e = e
 get_within (b ∷ prefix) more (suc i) a less e = get_within prefix more i a (omega (arith, less)) e
 
--- a message of the prefix is that of the whole
+-- Message n of a prefix is message n of the whole list.
 pub prefix_message : (prefix apdus : List Apdu) (n : ℕ) (a : Apdu) → IsPrefix prefix apdus → message prefix n ≡ Some a
     → message apdus n ≡ Some a
 prefix_message prefix apdus zero a is e = search rules
 prefix_message prefix apdus (suc n) a is e = subst (λ l. slice_get l n ≡ Some a) (sym is.1) (get_prefix prefix is.0 n a e)
 
--- and a message of the whole that of the prefix, where it is as long
+-- Message n of the whole list is message n of its prefix, if the prefix has n messages.
 within_prefix : (prefix apdus : List Apdu) (n : ℕ) (a : Apdu) → IsPrefix prefix apdus → n ≤ length prefix
     → message apdus n ≡ Some a → message prefix n ≡ Some a
 within_prefix prefix apdus zero a is few e = search rules
 within_prefix prefix apdus (suc n) a is few e =
     get_within prefix is.0 n a (omega (arith, few)) (subst (λ l. slice_get l n ≡ Some a) is.1 e)
 
+-- A prefix of a prefix of a list is a prefix of the list.
 pub prefix_of_prefix : (a b c : List Apdu) → IsPrefix a b → IsPrefix b c → IsPrefix a c
 prefix_of_prefix a b c first second =
     (first.0 ++ second.0, second.1 ∙ ap (λ l. l ++ second.0) first.1 ∙ append_assoc a first.0 second.0)
 
+-- A list is a prefix of itself.
 pub prefix_of_itself : (a : List Apdu) → IsPrefix a a
 prefix_of_itself a = ([], sym (append-nil a))
 
+-- A prefix is not longer than the list.
 prefix_is_shorter : (a b : List Apdu) → IsPrefix a b → length a ≤ length b
 prefix_is_shorter a b is = omega (arith, ap length is.1, length-append a is.0)
 
--- Two options that are equal have equal APDUs.
+-- If `Some a` and `Some b` are equal, so are `a` and `b`.
 some_is : (a b : Apdu) → ◌≡◌ {A = Option Apdu} (Some a) (Some b) → a ≡ b
 some_is a b e = search rules
 
 -- ---- a party
 
+-- If the list of a new live side has the old list as a prefix, `SendsSaved` is kept.
 pub live_grows : (p : Party) (new : Side) → IsPrefix (issued_of p.live) (issued_of new) → SendsSaved p
     → SendsSaved (record p { live = new })
 live_grows p new grows saved = record {
@@ -97,7 +101,7 @@ live_grows p new grows saved = record {
   places = saved.places;
 }
 
--- A party still sends only what it has saved, after it saves.
+-- A save keeps `SendsSaved`.
 pub saved_now : (p : Party) → SendsSaved p → SendsSaved (saves p)
 saved_now p saved = record {
   landed = λ n a e. prefix_message (issued_of p.landed) (issued_of p.live) n a saved.prefix (saved.landed n a e);
@@ -106,7 +110,7 @@ saved_now p saved = record {
   places = saved.places;
 }
 
--- A party still sends only what it has saved, after a save that fails.
+-- A failed save keeps `SendsSaved`.
 pub saved_by_fault : (p : Party) (landed : Bool) → SendsSaved p → SendsSaved (fails_to_save p landed)
 saved_by_fault p true saved = record {
   landed = λ n a e. prefix_message (issued_of p.landed) (issued_of p.live) n a saved.prefix (saved.landed n a e);
@@ -116,7 +120,7 @@ saved_by_fault p true saved = record {
 }
 saved_by_fault p false saved = saved
 
--- A party still sends only what it has saved, after a restart.
+-- A restart keeps `SendsSaved`.
 pub saved_at_restart : (p : Party) → SendsSaved p → SendsSaved (restarts p)
 saved_at_restart p saved = record
     { landed = saved.landed; prefix = prefix_of_itself (issued_of p.landed); released = omega arith; places = saved.places }
@@ -128,7 +132,7 @@ sent_landed p n a saved is released =
     within_prefix (issued_of p.landed) (issued_of p.live) n a saved.prefix
     (omega (arith, leb-true n p.released released, saved.released)) is
 
--- A message among those sent, after `a` was sent as message n, is `a` as message n, or was sent before.
+-- After `a` was sent as message n, sent message m is `a` with m equal to n, or was sent before.
 sent_with : (sent : List (Option Apdu)) (n m : ℕ) (a b : Apdu) → sent_message (with_sent sent n a) m ≡ Some b
     → ((m ≡ n) × (b ≡ a)) ⊎ (sent_message sent m ≡ Some b)
 sent_with sent zero m a b e = inr e
@@ -136,14 +140,14 @@ sent_with sent (suc n) zero a b e = inr e
 sent_with sent (suc n) (suc m) a b e =
     elim (put_there sent n m a b e) [ inl here ↦ inl (ap suc here.0, here.1) | inr before ↦ inr before ]
 
--- Message b stays sent under m after `a` is sent as message n, if `a` is b when n is m.
+-- After `a` is sent as message n, message b stays sent under m, if `a` is b when n is m.
 sent_still : (sent : List (Option Apdu)) (n m : ℕ) (a b : Apdu) → sent_message sent m ≡ Some b → (m ≡ n → a ≡ b)
     → sent_message (with_sent sent n a) m ≡ Some b
 sent_still sent zero m a b e same = e
 sent_still sent (suc n) zero a b e same = search rules
 sent_still sent (suc n) (suc m) a b e same = still_there sent n m a b e (λ at. same (ap suc at))
 
--- A party still sends only what it has saved, after a Send.
+-- A Send keeps `SendsSaved`.
 pub saved_by_send : (p : Party) (n : ℕ) (found : Option Apdu) (released : Bool) → message (issued_of p.live) n ≡ found
     → nat_le n p.released ≡ released → SendsSaved p → SendsSaved (sends p n found released).1
 saved_by_send p n None released is e saved = saved
@@ -160,7 +164,7 @@ saved_by_send p n (Some a) true is e saved = record {
   places = places_kept p.sent n a ∙ saved.places;
 }
 
--- A message that was sent stays sent, under its number, after a Send.
+-- A Send leaves each sent message under its number.
 pub sent_stays : (p : Party) (n : ℕ) (found : Option Apdu) (released : Bool) → message (issued_of p.live) n ≡ found
     → nat_le n p.released ≡ released → SendsSaved p → (m : ℕ) (b : Apdu) → sent_message p.sent m ≡ Some b
     → sent_message (sends p n found released).1.sent m ≡ Some b

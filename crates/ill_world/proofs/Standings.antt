@@ -1,4 +1,4 @@
--- The invariant holds of the first world, and each event keeps it.
+-- The first world satisfies the invariant, and each event keeps it.
 use Rattle.std.proofs.Common.{rules, arith, ◌≡◌, replicate, ℕ, zero, suc, Bool, true, false, ◌||◌, ◌==◌, List, [], ◌∷◌, Option}
 use Rattle.std.proofs.Common.{Some, None, is_some, Result, Ok, Err, refl, subst, inl}
 use Rattle.std.specs.Prelude.{slice_get}
@@ -43,7 +43,7 @@ use Rattle.ill_core.specs.declared.state.State.TheVariants.{Idle, CancelPending,
 use Rattle.ill_core.specs.State.{is_among, place_of}
 use Rattle.ill_core.specs.Rules.{implies}
 
--- If a Cancel is there in CANCEL-PENDING and in CANCELLED, it is there in CANCEL-PENDING.
+-- If the Bool is true in CANCEL-PENDING and in CANCELLED, it is true in CANCEL-PENDING.
 pub cancel_is_there : (state : State) (there : Bool)
     → implies (is_among (CancelPending ∷ Cancelled ∷ []) state) there ≡ true
     → implies (is_among (CancelPending ∷ []) state) there ≡ true
@@ -53,7 +53,7 @@ cancel_is_there state there = go (place_of CancelPending == place_of state) (pla
     go true done there rule = rule
     go false done there rule = refl
 
--- If a question waits at a responder that keeps its rules, the responder was asked it.
+-- If a responder waits to answer a question, it has the number of this question.
 pub question_is_there : (y : ResponderRecord) → ResponderRules y → (question : Question)
     → implies (responder.waits question y.state) (is_some (responder.last_asked question y)) ≡ true
 question_is_there y rules MayCancel = cancel_is_there y.state (is_some y.last_cancel) rules.parts.cancel
@@ -61,6 +61,7 @@ question_is_there y rules MayRenew = rules.parts.renew
 
 -- ---- before the first message
 
+-- The idle record of a requester claims no fact.
 requester_shows_nothing : (txn : Qualifiers) (fact : requester.Fact)
     → requester.Claims (requester_of txn Idle None false None []) fact → ⊥
 requester_shows_nothing txn requester.Cancelled shows = search rules
@@ -70,6 +71,7 @@ requester_shows_nothing txn (requester.Refused zero) shows = search rules
 requester_shows_nothing txn (requester.Refused (suc n)) shows = search rules
 requester_shows_nothing txn requester.GivenBack shows = search rules
 
+-- The idle record of a responder claims no fact.
 responder_shows_nothing : (txn : Qualifiers) (fact : responder.Fact)
     → responder.Claims (responder_of txn Idle None None None false None []) fact → ⊥
 responder_shows_nothing txn responder.Requested shows = search rules
@@ -87,13 +89,13 @@ requester_reflects_nothing txn (Answered (suc renew) day) reflects = search rule
 requester_reflects_nothing txn (GrantedBefore renew due) reflects = search rules
 requester_reflects_nothing txn (PastDue due) reflects = search rules
 
--- An idle responder was asked no question.
+-- The idle record of a responder was asked no question.
 responder_was_asked_nothing : (txn : Qualifiers) (question : Question) (number : ℕ)
     → WasAsked question (responder_of txn Idle None None None false None []) number → ⊥
 responder_was_asked_nothing txn MayCancel number was = search rules
 responder_was_asked_nothing txn MayRenew number was = search rules
 
--- An idle responder has no last question that it has not answered.
+-- The idle record of a responder has no question that it must have answered.
 responder_answered_nothing : (txn : Qualifiers) (question : Question)
     → HasAnsweredLast question (responder_of txn Idle None None None false None [])
 responder_answered_nothing txn MayCancel number last left = search rules
@@ -114,7 +116,7 @@ responder_rules : (txn : Qualifiers) → ResponderRules (responder_of txn Idle N
 unfolding are_numbered rise_from ships_first
 responder_rules txn = search rules
 
--- The idle record of a requester stands, by any messages in `sent`.
+-- `RequesterStands` holds of the idle record of a requester, with any sent messages.
 requester_first : (txn : Qualifiers) (sent : List (Option Apdu))
     → RequesterStands txn (requester_of txn Idle None false None []) sent
 unfolding are_distinct
@@ -127,7 +129,7 @@ requester_first txn sent = record {
   few = omega arith;
 }
 
--- The idle record of a responder stands, by any messages in `sent`.
+-- `ResponderStands` holds of the idle record of a responder, with any sent messages.
 responder_first : (txn : Qualifiers) (sent : List (Option Apdu))
     → ResponderStands txn (responder_of txn Idle None None None false None []) sent
 unfolding are_distinct
@@ -154,36 +156,36 @@ responder_first txn sent = record {
 
 -- ---- the rows of either role
 
--- A wish that is done leads a requester's record that stands to one that stands.
+-- A wish that is done keeps `RequesterStands`.
 abbrev pub RequesterActs : Type 0
 RequesterActs = (txn : Qualifiers) (x new : RequesterRecord) (wish : Wish) (sent : List (Option Apdu))
     → requester_actions.acts x wish ≡ Ok new → RequesterStands txn x sent → RequesterStands txn new sent
 
--- If a requester's record stands, it stands after it takes a message that was sent.
+-- A message of `sent` that is taken keeps `RequesterStands`.
 abbrev pub RequesterTakes : Type 0
 RequesterTakes = (txn : Qualifiers) (x : RequesterRecord) (a : Apdu) (sent : List (Option Apdu)) → WasSent sent a
     → RequesterStands txn x sent
     → RequesterStands txn (requester_deliveries.takes x a).1 sent
 
--- A deed that is done leads a responder's record that stands to one that stands.
+-- A deed that is done keeps `ResponderStands`.
 abbrev pub ResponderActs : Type 0
 ResponderActs = (txn : Qualifiers) (y new : ResponderRecord) (deed : Deed) (today : Date) (sent : List (Option Apdu))
     → responder_actions.acts y deed today ≡ Ok new → ResponderStands txn y sent
     → ResponderStands txn new sent
 
--- If a responder's record stands, it stands after it takes a message that was sent.
+-- A message of `sent` that is taken keeps `ResponderStands`.
 abbrev pub ResponderTakes : Type 0
 ResponderTakes = (txn : Qualifiers) (y : ResponderRecord) (a : Apdu) (sent : List (Option Apdu)) → WasSent sent a
     → ResponderStands txn y sent
     → ResponderStands txn (responder_deliveries.takes y a).1 sent
 
--- If `done_by make` gives a side, `result` gives a record from which `make` makes it.
+-- If `done_by make` gives a side, `result` gives a record, and `make` makes the side of it.
 done_is : {R : Type 0} (make : R → Side) (result : Result R Refusal) (new : Side) → done_by make result ≡ Ok new
     → (made : R) × (result ≡ Ok made) × (make made ≡ new)
 done_is make (Ok made) new e = (made, refl, search rules)
 done_is make (Err refusal) new e = search rules
 
--- By `RequesterActs`, an action that is done leads a requester's side that stands to one that stands.
+-- By `RequesterActs`, an action that is done keeps `RequesterSideStands`.
 requester_acts : RequesterActs → (txn : Qualifiers) (old new : Side) (action : Action) (partner_sent : List (Option Apdu))
     → acts old action ≡ Ok new → RequesterSideStands txn old partner_sent → RequesterSideStands txn new partner_sent
 requester_acts law txn (sides.Requester x) new (actions.Wish wish) partner_sent e stands =
@@ -192,13 +194,14 @@ requester_acts law txn (sides.Requester x) new (actions.Wish wish) partner_sent 
 requester_acts law txn (sides.Requester x) new (actions.Deed deed today) partner_sent e stands = search rules
 requester_acts law txn (sides.Responder y) new action partner_sent e stands = absurd stands
 
--- By `RequesterTakes`, a requester's side that stands does so after it takes a message from `partner_sent`.
+-- By `RequesterTakes`, a message of `partner_sent` that is taken keeps `RequesterSideStands`.
 requester_takes : RequesterTakes → (txn : Qualifiers) (old : Side) (a : Apdu) (partner_sent : List (Option Apdu))
     → WasSent partner_sent a → RequesterSideStands txn old partner_sent → RequesterSideStands txn (takes old a).1 partner_sent
 requester_takes law txn (sides.Requester x) a partner_sent was stands = law txn x a partner_sent was stands
 requester_takes law txn (sides.Responder y) a partner_sent was stands = absurd stands
 
--- A requester's side that stands by `partner_sent` stands by `more`, if each message of `partner_sent` is in `more`.
+-- `RequesterSideStands` holds with `more` if it holds with `partner_sent`, and `more` has each message of
+-- `partner_sent`.
 requester_more : (txn : Qualifiers) (side : Side) (partner_sent more : List (Option Apdu))
     → ((a : Apdu) → WasSent partner_sent a → WasSent more a) → RequesterSideStands txn side partner_sent
     → RequesterSideStands txn side more
@@ -212,7 +215,7 @@ requester_more txn (sides.Requester x) partner_sent more stays stands = record {
 }
 requester_more txn (sides.Responder y) partner_sent more stays stands = absurd stands
 
--- By `ResponderActs`, an action that is done leads a responder's side that stands to one that stands.
+-- By `ResponderActs`, an action that is done keeps `ResponderSideStands`.
 responder_acts : ResponderActs → (txn : Qualifiers) (old new : Side) (action : Action) (partner_sent : List (Option Apdu))
     → acts old action ≡ Ok new → ResponderSideStands txn old partner_sent → ResponderSideStands txn new partner_sent
 responder_acts law txn (sides.Responder y) new (actions.Deed deed today) partner_sent e stands =
@@ -221,13 +224,14 @@ responder_acts law txn (sides.Responder y) new (actions.Deed deed today) partner
 responder_acts law txn (sides.Responder y) new (actions.Wish wish) partner_sent e stands = search rules
 responder_acts law txn (sides.Requester x) new action partner_sent e stands = absurd stands
 
--- By `ResponderTakes`, a responder's side that stands does so after it takes a message from `partner_sent`.
+-- By `ResponderTakes`, a message of `partner_sent` that is taken keeps `ResponderSideStands`.
 responder_takes : ResponderTakes → (txn : Qualifiers) (old : Side) (a : Apdu) (partner_sent : List (Option Apdu))
     → WasSent partner_sent a → ResponderSideStands txn old partner_sent → ResponderSideStands txn (takes old a).1 partner_sent
 responder_takes law txn (sides.Responder y) a partner_sent was stands = law txn y a partner_sent was stands
 responder_takes law txn (sides.Requester x) a partner_sent was stands = absurd stands
 
--- A responder's side that stands by `partner_sent` stands by `more`, if each message of `partner_sent` is in `more`.
+-- `ResponderSideStands` holds with `more` if it holds with `partner_sent`, and `more` has each message of
+-- `partner_sent`.
 responder_more : (txn : Qualifiers) (side : Side) (partner_sent more : List (Option Apdu))
     → ((a : Apdu) → WasSent partner_sent a → WasSent more a) → ResponderSideStands txn side partner_sent
     → ResponderSideStands txn side more
@@ -250,12 +254,14 @@ responder_more txn (sides.Responder y) partner_sent more stays stands = record {
 }
 responder_more txn (sides.Requester x) partner_sent more stays stands = absurd stands
 
--- If `RequesterActs` and `RequesterTakes` hold, rows and further messages keep `RequesterSideStands`.
+-- By `RequesterActs` and `RequesterTakes`, actions, taken messages and further sent messages keep
+-- `RequesterSideStands`.
 pub requester_keeps : RequesterActs → RequesterTakes → (txn : Qualifiers) → Keeps (RequesterSideStands txn)
 requester_keeps acted took txn =
     record { acts = requester_acts acted txn; more = requester_more txn; takes = requester_takes took txn }
 
--- If `ResponderActs` and `ResponderTakes` hold, rows and further messages keep `ResponderSideStands`.
+-- By `ResponderActs` and `ResponderTakes`, actions, taken messages and further sent messages keep
+-- `ResponderSideStands`.
 pub responder_keeps : ResponderActs → ResponderTakes → (txn : Qualifiers) → Keeps (ResponderSideStands txn)
 responder_keeps acted took txn =
     record { acts = responder_acts acted txn; more = responder_more txn; takes = responder_takes took txn }
@@ -273,7 +279,7 @@ pub none_sent : (n : ℕ) (a : Apdu) → sent_message (replicate 255 None) n ≡
 none_sent zero a e = search rules
 none_sent (suc n) a e = none_there 255 n a e
 
--- A first party stands, if `K` holds of its idle side with the messages in `partner_sent`.
+-- `PartyStands` holds of a first party, if `K` holds of its idle side with `partner_sent`.
 first_stands : (K : Side → List (Option Apdu) → Type 0) (idle : Side) (partner_sent : List (Option Apdu)) → K idle partner_sent
     → PartyStands K (first_party idle) partner_sent
 first_stands K idle partner_sent stands = record {
@@ -287,6 +293,7 @@ first_stands K idle partner_sent stands = record {
   landed = stands;
 }
 
+-- The first world satisfies the invariant.
 pub world_first : (txn : Qualifiers) → Invariant txn (first_world txn)
 world_first txn = record {
   requester = first_stands (RequesterSideStands txn) _ _ (requester_first txn _);
@@ -294,6 +301,7 @@ world_first txn = record {
   due = inl refl;
 }
 
+-- If an event happens to the party `of`, and the other party stays, the invariant is kept.
 world_kept : RowsKeepDue → (txn : Qualifiers) (w : Parties) (of : Who) (event : Event) → RowsGrow
     → Keeps (RequesterSideStands txn) → Keeps (ResponderSideStands txn) → Invariant txn w
     → Invariant txn (with_party w of (happens_to (party w of) (party w (other of)).sent event).1)
@@ -312,6 +320,7 @@ world_kept rows txn w who.Responder event grows requester_kept responder_kept st
   due = stands.due;
 }
 
+-- Each event keeps the invariant.
 pub world_after : RowsKeepDue → (txn : Qualifiers) (w : Parties) (event : Event) → RowsGrow → Keeps (RequesterSideStands txn)
     → Keeps (ResponderSideStands txn) → Invariant txn w → Invariant txn (happens w event).1
 world_after rows txn w event grows requester_kept responder_kept stands =

@@ -1,4 +1,4 @@
--- The facts that hold of one APDU of a list at most.
+-- A number has one answer at most, and a list one end at most. So no two messages of the list share it.
 use Rattle.std.proofs.Common.{rules, arith, ◌≡◌, ℕ, zero, suc, ◌+◌, ◌≤◌, Bool, true, false, not, ◌||◌, ◌==◌, cond, List, [], ◌∷◌}
 use Rattle.std.proofs.Common.{Option, Some, None, if◌then◌else◌, refl, sym, ap, ◌∙◌, subst}
 use Rattle.std.specs.Prelude.{slice_get}
@@ -15,7 +15,7 @@ use Rattle.ill_world.specs.Agreement.{AnswersOnce}
 
 -- ---- numbers
 
--- In a numbered list, the APDU at place i is of `txn`, and has the number `first + i`.
+-- In a numbered list, the APDU at index i is of `txn`, and has the number `first + i`.
 pub at_number : (txn : Qualifiers) (first : ℕ) (apdus : List Apdu) (i : ℕ) (a : Apdu)
     → are_numbered txn first apdus ≡ true → slice_get apdus i ≡ Some a
     → (is_same_txn a.txn txn ≡ true) × (a.number ≡ first + i)
@@ -39,29 +39,29 @@ message_number txn apdus (suc i) a numbered e = let at = at_number txn 1 apdus i
 
 -- ---- answers
 
--- A number that is in a list is in it with one more option before it.
+-- If a number is in a list, it is in the list with one more option before it.
 found_tail : (o : Option ℕ) (ks : List ℕ) (k : ℕ) → list_any (λ m. m == k) ks ≡ true
     → list_any (λ m. m == k) (cons_option o ks) ≡ true
 found_tail None ks k is = is
 found_tail (Some m) ks k is = or_right (m == k) _ is
 
--- A number that an option has is in the list with this option before it.
+-- If an option has a number, this number is in the list that begins with the option.
 found_head : (o : Option ℕ) (ks : List ℕ) (k : ℕ) → o ≡ Some k → list_any (λ m. m == k) (cons_option o ks) ≡ true
 found_head o ks k is = subst (λ x. list_any (λ m. m == k) (cons_option x ks) ≡ true) (sym is)
     (ap (λ (r : Bool). r || list_any (λ m. m == k) ks) (eq-eqb k k refl))
 
--- Two options that are equal have equal APDUs.
+-- If `Some a` and `Some b` are equal, so are `a` and `b`.
 pub same_apdu : (a b : Apdu) → ◌≡◌ {A = Option Apdu} (Some a) (Some b) → a ≡ b
 same_apdu a b e = search rules
 
--- A number that `f` finds in an APDU of the list is one of all that it finds.
+-- A number that `f` finds in an APDU of the list is among all numbers that it finds.
 pub found_among : (f : Apdu → Option ℕ) (apdus : List Apdu) (i : ℕ) (a : Apdu) (k : ℕ) → slice_get apdus i ≡ Some a
     → f a ≡ Some k → list_any (λ m. m == k) (filter_map f apdus) ≡ true
 found_among f [] i a k e is = search rules
 found_among f (b ∷ apdus) zero a k e is = found_head (f b) (filter_map f apdus) k (ap f (same_apdu b a e) ∙ is)
 found_among f (b ∷ apdus) (suc i) a k e is = found_tail (f b) (filter_map f apdus) k (found_among f apdus i a k e is)
 
--- If a list with an option before it is distinct, so is the list.
+-- If a list with an option before it is distinct, the list is distinct.
 rest_distinct : (o : Option ℕ) (ks : List ℕ) → are_distinct (cons_option o ks) ≡ true → are_distinct ks ≡ true
 unfolding are_distinct
 rest_distinct None ks distinct = distinct
@@ -95,7 +95,7 @@ distinct_places f (c ∷ apdus) (suc i) zero k a b distinct at_i at_j is_a is_b 
 distinct_places f (c ∷ apdus) (suc i) (suc j) k a b distinct at_i at_j is_a is_b =
     ap suc (distinct_places f apdus i j k a b (rest_distinct (f c) (filter_map f apdus) distinct) at_i at_j is_a is_b)
 
--- If the numbers answered are distinct, no two messages of the list answer one.
+-- If the answered numbers are distinct, no two messages of the list answer one number.
 pub answers_once : (answered : Body → Option ℕ) (apdus : List Apdu)
     → are_distinct (filter_map (λ a. answered a.body) apdus) ≡ true → AnswersOnce answered (message apdus)
 answers_once answered apdus distinct zero n k a b at_m at_n is_a is_b = search rules
@@ -105,7 +105,7 @@ answers_once answered apdus distinct (suc m) (suc n) k a b at_m at_n is_a is_b =
 
 -- ---- the end
 
--- If no end is counted, no number of an end is found.
+-- If the count of ends is 0, no number of an end is found.
 none_go : (ends : Bool) (n : ℕ) (rest : List ℕ) (count : ℕ) → (cond ends 1 0) + count ≡ 0 → (count ≡ 0 → rest ≡ [])
     → cons_option (if ends then Some n else None) rest ≡ []
 none_go true n rest count none more = absurd (omega (arith, none))
@@ -115,17 +115,17 @@ none_go false n rest count none more = more (omega (arith, none))
 abbrev ends_in : List Apdu → ℕ
 ends_in apdus = count_by (λ a. is_end a.body) apdus
 
--- The count of ends of a list is that of its first APDU and that of the others.
+-- The count of ends of a list is that of its first APDU plus that of the others.
 count_first : (a : Apdu) (apdus : List Apdu) → ends_in (a ∷ apdus) ≡ (cond (is_end a.body) 1 0) + ends_in apdus
 count_first a apdus = sum_by-cons (λ (x : Apdu). cond (is_end x.body) 1 0) a apdus
 
--- A list without an end has no number of an end.
+-- In a list without an end, no number of an end is found.
 none_found : (apdus : List Apdu) → ends_in apdus ≡ 0 → filter_map number_of_end apdus ≡ []
 none_found [] none = refl
 none_found (a ∷ apdus) none = none_go (is_end a.body) a.number (filter_map number_of_end apdus) (ends_in apdus)
     (sym (count_first a apdus) ∙ none) (none_found apdus)
 
--- If the first APDU ends the request, and no other, its number is the last found.
+-- If only the first APDU ends the request, its number is the last found.
 head_go : (ends : Bool) (n : ℕ) (rest : List ℕ) (o : Option ℕ) → ends ≡ true → rest ≡ []
     → last_or o (cons_option (if ends then Some n else None) rest) ≡ Some n
 head_go true n rest o is none = ap (last_or (Some n)) none
@@ -137,12 +137,12 @@ tail_go : (ends : Bool) (n m : ℕ) (rest : List ℕ) (o : Option ℕ) → ((o :
 tail_go true n m rest o last = last (Some n)
 tail_go false n m rest o last = last o
 
--- If the first APDU ends the request, and one does at most, no other does.
+-- If the first APDU ends the request, and at most one does, no other does.
 one_more_end : (ends : Bool) (count : ℕ) → ends ≡ true → (cond ends 1 0) + count ≤ 1 → count ≡ 0
 one_more_end true count is most = omega (arith, most)
 one_more_end false count is most = search rules
 
--- In a list with one end at most, the number of an APDU that ends the request is the last found.
+-- In a list with at most one end, the number of the APDU that ends the request is the last found.
 one_last : (apdus : List Apdu) (i : ℕ) (a : Apdu) (o : Option ℕ) → ends_in apdus ≤ 1 → slice_get apdus i ≡ Some a
     → is_end a.body ≡ true → last_or o (filter_map number_of_end apdus) ≡ Some a.number
 one_last [] i a o most e is = search rules
@@ -155,7 +155,7 @@ one_last (b ∷ apdus) (suc i) a o most e is =
     tail_go (is_end b.body) b.number a.number (filter_map number_of_end apdus) o
     (λ p. one_last apdus i a p (omega (arith, most, count_first b apdus)) e is)
 
--- In a numbered list with one end at most, a message n that ends the request has the last number found.
+-- In a numbered list with at most one end, if message n ends the request, n is the last number found.
 pub one_end : (txn : Qualifiers) (apdus : List Apdu) (n : ℕ) (a : Apdu) → are_numbered txn 1 apdus ≡ true
     → ends_in apdus ≤ 1 → message apdus n ≡ Some a → is_end a.body ≡ true
     → last_of number_of_end apdus ≡ Some n

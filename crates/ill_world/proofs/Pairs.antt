@@ -147,7 +147,7 @@ cancel_reply_heard x n c body is responder_sent = search rules
 -- ---- states
 
 -- `s` is the state of a requester and `t` that of a responder. Each group of states has `s` exactly if the matching
--- group has `t`.
+-- group has `t`. If `t` is CONDITIONAL, so is `s`.
 record StatesFit (s t : State) : Type 0 where
   role : is_among (states.InProcess ∷ states.CheckedIn ∷ []) s ≡ false
   other_role : is_among (states.Pending ∷ states.Received ∷ states.NotReceivedOverdue ∷ []) t ≡ false

@@ -1,4 +1,4 @@
-//! Bytes that come off a reader in pieces.
+//! Bytes are read ahead, in pieces.
 
 ghost use Rattle.std.specs.Prelude.{◌≡◌, ◌≤◌, ℕ, List, [], length, drop, slice_range};
 ghost use Rattle.ill_world.specs.Simulating.{Fills};
@@ -7,10 +7,10 @@ use crate::fault::SimFault;
 use std::io::Read;
 use std::marker::Model;
 
-/// The most bytes that are read at a time.
+/// At most `PIECE` bytes are read at a time.
 const PIECE: usize = 4_096;
 
-/// The bytes of a text that were read and not used yet: the rest of a piece. Contracts see it as these bytes.
+/// A buffer has the bytes of a text that were read and not used yet. Contracts see it as these bytes.
 #[derive(Drop)]
 pub struct Ahead {
     piece: [u8; PIECE],
@@ -27,7 +27,7 @@ impl Model for Ahead {
 }
 
 impl Ahead {
-    /// Returns it with nothing ahead.
+    /// Returns an empty buffer.
     pub fn new() -> Ahead
         ensures { result ≡ [] }
     {
@@ -53,7 +53,7 @@ impl Ahead {
         self.start += count;
     }
 
-    /// Reads a piece if nothing is ahead. Returns true if bytes are ahead then, and false if the text has ended.
+    /// Reads a piece if no bytes are ahead. Returns true if bytes are ahead now, and false if the text has ended.
     pub fn fill<R: Read>(&mut self, reader: &mut R) -> Result<bool, SimFault>
         ensures { Fills self.old self.new (R.remaining reader.old) (R.remaining reader.new) result }
     {

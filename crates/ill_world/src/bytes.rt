@@ -1,4 +1,4 @@
-//! Bytes that are no message.
+//! Noise has bytes that are no message.
 
 ghost use Rattle.std.specs.Prelude.{◌≡◌, ℕ, List};
 ghost use Rattle.std.specs.Str.{bytes_eq};
@@ -7,7 +7,7 @@ ghost use Rattle.std.proofs.Common.{rules};
 
 use std::marker::Model;
 
-/// Any bytes, as they may reach a side. Two of them are equal if their bytes are.
+/// The bytes may be any that reach a side. Two values are equal if their bytes are equal.
 #[derive(Debug, Drop)]
 pub struct Bytes {
     items: Vec<u8>,

@@ -1,4 +1,4 @@
-//! The laws of two desks of many transactions, as contracts of functions that do nothing.
+//! The laws of two desks of many transactions are the contracts of functions that do nothing.
 
 ghost use Rattle.std.specs.Prelude.{◌≡◌, ◌++◌, ℕ, Bool, List, [], ◌∷◌, Option, Some, None, Err};
 ghost use Rattle.ill_values.specs.TxnId.{Qualifiers};
@@ -36,13 +36,13 @@ ghost use Rattle.ill_world.specs.DeskSafety.{ArrivesAt, DesksStand, IsRunOfEach,
 
 use crate::laws;
 
-/// The projection of two desks has all that they hold of a transaction, that has landed and that was sent.
+/// The projection of two desks to a transaction has all that they hold of it, that has landed and that was sent.
 pub fn desks_show_what_they_hold()
     ensures { (txn : Qualifiers) (w : DeskParties) → ProjectsTo w.requester txn (project txn w).requester
         × ProjectsTo w.responder txn (project txn w).responder }
 {}
 
-/// If two desks stand, an event is one event of a transaction, with its outcome there, or leaves the projection.
+/// If two desks satisfy `DesksStand`, an event is one event of a transaction, or leaves the projection unchanged.
 pub fn desk_events_are_events()
     ensures { (txn : Qualifiers) (w : DeskParties) (event : DeskEvent) → DesksStand w →
         Projects txn w event }
@@ -52,7 +52,7 @@ pub fn desk_events_are_events()
     ill_core::laws::responder_is_quiet();
 }
 
-/// Two desks that hold nothing stand, and so do the desks that an event leads to from such.
+/// Two desks that hold nothing satisfy `DesksStand`, and every event keeps it.
 pub fn desks_stand()
     ensures first { DesksStand first_desks }
     ensures after { (w : DeskParties) (event : DeskEvent) → DesksStand w →
@@ -88,7 +88,7 @@ pub fn every_desk_run_agrees()
     laws::every_world_agrees();
 }
 
-/// If two desks stand, an event keeps or raises the requester's due date in each transaction.
+/// If two desks satisfy `DesksStand`, an event keeps or raises the requester's due date in each transaction.
 pub fn due_dates_stay_at_desks()
     ensures { (txn : Qualifiers) (w : DeskParties) (event : DeskEvent) → DesksStand w →
         KeepsDates (project txn w) (plain event) (project txn (desks_happen w event).1) }
@@ -97,14 +97,15 @@ pub fn due_dates_stay_at_desks()
     laws::due_dates_stay();
 }
 
-/// If two desks stand, an event that names a transaction reaches the side that is held, or one that it begins. A
-/// Request of the requester begins one, and an ILL-Request at the responder does. Either needs a desk that holds
-/// fewer than 1,000.
+/// If two desks satisfy `DesksStand`, an event that names a transaction reaches the held side, or a new one. A Request
+/// begins a new side at the requester, and an ILL-Request at the responder. Either needs a desk that holds fewer than
+/// 1,000 sides.
 pub fn desks_reach_what_they_hold()
     ensures { (w : DeskParties) (event : DeskEvent) → DesksStand w → ReachesSide w event }
 {}
 
-/// If two desks stand, one arrival of the end of a request, or of a Returned, is enough: its transaction is held.
+/// If two desks satisfy `DesksStand`, one arrival of the end of a request, or of a Returned, is enough. For its
+/// transaction is held.
 pub fn one_arrival_at_a_desk_is_enough()
     ensures { (w : DeskParties) (event : DeskEvent) → DesksStand w → ArrivesAt w event }
 {
@@ -113,8 +114,8 @@ pub fn one_arrival_at_a_desk_is_enough()
     laws::one_arrival_is_enough();
 }
 
-/// If two desks stand, only `Done`, `Saved`, `Sent`, `Restarted`, `Answered(Taken)` and `Faulted` change the
-/// projection of a transaction. `Faulted` changes only the landed side.
+/// If two desks satisfy `DesksStand`, few outcomes change the projection to a transaction. They are `Done`, `Saved`,
+/// `Sent`, `Restarted`, `Answered(Taken)` and `Faulted`. `Faulted` changes only the landed side.
 pub fn few_desk_outcomes_change()
     ensures { (txn : Qualifiers) (w : DeskParties) (event : DeskEvent) → DesksStand w →
         let after = desks_happen w event in
@@ -124,7 +125,7 @@ pub fn few_desk_outcomes_change()
     laws::few_outcomes_change();
 }
 
-/// If two desks stand, a message that was sent in a transaction stays sent, under its number, at every event.
+/// If two desks satisfy `DesksStand`, each message that was sent in a transaction stays sent, under its number.
 pub fn sent_stays_sent_at_desks()
     ensures { (txn : Qualifiers) (w : DeskParties) (event : DeskEvent) → DesksStand w →
         KeepsSent (project txn w) (project txn (desks_happen w event).1) }
@@ -133,8 +134,8 @@ pub fn sent_stays_sent_at_desks()
     laws::sent_stays_sent();
 }
 
-/// A run of two desks is safe only if each world on the way is. Both sides of each transaction agree in it only if
-/// they do in each of these worlds. One event more leads a transaction on by the events that it has of it.
+/// If a run of two desks is safe, each world after a prefix of its events is safe. If both sides of each transaction
+/// agree in it, they agree in each of these worlds. One more event leads a transaction on by its own events.
 pub fn desk_runs_have_each_world()
     ensures safe { (w : DeskParties) (before after : List DeskEvent) (txn : Qualifiers) →
         IsSafeDeskRun w (before ++ after) → Safe (project txn (desks_run w before)) }
@@ -146,8 +147,8 @@ pub fn desk_runs_have_each_world()
         project txn (desks_happen w event).1 ≡ run_of (project txn w) (events_for txn w (event ∷ [])) }
 {}
 
-/// A transaction has events of the desks in their order. It has each that happens to a whole desk, and each that
-/// names it and reaches it. It has none that names another or is not reached, and no noise.
+/// A transaction has events of the desks, in their order. It has each event of a whole desk, and each that names it and
+/// reaches it. It has no event that names another transaction, none that is not reached, and no noise.
 pub fn transactions_have_their_events()
     ensures order { (txn : Qualifiers) (w : DeskParties) (before after : List DeskEvent) →
         events_for txn w (before ++ after)
@@ -166,8 +167,8 @@ pub fn transactions_have_their_events()
         events_for txn w (Noise who bytes ∷ []) ≡ [] }
 {}
 
-/// No event of two desks misses a transaction that its desk holds, or changes a transaction that it does not reach.
-/// If one arrival is enough, neither an end of a request nor a Returned arrives in vain.
+/// No event of two desks misses a transaction that its desk holds. None changes a transaction that it does not reach.
+/// If `ArrivesAt` holds of it, neither an end of a request nor a Returned arrives in vain.
 pub fn no_bad_desk_event_passes()
     ensures reaches { (w : DeskParties) (event : DeskEvent) → MissesHeld w event → ReachesSide w event → ⊥ }
     ensures changes { (outcome : DeskOutcome) (old new : Parties) →
@@ -176,8 +177,8 @@ pub fn no_bad_desk_event_passes()
         ArrivesInVainAt w event → ArrivesAt w event → ⊥ }
 {}
 
-/// If the writer fails, a simulation of two desks has not written bytes that leave the trace of the script. If
-/// memory runs out, it has written the trace of a prefix of the events, and nothing else.
+/// If the writer fails, the bytes that a simulation of two desks has written are a prefix of the trace. If memory runs
+/// out, they are the trace of a prefix of the events.
 pub fn no_bad_desk_trace_is_written()
     ensures write { (text left written : List ℕ) →
         Leaves written (desk_trace_of (desk_script text).events) →
@@ -187,8 +188,8 @@ pub fn no_bad_desk_trace_is_written()
         SimulatesDesks (Some text) (Some left) (Some []) (Some written) (Err OutOfMemory) → ⊥ }
 {}
 
-/// If two desks stand, the delivery of a message is never `DeskFull`, and so in no run. A delivery to the
-/// requester's desk is `NotSent` in each transaction that it does not hold.
+/// If two desks satisfy `DesksStand`, the delivery of a message is never `DeskFull`, and so in no run. A delivery to
+/// the requester's desk is `NotSent` in each transaction that it does not hold.
 pub fn deliveries_find_room()
     ensures room { (w : DeskParties) (who : Who) (txn : Qualifiers) (n : ℕ) → DesksStand w →
         (desks_happen w (Deliver who txn n)).0 ≡ DeskFull → ⊥ }
@@ -202,9 +203,8 @@ pub fn deliveries_find_room()
     desks_reach_what_they_hold();
 }
 
-/// A round of two desks is a round of both sides in each transaction. After it both sides are in step in each in
-/// which the responder can answer a Conditional-Reply no. That holds if two desks stand, and so after any events of
-/// a run.
+/// A round of two desks is a round of both sides in each transaction. After it both sides are in step, if the responder
+/// can answer a Conditional-Reply no. This holds if the desks satisfy `DesksStand`, and so after any events of a run.
 pub fn one_desk_round_is_enough()
     ensures each { (txn : Qualifiers) (w : DeskParties) → DesksStand w →
         project txn (desks_run w (desk_round_of w)) ≡ run_of (project txn w) (round_of (project txn w)) }
@@ -219,8 +219,8 @@ pub fn one_desk_round_is_enough()
     laws::one_round_is_enough();
 }
 
-/// A night of two desks is a night of both sides in each transaction. After it both sides are in step or at rest in
-/// each in which the responder can answer a Conditional-Reply no. That holds if two desks stand, and so after any
+/// A night of two desks is a night of both sides in each transaction. After it both sides are in step or at rest, if
+/// the responder can answer a Conditional-Reply no. This holds if the desks satisfy `DesksStand`, and so after any
 /// events of a run.
 pub fn one_desk_night_is_enough()
     ensures each { (txn : Qualifiers) (w : DeskParties) → DesksStand w →
@@ -236,9 +236,8 @@ pub fn one_desk_night_is_enough()
     laws::one_night_is_enough();
 }
 
-/// A line of a script of two desks that is no `use` leaves the transaction in use as it was. Its event is that of a
-/// script of two sides. If this is an event of one transaction, it names the one in use. Before the first `use`
-/// there is no event.
+/// In a script of two desks a line other than `use` leaves the transaction in use unchanged. Its event is that of a
+/// script of two sides. An event of one transaction names the one in use. Before the first `use` there is no event.
 pub fn events_are_in_the_transaction_in_use()
     ensures stays { (in_use : Option Qualifiers) (line : ScriptLine Event) →
         (says_in in_use (desk_lines.Plain line)).1 ≡ in_use }
@@ -247,9 +246,8 @@ pub fn events_are_in_the_transaction_in_use()
     ensures none { (event : Event) → (says_in None (desk_lines.Plain (lines.Event event))).0 ≡ lines.Bad }
 {}
 
-/// A trace of two desks is empty at first. Each event adds a line: its number, its outcome at the desks before it,
-/// and both sides of its transaction after it. No later event changes the trace so far. So line n shows the desks
-/// after the first n events.
+/// A trace of two desks is empty at first. Each event adds a line: its number, its outcome, and both sides of its
+/// transaction after it. No later event changes the trace so far. So line n shows the desks after the first n events.
 pub fn desk_traces_show_runs()
     ensures first { desk_trace_of [] ≡ [] }
     ensures next { (events : List EventIn) (event : EventIn) →

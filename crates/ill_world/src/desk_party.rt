@@ -1,4 +1,4 @@
-//! One of two desks, with its store and the messages that it has sent.
+//! A desk party is one of two desks, with its store and the messages that it has sent.
 
 ghost use Rattle.std.specs.Prelude.{◌≡◌, option_map, IfOk};
 ghost use Rattle.ill_der.specs.ShortForm.{apdu_at};
@@ -20,7 +20,7 @@ use ill_values::{Number, OutOfMemory, TxnId};
 use std::alloc::Global;
 use std::marker::Model;
 
-/// One of two desks, and the messages that it has sent.
+/// A desk party has a desk, and the messages that it has sent.
 #[derive(Drop)]
 pub struct DeskParty {
     desk: Desk<MemoryStore>,
@@ -36,7 +36,7 @@ impl Model for DeskParty {
 }
 
 impl DeskParty {
-    /// Returns a desk of this role that holds nothing. Nothing is saved, and nothing was sent.
+    /// Returns a desk of this role that holds nothing. Nothing has landed, and nothing was sent.
     pub fn new(alloc: Global, role: Who) -> Result<DeskParty, OutOfMemory>
         ensures { IfOk result (λ party. party ≡ desks.first_desk role) }
     {
@@ -50,7 +50,7 @@ impl DeskParty {
         }
     }
 
-    /// Performs a decision of the library in a transaction.
+    /// Performs an action of the library in a transaction.
     pub fn act(
         &mut self,
         alloc: Global,
@@ -89,7 +89,7 @@ impl DeskParty {
         }
     }
 
-    /// Tries to save the desk, and fails: the new record has landed, or it has not.
+    /// Tries to save the desk, and fails. The new record has landed if `landed` is true.
     pub fn fail_to_save(&mut self, alloc: Global, landed: bool) -> Result<DeskOutcome, OutOfMemory>
         ensures { GivesOutcome (desk_outcomes.Plain outcomes.Faulted, desks.desk_fails_to_save self.old landed)
             self.old result self.new }
@@ -110,7 +110,7 @@ impl DeskParty {
         }
     }
 
-    /// Begins again from the record that has landed.
+    /// Replaces the sides in memory by those that have landed.
     pub fn restart(&mut self, alloc: Global) -> Result<DeskOutcome, OutOfMemory>
         ensures { GivesOutcome (desk_outcomes.Plain outcomes.Restarted, desks.desk_restarts self.old)
             self.old result self.new }
@@ -175,7 +175,7 @@ impl DeskParty {
     }
 }
 
-/// Returns the outcome of other bytes. An APDU would be forged, in any transaction.
+/// Returns the outcome of noise: bytes that the other desk has not sent. An APDU of any transaction would be forged.
 pub fn heard(alloc: Global, bytes: &[u8]) -> Result<Outcome, OutOfMemory>
     ensures { IfOk result (λ outcome. outcome ≡ desks.desk_hears (apdu_at bytes.now)) }
 {

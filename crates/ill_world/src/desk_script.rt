@@ -1,4 +1,4 @@
-//! The lines of a script of two desks.
+//! The lines of a script of two desks say events, each in the transaction in use.
 
 ghost use Rattle.std.specs.Prelude.{◌≡◌, map, IfOk};
 ghost use Rattle.ill_world.specs.DeskScript.{desk_meaning, desk_line_of, use_line};
@@ -9,12 +9,12 @@ use crate::words::is;
 use ill_values::{OutOfMemory, TextFault, TxnId};
 use std::alloc::Global;
 
-/// The meaning of a line of a script of two desks.
+/// A line of a script of two desks has one of these meanings.
 #[derive(Drop)]
 pub(crate) enum DeskLine {
     /// The lines after it are in this transaction.
     Use(TxnId),
-    /// What a line of a script of two sides says.
+    /// The line has this meaning in a script of two sides.
     Plain(ScriptLine<Event>),
 }
 
@@ -43,7 +43,7 @@ fn read_desk_words(alloc: Global, words: &[&[u8]]) -> Result<DeskLine, OutOfMemo
     }
 }
 
-/// Returns the line that puts the transaction in use that the words after `use` name.
+/// Returns the line that puts a transaction in use. The words after `use` name it.
 fn read_use(alloc: Global, words: &[&[u8]]) -> Result<DeskLine, OutOfMemory>
     ensures { IfOk result (λ read. read ≡ use_line (map (λ word. word.now) words.now)) }
 {

@@ -1,4 +1,4 @@
-//! The messages that a desk has sent.
+//! A desk has sent messages in many transactions.
 
 ghost use Rattle.std.specs.Prelude.{◌≡◌, ◌++◌, ◌∷◌, [], List, None, option_map, OnOk, OnErr};
 ghost use Rattle.indexmap.specs.IndexMap.{get};
@@ -15,7 +15,7 @@ use indexmap::IndexMap;
 use std::alloc::Global;
 use std::marker::Model;
 
-/// The messages that a desk has sent, in each transaction in which it has sent any.
+/// A map has the messages that a desk has sent, by transaction.
 #[derive(Drop)]
 pub struct DeskSent {
     map: IndexMap<TxnId, Sent>,
@@ -28,7 +28,7 @@ impl Model for DeskSent {
 }
 
 impl DeskSent {
-    /// Returns the messages of a desk that has sent none. Allocates nothing.
+    /// Returns a map without messages. Allocates nothing.
     pub fn nothing(alloc: Global) -> DeskSent
         ensures { result ≡ [] }
     {
@@ -70,7 +70,7 @@ impl DeskSent {
     }
 }
 
-/// Adds `message` to those of `txn`, if the map has any. Otherwise it hands the message back.
+/// Adds `message` to the messages of `txn`, if the map has an entry for it. Otherwise returns `message`.
 fn put_among(
     map: &mut IndexMap<TxnId, Sent>,
     txn: &TxnId,
@@ -89,7 +89,7 @@ fn put_among(
     }
 }
 
-/// Adds `value` at the end of the map, under a key that the map lacks. If memory runs out, the map stays as it was.
+/// Adds `value` at the end of the map, under a key that the map lacks. If memory runs out, the map is unchanged.
 fn insert_new<V: Drop>(
     map: &mut IndexMap<TxnId, V>,
     key: TxnId,

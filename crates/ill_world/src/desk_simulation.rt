@@ -1,4 +1,4 @@
-//! A whole script of two desks, performed line by line.
+//! A simulation performs a whole script of two desks, line by line.
 
 ghost use Rattle.std.specs.Prelude.{◌≡◌, ◌++◌, List, OnOk};
 ghost use Rattle.ill_world.specs.declared.event.DeskEvent.{DeskEvent};
@@ -20,14 +20,14 @@ use ill_values::{OutOfMemory, TxnId};
 use std::alloc::Global;
 use std::io::{Read, Write};
 
-/// Performs a script of two desks, from desks on that hold nothing. For each event it writes a line, with both
-/// sides of the transaction in use after it. Returns the count of events.
+/// Performs a script of two desks, from desks on that hold nothing. For each event it writes a line, with both sides of
+/// the transaction in use after it. Returns the count of events.
 ///
-/// A line `use GROUP TRANSACTION` is no event: the lines after it are in this transaction. Before the first of them
-/// every event is a bad line. Else it reads, writes and stops as `simulate` does.
+/// A line `use GROUP TRANSACTION` is no event: the lines after it are in this transaction. Before the first `use` every
+/// event is a bad line. Otherwise it reads, writes and stops as `simulate` does.
 ///
-/// Whatever the script says, in each transaction the desks are the world of two sides after its events. Each world
-/// that a line shows is safe, and both sides agree, as `run_desks` says.
+/// Whatever the script says, in each transaction the desks are the world of two sides after its events. Each world that
+/// a line shows is safe, and both sides agree, as `run_desks` says.
 pub fn simulate_desks<R: Read, W: Write>(
     alloc: Global,
     reader: &mut R,

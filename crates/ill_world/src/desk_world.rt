@@ -1,4 +1,4 @@
-//! Two desks of many transactions, with the messages that they have sent.
+//! A world of desks is two desks of many transactions, with the messages that they have sent.
 
 ghost use Rattle.std.specs.Prelude.{◌≡◌, ◌++◌, ℕ, take, IfOk, OnOk};
 ghost use Rattle.ill_values.specs.TxnId.{Qualifiers};
@@ -23,7 +23,7 @@ use ill_values::{OutOfMemory, TxnId};
 use std::alloc::Global;
 use std::marker::Model;
 
-/// The two desks of two libraries, with their stores and the messages that they have sent.
+/// A world of desks has the desks of two libraries, with their stores and the messages that they have sent.
 #[derive(Drop)]
 pub struct DeskWorld {
     requester: DeskParty,
@@ -39,7 +39,7 @@ impl Model for DeskWorld {
 }
 
 impl DeskWorld {
-    /// Returns two desks that hold nothing. Nothing is saved, and nothing was sent.
+    /// Returns two desks that hold nothing. Nothing has landed, and nothing was sent.
     pub fn new(alloc: Global) -> Result<DeskWorld, OutOfMemory>
         ensures { IfOk result (λ world. world ≡ model.first_desks) }
     {
@@ -52,10 +52,10 @@ impl DeskWorld {
 
     /// Performs an event, and returns its outcome. If memory runs out, nothing has changed.
     ///
-    /// In each transaction it is one event of `World`, with its outcome there, or changes nothing. At every event
-    /// but its restart the requester's due date in each, once it is there, stays or rises. One `Deliver` of the
-    /// message that ended a request leads the requester's side to its outcome. One of a Returned leads the
-    /// responder's to RETURNED, or the item is checked in.
+    /// In each transaction it is one event of `World`, with its outcome there, or changes nothing. An event other than
+    /// its restart keeps or raises the requester's due date. One `Deliver` of the message that ended a request leads
+    /// the requester's side to its outcome. One of a Returned leads the responder's side to RETURNED, or the item is
+    /// checked in.
     pub fn step(&mut self, alloc: Global, event: &DeskEvent) -> Result<DeskOutcome, OutOfMemory>
         ensures gives { GivesOutcome (model.desks_happen self.old event.now) self.old result self.new }
         ensures projects { (txn : Qualifiers) → Projects txn self.old event.now }
@@ -70,11 +70,11 @@ impl DeskWorld {
         happen(&mut self.requester, &mut self.responder, alloc, event)
     }
 
-    /// Performs a round. It saves the requester's desk, and sends and delivers all messages of each side that it
-    /// holds, in order. Then it does so for the responder's desk. If memory runs out, only a prefix of the events
-    /// of the round has happened.
+    /// Performs a round. It saves the requester's desk, and sends and delivers all messages of its sides, in order.
+    /// Then it does so for the responder's desk. If memory runs out, only a prefix of the events of the round has
+    /// happened.
     ///
-    /// Both sides of a transaction are then in step, if its responder had ended the request, or had a number left.
+    /// Then both sides of a transaction are in step, if its responder had ended the request, or had a number left.
     pub fn exchange(&mut self, alloc: Global) -> Result<(), OutOfMemory>
         ensures performs { Performs model.desks_run (desk_round_of self.old) self.old result self.new }
         ensures in_step { OnOk result ((txn : Qualifiers) →
@@ -86,8 +86,7 @@ impl DeskWorld {
         self.pass_on(alloc, Who::Responder)
     }
 
-    /// Performs half of a round: saves a desk, and sends and delivers all messages of each side that it holds, in
-    /// order.
+    /// Performs half of a round. It saves the desk `who`, and sends and delivers all messages of its sides, in order.
     fn pass_on(&mut self, alloc: Global, who: Who) -> Result<(), OutOfMemory>
         ensures { Performs model.desks_run (desk_half_of who self.old) self.old result self.new }
     {
@@ -119,7 +118,7 @@ impl DeskWorld {
         self.responder.sides()
     }
 
-    /// Returns the sides that a desk holds in memory.
+    /// Returns the sides that the desk `who` holds in memory.
     fn sides(&self, who: Who) -> &Sides
         ensures { result.now ≡ sides_held (party self.now who).live }
     {
@@ -129,8 +128,8 @@ impl DeskWorld {
         }
     }
 
-    /// Returns the count of the released messages of `txn` at a desk: those with numbers up to it may be sent. If
-    /// the side is not held, no message is released.
+    /// Returns the count of the released messages of `txn` at a desk. The messages with numbers up to it may be sent.
+    /// If the side is not held, no message is released.
     pub fn released(&self, who: Who, txn: &TxnId) -> u8
         ensures { result ≡ (held_for txn.now (party self.now who).live).released }
     {
@@ -140,7 +139,7 @@ impl DeskWorld {
         }
     }
 
-    /// Appends the line of a trace that shows a transaction at both desks after an event with this number.
+    /// Appends the line of a trace for event `number`: its outcome, and both sides of a transaction after it.
     #[tactic(auto, unfolding(crate::specs::Trace::desk_line))]
     pub(crate) fn push_line(
         &self,
@@ -159,8 +158,8 @@ impl DeskWorld {
 
 /// Returns the two desks after `events`, from desks on that hold nothing.
 ///
-/// In each transaction they are the world of two sides after its events. Every world on the way is safe in
-/// each, and both sides of each agree, as `run` says of one.
+/// In each transaction they are the world of two sides after its own events. Every world on the way is safe in each
+/// transaction, and both sides agree, as `run` says of one.
 pub fn run_desks(alloc: Global, events: &[DeskEvent]) -> Result<DeskWorld, OutOfMemory>
     ensures runs { IfOk result (λ world. world ≡ model.desks_run model.first_desks events.now) }
     ensures each { (n : ℕ) → IsRunOfEach (take n events.now) }
@@ -177,8 +176,7 @@ pub fn run_desks(alloc: Global, events: &[DeskEvent]) -> Result<DeskWorld, OutOf
     Ok(world)
 }
 
-/// Returns the events of half of a round: a desk is saved, and all messages of each of these sides are sent and
-/// delivered.
+/// Returns the events of half of a round. The desk `who` is saved, and all messages of `sides` are sent and delivered.
 fn half_of_desk_round(alloc: Global, who: Who, sides: &Sides) -> Result<Vec<DeskEvent>, OutOfMemory>
     ensures { IfOk result (λ events. events.items ≡ saves_and_passes who sides.now.sides) }
 {
@@ -227,7 +225,7 @@ fn happen(
     }
 }
 
-/// Performs an event of a desk. The other one has sent the messages that it may deliver.
+/// Performs an event of a desk. The desk `other` has sent the messages that may be delivered to it.
 fn perform(
     party: &mut DeskParty,
     other: &DeskParty,

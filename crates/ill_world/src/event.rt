@@ -1,4 +1,4 @@
-//! The events that may happen to two sides, and their outcomes.
+//! An event may happen to two sides or two desks, and has an outcome.
 
 ghost use Rattle.std.specs.Prelude.{◌≡◌, IfOk};
 ghost use Rattle.ill_world.specs.World.{who_of};
@@ -11,37 +11,37 @@ use ill_core::{Deed, Refusal, Taking, Wish};
 use ill_values::{Day, Number, OutOfMemory, TxnId};
 use std::alloc::Global;
 
-/// The role that names the side to which an event happens.
+/// The role of the side to which an event happens.
 pub use ill_saved::Role as Who;
 
-/// An event that may happen to one of the two sides.
+/// An event may happen to one of the two sides.
 #[derive(Debug, PartialEq, Eq, Drop)]
 pub enum Event {
-    /// The requester's library makes this decision.
+    /// The requester's library has this wish.
     Wish(Wish),
-    /// The responder's library makes this decision, on this day.
+    /// The responder's library does this deed, on this day.
     Deed(Deed, Day),
     /// The side is saved.
     Save(Who),
-    /// A save fails.
+    /// The save of a side fails.
     SaveFault {
-        /// The side whose save it is.
+        /// The side whose save fails.
         who: Who,
         /// True if the new record has landed nevertheless.
         landed: bool,
     },
     /// The side sends its message with this number.
     Send(Who, Number),
-    /// The message of the other side with this number reaches this side.
+    /// This side takes the message of the other side with this number.
     Deliver(Who, Number),
-    /// Other bytes reach the side.
+    /// This side gets bytes that the other side has not sent.
     Noise(Who, Bytes),
-    /// The side begins again from the record that has landed.
+    /// The side in memory is replaced by the one that has landed.
     Restart(Who),
 }
 
 impl Event {
-    /// Returns the side to which it happens.
+    /// Returns the role of the side to which the event happens.
     pub fn who(&self) -> Who
         ensures { result ≡ who_of self.now }
     {
@@ -57,7 +57,7 @@ impl Event {
         }
     }
 
-    /// Returns the event at two desks. It names `txn` if it is an event of one transaction.
+    /// Returns the event of two desks. It names `txn` if it is an event of one transaction.
     pub(crate) fn in_txn(self, alloc: Global, txn: &TxnId) -> Result<DeskEvent, OutOfMemory>
         ensures { IfOk result (λ event. event ≡ in_txn txn.now self) }
     {
@@ -74,35 +74,35 @@ impl Event {
     }
 }
 
-/// An event that may happen to one of two desks of many transactions. An event of one transaction names it. One of
-/// a whole desk happens in each.
+/// An event may happen to one of two desks of many transactions. An event of one transaction names it. An event of a
+/// whole desk happens in each transaction.
 #[derive(Debug, PartialEq, Eq, Drop)]
 pub enum DeskEvent {
-    /// The requester's library makes this decision.
+    /// The requester's library has this wish, in this transaction.
     Wish(TxnId, Wish),
-    /// The responder's library makes this decision, on this day.
+    /// The responder's library does this deed, in this transaction and on this day.
     Deed(TxnId, Deed, Day),
     /// The desk is saved.
     Save(Who),
-    /// A save fails.
+    /// The save of a desk fails.
     SaveFault {
-        /// The desk whose save it is.
+        /// The desk whose save fails.
         who: Who,
         /// True if the new record has landed nevertheless.
         landed: bool,
     },
-    /// The desk sends its message with this number.
+    /// The desk sends its message with this number, in this transaction.
     Send(Who, TxnId, Number),
-    /// The message of the other desk with this number reaches this desk.
+    /// This desk takes the message of the other desk with this number, in this transaction.
     Deliver(Who, TxnId, Number),
-    /// Other bytes reach the desk.
+    /// This desk gets bytes that the other desk has not sent.
     Noise(Who, Bytes),
-    /// The desk begins again from the record that has landed.
+    /// The sides in memory are replaced by those that have landed.
     Restart(Who),
 }
 
 impl DeskEvent {
-    /// Returns the desk to which it happens.
+    /// Returns the role of the desk to which the event happens.
     pub fn who(&self) -> Who
         ensures { result ≡ who_of (plain self.now) }
     {
@@ -119,38 +119,38 @@ impl DeskEvent {
     }
 }
 
-/// The outcome of an event. Those from `Refused` on to `Forged` change nothing. Neither does `Answered` with
-/// another taking than `Taken`.
+/// An event has one of these outcomes. Those from `Refused` on to `Forged` change nothing. `Answered` changes nothing
+/// unless the message was `Taken`.
 #[derive(Clone, Copy, Debug, PartialEq, Eq, Hash)]
 pub enum Outcome {
-    /// The action was done.
+    /// The action was done, and its message is issued.
     Done,
     /// The side was saved, and all its messages are released.
     Saved,
-    /// The save failed; no message is released by it.
+    /// The save failed, and releases no message.
     Faulted,
     /// The message was sent.
     Sent,
-    /// The message was delivered, and had this effect.
+    /// The message was delivered, and has this answer.
     Answered(Taking),
     /// The action or the message was refused.
     Refused(Refusal),
     /// The side has issued no message with this number.
     NoSuchMessage,
-    /// The message is not known to be saved, so it may not be sent.
+    /// The message is not released, so it may not be sent.
     NotSaved,
     /// The other side has sent no message with this number.
     NotSent,
     /// The bytes are not exactly one APDU.
     Garbled,
-    /// The bytes are an APDU of this transaction, which nobody but the two sides may make.
+    /// The bytes are an APDU of this transaction that neither side has sent.
     Forged,
-    /// The side has begun again from the record that has landed.
+    /// The side in memory was replaced by the one that has landed.
     Restarted,
 }
 
 impl Outcome {
-    /// Returns the outcome in a word, as `done` or `not-now`.
+    /// Returns the word of the outcome, as `done` or `not-now`.
     pub fn word(self) -> &'static str
         ensures { result.now ≡ outcome_word self }
     {
@@ -171,10 +171,10 @@ impl Outcome {
     }
 }
 
-/// The outcome of an event at a desk of many transactions. The last two change nothing.
+/// An event at a desk of many transactions has one of these outcomes. The last two change nothing.
 #[derive(Clone, Copy, Debug, PartialEq, Eq, Hash)]
 pub enum DeskOutcome {
-    /// The outcome of the event in one transaction.
+    /// The event has this outcome in its transaction.
     Plain(Outcome),
     /// The desk holds no side of the transaction, and the event begins none.
     NoSuchTransaction,
@@ -183,7 +183,7 @@ pub enum DeskOutcome {
 }
 
 impl DeskOutcome {
-    /// Returns the outcome in a word.
+    /// Returns the word of the outcome.
     pub fn word(self) -> &'static str
         ensures { result.now ≡ desk_outcome_word self }
     {

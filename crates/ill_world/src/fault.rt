@@ -1,4 +1,4 @@
-//! The reasons for which a simulation stops.
+//! A simulation may stop for several reasons.
 
 ghost use Rattle.std.specs.Prelude.{◌≡◌};
 ghost use Rattle.ill_world.specs.declared.fault.SimFault.TheVariants.{OutOfMemory};
@@ -6,7 +6,7 @@ ghost use Rattle.ill_world.specs.declared.fault.SimFault.TheVariants.{OutOfMemor
 use std::alloc::{AllocError, AllocFailed};
 use thiserror::Error;
 
-/// The reason for which a simulation stopped. Text that was written before stays written.
+/// A simulation stops for one of these reasons. Text that was written before stays written.
 #[derive(Clone, Copy, Debug, PartialEq, Eq, Hash, Error)]
 pub enum SimFault {
     /// The line of the script with this number, from 1 on, is bad.

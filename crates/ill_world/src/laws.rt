@@ -1,4 +1,4 @@
-//! The laws of every world, as contracts of functions that do nothing.
+//! The laws of every world are the contracts of functions that do nothing.
 
 ghost use Rattle.std.specs.Prelude.{◌≡◌, ◌↔◌, ◌⊎◌, ◌++◌, ◌∷◌, ℕ, Bool, List, [], Option, Some, Ok, Err, true, false};
 ghost use Rattle.ill_values.specs.Day.{Date};
@@ -35,7 +35,8 @@ ghost use Rattle.ill_world.specs.Night.{is_over, wants_sending, asks, night_of, 
 ghost use Rattle.ill_world.specs.BadNights.{MisjudgesEnd, MisjudgesSending, MisjudgesAsking, Restless};
 ghost use Rattle.ill_world.specs.Invariant.{WasSent, RequesterStands, ResponderStands, Invariant};
 
-/// A requester stands by what the responder has sent, after every wish and every message of it.
+/// Every wish of a requester keeps `RequesterStands`, and so does every delivery of a message that the responder has
+/// sent.
 pub fn requester_stands()
     ensures acts { (txn : Qualifiers) (x new : RequesterRecord) (wish : Wish)
         (sent : List (Option Apdu)) → requester_actions.acts x wish ≡ Ok new →
@@ -53,7 +54,8 @@ pub fn requester_stands()
     ill_core::laws::requester_issues();
 }
 
-/// A responder stands by what the requester has sent, after every deed and every message of it.
+/// Every deed of a responder keeps `ResponderStands`, and so does every delivery of a message that the requester has
+/// sent.
 pub fn responder_stands()
     ensures acts { (txn : Qualifiers) (y new : ResponderRecord) (deed : Deed) (today : Date)
         (sent : List (Option Apdu)) → responder_actions.acts y deed today ≡ Ok new →
@@ -76,7 +78,7 @@ pub fn responder_stands()
     ill_core::laws::responder_issues();
 }
 
-/// The world of two idle sides stands, and so does every world that an event leads to from one.
+/// The world of two idle sides satisfies the invariant, and every event keeps it.
 pub fn world_stands()
     ensures first { (txn : Qualifiers) → Invariant txn (first_world txn) }
     ensures after { (txn : Qualifiers) (w : Parties) (event : Event) → Invariant txn w →
@@ -88,22 +90,22 @@ pub fn world_stands()
     ill_core::laws::requester_keeps_due();
 }
 
-/// If the world stands, a requester in CANCELLED or NOT-SUPPLIED faces a responder in this state.
+/// If a world satisfies the invariant, a requester in CANCELLED or NOT-SUPPLIED faces a responder in this state.
 pub fn ends_alike()
     ensures { (txn : Qualifiers) (w : Parties) → Invariant txn w → OfBoth EndsAlike w }
 {}
 
-/// If the world stands, a requester in SHIPPED or later faces a responder that has shipped.
+/// If a world satisfies the invariant, a requester in SHIPPED or later faces a responder that has shipped.
 pub fn was_shipped()
     ensures { (txn : Qualifiers) (w : Parties) → Invariant txn w → OfBoth WasShipped w }
 {}
 
-/// If the world stands, a requester's due date is one that the responder has granted.
+/// If a world satisfies the invariant, a requester's due date is one that the responder has granted.
 pub fn was_granted()
     ensures { (txn : Qualifiers) (w : Parties) → Invariant txn w → OfBoth WasGranted w }
 {}
 
-/// If the world stands, both sides agree.
+/// If a world satisfies the invariant, both sides agree.
 pub fn sides_agree()
     ensures { (txn : Qualifiers) (w : Parties) → Invariant txn w → Agrees w }
 {}
@@ -140,7 +142,7 @@ pub fn every_run_agrees()
     every_world_agrees();
 }
 
-/// If the world stands, one arrival of the end of a request, or of a Returned, is enough.
+/// If a world satisfies the invariant, one arrival of the end of a request, or of a Returned, is enough.
 pub fn one_arrival_is_enough()
     ensures { (txn : Qualifiers) (w : Parties) (event : Event) → Invariant txn w → Arrives w event }
 {
@@ -148,8 +150,8 @@ pub fn one_arrival_is_enough()
     ill_core::laws::responder_follows();
 }
 
-/// After a round both sides are in step, if the responder can answer a Conditional-Reply no. That holds if the
-/// world stands, and so after any events of a run.
+/// After a round both sides are in step, if the responder can answer a Conditional-Reply no. This holds if the world
+/// satisfies the invariant, and so after any events of a run.
 pub fn one_round_is_enough()
     ensures stands { (txn : Qualifiers) (w : Parties) → Invariant txn w → CanAnswer w.responder.live →
         AreInStep (run_of w (round_of w)) }
@@ -168,8 +170,8 @@ pub fn one_round_is_enough()
     ill_core::laws::responder_has_heard();
 }
 
-/// A round without the last message of a side does not always bring both sides in step. For either side a run leads
-/// to a world in which it does not, and a whole round does.
+/// A round without the last message of a side does not always bring both sides in step. For either side a run leads to
+/// a world in which it does not. A whole round brings both sides in step there.
 #[tactic(auto, using(crate::proofs::BadRounds::cut_leaves_apart, crate::proofs::BadRounds::whole_brings_in_step))]
 pub fn no_round_may_be_cut_short()
     ensures cut { (who : Who) →
@@ -178,14 +180,14 @@ pub fn no_round_may_be_cut_short()
         AreInStep (run_of (last_unheard who) (round_of (last_unheard who))) }
 {}
 
-/// Two records are not in step if their states do not face each other. They are not if one does not know what the
-/// other does.
+/// Two records are not in step if their states do not face each other. They are not in step if one lacks a fact that
+/// the other has.
 pub fn no_pair_out_of_step_is_in_step()
     ensures { (x : RequesterRecord) (y : ResponderRecord) → OutOfStep x y → InStep x y → ⊥ }
 {}
 
-/// Two records in step both say that the loan is over, or neither does. If neither does, one has the turn and a
-/// verb. Both have the turn only while conditions stand that were withdrawn.
+/// If two records are in step, the loan is over for both, or for neither. If for neither, one has the turn and a verb.
+/// Both have the turn only if a requester in CONDITIONAL faces a responder in IN-PROCESS.
 pub fn one_of_two_in_step_acts()
     ensures over { (x : RequesterRecord) (y : ResponderRecord) → InStep x y →
         (requester_turn x ≡ Over) ↔ (responder_turn y ≡ Over) }
@@ -200,15 +202,15 @@ pub fn one_of_two_in_step_acts()
     ill_core::laws::turns_have_verbs();
 }
 
-/// If the world stands, and the loan is over for the requester, both sides are at rest. It is over for the
-/// responder too, and their states face each other.
+/// If a world satisfies the invariant, and the loan is over for the requester, both sides are at rest. The loan is over
+/// for the responder too, and their states face each other.
 pub fn requester_is_over_last()
     ensures { (txn : Qualifiers) (w : Parties) → Invariant txn w → is_over w.requester.live ≡ true →
         AreAtRest w }
 {}
 
-/// If the world stands, a night is a round while the loan is not over for the requester. Otherwise both sides save,
-/// and nothing is sent.
+/// If a world satisfies the invariant, and the loan is open for the requester, a night is a round. Otherwise both sides
+/// save, and nothing is sent.
 pub fn nights_are_rounds()
     ensures open { (txn : Qualifiers) (w : Parties) → Invariant txn w → is_over w.requester.live ≡ false →
         night_of w ≡ round_of w }
@@ -219,8 +221,8 @@ pub fn nights_are_rounds()
     requester_is_over_last();
 }
 
-/// After a night both sides are in step or at rest, if the responder can answer a Conditional-Reply no. That holds
-/// if the world stands, and so after any events of a run.
+/// After a night both sides are in step or at rest, if the responder can answer a Conditional-Reply no. This holds if
+/// the world satisfies the invariant, and so after any events of a run.
 pub fn one_night_is_enough()
     ensures stands { (txn : Qualifiers) (w : Parties) → Invariant txn w → CanAnswer w.responder.live →
         AreInStepOrAtRest (run_of w (night_of w)) }
@@ -243,7 +245,7 @@ pub fn no_bad_night_passes()
     ensures rest { (x : RequesterRecord) (y : ResponderRecord) → Restless x y → AtRest x y → ⊥ }
 {}
 
-/// If the world stands, an event keeps or raises the requester's due date.
+/// If a world satisfies the invariant, an event keeps or raises the requester's due date.
 pub fn due_dates_stay()
     ensures { (txn : Qualifiers) (w : Parties) (event : Event) → Invariant txn w →
         KeepsDates w event (happens w event).1 }
@@ -251,27 +253,27 @@ pub fn due_dates_stay()
     ill_core::laws::requester_keeps_due();
 }
 
-/// No world is safe in which a record of the requester is contradicted by one of the responder.
+/// A world is not safe if a record of the responder contradicts one of the requester.
 pub fn no_unsafe_world_is_safe()
     ensures { (w : Parties) → IsUnsafe w → Safe w → ⊥ }
 {}
 
-/// The sides do not agree in a world with two answers to a question, or two ends of the request. Nor do they if
-/// accepted conditions have no yes, or a record is wrong on the other side.
+/// The sides do not agree in a world with two answers to a question, or two ends of the request. They do not agree if
+/// accepted conditions have no yes, or if a record's claim on the other side is wrong.
 pub fn no_disagreeing_world_agrees()
     ensures { (w : Parties) → Disagrees w → Agrees w → ⊥ }
 {}
 
-/// No event that takes the requester's due date back keeps it. If one arrival is enough, neither an end of the
-/// request nor a Returned arrives in vain.
+/// An event that takes the requester's due date back does not keep it. If `Arrives` holds of an event, neither an end
+/// of the request nor a Returned arrives in vain.
 pub fn no_bad_event_passes()
     ensures dates { (old new : Parties) (event : Event) →
         TakesBack old event new → KeepsDates old event new → ⊥ }
     ensures arrives { (w : Parties) (event : Event) → ArrivesInVain w event → Arrives w event → ⊥ }
 {}
 
-/// A run is safe only if each world on the way is: the world after any prefix of its events. Both sides agree in it
-/// only if they do in each of these worlds.
+/// If a run is safe, the world after each prefix of its events is safe. If both sides agree in a run, they agree in
+/// each of these worlds.
 pub fn runs_have_each_world()
     ensures safe { (w : Parties) (before after : List Event) →
         IsSafeRun w (before ++ after) → Safe (run_of w before) }
@@ -279,8 +281,8 @@ pub fn runs_have_each_world()
         IsAgreeingRun w (before ++ after) → Agrees (run_of w before) }
 {}
 
-/// A trace is empty at first. Each event adds a line: its number, its outcome in the world before it, and the world
-/// after it. No later event changes the trace so far. So line n shows the world after the first n events.
+/// A trace is empty at first. Each event adds a line: its number, its outcome, and the world after it. No later event
+/// changes the trace so far. So line n shows the world after the first n events.
 pub fn traces_show_runs()
     ensures first { (txn : Qualifiers) → trace_of txn [] ≡ [] }
     ensures next { (txn : Qualifiers) (events : List Event) (event : Event) →
@@ -289,8 +291,8 @@ pub fn traces_show_runs()
         IsPrefix (trace_of txn events) (trace_of txn (events ++ more)) }
 {}
 
-/// If the writer fails, a simulation has not written bytes that leave the trace of the script. If memory runs out,
-/// it has written the trace of a prefix of the events, and nothing else.
+/// If the writer fails, the bytes that a simulation has written are a prefix of the trace of the script. If memory runs
+/// out, they are the trace of a prefix of the events.
 pub fn no_bad_trace_is_written()
     ensures write { (txn : Qualifiers) (text left written : List ℕ) →
         Leaves written (trace_of txn (script text).events) →
@@ -310,8 +312,8 @@ pub fn few_outcomes_change()
     ill_core::laws::responder_is_quiet();
 }
 
-/// A message that was sent stays sent, under its number: at every event if the world stands, and so throughout a
-/// run.
+/// A message that was sent stays sent, under its number, at every event. This holds if the world satisfies the
+/// invariant, and so throughout a run.
 pub fn sent_stays_sent()
     ensures event { (txn : Qualifiers) (w : Parties) (event : Event) → Invariant txn w →
         KeepsSent w (happens w event).1 }
@@ -321,7 +323,7 @@ pub fn sent_stays_sent()
     world_stands();
 }
 
-/// No run has a refusal for a wrong role, or for want of memory.
+/// In a run no outcome is the refusal of a wrong role, or of a lack of memory.
 pub fn few_outcomes_are_seen()
     ensures { (txn : Qualifiers) (events : List Event) (event : Event) →
         can_be_seen (happens (run_of (first_world txn) events) event).0 ≡ true }

@@ -1,5 +1,5 @@
-//! Two sides of an interlibrary loan in one world. Events happen to them, as a value, a list of events or a script
-//! says.
+//! The model of an interlibrary loan has two sides in one world. Events happen to them, from a value, a list of events
+//! or a script.
 #![tactic(auto)]
 
 mod ahead;

@@ -1,4 +1,4 @@
-//! The lines of a text, one after another.
+//! A text is read line by line.
 
 ghost use Rattle.std.specs.Prelude.{◌≡◌, ◌<◌, ◌≤◌, length, IfSome};
 ghost use Rattle.std.specs.Io.KnownBytes.{prepend_known};
@@ -9,25 +9,25 @@ use crate::fault::SimFault;
 use ill_values::OutOfMemory;
 use std::io::Read;
 
-/// The most bytes of a line, without its LF.
+/// A line has at most `MAX_LINE` bytes, without its LF.
 const MAX_LINE: usize = 1024;
 
 /// The byte that closes a line.
 const LF: u8 = b'\n';
 
-/// The kind of the bytes that were read for a line.
+/// The bytes that were read for a line are of one of these kinds.
 #[derive(Clone, Copy)]
 pub enum Found {
     /// A line, and its LF.
     Line,
-    /// What follows the last LF: the text has ended.
+    /// The bytes follow the last LF: the text has ended.
     Rest,
-    /// More bytes than a line may have.
+    /// The bytes are more than a line may have.
     TooLong,
 }
 
-/// Reads one line into `line`, without its LF. It reads on only if nothing is ahead. It looks at one byte beyond
-/// the most that a line may have, and no further.
+/// Reads one line into `line`, without its LF. It reads on only if no bytes are ahead. It looks at one byte beyond the
+/// limit of a line, and no further.
 pub fn next_line<R: Read>(
     reader: &mut R,
     ahead: &mut Ahead,
@@ -46,8 +46,8 @@ pub fn next_line<R: Read>(
     Ok(Found::Rest)
 }
 
-/// Takes bytes that are ahead, after the bytes of `line`: up to the LF, which is dropped, or all of them. If the
-/// line has ended, it returns the kind of the line.
+/// Appends bytes that are ahead to `line`, up to an LF, or all of them. It drops the LF. If the line has ended, it
+/// returns its kind.
 fn take_part(ahead: &mut Ahead, line: &mut Vec<u8>) -> Result<Option<Found>, OutOfMemory>
     requires { length line.old.items ≤ 1024 }
     ensures { TakesPart ahead.old ahead.new line.old.items line.new.items result }
@@ -74,7 +74,7 @@ fn take_part(ahead: &mut Ahead, line: &mut Vec<u8>) -> Result<Option<Found>, Out
     }
 }
 
-/// Returns the place of the first LF.
+/// Returns the index of the first LF, if there is one.
 fn find_lf(bytes: &[u8]) -> Option<usize>
     ensures place { result ≡ lf_place bytes.now }
     ensures within { IfSome result (λ at. at < length bytes.now) }

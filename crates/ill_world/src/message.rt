@@ -1,4 +1,4 @@
-//! A message that was sent.
+//! A message has the bytes that were sent.
 
 ghost use Rattle.std.specs.Prelude.{◌≡◌, [], Ok};
 ghost use Rattle.ill_values.specs.declared.apdu.Apdu.{Apdu};
@@ -8,7 +8,7 @@ ghost use Rattle.ill_world.specs.PartyRefinement.{apdu_of};
 
 use std::marker::Model;
 
-/// A message as it was sent: its bytes, which are exactly one APDU. Contracts see that APDU.
+/// A message has bytes that are exactly one APDU. Contracts see it as this APDU.
 #[derive(Debug, Drop)]
 pub struct Message {
     bytes: Vec<u8>,

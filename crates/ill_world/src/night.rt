@@ -1,4 +1,4 @@
-//! The sides that send messages in a night.
+//! In a night only some sides send messages.
 
 ghost use Rattle.std.specs.Prelude.{◌≡◌};
 ghost use Rattle.ill_world.specs.Night.{is_over, wants_sending};
@@ -6,7 +6,7 @@ ghost use Rattle.ill_world.specs.Night.{is_over, wants_sending};
 use ill_core::Turn;
 use ill_saved::Side;
 
-/// Returns true if nobody acts in the loan any more, as far as this side knows.
+/// Returns true if nobody acts next in the loan, as far as this side's record tells.
 pub fn is_over(side: &Side) -> bool
     ensures { result ≡ is_over side.now }
 {
@@ -16,8 +16,8 @@ pub fn is_over(side: &Side) -> bool
     }
 }
 
-/// Returns true if `side` wants to send its messages in a night: it does unless its loan is over. A responder wants
-/// it then too if it `was_asked`: a message of the loan came in this night.
+/// Returns true if `side` sends its messages in a night. It does unless its loan is over. A responder sends them too if
+/// it `was_asked`: a message of the loan came in this night.
 pub fn wants_sending(side: &Side, was_asked: bool) -> bool
     ensures { result ≡ wants_sending was_asked side.now }
 {

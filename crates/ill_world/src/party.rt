@@ -1,4 +1,4 @@
-//! One of the two sides, with its store and the messages that it has sent.
+//! A party is one of the two sides, with its store and the messages that it has sent.
 
 ghost use Rattle.std.specs.Prelude.{◌≡◌, false, nat_le, option_map, IfOk};
 ghost use Rattle.ill_der.specs.ShortForm.{apdu_at};
@@ -18,7 +18,7 @@ use ill_values::{Number, OutOfMemory};
 use std::alloc::Global;
 use std::marker::Model;
 
-/// One of the two sides: its desk, and the messages that it has sent.
+/// A party has the desk of one side, and the messages that the side has sent.
 #[derive(Debug, Drop)]
 pub struct Party {
     desk: Desk1<MemoryStore>,
@@ -34,7 +34,7 @@ impl Model for Party {
 }
 
 impl Party {
-    /// Returns the party of a side that begins. Nothing is saved, and nothing was sent.
+    /// Returns the party of a new side. Nothing has landed, and nothing was sent.
     pub fn new(alloc: Global, first: Side) -> Result<Party, OutOfMemory>
         requires idle { first ≡ idle_of first }
         ensures { IfOk result (λ party. party ≡ model.first_party first) }
@@ -47,7 +47,7 @@ impl Party {
         }
     }
 
-    /// Performs a decision of the library.
+    /// Performs an action of the library.
     pub fn act(&mut self, alloc: Global, action: &Action) -> Result<Outcome, OutOfMemory>
         ensures { GivesOutcome (model.decides self.old (acts self.old.live action.now))
             self.old result self.new }
@@ -86,7 +86,7 @@ impl Party {
         }
     }
 
-    /// Tries to save the side, and fails: the new record has landed, or it has not.
+    /// Tries to save the side, and fails. The new record has landed if `landed` is true.
     pub fn fail_to_save(&mut self, alloc: Global, landed: bool) -> Result<Outcome, OutOfMemory>
         ensures { GivesOutcome (outcomes.Faulted, model.fails_to_save self.old landed)
             self.old result self.new }
@@ -107,7 +107,7 @@ impl Party {
         }
     }
 
-    /// Begins again from the record that has landed.
+    /// Replaces the side in memory by the one that has landed.
     pub fn restart(&mut self, alloc: Global) -> Result<Outcome, OutOfMemory>
         ensures { GivesOutcome (outcomes.Restarted, model.restarts self.old)
             self.old result self.new }
@@ -136,7 +136,8 @@ impl Party {
         }
     }
 
-    /// Takes other bytes. An APDU of the transaction would be forged, and is not handed on.
+    /// Takes noise: bytes that the other side has not sent. An APDU of the transaction would be forged, and has no
+    /// effect.
     pub fn hear(&mut self, alloc: Global, bytes: &[u8]) -> Result<Outcome, OutOfMemory>
         ensures { GivesOutcome (model.hears self.old (apdu_at bytes.now), self.old)
             self.old result self.new }
@@ -147,7 +148,7 @@ impl Party {
         self.refuse(alloc, bytes)
     }
 
-    /// Returns true if `bytes` are an APDU of this transaction.
+    /// Returns true if `bytes` are exactly one APDU of this transaction.
     fn is_forged(&self, alloc: Global, bytes: &[u8]) -> Result<bool, OutOfMemory>
         ensures { IfOk result (λ forged. forged ≡ is_of (txn_of self.now.live) (apdu_at bytes.now)) }
     {
@@ -158,7 +159,7 @@ impl Party {
         }
     }
 
-    /// Hands on bytes that are no APDU of this transaction.
+    /// Gives the desk bytes that are no APDU of this transaction, and returns its refusal.
     fn refuse(&mut self, alloc: Global, bytes: &[u8]) -> Result<Outcome, OutOfMemory>
         requires other { is_of (txn_of self.old.live) (apdu_at bytes.now) ≡ false }
         ensures { GivesOutcome (model.hears self.old (apdu_at bytes.now), self.old)

@@ -1,4 +1,4 @@
-//! The types that perform the lines of a script.
+//! A performer performs the lines of a script.
 
 ghost use Rattle.ill_world.specs.Play.{Play};
 ghost use Rattle.ill_world.specs.Simulating.{TellsLine};
@@ -6,18 +6,18 @@ ghost use Rattle.ill_world.specs.Simulating.{TellsLine};
 use ill_values::OutOfMemory;
 use std::alloc::Global;
 
-/// The effect of a line of a script.
+/// A line of a script has one of these effects.
 #[derive(Clone, Copy)]
 pub(crate) enum LineEffect {
     /// Nothing has happened.
     Nothing,
-    /// Its event has happened.
+    /// The event of the line has happened.
     Event,
-    /// It says something that no script may say.
+    /// The line says something that no script may say.
     BadLine,
 }
 
-/// Performs the lines of a script, one after another.
+/// A performer performs the lines of a script, one after another.
 pub(crate) trait Performer: Drop {
     /// The value that is carried from line to line.
     type Carried: Drop;
@@ -25,10 +25,10 @@ pub(crate) trait Performer: Drop {
     /// The type of the events.
     ghost Event: { Type 0 };
 
-    /// The meaning of lines, the worlds to which events lead, and the texts that show them.
+    /// The play: the meaning of lines, the worlds to which events lead, and the texts that show them.
     ghost play: { Play Self Self.Event Self.Carried };
 
-    /// Performs a line, and appends the text of its event, which would have this number.
+    /// Performs a line, and appends the text of its event, if it has one. The event has this number.
     fn perform_line(
         &mut self,
         alloc: Global,

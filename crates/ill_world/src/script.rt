@@ -1,4 +1,4 @@
-//! The lines of a script, which say the events at two sides.
+//! The lines of a script say the events at two sides.
 
 mod events;
 
@@ -10,10 +10,10 @@ use crate::script::events::event;
 use ill_values::OutOfMemory;
 use std::alloc::Global;
 
-/// The meaning of a line of a script.
+/// A line of a script has one of these meanings.
 #[derive(Drop)]
 pub(crate) enum ScriptLine<E> {
-    /// Nothing that happens.
+    /// The line says no event.
     Skipped,
     /// The line says this event.
     Event(E),
@@ -52,7 +52,7 @@ pub(crate) fn read_line(alloc: Global, line: &[u8]) -> Result<ScriptLine<Event>,
     read_words(alloc, &words)
 }
 
-/// What the words of a line say that is no remark.
+/// Returns the meaning of the words of a line that is no remark.
 pub(crate) fn read_words(alloc: Global, words: &[&[u8]]) -> Result<ScriptLine<Event>, OutOfMemory>
     ensures { IfOk result (λ read. read ≡ line_of (map (λ word. word.now) words.now)) }
 {

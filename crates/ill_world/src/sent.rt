@@ -1,4 +1,4 @@
-//! The messages that a side has sent.
+//! A side has sent messages, each under its number.
 
 ghost use Rattle.std.specs.Prelude.{◌≡◌, List, Option, length, option_map, IfOk};
 ghost use Rattle.ill_values.specs.declared.apdu.Apdu.{Apdu};
@@ -9,10 +9,10 @@ use ill_values::{Number, OutOfMemory};
 use std::alloc::Global;
 use std::marker::Model;
 
-/// The most messages that a side may send: one for each number.
+/// A side may send at most one message for each number.
 const MESSAGES: usize = 255;
 
-/// The messages that a side has sent: a place for each number, with the message that was sent under it.
+/// A list has a place for each number, with the message that was sent under it.
 #[derive(Debug, Drop)]
 pub struct Sent {
     places: Vec<Option<Message>>,
@@ -27,7 +27,7 @@ impl Model for Sent {
 }
 
 impl Sent {
-    /// Returns the messages of a side that has sent none.
+    /// Returns a list of 255 empty places.
     pub fn nothing(alloc: Global) -> Result<Sent, OutOfMemory>
         ensures { IfOk result (λ sent. sent ≡ nothing_sent) }
     {

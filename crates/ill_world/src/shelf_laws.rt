@@ -1,4 +1,4 @@
-//! The laws of two shelves, as contracts of functions that do nothing. A shelf is a folder of desks of one library.
+//! The laws of two shelves are the contracts of functions that do nothing. A shelf is a folder of desks of one library.
 
 ghost use Rattle.std.specs.Prelude.{◌≡◌, ◌++◌, ℕ, List, [], ◌∷◌, None};
 ghost use Rattle.ill_values.specs.TxnId.{Qualifiers};
@@ -17,9 +17,9 @@ ghost use Rattle.ill_world.specs.Shelves.{said_in, events_at, IsSafeShelfRun, Is
 
 use crate::desk_laws;
 
-/// An event happens to the desks at its home, and leaves those of each other group as they were. Its home is the group
-/// of the transaction that it names. If it names none, its home is the group that is said with it. The desks of a group
-/// have each event that has its home there, in order, and no other.
+/// An event happens to the desks at its home, and leaves those of each other group unchanged. Its home is the group of
+/// the transaction that it names, or else the group that is given with it. The desks of a group have each event with
+/// this home, in order, and no other.
 #[tactic(auto, using(crate::proofs::Shelves::whole_home, crate::proofs::Shelves::group_in_order))]
 pub fn groups_stay_apart()
     ensures at_home { (w : Shelves) (e : ShelfEvent) → let after = desks_happen (w (home e)) e.event in
@@ -61,8 +61,8 @@ pub fn every_shelf_run_agrees()
     desk_laws::desk_runs_have_each_world();
 }
 
-/// A run of two shelves is safe only if each world on the way is. Both sides agree in it only if they do in each of
-/// these worlds.
+/// If a run of two shelves is safe, each world after a prefix of its events is safe. If both sides agree in it, they
+/// agree in each of these worlds.
 pub fn shelf_runs_have_each_world()
     ensures safe { (w : Shelves) (before after : List ShelfEvent) (txn : Qualifiers) →
         IsSafeShelfRun w (before ++ after) → Safe (project txn (shelves_run w before txn.group)) }
@@ -70,8 +70,8 @@ pub fn shelf_runs_have_each_world()
         IsAgreeingShelfRun w (before ++ after) → Agrees (project txn (shelves_run w before txn.group)) }
 {}
 
-/// After any events the desks of a group hold no transaction of another group. They show its two idle sides, and
-/// nothing sent.
+/// After any events the desks of a group hold no transaction of another group. They show two idle sides of it, and no
+/// sent message.
 #[tactic(auto, using(crate::proofs::Shelves::none_elsewhere, crate::proofs::Shelves::idle_elsewhere))]
 pub fn no_transaction_has_two_homes()
     ensures held { (txn : Qualifiers) (group : List ℕ) (events : List ShelfEvent) (who : Who) →

@@ -1,4 +1,4 @@
-//! A whole script, performed line by line.
+//! A simulation performs a whole script, line by line.
 
 ghost use Rattle.std.specs.Prelude.{◌≡◌, ◌≤◌, ◌+◌, List, [], IfOk};
 ghost use Rattle.std.specs.Io.KnownBytes.{prepend_known};
@@ -22,18 +22,18 @@ use ill_values::{OutOfMemory, TxnId};
 use std::alloc::Global;
 use std::io::{Read, Write};
 
-/// The most lines of a script.
+/// A script has at most `MAX_LINES` lines.
 const MAX_LINES: u32 = 100_000;
 
-/// Performs a script from two idle sides on, and writes a line for each event, with both sides after it. Returns
-/// the count of events. It reads at most 4,096 bytes at a time, and only if it has no whole line.
+/// Performs a script from two idle sides on, and writes a line for each event, with both sides after it. Returns the
+/// count of events. It reads at most 4,096 bytes at a time, and only if it has no whole line.
 ///
-/// At a bad line, and if the reader fails, the lines of all events before are written. If memory runs out, the
-/// lines of a prefix of the events are. If the writer fails, a prefix of the trace is.
+/// At a bad line, and if the reader fails, the lines of all events before are written. If memory runs out, the lines of
+/// a prefix of the events are written. If the writer fails, a prefix of the trace is written.
 ///
-/// Whatever the script says, each world that a line shows is safe, in memory and in the stores alike. A requester
-/// in CANCELLED or NOT-SUPPLIED faces a responder in this state. One in SHIPPED or later faces one that has
-/// shipped, and its due date is one that this responder has granted. And both sides agree, as `run` says.
+/// Whatever the script says, each world that a line shows is safe, in memory and in the stores. A requester in
+/// CANCELLED or NOT-SUPPLIED faces a responder in this state. A requester in SHIPPED or later faces a responder that
+/// has shipped, and has granted its due date. Both sides agree, as `run` says.
 pub fn simulate<R: Read, W: Write>(
     alloc: Global,
     txn: &TxnId,
@@ -78,7 +78,7 @@ impl Performer for World {
     }
 }
 
-/// A simulation in the midst of a script.
+/// A simulation is in the midst of a script.
 #[derive(Drop)]
 pub(crate) struct Simulation<T: Performer> {
     /// The performer of the lines.
@@ -204,7 +204,7 @@ impl<T: Performer> Simulation<T> {
         }
     }
 
-    /// Finds the end of a script that has as many lines as it may have.
+    /// Looks for the end of a script that has as many lines as it may have.
     fn end<R: Read>(&mut self, reader: &mut R) -> Result<u32, SimFault>
         ensures end { FindsEnd self.old.count
             (prepend_known self.old.ahead (R.remaining reader.old))

@@ -1,4 +1,4 @@
-//! The lines of a trace, which show the outcome of each event and both sides after it.
+//! A trace has a line for each event, with its outcome and both sides after it.
 
 ghost use Rattle.std.specs.Prelude.{◌≡◌, ◌++◌, OnOk, OnErr};
 ghost use Rattle.ill_der.specs.Adding.{AddsPrefix};
@@ -48,8 +48,8 @@ fn push_sides(lines: &mut Vec<u8>, requester: Shown, responder: Shown) -> Result
     Ok(())
 }
 
-/// Appends the text of a side, as `SHIPPED 20250315 2/3`: its state, its due date or a dash, and the counts of its
-/// released and its issued messages. If memory runs out, `lines` keeps its content, and may end with a proper
+/// Appends the text of a side, as `SHIPPED 20250315 2/3`. It has its state, its due date or a dash, and the counts of
+/// its released and its issued messages. If memory runs out, `lines` keeps its content, and may end with a proper
 /// prefix of the text.
 pub fn push_side(lines: &mut Vec<u8>, side: &Side, released: u8) -> Result<(), OutOfMemory>
     ensures text { OnOk result (lines.new.items ≡ lines.old.items ++ side_text side.now released) }
@@ -59,7 +59,7 @@ pub fn push_side(lines: &mut Vec<u8>, side: &Side, released: u8) -> Result<(), O
     push_shown(lines, Shown::of(side, released))
 }
 
-/// Appends the text of these parts of a side. If memory runs out, `lines` is left as `push_side` leaves it.
+/// Appends the text of these parts of a side. If memory runs out, `lines` ends as `push_side` leaves it.
 #[tactic(auto, unfolding(crate::specs::Trace::shown_text))]
 pub fn push_shown(lines: &mut Vec<u8>, shown: Shown) -> Result<(), OutOfMemory>
     ensures text { OnOk result (lines.new.items ≡ lines.old.items ++ shown_text shown) }

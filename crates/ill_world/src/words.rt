@@ -1,4 +1,4 @@
-//! The meaning of words, in a script and on a command line.
+//! A word of a script or a command line has a meaning.
 //!
 //! A day is eight digits, YYYYMMDD, of a day in the years 1900 to 9999, as `20250315`.
 
@@ -18,10 +18,10 @@ use hex::FromHexError;
 use ill_values::{Day, Number, OutOfMemory};
 use std::alloc::Global;
 
-/// The most decimal digits of the number of a message.
+/// The number of a message has at most `NUMBER_DIGITS` decimal digits.
 const NUMBER_DIGITS: usize = 3;
 
-/// The most decimal digits of a number of days.
+/// A number of days has at most `DAYS_DIGITS` decimal digits.
 const DAYS_DIGITS: usize = 5;
 
 /// Returns true if `word` is `name`.
@@ -44,7 +44,7 @@ pub(crate) fn yes(word: &[u8]) -> Option<bool>
     }
 }
 
-/// Returns the side that the word names, if it names one: `requester` or `responder`.
+/// Returns the role that the word names, if it is `requester` or `responder`.
 pub fn who(word: &[u8]) -> Option<Who>
     ensures { result ≡ who_named word.now }
 {
@@ -57,8 +57,8 @@ pub fn who(word: &[u8]) -> Option<Who>
     }
 }
 
-/// Returns true for `new` and false for `old`, if the word is either: the record that the store has after a failed
-/// save.
+/// Returns true for `new` and false for `old`, if the word is either. It names the record that the store has after a
+/// failed save.
 pub(crate) fn landed(word: &[u8]) -> Option<bool>
     ensures { result ≡ landed_named word.now }
 {
@@ -78,8 +78,8 @@ pub(crate) fn day(word: &[u8]) -> Option<Day>
     Day::read(word).ok()
 }
 
-/// Returns the day on which something is due, if the word says one. It is a day or, if `from` is given, `+` and one
-/// to five decimal digits of days after it.
+/// Returns the day on which something is due, if the word says one. It is a day or, if `from` is given, `+` and one to
+/// five decimal digits of days after it.
 pub(crate) fn due(word: &[u8], from: Option<Day>) -> Option<Day>
     ensures { result ≡ due_of from word.now }
 {
@@ -89,7 +89,7 @@ pub(crate) fn due(word: &[u8], from: Option<Day>) -> Option<Day>
     }
 }
 
-/// Returns the day that lies one to five `digits` of days after `from`, if the calendar goes so far.
+/// Returns the day that lies `digits` days after `from`, if there are one to five and the calendar has it.
 fn days_after(from: Day, digits: &[u8]) -> Option<Day>
     ensures { result ≡ days_after from digits.now }
 {
@@ -100,7 +100,7 @@ fn days_after(from: Day, digits: &[u8]) -> Option<Day>
     }
 }
 
-/// Returns a day or none, if the word spells a day or is `none`.
+/// Returns a day or None, if the word spells a day or is `none`.
 pub(crate) fn optional_day(word: &[u8]) -> Option<Option<Day>>
     ensures { result ≡ optional_day_of word.now }
 {
@@ -111,8 +111,7 @@ pub(crate) fn optional_day(word: &[u8]) -> Option<Option<Day>>
     }
 }
 
-/// Returns the number for which one to three decimal digits stand, if a message may have it: 1 to 255. Zeros may
-/// stand before it.
+/// Returns the number that one to three decimal digits spell, if it is 1 to 255. They may begin with zeros.
 pub fn number(word: &[u8]) -> Option<Number>
     ensures { result ≡ number_of word.now }
 {
@@ -141,7 +140,7 @@ fn is_digits(word: &[u8]) -> bool
     word.iter().all(|byte| byte.is_ascii_digit())
 }
 
-/// Returns the number for which decimal digits stand.
+/// Returns the value of decimal digits.
 fn decimal(digits: &[u8]) -> u32
     requires few { length digits.now ≤ 5 }
     requires digits { EachIndex digits.now (λ k. IsInRange 48 57 (slice_index digits.now k)) }
@@ -154,8 +153,8 @@ fn decimal(digits: &[u8]) -> u32
     value
 }
 
-/// Returns the bytes that the word spells as hexadecimal digits of either case, two for each byte, if it does. The
-/// word `none` stands for no bytes.
+/// Returns the bytes that the word spells, if it does. Each byte has two hexadecimal digits of either case. The word
+/// `none` spells no bytes.
 pub(crate) fn bytes(alloc: Global, word: &[u8]) -> Result<Option<Bytes>, OutOfMemory>
     ensures { IfOk result (λ bytes. bytes ≡ bytes_of word.now) }
 {

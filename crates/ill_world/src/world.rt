@@ -1,4 +1,4 @@
-//! Two sides, with the messages that they have sent.
+//! A world is two sides, with the messages that they have sent.
 
 ghost use Rattle.std.specs.Prelude.{◌≡◌, ◌++◌, ◌∷◌, IfOk, OnOk};
 ghost use Rattle.ill_values.specs.TxnId.{Qualifiers};
@@ -22,9 +22,9 @@ use ill_values::{Number, OutOfMemory, TxnId};
 use std::alloc::Global;
 use std::marker::Model;
 
-/// Two sides of one transaction, each with its store, and the messages that each has sent.
+/// A world has two sides of one transaction, each with its store, and the messages that each has sent.
 ///
-/// It begins with two sides that have done nothing, and changes by events.
+/// It begins with two idle sides, and changes by events.
 #[derive(Debug, Drop)]
 pub struct World {
     requester: Party,
@@ -56,10 +56,10 @@ impl World {
 
     /// Performs an event, and returns its outcome. If memory runs out, nothing has changed.
     ///
-    /// Only `Done`, `Saved`, `Sent`, `Restarted`, `Answered(Taken)` and `Faulted` change the world. `Faulted`
-    /// changes only the landed side. At every event but its restart the requester's due date, once it is there,
-    /// stays or rises. One `Deliver` of the message that ended the request leads the requester to its outcome. One
-    /// of a Returned leads the responder to RETURNED, or the item is checked in.
+    /// Only `Done`, `Saved`, `Sent`, `Restarted`, `Answered(Taken)` and `Faulted` change the world. `Faulted` changes
+    /// only the landed side. An event other than its restart keeps or raises the requester's due date. One `Deliver` of
+    /// the message that ended the request leads the requester to its outcome. One of a Returned leads the responder to
+    /// RETURNED, or the item is checked in.
     pub fn step(&mut self, alloc: Global, event: &Event) -> Result<Outcome, OutOfMemory>
         ensures gives { GivesOutcome (model.happens self.old event.now) self.old result self.new }
         ensures dates { KeepsDates self.old event.now self.new }
@@ -74,8 +74,8 @@ impl World {
         }
     }
 
-    /// Performs a round. It saves the requester's side, and sends and delivers all its messages in order. Then it
-    /// does so for the responder's side. If memory runs out, only a prefix of the events of the round has happened.
+    /// Performs a round. It saves the requester's side, and sends and delivers all its messages in order. Then it does
+    /// so for the responder's side. If memory runs out, only a prefix of the events of the round has happened.
     ///
     /// Then both sides are in step, if the responder had ended the request before, or had a number left.
     pub fn exchange(&mut self, alloc: Global) -> Result<(), OutOfMemory>
@@ -88,7 +88,7 @@ impl World {
         self.pass_on(alloc, Who::Responder)
     }
 
-    /// Performs half of a round: saves a side, and sends and delivers all its messages in order.
+    /// Performs half of a round. It saves the side `who`, and sends and delivers all its messages in order.
     fn pass_on(&mut self, alloc: Global, who: Who) -> Result<(), OutOfMemory>
         ensures { Performs model.run_of (half_of who self.old) self.old result self.new }
     {
@@ -129,7 +129,7 @@ impl World {
         }
     }
 
-    /// Appends the line of a trace that shows this world after an event with this number.
+    /// Appends the line of a trace for event `number`: its outcome, and this world after it.
     #[tactic(auto, unfolding(crate::specs::Trace::line))]
     pub(crate) fn push_line(
         &self,
@@ -143,7 +143,7 @@ impl World {
         push_line(text, number, outcome.word(), requester, responder)
     }
 
-    /// Returns the count of a side's released messages: those with numbers up to it may be sent.
+    /// Returns the count of a side's released messages. The messages with numbers up to it may be sent.
     pub fn released(&self, who: Who) -> u8
         ensures { result ≡ (model.party self.now who).released }
     {
@@ -156,10 +156,10 @@ impl World {
 
 /// Returns the world after `events`, from two idle sides of `txn` on.
 ///
-/// Every world on the way is safe, in memory and in the stores alike. A requester in CANCELLED or NOT-SUPPLIED
-/// faces a responder in this state. One in SHIPPED or later faces one that has shipped, and its due date is one
-/// that this responder has granted. And both sides agree: each question has one answer, and the request one end, at
-/// most. The requester's due date is not after the responder's, and each record is right on the other side.
+/// Every world on the way is safe, in memory and in the stores. A requester in CANCELLED or NOT-SUPPLIED faces a
+/// responder in this state. A requester in SHIPPED or later faces a responder that has shipped, and has granted its due
+/// date. Both sides agree. Each question has at most one answer, and the request at most one end. The requester's due
+/// date is not after the responder's, and each record's claims on the other side are right.
 pub fn run(alloc: Global, txn: &TxnId, events: &[Event]) -> Result<World, OutOfMemory>
     ensures runs { IfOk result (λ world. world ≡
         model.run_of (model.first_world txn.now) events.now) }
@@ -175,7 +175,8 @@ pub fn run(alloc: Global, txn: &TxnId, events: &[Event]) -> Result<World, OutOfM
     Ok(world)
 }
 
-/// Returns the events of half of a round: a side is saved, and each of its `count` messages is sent and delivered.
+/// Returns the events of half of a round. The side `who` is saved, and each of its `count` messages is sent and
+/// delivered.
 fn half_of_round(alloc: Global, who: Who, count: u8) -> Result<Vec<Event>, OutOfMemory>
     ensures { IfOk result (λ events. events.items ≡ Save who ∷ sends_and_delivers who 1 count) }
 {
@@ -204,7 +205,7 @@ pub(crate) fn sends_and_delivers(
     Ok(events)
 }
 
-/// Performs an event of a party. The other one has sent the messages that it may deliver.
+/// Performs an event of a party. The party `other` has sent the messages that may be delivered to it.
 fn perform(
     party: &mut Party,
     other: &Party,
@@ -229,7 +230,7 @@ fn perform(
     }
 }
 
-/// Returns an equal wish, on its own memory.
+/// Returns a copy of the wish, on its own memory.
 pub(crate) fn copy(alloc: Global, wish: &Wish) -> Result<Wish, OutOfMemory>
     ensures { IfOk result (λ copy. copy ≡ wish.now) }
 {

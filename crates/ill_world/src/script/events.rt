@@ -1,4 +1,4 @@
-//! The meaning of the words of a line.
+//! The words of a line say an event.
 
 ghost use Rattle.std.specs.Prelude.{◌≡◌, map, IfOk};
 ghost use Rattle.ill_world.specs.Script.{event_of, deed_event, side_event, bare_event, event_with};
@@ -27,7 +27,7 @@ pub(super) fn event(alloc: Global, words: &[&[u8]]) -> Result<Option<Event>, Out
     }
 }
 
-/// Returns the deed and its day that the words after `responder` say, if they say them.
+/// Returns the deed and its day that the words after `responder` say, if they say one.
 fn deed_on_day(words: &[&[u8]]) -> Option<Event>
     ensures { result ≡ deed_event (map (λ word. word.now) words.now) }
 {

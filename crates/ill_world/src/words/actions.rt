@@ -1,4 +1,4 @@
-//! The meaning of the words of a library's decision: a requester's wish, or a responder's deed.
+//! The words of an action have a meaning: a requester's wish, or a responder's deed.
 
 ghost use Rattle.std.specs.Prelude.{◌≡◌, map, IfOk};
 ghost use Rattle.ill_world.specs.Words.{bare_wish_of, wish_with, request_of, spaced, wish_of, bare_deed_of, refusal_of, deed_with, grant_with, deed_of};
@@ -65,7 +65,7 @@ fn wish_with_word(verb: &[u8], word: &[u8]) -> Option<Wish>
     }
 }
 
-/// Returns the request for the item that the words from the first on name.
+/// Returns the request for the item that the words from `first` on name.
 fn request(
     alloc: Global,
     expiry: &[u8],
@@ -125,7 +125,7 @@ pub fn deed(words: &[&[u8]], from: Option<Day>) -> Option<Deed>
     }
 }
 
-/// Returns the grant of a renewal, if the words say one.
+/// Returns the Renew-Answer yes of the words, if they say one.
 #[tactic(auto, unfolding(crate::specs::Words::grant_with))]
 fn grant(verb: &[u8], word: &[u8], day: &[u8], from: Option<Day>) -> Option<Deed>
     ensures { result ≡ grant_with from verb.now word.now day.now }

@@ -1,4 +1,4 @@
--- One arrival of the end of a request, or of a Returned, is enough at a desk too: the transaction is held there.
+-- One arrival of the end of a request, or of a Returned, is enough at a desk too, since it holds the transaction.
 use Rattle.std.proofs.Common.{rules, ◌≡◌, ℕ, nat_lt, length, zero, suc, Bool, true, false, ◌&&◌, not, List, [], ◌∷◌, Option, Some}
 use Rattle.std.proofs.Common.{None, is_some, refl, sym, ap, ◌∙◌, subst, true≢false}
 use Rattle.ill_values.specs.TxnId.{Qualifiers}
@@ -38,7 +38,7 @@ use Rattle.ill_world.proofs.Desks.{EachProjects, same_plain}
 
 -- ---- an issued message has a side
 
--- A list that has an APDU of which `says` holds is not empty.
+-- A list with an APDU of which `says` holds is not empty.
 not_nothing : (says : _ → Bool) (apdus : List Apdu) → has says apdus ≡ true → apdus ≡ [] → ⊥
 not_nothing says apdus is none = true≢false (sym is ∙ ap (has says) none)
 
@@ -48,7 +48,7 @@ last_of_five : (idle a b c d none : Bool) → idle ≡ true
 last_of_five true false false false false none is empty = empty
 last_of_five idle a b c d none is empty = search rules
 
--- A list that is empty has no message.
+-- An empty list has no message.
 pub idle_issued : (apdus : List Apdu) (n : ℕ) (a : Apdu) → is_none apdus ≡ true → message apdus n ≡ Some a → ⊥
 idle_issued [] zero a none at = true≢false (sym (ap is_some at))
 idle_issued [] (suc n) a none at = search rules
@@ -88,14 +88,14 @@ supplied txn (sides.Responder x) y requester_sent responder_sent n a requester_s
 supplied txn (sides.Requester x) (sides.Requester y) requester_sent responder_sent n a requester_stands responder_stands issued at
     is none = absurd responder_stands
 
--- ---- a side that is held is reached
+-- ---- a side that is held, and is reached
 
 -- An idle side has issued nothing.
 pub idle_issues : (role : Who) (txn : Qualifiers) → issued_of (idle_side role txn) ≡ []
 idle_issues who.Requester txn = refl
 idle_issues who.Responder txn = refl
 
--- a side that has issued something is held
+-- If a side has issued a message, the desk holds it. So an event reaches it.
 held_plainly : (may_begin : Bool) (p : DeskParty) (txn : Qualifiers) (found : Option DeskEntry) (outcome : DeskOutcome)
     → found_by txn_held txn p.live.held ≡ found → (issued_of (held_for txn p.live).side ≡ [] → ⊥)
     → ReachesAt may_begin p txn outcome → IsPlain outcome
@@ -106,7 +106,7 @@ held_plainly may_begin p txn None outcome e not_idle reaches =
 
 -- ---- the law
 
--- If a delivery reaches its transaction, and settles the expected side, it settles the side that is seen.
+-- If a delivery reaches its transaction and settles the expected side, it settles the side that is seen.
 settles_as : (among : List State) (own : Bool) (expected : Outcome × Parties) (old new : Parties) (outcome : DeskOutcome)
     (side : Parties → Side)
     → IsSeenAs (if_reached outcome own) expected old outcome new → own ≡ true → IsPlain outcome
@@ -124,7 +124,7 @@ EachReaches = (w : DeskParties) (event : DeskEvent) → DesksStand w → Reaches
 
 module _ (projects : EachProjects) (reaches : EachReaches) (w : DeskParties) (stands : DesksStand w) (txn : Qualifiers) (n : ℕ)
     (a : Apdu) where
-  -- If a message settles a side that has issued something, it settles this side at its desk.
+  -- If a message settles a side that has issued a message, it settles this side at its desk.
   settles_there : (role : Who) (among : List State) → sent_message (sent_for txn (party w (other role)).sent) n ≡ Some a
       → (issued_of (held_for txn (party w role).live).side ≡ [] → ⊥)
       → let after = happens (project txn w) (events.Deliver role n) in Settles among after.0 (party after.1 role).live
@@ -139,6 +139,7 @@ module _ (projects : EachProjects) (reaches : EachReaches) (w : DeskParties) (st
       (project txn (desks_happen w event).1) (desks_happen w event).0 (λ v. (party v role).live) (projects txn w event stands)
       (same_self txn) is_plain settles
 
+-- If one arrival is enough of two parties, it is enough at two desks (`ArrivesAt`).
 pub arrives_at : EachProjects → EachReaches
     → ((txn : Qualifiers) (w : Parties) (event : Event) → Invariant txn w → Arrives w event)
     → (w : DeskParties) (event : DeskEvent) → DesksStand w → ArrivesAt w event

@@ -1,5 +1,5 @@
--- The delivery of a message finds room: the requester's desk holds each transaction of the responder's desk, and 1,000
--- at most.
+-- Each delivery finds room at its desk. For the requester's desk holds each transaction of the responder's desk, and at
+-- most 1,000.
 use Rattle.std.proofs.Common.{arith, rules, ◌≡◌, ◌⊎◌, inl, inr, ℕ, suc, ◌+◌, ◌≤◌, nat_lt, Bool, true, false, cond, if◌then◌else◌}
 use Rattle.std.proofs.Common.{◌||◌, List, [], ◌∷◌, ◌++◌, length, map, Option, Some, None, is_some, Result, Ok, Err, refl, sym, ap}
 use Rattle.std.proofs.Common.{◌∙◌, subst, true≢false, length-append}
@@ -56,7 +56,7 @@ or_as : (a b c : Bool) → (a || b) ≡ true → (b ≡ true → c ≡ true) →
 or_as true b c is follows = refl
 or_as false b c is follows = follows is
 
--- A transaction that is one of `txns` is one of them with one more.
+-- A transaction that is one of `txns` is one of a longer list.
 has_still : (txn new : Qualifiers) (txns : List Qualifiers) → is_one_of txn txns ≡ true → is_one_of txn (txns ++ new ∷ []) ≡ true
 has_still txn new txns is = list_any-append (is_same_txn txn) txns (new ∷ [])
     ∙ or_left (is_one_of txn txns) (is_one_of txn (new ∷ [])) is
@@ -78,7 +78,7 @@ has_not txn new txns none other =
     list_any-append (is_same_txn txn) txns (new ∷ [])
     ∙ or_from (is_one_of txn txns) (is_one_of txn (new ∷ [])) none (or_from (is_same_txn txn new) false other refl)
 
--- If no transaction stands twice in `txns`, and `new` is none of them, none does with `new` at the end.
+-- If no transaction is twice in `txns`, and `new` is not in it, none is twice with `new` at the end.
 apart_still : (new : Qualifiers) (txns : List Qualifiers) → AreApart txns → is_one_of new txns ≡ false
     → AreApart (txns ++ new ∷ [])
 apart_still new [] apart none = (refl, tt)
@@ -91,21 +91,21 @@ abbrev without : Qualifiers → List Qualifiers → List Qualifiers
 without txn [] = []
 without txn (first ∷ txns) = cond (is_same_txn txn first) txns (first ∷ without txn txns)
 
--- They are one less without the first one, or without one of the others.
+-- Without its first member, or without one of the others, a list is one shorter.
 one_less : (first : Qualifiers) (txns rest : List Qualifiers) (same there : Bool) → (same || there) ≡ true
     → (there ≡ true → suc (length rest) ≡ length txns)
     → suc (length (cond same txns (first ∷ rest))) ≡ suc (length txns)
 one_less first txns rest true there is further = refl
 one_less first txns rest false there is further = ap suc (further is)
 
--- They are one less without one that is among them.
+-- Without a member a list is one shorter.
 length_without : (txn : Qualifiers) (txns : List Qualifiers) → is_one_of txn txns ≡ true
     → suc (length (without txn txns)) ≡ length txns
 length_without txn [] is = absurd (true≢false (sym is))
 length_without txn (first ∷ txns) is =
     one_less first txns (without txn txns) (is_same_txn txn first) (is_one_of txn txns) is (length_without txn txns)
 
--- Another one is among them without this one too.
+-- Without `txn` a list still has each other member.
 has_without : (txn another : Qualifiers) (txns : List Qualifiers) → is_same_txn another txn ≡ false
     → is_one_of another txns ≡ true → is_one_of another (without txn txns) ≡ true
 has_without txn another [] apart is = is
@@ -122,7 +122,7 @@ has_without txn another (first ∷ txns) apart is = go (is_same_txn txn first) r
     go false same further = or_as (is_same_txn another first) (is_one_of another txns) (is_one_of another (without txn txns)) is
         further
 
--- A transaction that is one of these is not another that is none of them.
+-- If `another` is one of `txns`, and `txn` is none of them, they differ.
 not_both : (txn another : Qualifiers) (txns : List Qualifiers) → is_one_of txn txns ≡ false
     → is_one_of another txns ≡ true → is_same_txn another txn ≡ false
 not_both txn another txns none is = go (is_same_txn another txn) refl
@@ -131,7 +131,7 @@ not_both txn another txns none is = go (is_same_txn another txn) refl
     go true same = absurd (true≢false (sym (subst (λ t. is_one_of t txns ≡ true) (same_is another txn same) is) ∙ none))
     go false same = refl
 
--- Transactions that are apart are no more than those that they are among.
+-- If no transaction is twice in `these`, and each is one of `those`, `these` is not longer than `those`.
 no_more : (these those : List Qualifiers) → AreApart these → AreAmong these those → length these ≤ length those
 no_more [] those apart among = omega arith
 no_more (txn ∷ these) those apart among =
@@ -157,7 +157,8 @@ has_found key txn (item ∷ items) =
     either_some (is_same_txn txn (key item)) (is_one_of txn (map key items)) item (found_by key txn items)
     (has_found key txn items)
 
--- An event leaves the transactions held and landed, or begins one. Or it lands those held, or holds those landed.
+-- An event leaves the live and landed transactions, or begins one of which `May` holds. Or it lands the live ones, or
+-- restarts with the landed ones.
 pub data Leads (May : Qualifiers → Type 0) (live landed new_live new_landed : List Qualifiers) : Type 0 where
   stays : new_live ≡ live → new_landed ≡ landed → Leads May live landed new_live new_landed
   begun : (txn : Qualifiers) → is_one_of txn live ≡ false → length live + 1 ≤ 1000 → May txn → new_live ≡ live ++ txn ∷ []
@@ -165,16 +166,16 @@ pub data Leads (May : Qualifiers → Type 0) (live landed new_live new_landed : 
   lands : new_live ≡ live → new_landed ≡ live → Leads May live landed new_live new_landed
   returns : new_live ≡ landed → new_landed ≡ landed → Leads May live landed new_live new_landed
 
--- `Leads` holds of the transactions of desk `p`, and those of `new`.
+-- `Leads` holds from the transactions of desk `p` to those of `new`.
 abbrev pub LeadsTo : (Qualifiers → Type 0) → DeskParty → DeskParty → Type 0
 LeadsTo May p new = Leads May (live_txns p) (landed_txns p) (live_txns new) (landed_txns new)
 
--- The desk stays as it was, or puts an entry of `of`.
+-- The desk is unchanged, or puts an entry of `of`.
 abbrev Puts : Qualifiers → DeskParty → DeskParty → Type 0
 Puts of p new = (new ≡ p) ⊎ ((held : DeskEntry) × (txn_held held ≡ of) × (new ≡ record p { live = with_held p.live held }))
 
 module _ (May : Qualifiers → Type 0) (p : DeskParty) (of : Qualifiers) where
-  -- A side that is put leaves the transactions as they are, where its own is held, and else begins it.
+  -- A put side leaves the transactions unchanged if its own is held. Else it begins its own.
   put_leads : (held : DeskEntry) → txn_held held ≡ of → (found : Option DeskEntry) → found_by txn_held of p.live.held ≡ found
       → (found ≡ None → (nat_lt (length p.live.held) most_sides ≡ true) × May of)
       → LeadsTo May p (record p { live = with_held p.live held })
@@ -189,13 +190,13 @@ module _ (May : Qualifiers → Type 0) (p : DeskParty) (of : Qualifiers) where
       few : nat_lt (length p.live.held) most_sides ≡ true → length (live_txns p) + 1 ≤ 1000
       few room = omega (arith, ltb-true (length p.live.held) 1000 room, length-map p.live.held txn_held)
 
-  -- A desk that puts a side, or stays, leads on.
+  -- If a desk puts a side or is unchanged, `LeadsTo` holds.
   puts_lead : (new : DeskParty) → Puts of p new → (found : Option DeskEntry) → found_by txn_held of p.live.held ≡ found
       → (found ≡ None → (nat_lt (length p.live.held) most_sides ≡ true) × May of) → LeadsTo May p new
   puts_lead new (inl is) found e may = subst (LeadsTo May p) (sym is) (stays refl refl)
   puts_lead new (inr (held, is, put)) found e may = subst (LeadsTo May p) (sym put) (put_leads held is found e may)
 
-  -- A desk at which a side is reached puts it or stays; one at which none is stays.
+  -- If a desk puts the side that is reached, and is unchanged if none is, `LeadsTo` holds.
   reach_leads : (seen : Result DeskEntry DeskFault → DeskParty)
       → ((held : DeskEntry) → txn_held held ≡ of → Puts of p (seen (Ok held))) → ((fault : DeskFault) → seen (Err fault) ≡ p)
       → txn_held (idle_held p.live.role of) ≡ of
@@ -212,7 +213,7 @@ module _ (May : Qualifiers → Type 0) (p : DeskParty) (of : Qualifiers) where
   reach_leads seen puts fails idle false may has_room room None e =
       subst (LeadsTo May p) (sym (fails faults.NoSuchTransaction)) (stays refl refl)
 
--- `May` holds of each transaction that an event may begin: that of a wish, or of a message that comes.
+-- `May` holds of each transaction that an event may begin: that of a wish, or of a delivered message.
 abbrev pub Permits : (Qualifiers → Type 0) → List Sending → DeskEvent → Type 0
 Permits May partner_sent (desk_events.Wish of wish) = May of
 Permits May partner_sent (desk_events.Deliver role of n) =
@@ -220,14 +221,14 @@ Permits May partner_sent (desk_events.Deliver role of n) =
 Permits May partner_sent other = Unit {0}
 
 module _ (grows : RowsGrow) (May : Qualifiers → Type 0) (p : DeskParty) where
-  -- A decision puts its side, or the desk stays.
+  -- A decision puts its side, or leaves the desk unchanged.
   decided_puts : (of : Qualifiers) (action : Action) (held : DeskEntry) → txn_held held ≡ of → (result : Result Side Refusal)
       → acts held.side action ≡ result → Puts of p (desk_decides p (acted_at p.live held result)).1
   decided_puts of action held is (Ok new) e =
       inr (record { side = new; released = held.released }, row_txn grows held.side new (acted action e) ∙ is, refl)
   decided_puts of action held is (Err refusal) e = inl refl
 
-  -- A decision leads on.
+  -- `LeadsTo` holds of a decision.
   decides_leads : (of : Qualifiers) (action : Action) → (begins action ≡ true → May of) → (may : Bool)
       → LeadsTo May p (desk_decides p
       (if may then acts_reached p.live action (reached p.live of (begins action)) else Err (faults.Core WrongRole))).1
@@ -237,7 +238,7 @@ module _ (grows : RowsGrow) (May : Qualifiers → Type 0) (p : DeskParty) where
       (begins action) may (nat_lt (length p.live.held) most_sides) refl (found_by txn_held of p.live.held) refl
   decides_leads of action may false = stays refl refl
 
-  -- A message that comes puts its side, or the desk stays.
+  -- A taken message puts its side, or leaves the desk unchanged.
   took_puts : (a : Apdu) (held : DeskEntry) → txn_held held ≡ a.txn → (answer : Result Taking Refusal) (new : Side)
       → takes held.side a ≡ (answer, new) → Puts a.txn p (record p { live = (took_at p.live held (answer, new)).1 })
   took_puts a held is (Ok _) new e =
@@ -248,7 +249,7 @@ module _ (grows : RowsGrow) (May : Qualifiers → Type 0) (p : DeskParty) where
       )
   took_puts a held is (Err refusal) new e = inl refl
 
-  -- A message that comes leads on.
+  -- `LeadsTo` holds of a taken message.
   takes_leads : (a : Apdu) → May a.txn → (own : Bool)
       → LeadsTo May p (record p {
         live =
@@ -263,28 +264,28 @@ module _ (grows : RowsGrow) (May : Qualifiers → Type 0) (p : DeskParty) where
       (is_ill_request a.body) (λ begins. may) (nat_lt (length p.live.held) most_sides) refl (found_by txn_held a.txn p.live.held)
       refl
 
-  -- A delivery leads on.
+  -- `LeadsTo` holds of a delivery.
   receives_leads : (found : Option Apdu) → ((a : Apdu) → found ≡ Some a → May a.txn) → LeadsTo May p (desk_receives p found).1
   receives_leads None may = stays refl refl
   receives_leads (Some a) may = takes_leads a (may a refl) (is_own p.live.role a.body)
 
-  -- A message that is sent leads on, if the desk after it does.
+  -- `LeadsTo` holds of a Send, if it holds of the desk with the sent message.
   sends_leads : (after : Apdu → DeskParty) (issued : Option Apdu) (released : Bool) → ((a : Apdu) → LeadsTo May p (after a))
       → LeadsTo May p (sends_by p after issued released).1
   sends_leads after None released leads = stays refl refl
   sends_leads after (Some a) false leads = stays refl refl
   sends_leads after (Some a) true leads = leads a
 
-  -- A sending leads on.
+  -- `LeadsTo` holds of a Send of message n in `of`.
   send_leads : (of : Qualifiers) (n : ℕ) (found : Option DeskEntry) → LeadsTo May p (desk_sends p of n found).1
   send_leads of n None = stays refl refl
   send_leads of n (Some held) = sends_leads _ _ _ (λ a. stays refl refl)
 
-  -- The sides that are held are of the transactions that are held.
+  -- The held sides have the transactions of the desk.
   held_txns : map txn_of (map (λ (held : DeskEntry). held.side) p.live.held) ≡ live_txns p
   held_txns = map-map txn_of (λ (held : DeskEntry). held.side) p.live.held
 
-  -- An event leads on.
+  -- `LeadsTo` holds of each event.
   pub event_leads : (partner_sent : List Sending) (event : DeskEvent) → Permits May partner_sent event
       → LeadsTo May p (desk_happens_to p partner_sent event).1
   event_leads partner_sent (desk_events.Wish of wish) may =
@@ -302,13 +303,13 @@ module _ (grows : RowsGrow) (May : Qualifiers → Type 0) (p : DeskParty) where
 
 -- ---- facts that each event of two desks keeps
 
--- A fact of two lists holds of lists that are equal to them.
+-- A fact of two lists holds of two lists that are equal to them.
 both_are : (P : List Qualifiers → List Qualifiers → Type 0) (live landed new_live new_landed : List Qualifiers)
     → new_live ≡ live → new_landed ≡ landed → P live landed → P new_live new_landed
 both_are P live landed new_live new_landed is there holds =
     subst (λ l. P l new_landed) (sym is) (subst (P live) (sym there) holds)
 
--- The counts hold after the requester's desk has changed as `Leads` says.
+-- If the requester's desk changes as `Leads` says, `Counts` holds after the change.
 requester_counts : (live landed new_live new_landed others others_landed : List Qualifiers)
     → Leads (λ txn. Unit {0}) live landed new_live new_landed → Counts live landed others others_landed
     → Counts new_live new_landed others others_landed
@@ -335,8 +336,8 @@ requester_counts live landed new_live new_landed others others_landed leads (few
 abbrev IsKnown : List Qualifiers → List Qualifiers → Qualifiers → Type 0
 IsKnown live landed txn = (is_one_of txn live ≡ true) × (is_one_of txn landed ≡ true)
 
--- The counts hold after the responder's desk has changed as `Leads` says, and has begun only what the requester's desk
--- knows.
+-- The responder's desk changes as `Leads` says, and begins only transactions that the requester's desk has. Then
+-- `Counts` holds after the change.
 responder_counts : (live landed others others_landed new new_landed : List Qualifiers)
     → Leads (IsKnown live landed) others others_landed new new_landed → Counts live landed others others_landed
     → Counts live landed new new_landed
@@ -374,7 +375,7 @@ issued_found : {X : Type 0} (side : X → Side) (idle : X) (found : Option X) (n
 issued_found side idle (Some there) n a none at = refl
 issued_found side idle None n a none at = absurd (idle_issued [] n a refl (subst (λ l. message l n ≡ Some a) none at))
 
--- The requester's desk has each transaction in which it has sent, held and landed.
+-- If the requester has sent a message in `of`, its desk has `of` as a live and a landed transaction.
 sent_known : (w : DeskParties) → DesksStand w → (of : Qualifiers) (n : ℕ) (a : Apdu)
     → sent_message (sent_for of w.requester.sent) n ≡ Some a
     → IsKnown (live_txns w.requester) (landed_txns w.requester) of
@@ -391,13 +392,13 @@ sent_known w stands of n a sent =
           (idle_issues p.landed.role of) (saved.landed n a sent),
     )
 
--- The requester's desk may begin every transaction.
+-- The requester's desk may begin each transaction.
 all_permitted : (partner_sent : List Sending) (event : DeskEvent) → Permits (λ txn. Unit {0}) partner_sent event
 all_permitted partner_sent (desk_events.Wish of wish) = tt
 all_permitted partner_sent (desk_events.Deliver role of n) = λ a sent. tt
 all_permitted partner_sent event = tt
 
--- An event begins at the responder's desk only a transaction that the requester's has.
+-- An event at the responder's desk begins only a transaction that the requester's desk has.
 known_permitted : (w : DeskParties) → DesksStand w → (event : DeskEvent) → who_of (plain event) ≡ who.Responder
     → Permits (IsKnown (live_txns w.requester) (landed_txns w.requester)) w.requester.sent event
 known_permitted w stands (desk_events.Wish of wish) is = search rules
@@ -406,7 +407,7 @@ known_permitted w stands (desk_events.Deliver role of n) is =
     ((keeps_to w who.Responder stands).txn_of_sent of n a sent) (sent_known w stands of n a sent)
 known_permitted w stands event is = tt
 
--- An event leaves the transactions of two desks few and known.
+-- After an event `DesksCount` holds of two desks.
 pub count_at : RowsGrow → (w : DeskParties) (event : DeskEvent) → DesksStand w → (role : Who)
     → who_of (plain event) ≡ role
     → DesksCount (happens_at w role (λ p partner. desk_happens_to p partner.sent event)).1
@@ -428,7 +429,7 @@ first_counts = ((tt, omega arith), (tt, omega arith), (tt, (λ t is. is), (λ t 
 
 -- ---- deliveries
 
--- A delivery that is never without room is not to a full desk.
+-- If a transaction is held or has room, its delivery is not DeskFull.
 never_full : (may_begin has_room : Bool) (found : Option DeskEntry) → (found ≡ None → has_room ≡ false → ⊥)
     → Reaches may_begin has_room found DeskFull → ⊥
 never_full may_begin has_room (Some held) room reaches = reaches
@@ -436,7 +437,7 @@ never_full true true None room reaches = reaches
 never_full true false None room reaches = room refl refl
 never_full false has_room None room reaches = search rules
 
--- A delivery finds room, if a desk without room holds the transaction of each message that was sent.
+-- A delivery is not DeskFull, if a desk without room holds the transaction of each message that was sent to it.
 none_full : EachReaches → (w : DeskParties) → DesksStand w → (role : Who) (txn : Qualifiers) (n : ℕ)
     → ((a : Apdu) → sent_message (sent_for txn (party w (other role)).sent) n ≡ Some a
     → found_by txn_held txn (party w role).live.held ≡ None → nat_lt (length (party w role).live.held) 1000 ≡ false → ⊥)
@@ -452,7 +453,7 @@ none_full reaches w stands role txn n room full = go (sent_message (sent_for txn
         (subst (Reaches (is_ill_request a.body) (nat_lt (length (party w role).live.held) 1000)
         (found_by txn_held txn (party w role).live.held)) full (reaches w (desk_events.Deliver role txn n) stands a e))
 
--- Nothing was sent to the requester in a transaction that its desk does not hold.
+-- If the requester's desk does not hold a transaction, the responder has sent no message in it.
 pub none_sent : (w : DeskParties) → DesksStand w → (txn : Qualifiers) (n : ℕ) (a : Apdu)
     → sent_message (sent_for txn w.responder.sent) n ≡ Some a → found_by txn_held txn w.requester.live.held ≡ None → ⊥
 none_sent w stands txn n a sent none =
@@ -462,7 +463,7 @@ none_sent w stands txn n a sent none =
     shown.responder.landed (live_issues v.requester shown.requester.saved) (shown.responder.saved.landed n a sent)
     (ap (λ o. issued_of (found_or (idle_held w.requester.live.role txn) o).side) none ∙ idle_issues w.requester.live.role txn)
 
--- A delivery to the requester's desk in a transaction that it does not hold has the outcome NotSent.
+-- If the requester's desk does not hold a transaction, a delivery to it is NotSent.
 pub unheld_is_not_sent : (w : DeskParties) (txn : Qualifiers) (n : ℕ) → DesksStand w
     → found_by txn_held txn w.requester.live.held ≡ None
     → (desks_happen w (desk_events.Deliver who.Requester txn n)).0 ≡ Plain NotSent
@@ -473,7 +474,7 @@ unheld_is_not_sent w txn n stands none = go (sent_message (sent_for txn w.respon
     go None e = ap (λ o. (desk_receives w.requester o).0) e
     go (Some a) e = absurd (none_sent w stands txn n a e none)
 
--- The responder's desk has room for a transaction that is not held, if the requester has sent in it.
+-- If the requester has sent in a transaction that the responder's desk does not hold, that desk has room for it.
 responder_room : (w : DeskParties) → DesksStand w → (txn : Qualifiers) (n : ℕ) (a : Apdu)
     → sent_message (sent_for txn w.requester.sent) n ≡ Some a → found_by txn_held txn w.responder.live.held ≡ None
     → nat_lt (length w.responder.live.held) 1000 ≡ false → ⊥
@@ -492,7 +493,7 @@ responder_room w stands txn n a sent none full =
     let more = no_more (txn ∷ live_txns w.responder) (live_txns w.requester) (absent, known.0) all in
     omega (arith, few, more, ltb-false (length w.responder.live.held) 1000 full, length-map w.responder.live.held txn_held)
 
--- If two desks stand, a delivery finds room.
+-- If two desks satisfy `DesksStand`, no delivery is DeskFull.
 pub finds_room : EachReaches → (w : DeskParties) (role : Who) (txn : Qualifiers) (n : ℕ) → DesksStand w
     → (desks_happen w (desk_events.Deliver role txn n)).0 ≡ DeskFull → ⊥
 finds_room reaches w who.Requester txn n stands =

@@ -1,4 +1,4 @@
--- The messages sent in each transaction, in a map.
+-- A map has the messages that a desk has sent, by transaction. It agrees with the list of the model.
 use Rattle.std.proofs.Common.{◌≡◌, ℕ, Bool, true, false, cond, List, [], ◌∷◌, ◌++◌, Option, Some, None, is_some, Result, Ok, Err}
 use Rattle.std.proofs.Common.{OnOk, refl, sym, ap, ◌∙◌, true≢false}
 use Rattle.std.specs.Map.{lookup, set_value}
@@ -14,11 +14,11 @@ use Rattle.ill_world.specs.Desks.{Sending, txn_sent, sent_for, with_sent_for}
 use Rattle.ill_world.specs.DeskRefinement.{sendings_of, BecomesAmong}
 use Rattle.ill_world.proofs.Standings.{none_sent}
 
--- The entries of a map: the messages sent, by transaction.
+-- A map has these entries: the messages sent, by transaction.
 abbrev Entries : Type 0
 Entries = List (Qualifiers × List (Option Apdu))
 
--- If the messages found in the rest of both lists are equal, they are so with one entry more.
+-- If both lists agree after their first entry, they agree with it.
 sent_first : (txn : Qualifiers) (e : Qualifiers × List (Option Apdu)) (found : Option Sending)
     (there : Option (List (Option Apdu))) (same : Bool)
     → (found_or {X = Sending} (record { txn = txn; sent = nothing_sent }) found).sent ≡ found_or nothing_sent there
@@ -34,7 +34,7 @@ sent_there txn [] = refl
 sent_there txn (e ∷ entries) = sent_first txn e (found_by txn_sent txn (sendings_of entries)) (lookup (is_same_txn txn) entries)
     (is_same_txn txn e.0) (sent_there txn entries)
 
--- No message n was sent among 255 empty places.
+-- Of 255 empty places none is a sent message.
 pub nothing_there : (n : ℕ) → sent_message nothing_sent n ≡ None
 nothing_there n = go (sent_message nothing_sent n) refl
   where
@@ -42,7 +42,7 @@ nothing_there n = go (sent_message nothing_sent n) refl
     go None e = refl
     go (Some a) e = absurd (none_sent n a e)
 
--- If setting an entry and putting it agree on the rest of both lists, they agree with one entry more.
+-- If a set entry and a put entry agree after the first entry, they agree with it.
 set_first : (txn : Qualifiers) (new sent : List (Option Apdu)) (e : Qualifiers × List (Option Apdu))
     (found : Option (List (Option Apdu))) (entries set_on : Entries) (put_on : List Sending) (same : Bool)
     → is_same_txn txn e.0 ≡ same → cond same (Some e.1) found ≡ Some sent → (found ≡ Some sent → sendings_of set_on ≡ put_on)
@@ -53,7 +53,7 @@ set_first txn new sent e found entries set_on put_on true same there further =
 set_first txn new sent e found entries set_on put_on false same there further =
     ap (λ all. record { txn = e.0; sent = e.1 } ∷ all) (further there)
 
--- Setting the entry of `txn`, if there is one, is putting it.
+-- If the map has an entry for `txn`, a set entry is a put entry.
 set_there : (txn : Qualifiers) (new sent : List (Option Apdu)) (entries : Entries) → lookup (is_same_txn txn) entries ≡ Some sent
     → sendings_of (set_value (is_same_txn txn) entries new)
     ≡ put_by txn_sent (record { txn = txn; sent = new }) (sendings_of entries)
@@ -64,7 +64,7 @@ set_there txn new sent (e ∷ entries) there =
     (put_by txn_sent (record { txn = txn; sent = new }) (sendings_of entries)) (is_same_txn txn e.0) refl there
     (set_there txn new sent entries)
 
--- If `txn` has an entry, setting it with message n added is sending message n in `txn`.
+-- If `txn` has an entry, and it is set with message n added, message n is sent in `txn`.
 pub put_there : (txn : Qualifiers) (n : ℕ) (a : Apdu) (sent : List (Option Apdu)) (entries : Entries)
     → lookup (is_same_txn txn) entries ≡ Some sent
     → sendings_of (set_value (is_same_txn txn) entries (with_sent sent n a)) ≡ with_sent_for txn (sendings_of entries) n a
@@ -73,7 +73,7 @@ put_there txn n a sent entries there =
     ∙ ap (λ s. put_by txn_sent (record { txn = txn; sent = with_sent s n a }) (sendings_of entries))
     (sym (sent_there txn entries ∙ ap (found_or nothing_sent) there))
 
--- If neither the first entry nor the rest is of a transaction, nothing is found of it.
+-- If neither the first entry nor the rest is of a transaction, no message of it is found.
 none_first : (same : Bool) (here : List (Option Apdu)) (new : Sending) (there : Option (List (Option Apdu)))
     (found : Option Sending)
     → cond same (Some here) there ≡ None → (there ≡ None → found ≡ None)
@@ -89,7 +89,7 @@ none_found txn (e ∷ entries) none =
     none_first (is_same_txn txn e.0) e.1 (record { txn = e.0; sent = e.1 }) (lookup (is_same_txn txn) entries)
     (found_by txn_sent txn (sendings_of entries)) none (none_found txn entries)
 
--- If `txn` has no entry, adding one with message n alone is sending message n in `txn`.
+-- If `txn` has no entry, and one with message n alone is added, message n is sent in `txn`.
 pub put_new : (txn : Qualifiers) (n : ℕ) (a : Apdu) (entries : Entries) → lookup (is_same_txn txn) entries ≡ None
     → sendings_of (entries ++ (txn, with_sent nothing_sent n a) ∷ []) ≡ with_sent_for txn (sendings_of entries) n a
 put_new txn n a entries none =

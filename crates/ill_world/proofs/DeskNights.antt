@@ -1,4 +1,4 @@
--- Why a night of two desks is a night of both sides in each transaction.
+-- In each transaction a night of two desks is a night of both sides.
 use Rattle.std.proofs.Common.{◌≡◌, Bool, true, false, cond, List, [], ◌∷◌, length, map, Option, Some, None, refl, sym, ap, ◌∙◌}
 use Rattle.std.proofs.Common.{subst}
 use Rattle.std.specs.Prelude.{filter}
@@ -29,10 +29,10 @@ use Rattle.ill_world.proofs.Desks.{EachProjects, EachStands, desks_stand_on}
 use Rattle.ill_world.proofs.DeskArrivals.{EachReaches, idle_issues}
 use Rattle.ill_world.proofs.DeskRounds.{shown, sides_alike, held_apart}
 
--- ---- the sides that want sending
+-- ---- the sides that `wants` selects
 
 module _ (wants : Side → Bool) where
-  -- If a transaction has none of the sides, it has none of those that want sending.
+  -- If no side is of `txn`, no selected side is.
   none_wanted : (txn : Qualifiers) (all : List Side) → is_one_of txn (map txn_of all) ≡ false
       → is_one_of txn (map txn_of (filter wants all)) ≡ false
   none_wanted txn [] none = none
@@ -46,7 +46,7 @@ module _ (wants : Side → Bool) where
       go true rest = or_from (is_same_txn txn (txn_of side)) (is_one_of txn (map txn_of (filter wants more))) parts.0 rest
       go false rest = rest
 
-  -- If no transaction stands twice among sides, none does among those that want sending.
+  -- If no two sides are of one transaction, no two selected sides are.
   apart_wanted : (all : List Side) → AreApart (map txn_of all) → AreApart (map txn_of (filter wants all))
   apart_wanted [] apart = apart
   apart_wanted (side ∷ more) apart = go (wants side) (apart_wanted more apart.1)
@@ -56,19 +56,19 @@ module _ (wants : Side → Bool) where
       go true rest = (none_wanted (txn_of side) more apart.0, rest)
       go false rest = rest
 
-  -- If a transaction has none of the sides, no side of it is found.
+  -- If no side is of `txn`, no side of it is found.
   found_none : (txn : Qualifiers) (all : List Side) → is_one_of txn (map txn_of all) ≡ false → found_by txn_of txn all ≡ None
   found_none txn [] none = refl
   found_none txn (side ∷ more) none =
       let parts = or_parts (is_same_txn txn (txn_of side)) (is_one_of txn (map txn_of more)) none in
       ap (λ b. cond b (Some side) (found_by txn_of txn more)) parts.0 ∙ found_none txn more parts.1
 
-  -- An idle side is an idle side, if it wants sending and if it does not.
+  -- An idle side is found, if the Bool is true or not.
   idle_either : (idle : Side) (wanted : Bool) → idle ≡ cond wanted idle idle
   idle_either idle true = refl
   idle_either idle false = refl
 
-  -- Among sides that want sending, the one found for `txn` is its side if that wants it, or else idle.
+  -- The selected side found for `txn` is its side, if `wants` holds of it. Else it is idle.
   found_wanted : (txn : Qualifiers) (idle : Side) (all : List Side) → AreApart (map txn_of all)
       → found_or idle (found_by txn_of txn (filter wants all))
       ≡ cond (wants (found_or idle (found_by txn_of txn all))) (found_or idle (found_by txn_of txn all)) idle
@@ -97,12 +97,12 @@ module _ (wants : Side → Bool) where
 
 -- ---- a night
 
--- Returns the events by which all messages of a side are passed on.
+-- Returns the events by which all messages of `side` are sent and delivered.
 abbrev passes_of : Who → Side → List Event
 passes_of role side = sends_and_delivers role 1 (length (issued_of side))
 
 module _ (projects : EachProjects) (reaches : EachReaches) (after : EachStands) (txn : Qualifiers) where
-  -- The half of the sides that want sending is, in `txn`, the half of its side if that wants sending.
+  -- In `txn` the half of the selected sides is the half of its side, if `wants` holds of it.
   half_if_alike : (wants : Side → Bool) (w : DeskParties) (role : Who) → DesksStand w
       → project txn (desks_run w (desk_half_if wants role w))
       ≡ run_of (project txn w) (half_if (wants (party (project txn w) role).live) role (project txn w))
@@ -146,7 +146,7 @@ module _ (projects : EachProjects) (reaches : EachReaches) (after : EachStands) 
       go false = ap (λ (apdus : List Apdu). run_of v (events.Save role ∷ sends_and_delivers role 1 (length apdus)))
           (idle_issues live.role txn)
 
-  -- A night of two desks is a night of both sides in the transaction.
+  -- In `txn` a night of two desks is a night of both sides.
   pub night_alike : (w : DeskParties) → DesksStand w
       → project txn (desks_run w (desk_night_of w)) ≡ run_of (project txn w) (night_of (project txn w))
   night_alike w stands =

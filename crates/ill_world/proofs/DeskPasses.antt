@@ -1,10 +1,10 @@
--- The events of half of a round of two desks, as a list that grows.
+-- The events of half of a round of two desks are a list that grows side by side.
 use Rattle.std.proofs.Common.{◌≡◌, ℕ, ◌+◌, List, [], ◌∷◌, ◌++◌, take, Some, sym, ap, ◌∙◌}
 use Rattle.std.specs.List.{slice_get, flat_map}
 use Rattle.std.proofs.lemmas.List.{take_more, flat_map_more}
 use Rattle.std.proofs.lemmas.Option.{get_or_from_slice_get, slice_get_within}
 
--- The events of the first sides, followed by those of the next one, are those of one side more.
+-- If the events of the next side are appended, the list has the events of one side more.
 pub flat_map_grows : {X A : Type 0} (f : X → List A) (xs : List X) (i : ℕ) (x : X) (first : A) (before after : List A)
     → slice_get xs i ≡ Some x → after ≡ before ++ f x
     → before ≡ first ∷ flat_map f (take i xs) → after ≡ first ∷ flat_map f (take (i + 1) xs)

@@ -1,4 +1,4 @@
--- In each transaction, a round of two desks is a round of both sides.
+-- In each transaction a round of two desks is a round of both sides.
 use Rattle.std.proofs.Common.{rules, ◌≡◌, ℕ, zero, suc, ◌+◌, nat_le, nat_lt, Bool, true, false, not, cond, List, [], ◌∷◌, length}
 use Rattle.std.proofs.Common.{map, Option, Some, None, refl, sym, ap, ◌∙◌, subst, true≢false}
 use Rattle.std.specs.Prelude.{flat_map}
@@ -46,7 +46,7 @@ use Rattle.ill_world.proofs.DeskCounts.{none_sent, finds_room}
 
 -- ---- an idle side
 
--- A side that has issued nothing sends nothing.
+-- A Send of a side that has issued nothing changes nothing.
 idle_sends : (p : Party) (n : ℕ) (released : Bool) → issued_of p.live ≡ []
     → (sends p n (message (issued_of p.live) n) released).1 ≡ p
 idle_sends p n released none = ap (λ apdus. (sends p n (message apdus n) released).1) none ∙ go n
@@ -55,7 +55,7 @@ idle_sends p n released none = ap (λ apdus. (sends p n (message apdus n) releas
     go zero = refl
     go (suc m) = refl
 
--- A record that an answer leaves, a refusal leaves too.
+-- If an answer leaves a record unchanged, a refusal does so too.
 refused_or_same : (refusal : Option Refusal) (y : ResponderRecord) (answer : _ × ResponderRecord) → answer.1 ≡ y
     → (unless_refused refusal y answer).1 ≡ y
 refused_or_same (Some refusal) y answer same = refl
@@ -65,7 +65,7 @@ refused_or_same None y answer same = same
 abbrev idle_responder : Qualifiers → ResponderRecord
 idle_responder txn = responder_of txn states.Idle None None None false None []
 
--- No message but an ILL-Request changes an idle responder.
+-- Only an ILL-Request changes an idle responder.
 idle_message : (txn : Qualifiers) (a : Apdu) (body : Body) → is_ill_request body ≡ false
     → (take_message (idle_responder txn) a body).1 ≡ idle_responder txn
 idle_message txn a (types.IllRequest expiry item) is = absurd (true≢false is)
@@ -74,7 +74,7 @@ idle_message txn a (types.ConditionalReply (suc c) true) is = refl
 idle_message txn a (types.ConditionalReply c false) is = refl
 idle_message txn a body is = refl
 
--- An idle responder takes no message that is no ILL-Request.
+-- An idle side of a responder takes no message but an ILL-Request.
 idle_takes : (txn : Qualifiers) (a : Apdu) → is_ill_request a.body ≡ false
     → (takes (idle_side who.Responder txn) a).1 ≡ idle_side who.Responder txn
 idle_takes txn a is =
@@ -89,17 +89,17 @@ unheld_issues txn live none = ap (λ o. issued_of (found_or (idle_held live.role
 
 -- ---- one event
 
--- The party of a role is the one that the desk of this role shows.
+-- The projection has the party that the desk of `role` shows.
 pub shown : (txn : Qualifiers) (w : DeskParties) (role : Who) → party (project txn w) role ≡ party_for txn (party w role)
 shown txn w who.Requester = refl
 shown txn w who.Responder = refl
 
--- Putting a party in its own place changes nothing.
+-- If a party is replaced by itself, the world is unchanged.
 same_party : (v : Parties) (role : Who) → with_party v role (party v role) ≡ v
 same_party v who.Requester = refl
 same_party v who.Responder = refl
 
--- An event of the transaction leads on as in it alone, if an event that is not reached changes nothing.
+-- An event of the transaction leads to the expected world, if an event that reaches no side changes nothing.
 seen_alike : (own : Bool) → own ≡ true → (expected : Outcome × Parties) (old new : Parties) (outcome : DeskOutcome)
     → IsSeenAs (if_reached outcome own) expected old outcome new
     → (outcome ≡ DeskFull → ⊥) → (outcome ≡ NoSuchTransaction → expected.1 ≡ old) → new ≡ expected.1
@@ -117,7 +117,7 @@ seen_elsewhere false is expected old new (Plain outcome) seen = seen
 seen_elsewhere false is expected old new NoSuchTransaction seen = seen
 seen_elsewhere false is expected old new DeskFull seen = seen
 
--- A transaction that is not reached is not held, and the event may not begin it.
+-- If the outcome is NoSuchTransaction, the transaction is not held, and the event may not begin it.
 not_reached : (may_begin has_room : Bool) (found : Option DeskEntry) → Reaches may_begin has_room found NoSuchTransaction
     → (found ≡ None) × (may_begin ≡ false)
 not_reached may_begin has_room (Some held) reaches = absurd reaches
@@ -125,24 +125,24 @@ not_reached true true None reaches = absurd reaches
 not_reached true false None reaches = search rules
 not_reached false has_room None reaches = (refl, refl)
 
--- An event that begins nothing finds no desk full.
+-- If an event may not begin a transaction, its outcome is not DeskFull.
 begins_in_room : (has_room : Bool) (found : Option DeskEntry) → Reaches false has_room found DeskFull → ⊥
 begins_in_room has_room (Some held) reaches = reaches
 begins_in_room has_room None reaches = search rules
 
 module _ (projects : EachProjects) (reaches : EachReaches) (after : EachStands) (txn : Qualifiers) where
-  -- An event does to a transaction at two desks what it does to the two sides of it.
+  -- The projection to `txn` after an event of two desks is the world after the event of two parties.
   abbrev HappensAlike : DeskParties → DeskEvent → Type 0
   HappensAlike w event = project txn (desks_happen w event).1 ≡ (happens (project txn w) (plain event)).1
 
-  -- An event of another transaction changes nothing.
+  -- An event of another transaction leaves the projection unchanged.
   other_stays : (w : DeskParties) (event : DeskEvent) → concerns txn event ≡ false → DesksStand w
       → project txn (desks_happen w event).1 ≡ project txn w
   other_stays w event is stands =
       seen_elsewhere (concerns txn event) is (happens (project txn w) (plain event)) (project txn w)
       (project txn (desks_happen w event).1) (desks_happen w event).0 (projects txn w event stands)
 
-  -- An event of the transaction happens alike, if an event that is not reached changes nothing.
+  -- `HappensAlike` holds of an event of `txn`, if an event that reaches no side changes nothing.
   alike : (w : DeskParties) (event : DeskEvent) → concerns txn event ≡ true → DesksStand w
       → ((desks_happen w event).0 ≡ DeskFull → ⊥)
       → ((desks_happen w event).0 ≡ NoSuchTransaction → (happens (project txn w) (plain event)).1 ≡ project txn w)
@@ -151,7 +151,7 @@ module _ (projects : EachProjects) (reaches : EachReaches) (after : EachStands) 
       seen_alike (concerns txn event) is (happens (project txn w) (plain event)) (project txn w)
       (project txn (desks_happen w event).1) (desks_happen w event).0 (projects txn w event stands) room stays
 
-  -- A Send in the transaction happens alike.
+  -- `HappensAlike` holds of a Send in `txn`.
   send_alike : (w : DeskParties) (role : Who) (n : ℕ) → DesksStand w → HappensAlike w (desk_events.Send role txn n)
   send_alike w role n stands = alike w event (same_self txn) stands
       (λ full. begins_in_room has_room found (reached DeskFull full)) stays
@@ -178,7 +178,7 @@ module _ (projects : EachProjects) (reaches : EachReaches) (after : EachStands) 
           ∙ unheld_issues txn (party w role).live (not_reached false has_room found (reached NoSuchTransaction missed)).0 in
           ap (with_party v role) (idle_sends (party v role) n (nat_le n (party v role).released) nothing) ∙ same_party v role
 
-  -- A message that does not reach its transaction changes nothing of the side that is shown.
+  -- If a delivery does not reach its transaction, the side that is shown does not change.
   idle_stays : (w : DeskParties) (role : Who) (n : ℕ) (a : Apdu) → DesksStand w
       → sent_message (sent_for txn (party w (other role)).sent) n ≡ Some a
       → (desks_happen w (desk_events.Deliver role txn n)).0 ≡ NoSuchTransaction
@@ -205,7 +205,7 @@ module _ (projects : EachProjects) (reaches : EachReaches) (after : EachStands) 
           ap (λ side. record (party_for txn w.responder) { live = side })
           (ap (λ side. (takes side a).1) idle ∙ idle_takes txn a missed.1 ∙ sym idle)
 
-  -- A delivery in the transaction happens alike.
+  -- `HappensAlike` holds of a delivery in `txn`.
   deliver_alike : (w : DeskParties) (role : Who) (n : ℕ) → DesksStand w → HappensAlike w (desk_events.Deliver role txn n)
   deliver_alike w role n stands = alike w event (same_self txn) stands (λ full. finds_room reaches w role txn n stands full) stays
     where
@@ -228,7 +228,7 @@ module _ (projects : EachProjects) (reaches : EachReaches) (after : EachStands) 
 
   -- ---- the messages of a side
 
-  -- Passing on messages of the transaction leads on as in it alone.
+  -- To pass on messages of `txn` leads the projection on as two parties.
   passes_alike : (w : DeskParties) (role : Who) (n count : ℕ) → DesksStand w
       → project txn (desks_run w (map (in_txn txn) (sends_and_delivers role n count)))
       ≡ run_of (project txn w) (sends_and_delivers role n count)
@@ -244,7 +244,7 @@ module _ (projects : EachProjects) (reaches : EachReaches) (after : EachStands) 
       (deliver_alike sent (other role) n sent_stands
       ∙ ap (λ v. (happens v (events.Deliver (other role) n)).1) (send_alike w role n stands))
 
-  -- Passing on messages of another transaction changes nothing.
+  -- To pass on messages of another transaction leaves the projection unchanged.
   others_stay : (of : Qualifiers) → is_same_txn txn of ≡ false → (w : DeskParties) (role : Who) (n count : ℕ) → DesksStand w
       → project txn (desks_run w (map (in_txn of) (sends_and_delivers role n count))) ≡ project txn w
   unfolding sends_and_delivers run_by
@@ -260,13 +260,13 @@ module _ (projects : EachProjects) (reaches : EachReaches) (after : EachStands) 
 
   -- ---- the messages of a desk
 
-  -- Passing on the messages of sides is passing on those of the first side, and then those of the others.
+  -- To pass on the messages of sides is to pass on those of the first side, and then those of the others.
   passes_both : (w : DeskParties) (role : Who) (side : Side) (more : List Side)
       → desks_run w (flat_map (passes_side role) (side ∷ more))
       ≡ desks_run (desks_run w (passes_side role side)) (flat_map (passes_side role) more)
   passes_both w role side more = run_both desks_happen w (passes_side role side) (flat_map (passes_side role) more)
 
-  -- Passing on the messages of sides of other transactions changes nothing.
+  -- To pass on the messages of sides of other transactions leaves the projection unchanged.
   sides_stay : (w : DeskParties) (role : Who) (all : List Side) → is_one_of txn (map txn_of all) ≡ false → DesksStand w
       → project txn (desks_run w (flat_map (passes_side role) all)) ≡ project txn w
   unfolding run_by
@@ -277,7 +277,7 @@ module _ (projects : EachProjects) (reaches : EachReaches) (after : EachStands) 
       ∙ sides_stay (desks_run w (passes_side role side)) role more parts.1 (desks_stand_on after w (passes_side role side) stands)
       ∙ others_stay (txn_of side) parts.0 w role 1 (length (issued_of side)) stands
 
-  -- Passing on the messages of sides that are apart is, in the transaction, passing on those of its side.
+  -- No two of the sides are of one transaction. To pass on their messages is, in `txn`, to pass on those of its side.
   pub sides_alike : (w : DeskParties) (role : Who) (idle : Side) → issued_of idle ≡ [] → (all : List Side)
       → AreApart (map txn_of all) → DesksStand w
       → project txn (desks_run w (flat_map (passes_side role) all))
@@ -317,14 +317,14 @@ module _ (projects : EachProjects) (reaches : EachReaches) (after : EachStands) 
 
   -- ---- a round
 
-  -- No two sides of a desk are of one transaction.
+  -- No two sides that a desk holds are of one transaction.
   pub held_apart : (w : DeskParties) (role : Who) → DesksStand w → AreApart (map txn_of (sides_held (party w role).live).sides)
   held_apart w who.Requester stands =
       subst AreApart (sym (map-map txn_of (λ (held : DeskEntry). held.side) w.requester.live.held)) stands.counts.0.0
   held_apart w who.Responder stands =
       subst AreApart (sym (map-map txn_of (λ (held : DeskEntry). held.side) w.responder.live.held)) stands.counts.2.0
 
-  -- The half of a desk is, in the transaction, the half of its side.
+  -- In `txn` the half of a round of a desk is the half of a round of its side.
   half_alike : (w : DeskParties) (role : Who) → DesksStand w
       → project txn (desks_run w (desk_half_of role w)) ≡ run_of (project txn w) (half_of role (project txn w))
   unfolding run_by side_with
@@ -350,7 +350,7 @@ module _ (projects : EachProjects) (reaches : EachReaches) (after : EachStands) 
           ∙ ap (λ v. run_of v (sends_and_delivers role 1 (length (issued_of (held_for txn live).side))))
           (projects txn w (desk_events.Save role) stands).1
 
-  -- A round of two desks is a round of both sides in the transaction.
+  -- In `txn` a round of two desks is a round of both sides.
   pub round_alike : (w : DeskParties) → DesksStand w
       → project txn (desks_run w (desk_round_of w)) ≡ run_of (project txn w) (round_of (project txn w))
   round_alike w stands =

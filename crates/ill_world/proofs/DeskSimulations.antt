@@ -1,4 +1,4 @@
--- The trace of a run of two desks.
+-- The trace of a run of two desks grows by one line with each event.
 use Rattle.std.proofs.Common.{arith, ◌≡◌, ◌+◌, List, [], ◌∷◌, ◌++◌, length, refl, sym, ap, ◌∙◌}
 use Rattle.ill_saved.specs.Side.{IsPrefix}
 use Rattle.ill_world.specs.World.{run_by}
@@ -8,22 +8,22 @@ use Rattle.ill_world.specs.DeskSimulation.{two_desks, desk_events, desk_trace_of
 use Rattle.ill_world.specs.Trace.{desk_line}
 use Rattle.ill_world.proofs.Simulations.{run_more, trace_line, trace_prefix}
 
--- Returns the desks after events, each with its transaction in use.
+-- Returns the desks after `events`, each of which has its transaction in use.
 abbrev run_in : DeskParties → List EventIn → DeskParties
 run_in w events = desks_run w (desk_events events)
 
--- Running events is running all but the first from the desks after the first.
+-- The run of events is the first event, and then the run of the others.
 run_in_next : (w : DeskParties) (event : EventIn) (events : List EventIn)
     → run_in w (event ∷ events) ≡ run_in (two_desks.next w event) events
 unfolding run_by
 run_in_next w event events = refl
 
--- Running no events leaves the desks.
+-- The run of no events leaves the desks unchanged.
 run_in_none : (w : DeskParties) → run_in w [] ≡ w
 unfolding run_by
 run_in_none w = refl
 
--- One event more adds its line to the trace.
+-- One more event adds its line to the trace.
 pub desks_line : (events : List EventIn) (event : EventIn)
     → desk_trace_of (events ++ event ∷ []) ≡ desk_trace_of events ++ desk_line_after events event
 desks_line events event =
@@ -35,5 +35,6 @@ desks_line events event =
     (sym (run_more two_desks run_in run_in_none run_in_next first_desks events event)) in
     trace_line two_desks run_in run_in_none run_in_next 1 first_desks events event ∙ ap (λ t. desk_trace_of events ++ t) text
 
+-- The trace of `events` is a prefix of the trace of `events ++ more`.
 pub desks_prefix : (events more : List EventIn) → IsPrefix (desk_trace_of events) (desk_trace_of (events ++ more))
 desks_prefix events more = trace_prefix two_desks run_in run_in_none run_in_next 1 first_desks events more

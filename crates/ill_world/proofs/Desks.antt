@@ -1,4 +1,4 @@
--- Why two desks are safe in each transaction.
+-- In each transaction two desks are safe, since each of their events is an event of the two parties or changes nothing.
 use Rattle.std.proofs.Common.{rules, ◌≡◌, ℕ, Bool, true, false, if◌then◌else◌, List, [], ◌∷◌, Option, Some, None, Result, Ok, Err}
 use Rattle.std.proofs.Common.{refl, sym, ap, ◌∙◌, subst}
 use Rattle.ill_values.specs.TxnId.{Qualifiers}
@@ -44,15 +44,16 @@ use Rattle.ill_world.proofs.Uniqueness.{message_number}
 use Rattle.ill_world.proofs.Worlds.{same_dates}
 use Rattle.ill_world.proofs.Projections.{PartySeen, KeepsTo, party_seen, first_project}
 
--- ---- an event of two desks, of one transaction
+-- ---- an event of two desks, seen in one transaction
 
--- If a world is seen as expected, so is each part of it.
+-- If `IsSeenAs` holds of a world, it holds of each part of it.
 seen_in : {P Q : Type 0} (f : P → Q) (own : Bool) (expected : Outcome × P) (old new : P) (outcome : DeskOutcome)
     → IsSeenAs own expected old outcome new → IsSeenAs own (expected.0, f expected.1) (f old) outcome (f new)
 seen_in f true expected old new outcome seen = (seen.0, ap f seen.1)
 seen_in f false expected old new outcome seen = ap f seen
 
--- Outcome and projection of `txn` are as expected after an event at the desk in role `role`, or the projection stays.
+-- The outcome and the projection to `txn` are as expected after an event at the desk of `role`. Or the projection is
+-- unchanged.
 abbrev SeenAt : Qualifiers → DeskParties → Who → DeskEvent → Type 0
 SeenAt txn w role event =
     let after = happens_at w role (λ p partner. desk_happens_to p partner.sent event) in
@@ -60,7 +61,7 @@ SeenAt txn w role event =
     (happens_at (project txn w) role (λ p partner. happens_to p partner.sent (plain event))) (project txn w) after.0
     (project txn after.1)
 
--- If the party of `txn` is seen as expected at its desk, so is the projection. The other desk stays as it is.
+-- If `PartySeen` holds at the desk of `role`, `SeenAt` holds of both desks. The other desk is unchanged.
 seen_at : (txn : Qualifiers) (w : DeskParties) (role : Who) (event : DeskEvent)
     → PartySeen txn (party w role) (party w (other role)).sent event → SeenAt txn w role event
 seen_at txn w who.Requester event seen =
@@ -74,35 +75,35 @@ seen_at txn w who.Responder event seen =
     (happens_to (party_for txn w.responder) (sent_for txn w.requester.sent) (plain event)) (party_for txn w.responder)
     (party_for txn after.1) after.0 seen
 
--- ---- the roles to which two desks keep
+-- ---- the roles of two desks
 
--- A side that stands as a requester's is in the role of the requester.
+-- If `RequesterSideStands` holds of a side, its role is the requester's.
 requesters : (txn : Qualifiers) (side : Side) (partner_sent : List (Option Apdu)) → RequesterSideStands txn side partner_sent
     → role_of side ≡ who.Requester
 requesters txn (sides.Requester x) partner_sent stands = refl
 requesters txn (sides.Responder y) partner_sent stands = absurd stands
 
--- A side that stands as a responder's is in the role of the responder.
+-- If `ResponderSideStands` holds of a side, its role is the responder's.
 responders : (txn : Qualifiers) (side : Side) (partner_sent : List (Option Apdu)) → ResponderSideStands txn side partner_sent
     → role_of side ≡ who.Responder
 responders txn (sides.Responder y) partner_sent stands = refl
 responders txn (sides.Requester x) partner_sent stands = absurd stands
 
--- Each message that a requester's side that stands has issued is of its transaction.
+-- If `RequesterSideStands` holds of a side, each message that it has issued is of `txn`.
 requesters_txn : (txn : Qualifiers) (side : Side) (partner_sent : List (Option Apdu)) (n : ℕ) (a : Apdu)
     → RequesterSideStands txn side partner_sent → message (issued_of side) n ≡ Some a → txn ≡ a.txn
 requesters_txn txn (sides.Requester x) partner_sent n a stands at =
     sym (same_is a.txn x.txn (message_number x.txn x.issued n a stands.rules.numbered at).0 ∙ stands.same_txn)
 requesters_txn txn (sides.Responder y) partner_sent n a stands at = absurd stands
 
--- Each message that a responder's side that stands has issued is of its transaction.
+-- If `ResponderSideStands` holds of a side, each message that it has issued is of `txn`.
 responders_txn : (txn : Qualifiers) (side : Side) (partner_sent : List (Option Apdu)) (n : ℕ) (a : Apdu)
     → ResponderSideStands txn side partner_sent → message (issued_of side) n ≡ Some a → txn ≡ a.txn
 responders_txn txn (sides.Responder y) partner_sent n a stands at =
     sym (same_is a.txn y.txn (message_number y.txn y.issued n a stands.rules.numbered at).0 ∙ stands.same_txn)
 responders_txn txn (sides.Requester x) partner_sent n a stands at = absurd stands
 
--- Each of two desks that stand keeps to its role.
+-- If `DesksStand` holds of two desks, `KeepsTo` holds of each.
 pub keeps_to : (w : DeskParties) (role : Who) → DesksStand w → KeepsTo role (party w role) (party w (other role)).sent
 keeps_to w who.Requester stands = record {
   role_is = stands.requester.0;
@@ -119,7 +120,7 @@ keeps_to w who.Responder stands = record {
       requesters_txn txn _ _ n a requester.landed (requester.saved.landed n a at);
 }
 
--- By the laws of the rows, `Projects` holds of each event at two desks that stand.
+-- `Projects` holds of each event at two desks that satisfy `DesksStand`.
 pub desk_projects : RowsGrow → Quiet → (txn : Qualifiers) (w : DeskParties) (event : DeskEvent) → DesksStand w
     → Projects txn w event
 desk_projects grows rows txn w event stands =
@@ -128,32 +129,37 @@ desk_projects grows rows txn w event stands =
 
 -- ---- a desk keeps its role
 
+-- A decision at a held side leaves the roles of a desk.
 acted_role : (role : Who) (p : DeskParty) (held : DeskEntry) (result : Result Side Refusal) → IsDeskOf role p
     → IsDeskOf role (desk_decides p (acted_at p.live held result)).1
 acted_role role p held (Ok new) is = is
 acted_role role p held (Err refusal) is = is
 
+-- A decision leaves the roles of a desk, if its side is reached or not.
 reached_role : (role : Who) (p : DeskParty) (action : Action) (found : Result DeskEntry DeskFault) → IsDeskOf role p
     → IsDeskOf role (desk_decides p (acts_reached p.live action found)).1
 reached_role role p action (Ok held) is = acted_role role p held (acts held.side action) is
 reached_role role p action (Err fault) is = is
 
+-- A decision leaves the roles of a desk, if its role may act or not.
 decided_role : (role : Who) (p : DeskParty) (action : Action) (found : Result DeskEntry DeskFault) (may : Bool) → IsDeskOf role p
     → IsDeskOf role (desk_decides p (if may then acts_reached p.live action found else Err (faults.Core WrongRole))).1
 decided_role role p action found true is = reached_role role p action found is
 decided_role role p action found false is = is
 
+-- A message that a held side takes leaves the live role of a desk.
 took_role : (role : Who) (p : DeskParty) (held : DeskEntry) (answer : Result _ Refusal) (new : Side) → IsDeskOf role p
     → (took_at p.live held (answer, new)).1.role ≡ role
 took_role role p held (Ok _) new is = is.0
 took_role role p held (Err refusal) new is = is.0
 
+-- A message leaves the live role of a desk, if its side is reached or not.
 takes_role : (role : Who) (p : DeskParty) (a : Apdu) (found : Result DeskEntry DeskFault) → IsDeskOf role p
     → (takes_reached p.live a found).1.role ≡ role
 takes_role role p a (Ok held) is = took_role role p held (takes held.side a).0 (takes held.side a).1 is
 takes_role role p a (Err fault) is = is.0
 
--- A desk keeps its role when it receives a message.
+-- A delivery leaves the roles of a desk.
 pub receives_role : (role : Who) (p : DeskParty) (found : Option Apdu) → IsDeskOf role p → IsDeskOf role (desk_receives p found).1
 receives_role role p None is = is
 receives_role role p (Some a) is = (go (is_own p.live.role a.body), is.1)
@@ -163,19 +169,20 @@ receives_role role p (Some a) is = (go (is_own p.live.role a.body), is.1)
     go true = is.0
     go false = takes_role role p a (reached p.live a.txn (is_ill_request a.body)) is
 
--- A desk keeps its role at a Send, if it does so after the message is added.
+-- A Send leaves the roles of a desk, if the sent message does.
 sends_role : (role : Who) (p : DeskParty) (after : Apdu → DeskParty) (issued : Option Apdu) (released : Bool)
     → IsDeskOf role p → ((a : Apdu) → IsDeskOf role (after a)) → IsDeskOf role (sends_by p after issued released).1
 sends_role role p after None released is sent = is
 sends_role role p after (Some a) false is sent = is
 sends_role role p after (Some a) true is sent = sent a
 
+-- A Send of message n in transaction `of` leaves the roles of a desk.
 send_role : (role : Who) (p : DeskParty) (of : Qualifiers) (n : ℕ) (found : Option DeskEntry) → IsDeskOf role p
     → IsDeskOf role (desk_sends p of n found).1
 send_role role p of n None is = is
 send_role role p of n (Some held) is = sends_role role p _ _ _ is (λ a. is)
 
--- A desk keeps its role at each event.
+-- Each event leaves the roles of its desk.
 role_kept : (role : Who) (p : DeskParty) (partner_sent : List Sending) (event : DeskEvent) → IsDeskOf role p
     → IsDeskOf role (desk_happens_to p partner_sent event).1
 role_kept role p partner_sent (events.Wish of wish) is =
@@ -192,7 +199,7 @@ role_kept role p partner_sent (events.Deliver at of n) is = receives_role role p
 role_kept role p partner_sent (events.Noise at bytes) is = is
 role_kept role p partner_sent (events.Restart at) is = (is.1, is.1)
 
--- Both desks keep their roles at each event.
+-- Each event leaves the roles of both desks.
 roles_kept : (w : DeskParties) (role : Who) (event : DeskEvent) → IsDeskOf who.Requester w.requester
     → IsDeskOf who.Responder w.responder
     → let after = (happens_at w role (λ p partner. desk_happens_to p partner.sent event)).1 in
@@ -204,13 +211,13 @@ roles_kept w who.Responder event requester responder =
 
 -- ---- worlds
 
--- A fact that held of the old world, and holds of the expected one, holds of the world that is seen.
+-- If `F` holds of the old world and of the expected one, it holds of the world that is seen.
 seen_keeps : {P : Type 0} (F : P → Type 0) (own : Bool) (expected : Outcome × P) (old new : P) (outcome : DeskOutcome)
     → IsSeenAs own expected old outcome new → F old → F expected.1 → F new
 seen_keeps F true expected old new outcome seen before after = subst F (sym seen.1) after
 seen_keeps F false expected old new outcome seen before after = subst F (sym seen) before
 
--- Two desks that hold nothing stand.
+-- Two desks that hold nothing satisfy `DesksStand`.
 pub desks_first : DesksCount first_desks → ((txn : Qualifiers) → Invariant txn (first_world txn)) → DesksStand first_desks
 desks_first counts stands = record {
   requester = (refl, refl);
@@ -219,7 +226,7 @@ desks_first counts stands = record {
   each = λ txn. subst (Invariant txn) (sym (first_project txn)) (stands txn);
 }
 
--- If two desks stand, they stand after an event, when `DesksCount` holds then.
+-- If two desks satisfy `DesksStand`, and `DesksCount` holds after an event, `DesksStand` holds after it.
 pub desks_after : RowsGrow → Quiet → ((txn : Qualifiers) → After txn) → (w : DeskParties) (event : DeskEvent)
     → DesksStand w → DesksCount (desks_happen w event).1 → DesksStand (desks_happen w event).1
 desks_after grows rows after w event stands counts =
@@ -236,16 +243,16 @@ desks_after grows rows after w event stands counts =
 
 -- ---- runs
 
--- `Projects` holds of each event at two desks that stand.
+-- `Projects` holds of each event at two desks that satisfy `DesksStand`.
 abbrev pub EachProjects : Type 0
 EachProjects = (txn : Qualifiers) (w : DeskParties) (event : DeskEvent) → DesksStand w → Projects txn w event
 
--- If two desks stand, they stand after each event.
+-- Each event keeps `DesksStand`.
 abbrev pub EachStands : Type 0
 EachStands = (w : DeskParties) (event : DeskEvent) → DesksStand w → DesksStand (desks_happen w event).1
 
--- If an event is one of the transaction, running `more` after it is running it and `more`. Otherwise it is running
--- `more` alone.
+-- If the event is one of the transaction, the run of `more` from `new` is the run of the event and `more` from `w`.
+-- Otherwise it is the run of `more` from `w`.
 leads_on : (own : Bool) (w : Parties) (event : Event) (more : List Event) (new : Parties) (outcome : DeskOutcome)
     → IsSeenAs own (happens w event) w outcome new
     → run_of new more ≡ run_of w (if own then event ∷ more else more)
@@ -253,13 +260,13 @@ unfolding run_by
 leads_on true w event more new outcome seen = ap (λ v. run_of v more) seen.1
 leads_on false w event more new outcome seen = ap (λ v. run_of v more) seen
 
--- If two desks stand, they stand after any events.
+-- Any events keep `DesksStand`.
 pub desks_stand_on : EachStands → (w : DeskParties) (events : List DeskEvent) → DesksStand w → DesksStand (desks_run w events)
 unfolding run_by
 desks_stand_on after w [] stands = stands
 desks_stand_on after w (event ∷ events) stands = desks_stand_on after (desks_happen w event).1 events (after w event stands)
 
--- The projection of two desks that stand, after events, is the world after the events of the transaction.
+-- The projection of two desks after events is the world after the events of the transaction.
 pub run_projects : EachProjects → EachStands → (txn : Qualifiers) (w : DeskParties) (events : List DeskEvent)
     → DesksStand w → project txn (desks_run w events) ≡ run_of (project txn w) (events_for txn w events)
 unfolding run_by events_for
@@ -270,7 +277,7 @@ run_projects projects after txn w (event ∷ events) stands =
     ∙ leads_on (is_event_of txn w event) (project txn w) (plain event) (events_for txn next events) (project txn next)
     (desks_happen w event).0 (projects txn w event stands)
 
--- From two desks on that hold nothing, the projection after events is the world after those of the transaction.
+-- The projection of two desks that held nothing at first is the world after the events of the transaction.
 pub first_run_projects : EachProjects → EachStands → DesksStand first_desks
     → (txn : Qualifiers) (events : List DeskEvent)
     → project txn (desks_run first_desks events) ≡ run_of (first_world txn) (events_for txn first_desks events)
@@ -280,6 +287,7 @@ first_run_projects projects after first txn events =
 
 -- ---- dates
 
+-- If an event of two parties keeps the due dates, an event of two desks keeps them in each transaction.
 pub desk_dates : EachProjects → ((txn : Qualifiers) (w : Parties) (event : Event) → Invariant txn w
     → KeepsDates w event (happens w event).1) → (txn : Qualifiers) (w : DeskParties) (event : DeskEvent) → DesksStand w
     → KeepsDates (project txn w) (plain event) (project txn (desks_happen w event).1)
@@ -290,7 +298,7 @@ desk_dates projects stay txn w event stands =
 
 -- ---- changes
 
--- Two outcomes are equal if they are equal as outcomes of desks.
+-- If two outcomes are equal as outcomes of desks, they are equal.
 pub same_plain : (a b : Outcome) → ◌≡◌ {A = DeskOutcome} (Plain a) (Plain b) → a ≡ b
 same_plain a b e = search rules
 
@@ -308,7 +316,7 @@ unchanged false expected old new (Plain outcome) seen changes same =
 unchanged own expected old new NoSuchTransaction seen changes same = seen
 unchanged own expected old new DeskFull seen changes same = seen
 
--- If the outcome of each event of a transaction allows its change, that of each event of desks does.
+-- If the outcome of each event of two parties allows its change, so does the outcome of each event of two desks.
 pub desk_changes : EachProjects
     → ((w : Parties) (event : Event) → MayChange OnlyLandedChanges (happens w event).0 w (happens w event).1)
     → (txn : Qualifiers) (w : DeskParties) (event : DeskEvent) → DesksStand w
@@ -318,6 +326,7 @@ desk_changes projects changes txn w event stands =
     (desks_happen w event).0 (projects txn w event stands)
     (changes (project txn w) (plain event)) (same_changes (project txn w))
 
+-- If an event of two parties keeps the sent messages, an event of two desks keeps them in each transaction.
 pub desk_keeps_sent : EachProjects
     → ((txn : Qualifiers) (w : Parties) (event : Event) → Invariant txn w → KeepsSent w (happens w event).1)
     → (txn : Qualifiers) (w : DeskParties) (event : DeskEvent) → DesksStand w

@@ -1,4 +1,4 @@
--- Each event of desks is an event of one transaction, or leaves its projection.
+-- Each event of desks is an event of one transaction, or leaves its projection unchanged.
 use Rattle.std.proofs.Common.{rules, ◌≡◌, ◌⊎◌, inl, inr, ℕ, nat_le, nat_lt, length, Bool, true, false, cond, if◌then◌else◌, List}
 use Rattle.std.proofs.Common.{Option, Some, None, Result, Ok, Err, refl, ap, sym, subst, ◌∙◌}
 use Rattle.std.specs.Prelude.{option_map}
@@ -53,7 +53,7 @@ found_either : {X : Type 0} (same : Bool) (instead new : X) (found : Option X)
 found_either true instead new found = refl
 found_either false instead new found = refl
 
--- once a side was put: it, or what there was of another transaction
+-- After the desk puts the entry `new`, `txn` has this entry if it is its transaction, or else its old one.
 held_after : (txn : Qualifiers) (live : DeskContents) (new : DeskEntry)
     → held_for txn (with_held live new) ≡ cond (is_same_txn txn (txn_held new)) new (held_for txn live)
 held_after txn live new =
@@ -66,7 +66,7 @@ sent_either : (same : Bool) (instead new : Sending) (found : Option Sending)
 sent_either true instead new found = refl
 sent_either false instead new found = refl
 
--- After `a` is sent in `of`, this transaction has it as message n, and each other one its old messages.
+-- After `a` is sent in `of`, this transaction has it as message n. Each other one has its old messages.
 sent_after : (txn of : Qualifiers) (all : List Sending) (n : ℕ) (a : Apdu)
     → sent_for txn (with_sent_for of all n a) ≡ cond (is_same_txn txn of) (with_sent (sent_for of all) n a) (sent_for txn all)
 sent_after txn of all n a =
@@ -74,43 +74,45 @@ sent_after txn of all n a =
     ap (λ found. (found_or {X = Sending} (record { txn = txn; sent = nothing_sent }) found).sent) (found_put txn_sent txn new all)
     ∙ sent_either (is_same_txn txn of) (record { txn = txn; sent = nothing_sent }) new (found_by txn_sent txn all)
 
--- An idle entry is an idle side with all its messages released.
+-- An idle entry is an idle side, all of whose messages are released.
 whole_idle : (role : Who) (txn : Qualifiers) → idle_held role txn ≡ whole (idle_side role txn)
 whole_idle who.Requester txn = refl
 whole_idle who.Responder txn = refl
 
--- An entry made of the side found, or an idle entry, is made of the side found or an idle side.
+-- The entry of the found side, or an idle entry, is the entry of the found side or of an idle side.
 whole_found : (role : Who) (txn : Qualifiers) (found : Option Side)
     → found_or (idle_held role txn) (option_map whole found) ≡ whole (found_or (idle_side role txn) found)
 whole_found role txn (Some side) = refl
 whole_found role txn None = whole_idle role txn
 
--- After a restart the entry of `txn` is the landed side of `txn`, with all its messages released.
+-- After a restart the entry of `txn` is its landed side, with all messages released.
 whole_for : (txn : Qualifiers) (all : SidesOf) → held_for txn (whole_of all) ≡ whole (side_for txn all)
 unfolding side_with
 whole_for txn all =
     ap (found_or (idle_held all.role txn)) (found_mapped txn_of txn_held whole (λ side. refl) txn all.sides)
     ∙ whole_found all.role txn (found_by txn_of txn all.sides)
 
--- An idle side of `txn` is of the transaction `txn`.
+-- An idle side of `txn` has the transaction `txn`.
 pub idle_txn : (role : Who) (txn : Qualifiers) → txn_of (idle_side role txn) ≡ txn
 idle_txn who.Requester txn = refl
 idle_txn who.Responder txn = refl
 
+-- The entry found for `txn`, or an idle entry of `txn`, has the transaction `txn`.
 found_txn : (role : Who) (txn : Qualifiers) (held : List DeskEntry) (found : Option DeskEntry)
     → found_by txn_held txn held ≡ found → txn_held (found_or (idle_held role txn) found) ≡ txn
 found_txn role txn held (Some there) e = sym (found_is txn_held txn held there e)
 found_txn role txn held None e = idle_txn role txn
 
--- the side that a desk has of a transaction is of it
+-- The entry that a desk has for `txn` has the transaction `txn`.
 pub held_txn : (txn : Qualifiers) (live : DeskContents) → txn_held (held_for txn live) ≡ txn
 held_txn txn live = found_txn live.role txn live.held (found_by txn_held txn live.held) refl
 
+-- A transition keeps the transaction of a side.
 pub row_txn : RowsGrow → (old new : Side) → IsStep old new → txn_of new ≡ txn_of old
 row_txn grows old new row =
     sym (idle_txn (role_of new) (txn_of new)) ∙ ap txn_of (grows old new row).0 ∙ idle_txn (role_of old) (txn_of old)
 
--- what there is of a transaction is shown
+-- The projection of a desk to `txn` has all that the desk holds of it.
 pub shows : (p : DeskParty) (txn : Qualifiers) → ProjectsTo p txn (party_for txn p)
 shows p txn = record {
   live = λ held found.
@@ -122,13 +124,12 @@ shows p txn = record {
 
 -- ---- an event of one transaction
 
--- After an event that names `of`, outcome and party are as expected of `txn` if it is `of`. Otherwise the party stays
--- as it was.
+-- An event names `of`. If `of` is `txn`, outcome and party are as expected of `txn`. Otherwise the party is unchanged.
 abbrev Seen : (Qualifiers → Outcome × Party) → Qualifiers → DeskParty → Qualifiers → DeskOutcome × DeskParty → Type 0
 Seen expected of p txn after = IsSeenAs (if_reached after.0 (is_same_txn txn of)) (expected txn) (party_for txn p) after.0
     (party_for txn after.1)
 
--- An event is seen as expected in all transactions, if `of` has the expected party, and each other its old one.
+-- If `of` has the expected party, and each other transaction its old one, `Seen` holds in all transactions.
 single : (expected : Qualifiers → Outcome × Party) (of : Qualifiers) (p new : DeskParty) (outcome : Outcome)
     → expected of ≡ (outcome, party_for of new)
     → ((txn : Qualifiers) → is_same_txn txn of ≡ false → party_for txn new ≡ party_for txn p) → (txn : Qualifiers)
@@ -143,15 +144,16 @@ single expected of p new outcome here there txn = go (is_same_txn txn of) refl
         (ap (λ (r : Outcome × Party). Plain r.0) (sym is), ap (λ (r : Outcome × Party). r.1) (sym is))
     go false e = there txn e
 
--- An event that leaves the desk, and is expected to leave the party of `of`, is seen as expected in all.
+-- If the desk is unchanged, and the party of `of` is expected to be, `Seen` holds in all transactions.
 nothing_done : (expected : Qualifiers → Outcome × Party) (of : Qualifiers) (p : DeskParty) (outcome : Outcome)
     → expected of ≡ (outcome, party_for of p) → (txn : Qualifiers) → Seen expected of p txn (Plain outcome, p)
 nothing_done expected of p outcome here = single expected of p p outcome here (λ txn another. refl)
 
+-- Returns the entry `held` with the side `new`.
 abbrev next_held : DeskEntry → Side → DeskEntry
 next_held held new = record { side = new; released = held.released }
 
--- If a desk puts the side `new` for `of`, as expected, the event is seen as expected in all transactions.
+-- If the desk puts the side `new` for `of`, as expected, `Seen` holds in all transactions.
 goes_on : (expected : Qualifiers → Outcome × Party) (of : Qualifiers) (p : DeskParty) (new : Side) (outcome : Outcome)
     → txn_of new ≡ of
     → expected of ≡ (outcome, record (party_for of p) { live = new }) → (txn : Qualifiers)
@@ -185,16 +187,18 @@ goes_on expected of p new outcome is here =
 abbrev IsNotReached : DeskFault → Type 0
 IsNotReached fault = (fault ≡ faults.NoSuchTransaction) ⊎ (fault ≡ faults.DeskFull)
 
--- An event that has such a fault, and leaves the desk, is seen as expected in all transactions.
+-- If the event has such a fault, and the desk is unchanged, `Seen` holds in all transactions.
 not_reached : (expected : Qualifiers → Outcome × Party) (of : Qualifiers) (p : DeskParty) (fault : DeskFault)
     → IsNotReached fault → (txn : Qualifiers) → Seen expected of p txn (fault_seen fault, p)
 not_reached expected of p fault (inl is) txn = subst (λ f. Seen expected of p txn (fault_seen f, p)) (sym is) refl
 not_reached expected of p fault (inr is) txn = subst (λ f. Seen expected of p txn (fault_seen f, p)) (sym is) refl
 
+-- The event reaches the entry `held`, or has such a fault.
 abbrev Reaches : DeskEntry → Result DeskEntry DeskFault → Type 0
 Reaches held (Ok found) = found ≡ held
 Reaches held (Err fault) = IsNotReached fault
 
+-- An event reaches the entry that is found or begun, or has such a fault.
 reaches : (may_begin has_room : Bool) (idle : DeskEntry) (found : Option DeskEntry)
     → Reaches (found_or idle found) (held_or_begun may_begin has_room idle found)
 reaches may_begin has_room idle (Some held) = refl
@@ -208,7 +212,7 @@ reaches false has_room idle None = inl refl
 abbrev decided : DeskParty → Action → Qualifiers → Outcome × Party
 decided p action txn = decides (party_for txn p) (acts (party_for txn p).live action)
 
--- An action at the entry held for `of` is seen as expected in all transactions.
+-- `Seen` holds in all transactions after an action at the entry held for `of`.
 decides_held : RowsGrow → (p : DeskParty) (of : Qualifiers) (action : Action) (result : Result Side Refusal)
     → acts (held_for of p.live).side action ≡ result → (txn : Qualifiers)
     → Seen (decided p action) of p txn (desk_decides p (acted_at p.live (held_for of p.live) result))
@@ -218,6 +222,7 @@ decides_held grows p of action (Ok new) e txn =
 decides_held grows p of action (Err refusal) e txn =
     nothing_done (decided p action) of p (Refused refusal) (ap (decides (party_for of p)) e) txn
 
+-- `Seen` holds in all transactions after an action, if its side is reached or not.
 decides_reached : RowsGrow → (p : DeskParty) (of : Qualifiers) (action : Action) (found : Result DeskEntry DeskFault)
     → Reaches (held_for of p.live) found → (txn : Qualifiers)
     → Seen (decided p action) of p txn (desk_decides p (acts_reached p.live action found))
@@ -226,7 +231,7 @@ decides_reached grows p of action (Ok held) is txn =
     (decides_held grows p of action (acts (held_for of p.live).side action) refl txn)
 decides_reached grows p of action (Err fault) is txn = not_reached (decided p action) of p fault is txn
 
--- An action of the desk's own role is seen as expected in all transactions.
+-- `Seen` holds in all transactions after an action of the desk's own role.
 desk_decides_seen : RowsGrow → (p : DeskParty) (of : Qualifiers) (action : Action)
     → is_same_role p.live.role (role_for action) ≡ true → (txn : Qualifiers)
     → Seen (decided p action) of p txn (desk_decides p (desk_acts p.live of action))
@@ -238,13 +243,13 @@ desk_decides_seen grows p of action may txn =
     (reaches (begins action) (nat_lt (length p.live.held) most_sides) (idle_held p.live.role of)
     (found_by txn_held of p.live.held)) txn)
 
--- ---- messages that come
+-- ---- delivered messages
 
 -- Returns the expected outcome and party of a transaction after message n is delivered in it.
 abbrev received : DeskParty → List Sending → ℕ → Qualifiers → Outcome × Party
 received p partner_sent n txn = receives (party_for txn p) (sent_message (sent_for txn partner_sent) n)
 
--- A side that refuses a message stays as it was.
+-- A side that refuses a message is unchanged.
 taken_by : Quiet → (side new : Side) (a : Apdu) (refusal : Refusal) → takes side a ≡ (Err refusal, new) → new ≡ side
 taken_by rows side new a refusal e =
     elim (quiet rows side a) [
@@ -255,16 +260,17 @@ taken_by rows side new a refusal e =
 
 module _ (grows : RowsGrow) (rows : Quiet) (p : DeskParty) (partner_sent : List Sending) (n : ℕ) (a : Apdu)
     (was : sent_message (sent_for a.txn partner_sent) n ≡ Some a) where
+  -- Returns the outcome and the desk after a message was taken with this answer.
   abbrev desk_took : Result Taking DeskFault × DeskContents → DeskOutcome × DeskParty
   desk_took result = (taking_seen result.0, record p { live = result.1 })
 
-  -- The party of the transaction of `a` has the expected outcome and side after it receives `a`.
+  -- The transaction of `a` has the expected outcome and party after `a` is delivered.
   here : (answer : Result Taking Refusal) (new : Side) → takes (held_for a.txn p.live).side a ≡ (answer, new)
       → received p partner_sent n a.txn ≡ (answer_to answer, record (party_for a.txn p) { live = new })
   here answer new e = ap (receives (party_for a.txn p)) was
       ∙ ap (λ (r : Result Taking Refusal × Side). (answer_to r.0, record (party_for a.txn p) { live = r.1 })) e
 
-  -- A message that the held side takes is seen as expected in all transactions.
+  -- `Seen` holds in all transactions after the held side takes `a`.
   takes_held : (answer : Result Taking Refusal) (new : Side) → takes (held_for a.txn p.live).side a ≡ (answer, new)
       → (txn : Qualifiers)
       → Seen (received p partner_sent n) a.txn p txn (desk_took (took_at p.live (held_for a.txn p.live) (answer, new)))
@@ -277,6 +283,7 @@ module _ (grows : RowsGrow) (rows : Quiet) (p : DeskParty) (partner_sent : List 
       (here (Err refusal) new e ∙ ap (λ side. (Refused refusal, record (party_for a.txn p) { live = side }))
       (taken_by rows (held_for a.txn p.live).side new a refusal e)) txn
 
+  -- `Seen` holds in all transactions after `a` is delivered, if its side is reached or not.
   takes_found : (found : Result DeskEntry DeskFault) → Reaches (held_for a.txn p.live) found → (txn : Qualifiers)
       → Seen (received p partner_sent n) a.txn p txn (desk_took (takes_reached p.live a found))
   takes_found (Ok held) is txn =
@@ -285,7 +292,7 @@ module _ (grows : RowsGrow) (rows : Quiet) (p : DeskParty) (partner_sent : List 
       (takes_held (takes side a).0 (takes side a).1 refl txn)
   takes_found (Err fault) is txn = not_reached (received p partner_sent n) a.txn p fault is txn
 
-  -- A message is seen as expected in all transactions, if the side refuses what its own role issues.
+  -- `Seen` holds in all transactions after a delivery, if the side refuses the messages of its own role.
   desk_takes_seen : (own : Bool) → is_own p.live.role a.body ≡ own
       → (own ≡ true → takes (held_for a.txn p.live).side a ≡ (Err WrongRole, (held_for a.txn p.live).side)) → (txn : Qualifiers)
       → Seen (received p partner_sent n) a.txn p txn (desk_receives p (Some a))
@@ -305,13 +312,13 @@ module _ (grows : RowsGrow) (rows : Quiet) (p : DeskParty) (partner_sent : List 
           (reaches (is_ill_request a.body) (nat_lt (length p.live.held) most_sides) (idle_held p.live.role a.txn)
           (found_by txn_held a.txn p.live.held)) txn
 
--- ---- messages that are sent
+-- ---- sent messages
 
 -- Returns the expected outcome and party of a transaction after a Send of message n.
 abbrev sent_by : DeskParty → ℕ → Qualifiers → Outcome × Party
 sent_by p n txn = sends (party_for txn p) n (message (issued_of (party_for txn p).live) n) (nat_le n (party_for txn p).released)
 
--- A Send at the entry held for `of` is seen as expected in all transactions.
+-- `Seen` holds in all transactions after a Send at the entry held for `of`.
 sends_held : (p : DeskParty) (of : Qualifiers) (n : ℕ) (issued : Option Apdu) (released : Bool)
     → message (issued_of (held_for of p.live).side) n ≡ issued → nat_le n (held_for of p.live).released ≡ released
     → (txn : Qualifiers)
@@ -336,6 +343,7 @@ sends_held p of n (Some a) true is may txn =
     ∙ ap (λ (q : Party). (Sent, q)) (sym (shows of true (same_self of))))
     (λ txn another. shows txn false another) txn
 
+-- `Seen` holds in all transactions after a Send of message n in `of`.
 desk_sends_seen : (p : DeskParty) (of : Qualifiers) (n : ℕ) (found : Option DeskEntry) → found_by txn_held of p.live.held ≡ found
     → (txn : Qualifiers) → Seen (sent_by p n) of p txn (desk_sends p of n found)
 desk_sends_seen p of n None e txn = refl
@@ -346,7 +354,7 @@ desk_sends_seen p of n (Some held) e txn =
 
 -- ---- events of a whole desk
 
--- After a desk saves, it shows the party that has saved.
+-- After a desk saves, it shows the party after its save.
 saves_seen : (p : DeskParty) (txn : Qualifiers) → party_for txn (desk_saves p) ≡ saves (party_for txn p)
 saves_seen p txn =
     ap (λ (h : DeskEntry). record (party_for txn p)
@@ -354,28 +362,27 @@ saves_seen p txn =
     ∙ ap (λ side. record (party_for txn p) { live = side; landed = side; released = length (issued_of side) })
     (side_of_held txn p.live)
 
--- After a save of a desk fails, it shows the party whose save has failed.
+-- After a save of a desk fails, it shows the party after its failed save.
 fault_of_save : (p : DeskParty) (txn : Qualifiers) (landed : Bool)
     → party_for txn (desk_fails_to_save p landed) ≡ fails_to_save (party_for txn p) landed
 fault_of_save p txn true = ap (λ side. record (party_for txn p) { landed = side }) (side_of_held txn p.live)
 fault_of_save p txn false = refl
 
--- After a desk restarts, it shows the party that has restarted.
+-- After a desk restarts, it shows the party after its restart.
 restarts_seen : (p : DeskParty) (txn : Qualifiers) → party_for txn (desk_restarts p) ≡ restarts (party_for txn p)
 restarts_seen p txn = ap (λ (h : DeskEntry). record (party_for txn p) { live = h.side; released = h.released })
     (whole_for txn p.landed)
 
 -- ---- every event
 
--- Outcome and party of `txn` are as expected after an event, or the party stays as it was.
+-- The outcome and the party of `txn` are as expected after an event, or the party is unchanged.
 abbrev pub PartySeen : Qualifiers → DeskParty → List Sending → DeskEvent → Type 0
 PartySeen txn p partner_sent event =
     let after = desk_happens_to p partner_sent event in
     IsSeenAs (if_reached after.0 (concerns txn event)) (happens_to (party_for txn p) (sent_for txn partner_sent) (plain event))
     (party_for txn p) after.0 (party_for txn after.1)
 
--- A desk keeps to its role, with all its sides. A message that it is partner_sent in a transaction is of this
--- transaction.
+-- The desk and all its sides are of `role`. Each message of `partner_sent` is of the transaction in which it was sent.
 pub record KeepsTo (role : Who) (p : DeskParty) (partner_sent : List Sending) : Type 0 where
   pub role_is : p.live.role ≡ role
   pub role_held : (txn : Qualifiers) → role_of (held_for txn p.live).side ≡ role
@@ -391,7 +398,7 @@ own_refused (sides.Responder y) a is own =
     let same : is_same_txn a.txn y.txn ≡ true = ap (is_same_txn a.txn) is ∙ same_self a.txn in
     rw (same, own) refl
 
--- A delivery at a desk that keeps to its role is seen as expected in all transactions.
+-- `PartySeen` holds of a delivery at a desk that satisfies `KeepsTo`.
 delivers_seen : RowsGrow → Quiet → (role : Who) (p : DeskParty) (partner_sent : List Sending) → KeepsTo role p partner_sent
     → (to : Who) (of : Qualifiers) (n : ℕ) (found : Option Apdu) → sent_message (sent_for of partner_sent) n ≡ found
     → (txn : Qualifiers)
@@ -406,16 +413,16 @@ delivers_seen grows rows role p partner_sent keeps to of n (Some a) e txn =
     (λ own. own_refused (held_for a.txn p.live).side a (held_txn a.txn p.live)
     (ap (λ r. is_own r a.body) (keeps.role_held a.txn ∙ sym keeps.role_is) ∙ own)) txn)
 
--- `is_same_role` holds of a role and itself.
+-- A role is `is_same_role` as itself.
 same_role : (role : Who) → is_same_role role role ≡ true
 same_role who.Requester = refl
 same_role who.Responder = refl
 
--- A desk of the role `role` may act in this role.
+-- A desk of `role` may act in this role.
 pub may_act : (p : DeskParty) (role : Who) → p.live.role ≡ role → is_same_role p.live.role role ≡ true
 may_act p role is = ap (λ r. is_same_role r role) is ∙ same_role role
 
--- Each event at a desk that keeps to its role is seen as expected in all transactions.
+-- `PartySeen` holds of each event at a desk that satisfies `KeepsTo`.
 pub party_seen : RowsGrow → Quiet → (p : DeskParty) (partner_sent : List Sending) (event : DeskEvent)
     → KeepsTo (who_of (plain event)) p partner_sent → (txn : Qualifiers) → PartySeen txn p partner_sent event
 party_seen grows rows p partner_sent (events.Wish of wish) keeps txn =

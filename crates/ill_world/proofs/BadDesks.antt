@@ -1,4 +1,4 @@
--- The definitions on two desks take the events of a transaction, and exclude the bad ones.
+-- The definitions on two desks take the events of a transaction, and exclude the bad events.
 use Rattle.std.proofs.Common.{rules, ◌≡◌, inl, inr, ℕ, Bool, true, false, if◌then◌else◌, List, [], ◌∷◌, ◌++◌, length, nat_lt}
 use Rattle.std.proofs.Common.{Option, Some, None, refl, sym, ap, ◌∙◌, subst}
 use Rattle.ill_values.specs.TxnId.{Qualifiers}
@@ -34,13 +34,13 @@ use Rattle.ill_world.proofs.Runs.{run_both, run_one}
 
 -- ---- runs
 
--- Two lists stay joined, if one more event goes before them, or none does.
+-- If `more` is `first ++ rest`, it is so with one more event before `more` and `first`, or with none.
 pub joined : {X : Type 0} (own : Bool) (event : X) (first rest more : List X) → more ≡ first ++ rest
     → (if own then event ∷ more else more) ≡ (if own then event ∷ first else first) ++ rest
 joined true event first rest more is = ap (λ l. event ∷ l) is
 joined false event first rest more is = is
 
--- The events of a transaction come in the order of those of the desks.
+-- The events of a transaction have the order of the events of the desks.
 pub events_in_order : (txn : Qualifiers) (w : DeskParties) (before after : List DeskEvent)
     → events_for txn w (before ++ after) ≡ events_for txn w before ++ events_for txn (desks_run w before) after
 unfolding events_for run_by
@@ -50,7 +50,7 @@ events_in_order txn w (event ∷ before) after =
     joined (is_event_of txn w event) (plain event) (events_for txn next before) (events_for txn (desks_run next before) after)
     (events_for txn next (before ++ after)) (events_in_order txn next before after)
 
--- One event more leads a transaction on by the events that it has of it.
+-- One more event leads a transaction on by its own events.
 pub runs_go_on : (events : List DeskEvent) (event : DeskEvent) (txn : Qualifiers) → IsRunOfEach events
     → IsRunOfEach (events ++ event ∷ [])
     → let w = desks_run first_desks events in
@@ -66,7 +66,7 @@ runs_go_on events event txn before after =
 
 -- ---- the events of a transaction
 
--- One event is an event of a transaction, or is none.
+-- A single event of desks is the event of a transaction if `is_event_of` is true, and else none.
 pub one_event : (txn : Qualifiers) (w : DeskParties) (event : DeskEvent)
     → events_for txn w (event ∷ []) ≡ (if is_event_of txn w event then plain event ∷ [] else [])
 unfolding events_for
@@ -79,7 +79,7 @@ pub whole_events : (txn : Qualifiers) (w : DeskParties) (role : Who) (landed : B
 unfolding events_for
 whole_events txn w role landed = refl
 
--- Of one event, a transaction has this event if `is_event_of` is true, and else none.
+-- If `is_event_of` has the value `own`, a single event of desks is an event of the transaction if `own` is true.
 is_one : (txn : Qualifiers) (w : DeskParties) (event : DeskEvent) (own : Bool) → is_event_of txn w event ≡ own
     → events_for txn w (event ∷ []) ≡ (if own then plain event ∷ [] else [])
 is_one txn w event own is = one_event txn w event ∙ ap (λ b. if b then plain event ∷ [] else []) is
@@ -92,7 +92,7 @@ names_own txn (events.Send role of n) is = ap (is_same_txn txn) is ∙ same_self
 names_own txn (events.Deliver role of n) is = ap (is_same_txn txn) is ∙ same_self txn
 names_own txn event is = absurd is
 
--- If `txn` is not `another`, it is not `of`, which equals `another`.
+-- If `of` is `another`, and `txn` is not, `txn` is not `of`.
 apart_from : (txn another of : Qualifiers) → of ≡ another → (txn ≡ another → ⊥) → is_same_txn txn of ≡ false
 apart_from txn another of is apart = go (is_same_txn txn of) refl
   where
@@ -109,7 +109,7 @@ names_another txn another (events.Send role of n) is apart = apart_from txn anot
 names_another txn another (events.Deliver role of n) is apart = apart_from txn another of is apart
 names_another txn another event is apart = absurd is
 
--- An event that does not concern a transaction is none of it, with any outcome.
+-- An event that does not concern a transaction is none of its events, with any outcome.
 never_reached : (outcome : DeskOutcome) → if_reached outcome false ≡ false
 never_reached (Plain outcome) = refl
 never_reached other = refl
@@ -140,14 +140,14 @@ noise_event txn w role bytes = is_one txn w (events.Noise role bytes) false refl
 
 -- ---- deliveries
 
--- A body that has to lead to the states `among` ends the request, and settles it in these.
+-- A body of `EndsIn` ends the request, and settles it in these states.
 ends_as : (body : Body) (among : List State) → EndsIn body among → (is_end body ≡ true) × (settled_by body ≡ among)
 ends_as _ _ (shipped due) = (refl, refl)
 ends_as _ _ (cancelled c) = (refl, refl)
 ends_as _ _ expired = (refl, refl)
 ends_as _ _ (refused answer final) = (final_ends answer final, refl)
 
--- A message that settles a side in the states `among` is not unheeded there.
+-- If a message settles a side in the states `among`, `IsUnheededAt` does not hold of it.
 heeded_at : (among : List State) (outcome : DeskOutcome) (side : Side) → IsUnheededAt among outcome side
     → SettlesAt among outcome side → ⊥
 heeded_at among (Plain outcome) side unheeded settles = heeded among outcome side unheeded settles
@@ -168,14 +168,14 @@ none_in_vain_at w _ (returned_in_vain txn n a sent is unheeded) arrives =
 
 -- ---- events that reach a side, and changes
 
--- An outcome of an event in one transaction is neither NoSuchTransaction nor DeskFull.
+-- A plain outcome is neither NoSuchTransaction nor DeskFull.
 not_plain : (outcome : DeskOutcome) → IsPlain outcome → IsNotReached outcome → ⊥
 not_plain (Plain outcome) plainly (inl is) = search rules
 not_plain (Plain outcome) plainly (inr is) = search rules
 not_plain NoSuchTransaction plainly missed = plainly
 not_plain DeskFull plainly missed = plainly
 
--- A transaction that a desk holds is reached there.
+-- If a desk holds a transaction, an event of it reaches its side.
 held_missed : (may_begin : Bool) (p : DeskParty) (txn of : Qualifiers) (held : DeskEntry) (outcome : DeskOutcome) → of ≡ txn
     → found_by txn_held txn p.live.held ≡ Some held → ReachesAt may_begin p of outcome → IsNotReached outcome → ⊥
 held_missed may_begin p txn of held outcome is found reaches missed =

@@ -1,4 +1,4 @@
--- Why the definitions of a night exclude wrong answers, and records that are not at rest.
+-- The definitions of a night exclude the wrong answers, and the records that are not at rest.
 use Rattle.std.proofs.Common.{rules, ◌≡◌, Bool, true, false, not, ◌&&◌, [], ◌∷◌, refl, sym, ap, ◌∙◌}
 use Rattle.std.proofs.lemmas.Bool.{true≢false, and_from, or_from, or_right}
 use Rattle.ill_core.specs.declared.state.State.{State}
@@ -20,7 +20,7 @@ use Rattle.ill_world.proofs.OutOfStep.{faces_back}
 
 -- ---- a loan that is over
 
--- In CANCELLED, NOT-SUPPLIED and CHECKED-IN it is nobody's turn, by a requester's record.
+-- By a requester's record it is nobody's turn in CANCELLED, NOT-SUPPLIED and CHECKED-IN.
 ended_requester : (s : State) (declined checked_in : Bool)
     → is_among (states.Cancelled ∷ states.NotSupplied ∷ states.CheckedIn ∷ []) s ≡ true
     → is_nobodys (requester_turn_in s declined checked_in) ≡ true
@@ -29,7 +29,7 @@ ended_requester states.NotSupplied declined checked_in is = refl
 ended_requester states.CheckedIn declined checked_in is = refl
 ended_requester s declined checked_in is = search rules
 
--- In CANCELLED, NOT-SUPPLIED and CHECKED-IN it is nobody's turn, by a responder's record.
+-- By a responder's record it is nobody's turn in CANCELLED, NOT-SUPPLIED and CHECKED-IN.
 ended_responder : (s : State) → is_among (states.Cancelled ∷ states.NotSupplied ∷ states.CheckedIn ∷ []) s ≡ true
     → is_nobodys (responder_turn_in s) ≡ true
 ended_responder states.Cancelled is = refl
@@ -44,7 +44,7 @@ ended_is_over : (side : Side)
 ended_is_over (sides.Requester x) is = ended_requester x.state (is_declined x) x.checked_in is
 ended_is_over (sides.Responder y) is = ended_responder y.state is
 
--- In IDLE, CONDITIONAL, CANCEL-PENDING and RECALL it is somebody's turn, by a requester's record.
+-- By a requester's record it is somebody's turn in IDLE, CONDITIONAL, CANCEL-PENDING and RECALL.
 unsettled_requester : (s : State) (declined checked_in : Bool)
     → is_among (states.Idle ∷ states.Conditional ∷ states.CancelPending ∷ states.Recall ∷ []) s ≡ true
     → is_nobodys (requester_turn_in s declined checked_in) ≡ false
@@ -55,7 +55,7 @@ unsettled_requester states.CancelPending declined checked_in is = refl
 unsettled_requester states.Recall declined checked_in is = refl
 unsettled_requester s declined checked_in is = search rules
 
--- In IDLE, CONDITIONAL, CANCEL-PENDING and RECALL it is somebody's turn, by a responder's record.
+-- By a responder's record it is somebody's turn in IDLE, CONDITIONAL, CANCEL-PENDING and RECALL.
 unsettled_responder : (s : State)
     → is_among (states.Idle ∷ states.Conditional ∷ states.CancelPending ∷ states.Recall ∷ []) s ≡ true
     → is_nobodys (responder_turn_in s) ≡ false
@@ -83,12 +83,12 @@ over_requester s declined checked_in received over = search rules
 over_responder : (s : State) → is_nobodys (responder_turn_in s) ≡ true → responder_verbs_in s ≡ []
 over_responder s over = search rules
 
--- A side has no verbs once its loan is over.
+-- If the loan of a side is over, it has no verbs.
 no_verbs : (side : Side) → is_over side ≡ true → verbs_of side ≡ []
 no_verbs (sides.Requester x) over = over_requester x.state (is_declined x) x.checked_in (is_received_by x) over
 no_verbs (sides.Responder y) over = over_responder y.state over
 
--- The answer of `is_over` is no wrong one.
+-- The answer of `is_over` is right.
 pub not_misjudged : (side : Side) (says : Bool) → MisjudgesEnd side says → says ≡ is_over side → ⊥
 not_misjudged side says (ended _ is) e = true≢false (sym (ended_is_over side is) ∙ sym e)
 not_misjudged side says (marked x at has_mark) e =
@@ -102,12 +102,12 @@ not_misjudged side says (may_act _ acts) e = acts (no_verbs side (sym e))
 
 -- ---- the sides that send
 
--- A Bool and false is false.
+-- `b && false` is false.
 and_false : (b : Bool) → (b && false) ≡ false
 and_false true = refl
 and_false false = refl
 
--- The answer of `wants_sending` is no wrong one.
+-- The answer of `wants_sending` is right.
 pub not_missent : (was_asked : Bool) (side : Side) (says : Bool) → MisjudgesSending was_asked side says
     → says ≡ wants_sending was_asked side → ⊥
 not_missent was_asked side says (over_requester_sends x over) e = true≢false (e ∙ ap not over)
@@ -117,7 +117,7 @@ not_missent was_asked side says (asked_is_silent y asked) e =
     true≢false (sym (or_right (not (is_over (sides.Responder y))) was_asked asked) ∙ sym e)
 not_missent was_asked side says (open_is_silent _ is_open) e = true≢false (sym (open_wants was_asked side is_open) ∙ sym e)
 
--- The answer of `asks` is no wrong one.
+-- The answer of `asks` is right.
 pub not_misasked : (side : Side) (says : Bool) → MisjudgesAsking side says → says ≡ asks side → ⊥
 not_misasked side says (over_asks _ over) e =
     true≢false (e ∙ ap (λ b. b && not (is_none (issued_of side))) (over_is_silent side over))
@@ -128,7 +128,7 @@ not_misasked side says (open_asks_not _ is_open some) e =
 
 -- ---- records at rest
 
--- Two records that are restless are not at rest.
+-- If two records satisfy `Restless`, they are not at rest.
 pub not_at_rest : (x : RequesterRecord) (y : ResponderRecord) → Restless x y → AtRest x y → ⊥
 not_at_rest x y (open_requester is_open) rest = true≢false (sym rest.requester ∙ is_open)
 not_at_rest x y (open_responder is_open) rest = true≢false (sym rest.responder ∙ is_open)

@@ -1,4 +1,4 @@
--- No bad trace is written.
+-- A simulation writes no trace of `Leaves` or `IsOfNoPrefix`.
 use Rattle.std.proofs.Common.{arith, rules, ◌≡◌, ℕ, List, [], ◌∷◌, ◌++◌, length, Some, Err, refl, sym, ap, ◌∙◌, subst}
 use Rattle.std.proofs.Common.{append_assoc, length-append}
 use Rattle.ill_saved.specs.Side.{IsPrefix}
@@ -14,12 +14,12 @@ first_same a b xs ys e = search rules
 rest_same : (a b : ℕ) (xs ys : List ℕ) → a ∷ xs ≡ b ∷ ys → xs ≡ ys
 rest_same a b xs ys e = search rules
 
--- If lists that begin with `common` are equal, so are their next bytes.
+-- If lists that begin with `common` are equal, their next bytes are equal.
 same_after : (common xs ys : List ℕ) (a b : ℕ) → common ++ a ∷ xs ≡ common ++ b ∷ ys → a ≡ b
 same_after [] xs ys a b e = first_same a b xs ys e
 same_after (c ∷ common) xs ys a b e = same_after common xs ys a b (rest_same c c (common ++ a ∷ xs) (common ++ b ∷ ys) e)
 
--- Bytes that leave a trace are not its prefix.
+-- If bytes leave a trace, they are not its prefix.
 no_prefix : (written trace : List ℕ) → Leaves written trace → IsPrefix written trace → ⊥
 no_prefix written trace (goes_on byte rest is) (more, prefix) =
     omega (arith, ap length is, ap length prefix, length-append trace (byte ∷ rest), length-append written more)
@@ -27,13 +27,13 @@ no_prefix written trace (differs common rest more byte other is there apart) (af
     apart (same_after common (rest ++ after) more byte other
     (sym (append_assoc common (byte ∷ rest) after) ∙ ap (λ l. l ++ after) (sym is) ∙ sym prefix ∙ there))
 
--- There are no first events whose trace such bytes are.
+-- If bytes are the trace of no prefix of the events, no prefix has them as its trace.
 no_events : {E : Type 0} (trace_of : List E → List ℕ) (events : List E) (written : List ℕ) → IsOfNoPrefix trace_of events written
     → (prefix : List E) × IsPrefix prefix events × (written ≡ trace_of prefix) → ⊥
 no_events trace_of events written none (prefix, (more, is), shown) = none prefix more is shown
 
 module _ {W E C : Type 0} (play : Play W E C) (c : C) (w : W) (text left written : List ℕ) where
-  -- When the writer fails, the bytes written do not leave the trace.
+  -- If the writer fails, the bytes written do not leave the trace.
   pub none_leaves : Leaves written (trace_from play 1 w (says_on play (ends play) c 1 text).events)
       → Plays play c 1 w 0 (Some text) (Some left) (Some []) (Some written) (Err Write) → ⊥
   none_leaves leaves (read, trace, consumed, appended, answers) =
@@ -42,7 +42,7 @@ module _ {W E C : Type 0} (play : Play W E C) (c : C) (w : W) (text left written
       (subst (λ l. IsPrefix l (trace_from play 1 w (says_on play (ends play) c 1 (read ++ left)).events)) (sym appended)
       (answers left refl)))
 
-  -- When memory runs out, the bytes written are the trace of a prefix of the events.
+  -- If memory runs out, the bytes written are the trace of a prefix of the events.
   pub some_prefix : IsOfNoPrefix (trace_from play 1 w) (says_on play (ends play) c 1 text).events written
       → Plays play c 1 w 0 (Some text) (Some left) (Some []) (Some written) (Err OutOfMemory) → ⊥
   some_prefix none (read, trace, consumed, appended, answers) =

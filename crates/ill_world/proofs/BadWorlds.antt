@@ -1,4 +1,4 @@
--- Why no bad world is safe, and why the sides agree in none.
+-- The definitions of safety and agreement exclude each world of `IsUnsafe` and `Disagrees`.
 use Rattle.std.proofs.Common.{rules, ◌≡◌, inl, inr, ℕ, true, false, List, [], ◌∷◌, Option, Some, None, sym, ap, subst, refl, ◌∙◌}
 use Rattle.std.proofs.lemmas.Option.{same_Some}
 use Rattle.ill_values.specs.Day.{Date}
@@ -38,12 +38,12 @@ use Rattle.ill_world.specs.BadWorlds.{cancel_twice, renew_twice, ended_twice, ne
 
 -- ---- either record of a party
 
--- A fact of a party's live and landed sides holds of each side that it has.
+-- If `P` holds of a party's live and landed sides, it holds of each side that the party `Has`.
 of_record : (P : Side → Type 0) (p : Party) (side : Side) → P p.live → P p.landed → Has p side → P side
 of_record P p side live landed (inl is) = subst P is live
 of_record P p side live landed (inr is) = subst P is landed
 
--- A fact of all four pairs holds of each pair of sides that the parties have.
+-- If `P` holds of all four pairs of sides, it holds of each pair that the parties have.
 of_pair : (P : Side → Side → Type 0) (w : Parties) (x y : Side) → OfBoth P w → Has w.requester x → Has w.responder y → P x y
 of_pair P w x y both requester_has responder_has =
     of_record (P x) w.responder y (of_record (λ s. P s w.responder.live) w.requester x both.live both.landed_live requester_has)
@@ -51,7 +51,7 @@ of_pair P w x y both requester_has responder_has =
 
 -- ---- safety
 
--- Two sides of which the three facts of safety hold do not contradict each other.
+-- If `EndsAlike`, `WasShipped` and `WasGranted` hold of two sides, these do not contradict each other.
 no_contradiction : (x y : Side) → Contradicts x y → EndsAlike x y → WasShipped x y → WasGranted x y → ⊥
 no_contradiction x y (not_supplied is other) ends shipped granted = other (ends.1 is)
 no_contradiction x y (cancelled is other) ends shipped granted = other (ends.0 is)
@@ -68,14 +68,14 @@ not_safe w (contradicted x y requester_has responder_has bad) safe =
 
 -- ---- agreement
 
--- A state among CANCEL-PENDING and CANCELLED equals one of them.
+-- A state among CANCEL-PENDING and CANCELLED is one of them.
 has_asked : (state : State) → is_among (states.CancelPending ∷ states.Cancelled ∷ []) state ≡ true
     → (state ≡ states.CancelPending → ⊥) → (state ≡ states.Cancelled → ⊥) → ⊥
 has_asked states.CancelPending is waits done = waits refl
 has_asked states.Cancelled is waits done = done refl
 has_asked state is waits done = search rules
 
--- Two records of which `IsNotLater` and `SaysTrue` hold do not mislead.
+-- If `IsNotLater` and `SaysTrue` hold of two records, they do not mislead.
 not_misled : (x : RequesterRecord) (y : ResponderRecord) → Misleads x y → IsNotLater x y → SaysTrue x y → ⊥
 not_misled x y (due_later due is after) dates says = let granted = dates due is in let both : true ≡ false =
     sym (after granted.0 granted.1) ∙ granted.2 in cc
@@ -85,26 +85,26 @@ not_misled x y (cancelled_unasked is waits done) dates says = has_asked x.state 
 not_misled x y (not_received is none) dates says = let both : true ≡ false = sym (says.received is) ∙ none in cc
 not_misled x y (not_checked_in is other) dates says = other (says.checked_in is)
 
--- If no two messages answer one number, no two with different numbers have bodies that answer k.
+-- If no two messages answer one number, no two bodies of messages with different numbers answer k.
 not_twice : (answered : Body → Option ℕ) (at : ℕ → Option Apdu) (k : ℕ) (this that : Body) → answered this ≡ Some k
     → answered that ≡ Some k → AnswersOnce answered at
     → TwoSay at (λ body. body ≡ this) (λ body. body ≡ that) → ⊥
 not_twice answered at k this that first second once two =
     two.6 (once two.0 two.1 k two.2 two.3 two.4 two.5 (ap answered two.7 ∙ first) (ap answered two.8 ∙ second))
 
--- If no two messages of a party answer one number, this holds of those in memory, and of those sent.
+-- If no two messages of a party answer one number, this holds of the live messages and of the sent ones.
 of_messages : (answered : Body → Option ℕ) (p : Party) (at : ℕ → Option Apdu) → AnswersOnceBoth answered p
     → HasMessages p at → AnswersOnce answered at
 of_messages answered p at both (inl is) = subst (AnswersOnce answered) (sym is) both.0
 of_messages answered p at both (inr is) = subst (AnswersOnce answered) (sym is) both.1
 
--- If `EndsOnce` holds of a side, it has no two messages that end the request.
+-- If `EndsOnce` holds of a side, no two of its messages end the request.
 not_ended_twice : (side : Side) → EndsOnce side
     → TwoSay (message (issued_of side)) (λ body. is_end body ≡ true) (λ body. is_end body ≡ true) → ⊥
 not_ended_twice side once two =
     two.6 (same_Some two.0 two.1 (sym (once two.0 two.2 two.4 two.7) ∙ once two.1 two.3 two.5 two.8))
 
--- Sides that disagree do not agree.
+-- If two sides disagree, they do not agree.
 pub not_agreed : (w : Parties) → Disagrees w → Agrees w → ⊥
 not_agreed w (conditions_twice at k said again of two) agrees =
     not_twice replied_number at k (ConditionalReply k said) (ConditionalReply k again) refl refl
@@ -138,26 +138,26 @@ not_taken_back old None (due, was, now) (inr (inr raised)) = cc
 not_taken_back old (Some later) (due, was, now) (inr (inr raised)) =
     not_before_itself due (before_on due later due (sym (ap (is_after_due later) was) ∙ raised) (now later refl))
 
--- At an event other than its restart, the requester's live due date is kept or raised.
+-- An event other than its restart keeps or raises the requester's live due date.
 live_kept : (event : Event) (old new : Party) → (event ≡ Restart who.Requester → ⊥) → KeepsLiveDate event old new
     → KeepsDue (due_date_of old.live) (due_date_of new.live)
 live_kept (Restart who.Requester) old new other keeps = absurd (other refl)
 live_kept event old new other keeps = keeps
 
--- An event that keeps the requester's due dates takes none back.
+-- An event that keeps the requester's due dates takes none of them back.
 pub no_date_taken_back : (old new : Parties) (event : Event) → TakesBack old event new → KeepsDates old event new → ⊥
 no_date_taken_back old new event (in_memory other back) keeps =
     not_taken_back _ _ back (live_kept event old.requester new.requester other keeps.0)
 no_date_taken_back old new event (in_store back) keeps = not_taken_back _ _ back keeps.1
 
--- A message that settles a side in the states `among` is not unheeded.
+-- If a message settles a side in the states `among`, `IsUnheeded` does not hold of it.
 pub heeded : (among : List State) (outcome : Outcome) (side : Side) → IsUnheeded among outcome side
     → Settles among outcome side → ⊥
 heeded among outcome side (inl (taken, repeat)) (inl is, there) = taken is
 heeded among outcome side (inl (taken, repeat)) (inr is, there) = repeat is
 heeded among outcome side (inr elsewhere) (seen, there) = let both : true ≡ false = sym there ∙ elsewhere in cc
 
--- If `Arrives` holds of a delivery, a sent message that ends the request is not unheeded.
+-- If `Arrives` holds of a delivery, `IsUnheeded` does not hold of a sent message that ends the request.
 end_heeded : (w : Parties) (n : ℕ) (a : Apdu) (body : Body) → Arrives w (Deliver who.Requester n)
     → sent_message w.responder.sent n ≡ Some a → a.body ≡ body → is_end body ≡ true
     → IsUnheeded (settled_by body) (happens w (Deliver who.Requester n)).0 (happens w (Deliver who.Requester n)).1.requester.live

@@ -1,4 +1,4 @@
--- A value found in a list of APDUs is found in one of them.
+-- A value that is found in a list of APDUs is found in one of them.
 use Rattle.std.proofs.Common.{rules, arith, ◌≡◌, ◌⊎◌, inl, inr, ℕ, zero, suc, ◌+◌, ◌≤◌, ◌<◌, Bool, true, false, ◌||◌, ◌==◌, List}
 use Rattle.std.proofs.Common.{[], ◌∷◌, Option, Some, None, if◌then◌else◌, refl, sym, ap, ◌∙◌, subst}
 use Rattle.std.specs.Prelude.{slice_get}
@@ -10,7 +10,7 @@ use Rattle.ill_values.specs.declared.apdu.Body.{Body}
 use Rattle.ill_core.specs.Issued.{message, last_of, are_numbered}
 use Rattle.ill_world.proofs.Uniqueness.{at_number, message_number, same_apdu}
 
--- Some message of `apdus` is an APDU in which `f` finds `x`.
+-- A message of `apdus` is an APDU in which `f` finds `x`.
 abbrev pub Finds : {X : Type 0} → (Apdu → Option X) → List Apdu → X → Type 0
 Finds f apdus x = (n : ℕ) × (a : Apdu) × (message apdus n ≡ Some a) × (f a ≡ Some x)
 
@@ -20,7 +20,7 @@ finds_further : {X : Type 0} (f : Apdu → Option X) (a : Apdu) (apdus : List Ap
 finds_further f a apdus x (zero, b, at, is) = search rules
 finds_further f a apdus x (suc n, b, at, is) = (suc (suc n), b, at, is)
 
--- The last value found is found in one of the APDUs, or was there before.
+-- The last value found is found in one of the APDUs, or is the value `o` before them.
 last_from : {X : Type 0} (f : Apdu → Option X) (o : Option X) (apdus : List Apdu) (x : X)
     → last_or o (filter_map f apdus) ≡ Some x → (o ≡ Some x) ⊎ Finds f apdus x
 last_from f o [] x is = inl is
@@ -38,7 +38,7 @@ last_from {X = X} f o (a ∷ apdus) x is = go (f a) refl (λ p. last_from f p ap
 pub finds_last : {X : Type 0} (f : Apdu → Option X) (apdus : List Apdu) (x : X) → last_of f apdus ≡ Some x → Finds f apdus x
 finds_last f apdus x is = elim (last_from f None apdus x is) [ inl none ↦ search (rules, none) | inr there ↦ there ]
 
--- A number that is one of all that are found is found in one of the APDUs.
+-- A number among all that are found is found in one of the APDUs.
 pub finds_any : (f : Apdu → Option ℕ) (apdus : List Apdu) (k : ℕ) → list_any (λ m. m == k) (filter_map f apdus) ≡ true
     → Finds f apdus k
 finds_any f [] k is = search rules
@@ -56,7 +56,7 @@ finds_any f (a ∷ apdus) k is = go (f a) refl (finds_any f apdus k) is
     go None e rest is = finds_further f a apdus k (rest is)
     go (Some m) e rest is = pick m (m == k) refl e rest is
 
--- A test that all numbers found pass is passed by the number found in one APDU.
+-- If all found numbers pass a test, the number found in one APDU passes it.
 pub all_found : (f : Apdu → Option ℕ) (p : ℕ → Bool) (apdus : List Apdu) (n : ℕ) (a : Apdu) (k : ℕ)
     → list_all p (filter_map f apdus) ≡ true → message apdus n ≡ Some a → f a ≡ Some k → p k ≡ true
 all_found f p apdus zero a k all at is = search rules
@@ -79,12 +79,12 @@ all_found f p (b ∷ apdus) (suc (suc n)) a k all at is = all_found f p apdus (s
 abbrev pub number_if : (Body → Bool) → Apdu → Option ℕ
 number_if says a = if says a.body then Some a.number else None
 
--- If a Bool gives a number, it is true, and the number is the one given.
+-- If a Bool gives the number n, it is true, and `number` is n.
 said_it : (says : Bool) (number n : ℕ) → (if says then Some number else None) ≡ Some n → (says ≡ true) × (number ≡ n)
 said_it true number n is = (refl, search rules)
 said_it false number n is = search rules
 
--- The last number of an APDU of which `says` holds is that of a message of which `says` holds.
+-- The last number of an APDU of which `says` holds is the number of such a message.
 pub was_last : (says : Body → Bool) (txn : Qualifiers) (apdus : List Apdu) (n : ℕ) → are_numbered txn 1 apdus ≡ true
     → last_of (number_if says) apdus ≡ Some n
     → (a : Apdu) × (message apdus n ≡ Some a) × (says a.body ≡ true) × (a.number ≡ n)
@@ -94,7 +94,7 @@ was_last says txn apdus n numbered is =
     let number = message_number txn apdus found.0 found.1 numbered found.2 in
     (found.1, subst (λ k. message apdus k ≡ Some found.1) (sym number.1 ∙ said.1) found.2, said.0, said.1)
 
--- If the search of a numbered list starts from a lower number, the last number found is not below it.
+-- If the numbers of a list begin after `number`, the last number found from `number` on is not below it.
 last_from_there : (says : Body → Bool) (txn : Qualifiers) (first number : ℕ) (apdus : List Apdu) (n : ℕ)
     → are_numbered txn first apdus ≡ true → number < first
     → last_or (Some number) (filter_map (number_if says) apdus) ≡ Some n → number ≤ n
@@ -132,7 +132,7 @@ last_not_below says txn first o (b ∷ apdus) (suc i) a n numbered at is last =
     go None rest last = rest o last
     go (Some m) rest last = rest (Some m) last
 
--- No message of which `says` holds has a number above the last one found.
+-- A message of which `says` holds has a number up to the last one found.
 pub not_above_last : (says : Body → Bool) (txn : Qualifiers) (apdus : List Apdu) (m n : ℕ) (a : Apdu)
     → are_numbered txn 1 apdus ≡ true → message apdus m ≡ Some a → says a.body ≡ true
     → last_of (number_if says) apdus ≡ Some n → a.number ≤ n
@@ -144,7 +144,7 @@ last_some : {X : Type 0} (o : Option X) (xs : List X) (x : X) → (last : X) × 
 last_some o [] x = (x, refl)
 last_some o (y ∷ xs) x = last_some (Some x) xs y
 
--- If `says` holds of an APDU of the list, there is a last number.
+-- If `says` holds of an APDU of the list, a last number is found.
 pub has_last : (says : Body → Bool) (o : Option ℕ) (apdus : List Apdu)
     → list_any (λ (a : Apdu). says a.body) apdus ≡ true
     → (n : ℕ) × (last_or o (filter_map (number_if says) apdus) ≡ Some n)

@@ -1,4 +1,4 @@
--- The bytes of a message that was sent.
+-- A sent message has bytes that are exactly one APDU.
 use Rattle.std.proofs.Common.{rules, arith, ◌≡◌, ◌≤◌, List, [], ◌∷◌, ◌++◌, length, drop, ℕ, Result, Ok, Err, false, refl, sym, ap}
 use Rattle.std.proofs.Common.{◌∙◌, append-nil}
 use Rattle.std.proofs.lemmas.List.{length-drop}
@@ -10,19 +10,19 @@ use Rattle.ill_der.specs.declared.fault.DerFault.{DerFault}
 use Rattle.ill_der.specs.ShortForm.{spelling, apdu_at, Decodes}
 use Rattle.ill_world.specs.PartyRefinement.{apdu_of, is_of}
 
--- An APDU is read from its spelling, and all bytes after it are left.
+-- An APDU is read from its spelling, and all bytes after the spelling are left.
 abbrev pub ReadAgain : Type 0
 ReadAgain = (a : Apdu) (rest : List ℕ) → IsApdu a → apdu_at (spelling a ++ rest) ≡ Ok (a, rest)
 
--- Bytes that spell an APDU are read as it, with none left.
+-- Bytes that spell an APDU are read as this APDU, and no byte is left.
 pub spelled_whole : ReadAgain → (bytes : List ℕ) (a : Apdu) → IsApdu a → bytes ≡ spelling a → apdu_at bytes ≡ Ok (a, [])
 spelled_whole again bytes a is spelled = ap apdu_at (spelled ∙ sym (append-nil (spelling a))) ∙ again a [] is
 
--- The APDU of bytes is the one that they spell.
+-- The APDU of bytes is the APDU that they spell.
 pub apdu_is : ReadAgain → (bytes : List ℕ) (a : Apdu) → IsApdu a → bytes ≡ spelling a → apdu_of (apdu_at bytes) ≡ a
 apdu_is again bytes a is spelled = ap apdu_of (spelled_whole again bytes a is spelled)
 
--- Bytes that spell an APDU are read as the APDU of them, with none left.
+-- Bytes that spell an APDU are read as their APDU, and no byte is left.
 pub is_whole : ReadAgain → (bytes : List ℕ) (a : Apdu) → IsApdu a → bytes ≡ spelling a
     → apdu_at bytes ≡ Ok (apdu_of (apdu_at bytes), [])
 is_whole again bytes a is spelled =
@@ -35,19 +35,19 @@ none_left : (rest : List ℕ) → length rest ≡ 0 → rest ≡ []
 none_left [] none = refl
 none_left (byte ∷ rest) none = absurd (omega (arith, none))
 
--- A list that is not of length 0 has a first byte.
+-- A list of length 1 or more has a first byte.
 some_left : (rest : List ℕ) → 1 ≤ length rest → (byte : ℕ) × (more : List ℕ) × (rest ≡ byte ∷ more)
 some_left [] some = absurd (omega (arith, some))
 some_left (byte ∷ rest) some = (byte, rest, refl)
 
--- Bytes that decode to an APDU of their whole length are read as it, with none left.
+-- If bytes decode to an APDU of their whole length, they are read as it, and no byte is left.
 pub whole_reads : (bytes : List ℕ) (read : Result (Apdu × List ℕ) DerFault) (a : Apdu) (size : ℕ)
     → Decodes bytes read (Ok (a, size)) → size ≡ length bytes → read ≡ Ok (a, [])
 whole_reads bytes (Ok found) a size decodes whole =
     ap Ok decodes.1 ∙ ap (λ rest. Ok (a, rest)) (none_left (drop size bytes) (omega (arith, length-drop size bytes, whole)))
 whole_reads bytes (Err fault) a size decodes whole = search rules
 
--- Bytes that decode to a shorter APDU are read as it, with some left.
+-- If bytes decode to a shorter APDU, they are read as it, and some bytes are left.
 pub part_reads : (bytes : List ℕ) (read : Result (Apdu × List ℕ) DerFault) (a : Apdu) (size : ℕ)
     → Decodes bytes read (Ok (a, size)) → (size ≡ length bytes → ⊥)
     → (byte : ℕ) × (more : List ℕ) × (read ≡ Ok (a, byte ∷ more))
@@ -56,13 +56,13 @@ part_reads bytes (Ok found) a size decodes part =
     (left.0, left.1, ap Ok decodes.1 ∙ ap (λ rest. Ok (a, rest)) left.2)
 part_reads bytes (Err fault) a size decodes part = search rules
 
--- Bytes that are one APDU are of a transaction exactly if the APDU is.
+-- If bytes are exactly one APDU, they are of `txn` exactly if the APDU is.
 pub whole_is_of : (txn : Qualifiers) (bytes : List ℕ) (read : Result (Apdu × List ℕ) DerFault) (a : Apdu) (size : ℕ)
     → Decodes bytes read (Ok (a, size)) → size ≡ length bytes
     → is_of txn read ≡ is_same_txn a.txn txn
 whole_is_of txn bytes read a size decodes whole = ap (is_of txn) (whole_reads bytes read a size decodes whole)
 
--- Bytes that go on after an APDU are of no transaction.
+-- If bytes go on after an APDU, they are of no transaction.
 pub part_is_of : (txn : Qualifiers) (bytes : List ℕ) (read : Result (Apdu × List ℕ) DerFault) (a : Apdu) (size : ℕ)
     → Decodes bytes read (Ok (a, size)) → (size ≡ length bytes → ⊥)
     → is_of txn read ≡ false

@@ -31,8 +31,7 @@ use Rattle.ill_world.proofs.Runs.{run_stands}
 
 -- ---- a loan that is over for the requester
 
--- If a requester says that the loan is over, it is in CANCELLED or NOT-SUPPLIED, or in RETURNED with the checked-in
--- mark.
+-- If the loan is over for a requester, it is in CANCELLED, NOT-SUPPLIED, or RETURNED with the checked-in mark.
 over_means : (s : State) (declined marked : Bool) → is_among (states.InProcess ∷ states.CheckedIn ∷ []) s ≡ false
     → is_nobodys (requester_turn_in s declined marked) ≡ true
     → (s ≡ states.Cancelled) ⊎ (s ≡ states.NotSupplied) ⊎ ((s ≡ states.Returned) × (marked ≡ true))
@@ -44,7 +43,7 @@ over_means states.Conditional true marked own over = search rules
 over_means states.Conditional false marked own over = search rules
 over_means s declined marked own over = search rules
 
--- Two records in these states are at rest, if the loan is over for both, and the states face each other.
+-- If the loan is over for both records, in states that face each other, the records are at rest.
 rest_in : (x : RequesterRecord) (y : ResponderRecord) (s t : State) → is_over (sides.Requester x) ≡ true → x.state ≡ s
     → y.state ≡ t → is_nobodys (responder_turn_in t) ≡ true → is_among (faced_in s) t ≡ true → AtRest x y
 rest_in x y s t over at_s at_t ends faces = record {
@@ -53,7 +52,7 @@ rest_in x y s t over at_s at_t ends faces = record {
   faced = ap (λ u. is_among (faced_in u) y.state) at_s ∙ ap (is_among (faced_in s)) at_t ∙ faces;
 }
 
--- If the loan is over for a requester's record that stands, it is at rest with the responder's.
+-- If the loan is over for a requester's record, it is at rest with the responder's.
 records_rest : (txn : Qualifiers) (x : RequesterRecord) (y : ResponderRecord) (requester_sent responder_sent : List (Option Apdu))
     → RequesterStands txn x requester_sent → ResponderStands txn y responder_sent → AreIssued requester_sent y.issued
     → AreIssued responder_sent x.issued
@@ -70,7 +69,7 @@ records_rest txn x y requester_sent responder_sent requester_stands responder_st
           marked) refl refl
     ]
 
--- If the loan is over for a requester's side that stands, it is at rest with the responder's.
+-- If the loan is over for a requester's side, it is at rest with the responder's.
 sides_rest : (txn : Qualifiers) (x y : Side) (requester_sent responder_sent : List (Option Apdu))
     → RequesterSideStands txn x requester_sent
     → ResponderSideStands txn y responder_sent → AreIssued requester_sent (issued_of y) → AreIssued responder_sent (issued_of x)
@@ -82,7 +81,7 @@ sides_rest txn (sides.Responder x) y requester_sent responder_sent requester_sta
 sides_rest txn (sides.Requester x) (sides.Requester y) requester_sent responder_sent requester_stands responder_stands issued
     heeded over = absurd responder_stands
 
--- Both sides of a world that stands are at rest if the loan is over for the requester.
+-- If a world satisfies the invariant, and the loan is over for the requester, both sides are at rest.
 pub at_rest : (txn : Qualifiers) (w : Parties) → Invariant txn w → is_over w.requester.live ≡ true → AreAtRest w
 at_rest txn w stands over =
     sides_rest txn w.requester.live w.responder.live w.responder.sent w.requester.sent stands.requester.live stands.responder.live
@@ -96,17 +95,17 @@ rests_responder (sides.Requester x) (sides.Requester y) rest = absurd rest
 
 -- ---- the sides that send
 
--- A side wants sending if its loan is not over.
+-- A side sends its messages if its loan is not over.
 pub open_wants : (was_asked : Bool) (side : Side) → is_over side ≡ false → wants_sending was_asked side ≡ true
 open_wants was_asked (sides.Requester x) is_open = ap not is_open
 open_wants was_asked (sides.Responder y) is_open = or_left (not (is_over (sides.Responder y))) was_asked (ap not is_open)
 
--- A side that was not asked is silent if its loan is over.
+-- A side that was not asked sends nothing if its loan is over.
 pub over_is_silent : (side : Side) → is_over side ≡ true → wants_sending false side ≡ false
 over_is_silent (sides.Requester x) over = ap not over
 over_is_silent (sides.Responder y) over = ap (λ b. not b || false) over
 
--- A responder that was asked wants sending.
+-- A responder that was asked sends its messages.
 asked_wants : (txn : Qualifiers) (side : Side) (responder_sent : List (Option Apdu)) → ResponderSideStands txn side responder_sent
     → wants_sending true side ≡ true
 asked_wants txn (sides.Responder y) responder_sent stands = or_right (not (is_over (sides.Responder y))) true refl
@@ -135,7 +134,7 @@ abbrev night_from : Parties → List Event → List Event
 night_from w first = first ++ half_if (wants_sending (asks w.requester.live) (run_of w first).responder.live) who.Responder
     (run_of w first)
 
--- The half of a requester that has issued nothing is a save, which leaves the responder.
+-- The half of a requester that has issued nothing leaves the responder unchanged.
 nothing_passes : (w : Parties) (apdus : List Apdu) → issued_of w.requester.live ≡ apdus → is_none apdus ≡ true
     → (run_of w (half_of who.Requester w)).responder.live ≡ w.responder.live
 unfolding run_by sends_and_delivers
@@ -144,7 +143,7 @@ nothing_passes w [] is none = ap
 nothing_passes w (a ∷ apdus) is none = search rules
 
 module _ (txn : Qualifiers) (after : (w : Parties) (event : Event) → Invariant txn w → Invariant txn (happens w event).1) where
-  -- The responder wants sending after the half of a requester that wants it.
+  -- If the loan is open for the requester, the responder sends its messages after the requester's half.
   responder_wants : (w : Parties) → Invariant txn w → is_over w.requester.live ≡ false
       → wants_sending (asks w.requester.live) (run_of w (half_of who.Requester w)).responder.live ≡ true
   responder_wants w stands is_open = go (is_none (issued_of w.requester.live)) refl
@@ -167,7 +166,7 @@ module _ (txn : Qualifiers) (after : (w : Parties) (event : Event) → Invariant
           ap (λ b. wants_sending b between.responder.live) it_asks
           ∙ asked_wants txn between.responder.live between.requester.sent stands_between.responder.live
 
-  -- A night is a round while the loan is not over for the requester.
+  -- If the loan is open for the requester, a night is a round.
   pub night_is_round : (w : Parties) → Invariant txn w → is_over w.requester.live ≡ false → night_of w ≡ round_of w
   night_is_round w stands is_open =
       let first = half_of who.Requester w in
@@ -189,14 +188,14 @@ module _ (txn : Qualifiers) (after : (w : Parties) (event : Event) → Invariant
 
 -- ---- a night
 
--- Saves leave both sides at rest.
+-- After a save of each side both sides are still at rest.
 rest_after : (w : Parties) (events : List Event) → AreAtRest w → events ≡ Save who.Requester ∷ Save who.Responder ∷ []
     → AreAtRest (run_of w events)
 unfolding run_by
 rest_after w events rest is = subst (λ (l : List Event). AreAtRest (run_of w l)) (sym is) rest
 
--- After a night both sides are in step, if it is a round that brings them in step. They are at rest if they were, and
--- save alone.
+-- After a night both sides are in step if the night is a round that brings them in step. They are at rest if they were
+-- so before, and only save.
 pub one_night : (w : Parties) → (is_over w.requester.live ≡ false → night_of w ≡ round_of w)
     → (is_over w.requester.live ≡ true → night_of w ≡ Save who.Requester ∷ Save who.Responder ∷ [])
     → (is_over w.requester.live ≡ true → AreAtRest w) → AreInStep (run_of w (round_of w))

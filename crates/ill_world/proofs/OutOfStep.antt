@@ -1,4 +1,4 @@
--- Why no two records are in step that are out of step.
+-- Two records that are out of step are not in step.
 use Rattle.std.proofs.Common.{rules, ◌≡◌, true, [], ◌∷◌, sym, ap, ◌∙◌}
 use Rattle.std.proofs.lemmas.Bool.{true≢false, and_from}
 use Rattle.ill_core.specs.declared.state.State.{State}
@@ -9,16 +9,16 @@ use Rattle.ill_core.specs.Responder.{ResponderRecord}
 use Rattle.ill_world.specs.Round.{faced_in, facing_in, InStep, OutOfStep, unfaced, declined, unmarked, unreceived}
 use Rattle.ill_world.specs.Round.{not_yet_checked_in, checked_in_early, due_apart}
 
--- A state is faced in each state that it faces.
+-- If `s` faces `t` by the requester's table, `t` faces `s` by the responder's.
 pub faces_back : (s t : State) → is_among (faced_in s) t ≡ true → is_among (facing_in t) s ≡ true
 faces_back s t faced = search rules
 
--- A state that is among CHECKED-IN alone is CHECKED-IN.
+-- A state among CHECKED-IN alone is CHECKED-IN.
 checked_in_only : (t : State) → is_among (states.CheckedIn ∷ []) t ≡ true → t ≡ states.CheckedIn
 checked_in_only states.CheckedIn is = search rules
 checked_in_only t is = search rules
 
--- No two records that are out of step are in step.
+-- Two records that are out of step are not in step.
 pub none_in_step : (x : RequesterRecord) (y : ResponderRecord) → OutOfStep x y → InStep x y → ⊥
 none_in_step x y (unfaced apart) step = true≢false (sym (faces_back x.state y.state step.faced) ∙ apart)
 none_in_step x y (declined is refused) step =

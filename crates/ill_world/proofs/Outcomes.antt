@@ -1,4 +1,4 @@
--- Only some outcomes can come of an event.
+-- Only some refusals can be the outcome of an event.
 use Rattle.std.proofs.Common.{rules, ◌≡◌, ℕ, zero, suc, Bool, true, false, cond, not, List, [], ◌∷◌, Option, Some, None, Result}
 use Rattle.std.proofs.Common.{Ok, Err, refl, subst}
 use Rattle.std.specs.List.{list_all}
@@ -42,34 +42,36 @@ use Rattle.ill_world.specs.World.{Party, Parties, party, sent_message, decides, 
 use Rattle.ill_world.specs.Changes.{can_refuse, can_be_seen}
 use Rattle.ill_world.specs.Invariant.{RequesterSideStands, ResponderSideStands, Invariant}
 
--- ---- rows
+-- ---- the tables of actions
 
 -- Returns true unless the result is a refusal that cannot be an outcome.
 abbrev is_seen : {V : Type 0} → Result V Refusal → Bool
 is_seen (Ok v) = true
 is_seen (Err refusal) = can_refuse refusal
 
--- The line of a wish has no refusal but one that can be an outcome.
+-- The row of a wish gives only refusals that can be an outcome.
 wish_line : (x : RequesterRecord) (wish : Wish) → is_seen (requester_actions.line_of x wish) ≡ true
 wish_line x (wishes.Request expiry item) = search rules
 wish_line x wish = search rules
 
--- The line of a deed has no refusal but one that can be an outcome.
+-- The row of a deed gives only refusals that can be an outcome.
 deed_line : (y : ResponderRecord) (deed : Deed) (today : Date) → is_seen (responder_actions.line_of y deed today) ≡ true
 deed_line y (deeds.RenewAnswer None) today = search rules
 deed_line y (deeds.RenewAnswer (Some d)) today = search rules
 deed_line y deed today = search rules
 
--- The next number has no refusal but one that can be an outcome.
+-- The next number gives only refusals that can be an outcome.
 number_seen : (apdus : List Apdu) → is_seen (next_number apdus) ≡ true
 number_seen apdus = search rules
 
+-- If the row and the number give only refusals that can be an outcome, so does the wish.
 wish_done : (x : RequesterRecord) (line : Result requester_actions.Line Refusal) (number : Result ℕ Refusal) → is_seen line ≡ true
     → is_seen number ≡ true → is_seen (requester_actions.acts_by x line number) ≡ true
 wish_done x (Err refusal) number first second = first
 wish_done x (Ok line) (Err refusal) first second = second
 wish_done x (Ok line) (Ok number) first second = refl
 
+-- If the row and the number give only refusals that can be an outcome, so does the deed.
 deed_done : (y : ResponderRecord) (line : Result responder_actions.Line Refusal) (number : Result ℕ Refusal) → is_seen line ≡ true
     → is_seen number ≡ true → is_seen (responder_actions.acts_by y line number) ≡ true
 deed_done y (Err refusal) number first second = first
@@ -78,7 +80,7 @@ deed_done y (Ok line) (Ok number) first second = refl
 
 -- ---- messages
 
--- A requester has no refusal of a message but one that can be an outcome.
+-- A requester refuses a message only with a refusal that can be an outcome.
 requester_answer : (x : RequesterRecord) (a : Apdu) (body : Body) → is_seen (requester_deliveries.take_message x a body).0 ≡ true
 requester_answer x a (types.IllAnswer results.Conditional) = search rules
 requester_answer x a (types.IllAnswer answer) = search rules
@@ -86,7 +88,7 @@ requester_answer x a (types.RenewAnswer c None) = search rules
 requester_answer x a (types.RenewAnswer c (Some d)) = search rules
 requester_answer x a body = search rules
 
--- If the refusal of the number can be an outcome, so can that of the answer to a Conditional-Reply no.
+-- If the refusal of the number can be an outcome, so can the refusal of a Conditional-Reply no.
 no_answer : (y : ResponderRecord) (number : Result ℕ Refusal) → is_seen number ≡ true
     → is_seen (responder_deliveries.answers_no y number).0 ≡ true
 no_answer y (Ok number) seen = refl
@@ -100,7 +102,7 @@ yes_answer false true named y new = refl
 yes_answer false false true y new = refl
 yes_answer false false false y new = refl
 
--- A responder has no refusal of a message but one that can be an outcome.
+-- A responder refuses a message only with a refusal that can be an outcome.
 responder_answer : (y : ResponderRecord) (a : Apdu) (body : Body) → is_seen (responder_deliveries.take_message y a body).0 ≡ true
 responder_answer y a (types.ConditionalReply c true) =
     yes_answer (is_the c (outstanding_number y)) (is_the c y.accepted) (was names_conditions y.issued c) y
@@ -108,7 +110,7 @@ responder_answer y a (types.ConditionalReply c true) =
 responder_answer y a (types.ConditionalReply c false) = search (rules, no_answer y (next_number y.issued) (number_seen y.issued))
 responder_answer y a body = search rules
 
--- If `answer` can be an outcome, so can the answer to a message of the other role.
+-- If `answer` can be an outcome, so can the answer to a message that the role does not issue itself.
 not_own : {R : Type 0} (same own : Bool) (old : R) (answer : Result Taking Refusal × R) → own ≡ false → is_seen answer.0 ≡ true
     → is_seen (unless_refused (cond same (cond own (Some WrongRole) None) (Some OtherTransaction)) old answer).0 ≡ true
 not_own true true old answer others seen = search rules
@@ -117,20 +119,20 @@ not_own false own old answer others seen = refl
 
 -- ---- sides
 
--- If the refusal of a record can be an outcome, so can that of its side.
+-- If the refusal of a record can be an outcome, so can the refusal of its side.
 done_seen : {R : Type 0} (make : R → Side) (result : Result R Refusal) → is_seen result ≡ true
     → is_seen (done_by make result) ≡ true
 done_seen make (Ok new) seen = refl
 done_seen make (Err refusal) seen = seen
 
--- A requester's side that stands has no refusal of a wish but one that can be an outcome.
+-- A requester's side refuses a wish only with a refusal that can be an outcome.
 wish_seen : (txn : Qualifiers) (side : Side) (partner_sent : List (Option Apdu)) (wish : Wish)
     → RequesterSideStands txn side partner_sent → is_seen (acts side (actions.Wish wish)) ≡ true
 wish_seen txn (sides.Requester x) partner_sent wish stands =
     done_seen sides.Requester (requester_actions.acts x wish) (wish_done x _ _ (wish_line x wish) (number_seen x.issued))
 wish_seen txn (sides.Responder y) partner_sent wish stands = absurd stands
 
--- A responder's side that stands has no refusal of a deed but one that can be an outcome.
+-- A responder's side refuses a deed only with a refusal that can be an outcome.
 deed_seen : (txn : Qualifiers) (side : Side) (partner_sent : List (Option Apdu)) (deed : Deed) (today : Date)
     → ResponderSideStands txn side partner_sent → is_seen (acts side (actions.Deed deed today)) ≡ true
 deed_seen txn (sides.Responder y) partner_sent deed today stands =
@@ -138,7 +140,7 @@ deed_seen txn (sides.Responder y) partner_sent deed today stands =
     (deed_done y _ _ (deed_line y deed today) (number_seen y.issued))
 deed_seen txn (sides.Requester x) partner_sent deed today stands = absurd stands
 
--- If all APDUs of a list pass a test, each message passes it.
+-- If all APDUs of a list pass a test, message n passes it.
 message_passes : (test : Apdu → Bool) (apdus : List Apdu) (n : ℕ) (a : Apdu) → message apdus n ≡ Some a
     → list_all test apdus ≡ true → test a ≡ true
 message_passes test apdus zero a at all = search rules
@@ -158,28 +160,28 @@ negated : (b : Bool) → b ≡ true → not b ≡ false
 negated true is = refl
 negated false is = search rules
 
--- Each message that a responder's side that stands has issued is of no type of a requester.
+-- Each message that a responder's side has issued is of a type that no requester issues.
 pub responders_own : (txn : Qualifiers) (side : Side) (partner_sent : List (Option Apdu)) (n : ℕ) (a : Apdu)
     → ResponderSideStands txn side partner_sent → message (issued_of side) n ≡ Some a → is_requesters a.body ≡ false
 responders_own txn (sides.Responder y) partner_sent n a stands at =
     opposite (is_requesters a.body) (message_passes (λ a. not (is_requesters a.body)) y.issued n a at stands.rules.role)
 responders_own txn (sides.Requester x) partner_sent n a stands at = absurd stands
 
--- Each message that a requester's side that stands has issued is of a requester's type.
+-- Each message that a requester's side has issued is of a requester's type.
 pub requesters_own : (txn : Qualifiers) (side : Side) (partner_sent : List (Option Apdu)) (n : ℕ) (a : Apdu)
     → RequesterSideStands txn side partner_sent → message (issued_of side) n ≡ Some a → is_requesters a.body ≡ true
 requesters_own txn (sides.Requester x) partner_sent n a stands at =
     message_passes (λ a. is_requesters a.body) x.issued n a at stands.rules.role
 requesters_own txn (sides.Responder y) partner_sent n a stands at = absurd stands
 
--- The answer of a requester's side that stands to a responder's message can be an outcome.
+-- The answer of a requester's side to a responder's message can be an outcome.
 asking_seen : (txn : Qualifiers) (side : Side) (partner_sent : List (Option Apdu)) (a : Apdu)
     → RequesterSideStands txn side partner_sent → is_requesters a.body ≡ false → is_seen (takes side a).0 ≡ true
 asking_seen txn (sides.Requester x) partner_sent a stands others =
     not_own (is_same_txn a.txn x.txn) (is_requesters a.body) x _ others (requester_answer x a a.body)
 asking_seen txn (sides.Responder y) partner_sent a stands others = absurd stands
 
--- The answer of a responder's side that stands to a requester's message can be an outcome.
+-- The answer of a responder's side to a requester's message can be an outcome.
 asked_seen : (txn : Qualifiers) (side : Side) (partner_sent : List (Option Apdu)) (a : Apdu)
     → ResponderSideStands txn side partner_sent → is_requesters a.body ≡ true → is_seen (takes side a).0 ≡ true
 asked_seen txn (sides.Responder y) partner_sent a stands others =
@@ -189,34 +191,35 @@ asked_seen txn (sides.Requester x) partner_sent a stands others = absurd stands
 
 -- ---- events
 
--- If the refusal of a decision can be an outcome, the outcome of the decision can be seen.
+-- If the refusal of a decision can be an outcome, `can_be_seen` holds of the decision's outcome.
 decision_seen : (p : Party) (result : Result Side Refusal) → is_seen result ≡ true → can_be_seen (decides p result).0 ≡ true
 decision_seen p (Ok new) seen = refl
 decision_seen p (Err refusal) seen = seen
 
--- If the refusal of a message can be an outcome, the outcome of its delivery can be seen.
+-- If the refusal of a message can be an outcome, `can_be_seen` holds of the delivery's outcome.
 answer_seen : (answer : Result Taking Refusal) → is_seen answer ≡ true → can_be_seen (answer_to answer) ≡ true
 answer_seen (Ok did) seen = refl
 answer_seen (Err refusal) seen = seen
 
--- The outcome of a Send can be seen.
+-- `can_be_seen` holds of the outcome of a Send.
 send_seen : (p : Party) (n : ℕ) (found : Option Apdu) (released : Bool) → can_be_seen (sends p n found released).0 ≡ true
 send_seen p n None released = refl
 send_seen p n (Some a) true = refl
 send_seen p n (Some a) false = refl
 
--- If two outcomes can be seen, so can either.
+-- If `can_be_seen` holds of two outcomes, it holds of the selected one.
 one_of_two : (b : Bool) (first second : Outcome) → can_be_seen first ≡ true → can_be_seen second ≡ true
     → can_be_seen (cond b first second) ≡ true
 one_of_two true first second this that = this
 one_of_two false first second this that = that
 
--- The outcome of noise can be seen.
+-- `can_be_seen` holds of the outcome of noise.
 noise_seen : (p : Party) (found : Result (Apdu × List ℕ) DerFault) → can_be_seen (hears p found) ≡ true
 noise_seen p (Ok (a, [])) = one_of_two (is_same_txn a.txn (txn_of p.live)) Forged (Refused OtherTransaction) refl refl
 noise_seen p (Ok (a, byte ∷ rest)) = refl
 noise_seen p (Err fault) = refl
 
+-- `can_be_seen` holds of the outcome of a delivery to the requester.
 asking_receives : (txn : Qualifiers) (w : Parties) (n : ℕ) (found : Option Apdu) → Invariant txn w
     → sent_message w.responder.sent n ≡ found → can_be_seen (receives w.requester found).0 ≡ true
 asking_receives txn w n None stands e = refl
@@ -226,6 +229,7 @@ asking_receives txn w n (Some a) stands e =
     (responders_own txn w.responder.landed w.requester.sent n a stands.responder.landed
     (stands.responder.saved.landed n a e)))
 
+-- `can_be_seen` holds of the outcome of a delivery to the responder.
 asked_receives : (txn : Qualifiers) (w : Parties) (n : ℕ) (found : Option Apdu) → Invariant txn w
     → sent_message w.requester.sent n ≡ found → can_be_seen (receives w.responder found).0 ≡ true
 asked_receives txn w n None stands e = refl
@@ -235,6 +239,7 @@ asked_receives txn w n (Some a) stands e =
     (requesters_own txn w.requester.landed w.responder.sent n a stands.requester.landed
     (stands.requester.saved.landed n a e)))
 
+-- `can_be_seen` holds of the outcome of each event.
 pub outcome_seen : (txn : Qualifiers) (w : Parties) (event : Event) → Invariant txn w → can_be_seen (happens w event).0 ≡ true
 outcome_seen txn w (events.Wish wish) stands =
     decision_seen w.requester (acts w.requester.live (actions.Wish wish))

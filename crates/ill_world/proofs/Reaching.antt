@@ -1,4 +1,4 @@
--- The events of desks that reach a side.
+-- Each event of desks reaches a side that is held, or one that it begins.
 use Rattle.std.proofs.Common.{◌≡◌, ℕ, nat_lt, length, Bool, true, false, not, if◌then◌else◌, Option, Some, None, Result, Ok, Err}
 use Rattle.std.proofs.Common.{refl, sym, ap, ◌∙◌, subst}
 use Rattle.ill_values.specs.TxnId.{Qualifiers}
@@ -30,7 +30,7 @@ use Rattle.ill_world.proofs.Outcomes.{responders_own, requesters_own}
 use Rattle.ill_world.proofs.Projections.{may_act}
 use Rattle.ill_world.proofs.Desks.{keeps_to}
 
--- what is seen of a side that is reached, and of a fault to reach one
+-- If a held side gives a plain outcome, and a fault its own outcome, `Reaches` holds.
 reach : (seen : Result DeskEntry DeskFault → DeskOutcome) → ((held : DeskEntry) → IsPlain (seen (Ok held)))
     → ((fault : DeskFault) → seen (Err fault) ≡ fault_seen fault)
     → (may_begin has_room : Bool) (idle : DeskEntry) (found : Option DeskEntry)
@@ -40,12 +40,13 @@ reach seen plainly faulted true true idle None = plainly idle
 reach seen plainly faulted true false idle None = faulted faults.DeskFull
 reach seen plainly faulted false has_room idle None = faulted faults.NoSuchTransaction
 
+-- A decision at a held side has a plain outcome.
 decided_plainly : (p : DeskParty) (held : DeskEntry) (result : Result Side Refusal)
     → IsPlain (desk_decides p (acted_at p.live held result)).0
 decided_plainly p held (Ok new) = tt
 decided_plainly p held (Err refusal) = tt
 
--- An action of the desk's role reaches a side that is held, or one that it begins.
+-- An action of the desk's role reaches the side that is held, or one that it begins.
 decides_reaches : (p : DeskParty) (txn : Qualifiers) (action : Action)
     → is_same_role p.live.role (role_for action) ≡ true
     → ReachesAt (begins action) p txn (desk_decides p (desk_acts p.live txn action)).0
@@ -58,17 +59,19 @@ decides_reaches p txn action may =
     (nat_lt (length p.live.held) most_sides)
     (idle_held p.live.role txn) (found_by txn_held txn p.live.held))
 
+-- A Send reaches the side that is held, or has the outcome NoSuchTransaction.
 sent_plainly : (p : DeskParty) (txn : Qualifiers) (n : ℕ) (found : Option DeskEntry)
     → Reaches false (nat_lt (length p.live.held) 1000) found (desk_sends p txn n found).0
 sent_plainly p txn n (Some held) = tt
 sent_plainly p txn n None = refl
 
+-- A message that a held side takes has a plain outcome.
 took_plainly : (live : DeskContents) (held : DeskEntry) (answer : Result _ Refusal) (new : Side)
     → IsPlain (taking_seen (took_at live held (answer, new)).0)
 took_plainly live held (Ok _) new = tt
 took_plainly live held (Err refusal) new = tt
 
--- A message of the other role reaches a side that is held, or one that it begins.
+-- A message of the other role reaches the side that is held, or one that it begins.
 takes_reaches : (p : DeskParty) (a : Apdu) → is_own p.live.role a.body ≡ false
     → ReachesAt (is_ill_request a.body) p a.txn (desk_receives p (Some a)).0
 takes_reaches p a others =
@@ -79,7 +82,7 @@ takes_reaches p a others =
     (λ held. took_plainly p.live held (takes held.side a).0 (takes held.side a).1) (λ fault. refl) (is_ill_request a.body)
     (nat_lt (length p.live.held) most_sides) (idle_held p.live.role a.txn) (found_by txn_held a.txn p.live.held))
 
--- A message that the other desk has sent is of no type of this one's role.
+-- A message that the other desk has sent is of a type that this role does not issue.
 sent_by_other : (w : DeskParties) (role : Who) → DesksStand w → (txn : Qualifiers) (n : ℕ) (a : Apdu)
     → sent_message (sent_for txn (party w (other role)).sent) n ≡ Some a → is_own role a.body ≡ false
 sent_by_other w who.Requester stands txn n a sent =
@@ -88,7 +91,7 @@ sent_by_other w who.Responder stands txn n a sent =
     let requester = (stands.each txn).requester in
     ap not (requesters_own txn _ _ n a requester.landed (requester.saved.landed n a sent))
 
--- A delivery of a message that was sent reaches a side that is held, or one that it begins.
+-- A delivery of a sent message reaches the side that is held, or one that it begins.
 delivers_reaches : (w : DeskParties) (role : Who) → DesksStand w
     → (txn : Qualifiers) (n : ℕ) (a : Apdu) (found : Option Apdu) → found ≡ Some a
     → sent_message (sent_for txn (party w (other role)).sent) n ≡ Some a
@@ -100,7 +103,7 @@ delivers_reaches w role stands txn n a found is sent =
     (sym (keeps.txn_of_sent txn n a sent))
     (takes_reaches (party w role) a (ap (λ r. is_own r a.body) keeps.role_is ∙ sent_by_other w role stands txn n a sent)))
 
--- `ReachesSide` holds of each event at two desks that stand.
+-- `ReachesSide` holds of each event at two desks that satisfy `DesksStand`.
 pub reaches_side : (w : DeskParties) (event : DeskEvent) → DesksStand w → ReachesSide w event
 reaches_side w (events.Wish txn wish) stands =
     decides_reaches w.requester txn (actions.Wish wish) (may_act w.requester who.Requester stands.requester.0)

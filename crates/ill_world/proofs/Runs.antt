@@ -1,4 +1,4 @@
--- A run, one event after another.
+-- A run performs one event after another.
 use Rattle.std.proofs.Common.{arith, ◌≡◌, ℕ, suc, ◌+◌, ◌<◌, ◌≤◌, List, [], ◌∷◌, ◌++◌, length, drop, take, get_or, refl, sym, ap}
 use Rattle.std.proofs.Common.{◌∙◌, subst, drop-cons, add-one}
 use Rattle.std.proofs.lemmas.List.{length-drop, take_at, take_more}
@@ -8,13 +8,13 @@ use Rattle.ill_world.specs.World.{Parties, happens, run_by, run_of}
 use Rattle.ill_world.specs.Invariant.{Invariant}
 
 module _ {W E O : Type 0} (happening : W → E → O × W) where
-  -- If the first event leads from `w` to `new`, running the events is running the others from `new`.
+  -- If the first event leads from `w` to `new`, the run from `w` is the run of the others from `new`.
   run_next : (w new : W) (events : List E) (event : E) (outcome : O) → happening w event ≡ (outcome, new)
       → run_by happening w (event ∷ events) ≡ run_by happening new events
   unfolding run_by
   run_next w new events event outcome happened = ap (λ (after : O × W). run_by happening after.1 events) happened
 
-  -- If event i leads from `w` to `new`, running the events from i on is running those after it from `new`.
+  -- If event i leads from `w` to `new`, the run from event i on is the run from the next event on, from `new`.
   pub run_on : (w new : W) (events : List E) (i : ℕ) (event : E) (outcome : O) → i < length events → event ≡ get_or events i event
       → happening w event ≡ (outcome, new)
       → run_by happening w (drop i events) ≡ run_by happening new (drop (i + 1) events)
@@ -23,29 +23,29 @@ module _ {W E O : Type 0} (happening : W → E → O × W) where
       ∙ ap (λ j. event ∷ drop j events) (sym (add-one i)) in
       ap (run_by happening w) first ∙ run_next w new (drop (i + 1) events) event outcome happened
 
-  -- Running no events leaves the world.
+  -- The run of no events leaves the world unchanged.
   run_of_none : (w : W) (events : List E) → length events ≡ 0 → run_by happening w events ≡ w
   unfolding run_by
   run_of_none w [] none = refl
   run_of_none w (event ∷ events) none = absurd (omega (arith, none))
 
-  -- After the last event no event is left, and the world stays.
+  -- After the last event the run of the events that are left leaves the world unchanged.
   pub run_ended : (w : W) (events : List E) (i : ℕ) → length events ≤ i → run_by happening w (drop i events) ≡ w
   run_ended w events i all = run_of_none w (drop i events) (omega (arith, length-drop i events, all))
 
-  -- Running two lists of events joined is running the first, and then the second.
+  -- The run of `first ++ second` is the run of `first`, and then the run of `second`.
   pub run_both : (w : W) (first second : List E)
       → run_by happening w (first ++ second) ≡ run_by happening (run_by happening w first) second
   unfolding run_by
   run_both w [] second = refl
   run_both w (event ∷ first) second = run_both (happening w event).1 first second
 
-  -- Running one event gives the world after it.
+  -- The run of one event gives the world after it.
   pub run_one : (w : W) (event : E) → run_by happening w (event ∷ []) ≡ (happening w event).1
   unfolding run_by
   run_one w event = refl
 
-  -- If event i leads to `new` from the world after those before it, the events up to i lead to `new`.
+  -- If the first i events lead to a world from which event i leads to `new`, one event more leads to `new`.
   pub run_taken : (w new : W) (events : List E) (i : ℕ) (event : E) (outcome : O) → i < length events
       → event ≡ get_or events i event → happening (run_by happening w (take i events)) event ≡ (outcome, new)
       → run_by happening w (take (i + 1) events) ≡ new
@@ -54,7 +54,7 @@ module _ {W E O : Type 0} (happening : W → E → O × W) where
       ap (run_by happening w) next ∙ run_both w (take i events) (event ∷ []) ∙ run_one (run_by happening w (take i events)) event
       ∙ ap (λ (after : O × W). after.1) happened
 
-  -- A fact of each world on the way through `before ++ after` holds of the world after `before`.
+  -- If `P` holds of each world on the way through `before ++ after`, it holds of the world after `before`.
   pub run_prefix : (P : W → Type 0) (w : W) (before after : List E)
       → ((n : ℕ) → P (run_by happening w (take n (before ++ after)))) → P (run_by happening w before)
   run_prefix P w before after each =
@@ -62,6 +62,7 @@ module _ {W E O : Type 0} (happening : W → E → O × W) where
 
 -- ---- facts of every world of a run
 
+-- If each event keeps the invariant, a run keeps it.
 pub run_stands : (txn : Qualifiers) → ((w : Parties) (event : Event) → Invariant txn w → Invariant txn (happens w event).1)
     → (w : Parties) (events : List Event) → Invariant txn w → Invariant txn (run_of w events)
 unfolding run_by

@@ -1,4 +1,4 @@
--- The reading of a script, line by line, for any meaning of its lines.
+-- A script is read line by line, for any meaning of its lines.
 use Rattle.std.proofs.Common.{arith, ◌≡◌, ℕ, ◌+◌, ◌<◌, ◌≤◌, Bool, true, false, ◌&&◌, nat_le, if◌then◌else◌, cond, ◌==◌, List, []}
 use Rattle.std.proofs.Common.{◌∷◌, ◌++◌, length, Some, refl, sym, ap, ◌∙◌, length-append}
 use Rattle.std.specs.List.{onto_first}
@@ -10,17 +10,17 @@ use Rattle.ill_world.specs.Play.{says_on}
 use Rattle.ill_world.specs.Simulating.{has_lf}
 use Rattle.ill_world.proofs.Texts.{line_first, line_alone, some_line, line_begins}
 
--- Returns a reading without events, and with line n as the bad one.
+-- Returns a reading without events, in which line n is bad.
 abbrev pub only_bad : {E : Type 0} → ℕ → Said E
 only_bad n = record { events = []; bad = Some n }
 
 -- ---- within the limits
 
--- If m is at most n, `nat_le` is true of them.
+-- If m is at most n, `nat_le m n` is true.
 le_true : (m n : ℕ) → m ≤ n → nat_le m n ≡ true
 le_true m n le = le-leb m n le
 
--- If n is less than m, `nat_le` is false of m and n.
+-- If n is less than m, `nat_le m n` is false.
 le_false : (m n : ℕ) → n < m → nat_le m n ≡ false
 le_false m n less = lt-leb m n less
 
@@ -28,7 +28,7 @@ le_false m n less = lt-leb m n less
 both_true : (a b : Bool) → a ≡ true → b ≡ true → (a && b) ≡ true
 both_true a b one two = ap (λ (x : Bool). x && b) one ∙ two
 
--- A line that is neither too long nor too late is within the limits.
+-- A line of at most 1,024 bytes up to line 100,000 is within the limits.
 pub within : (n : ℕ) (bytes : List ℕ) → n ≤ 100000 → length bytes ≤ 1024 → is_within n bytes ≡ true
 within n bytes few short = both_true (nat_le n 100000) (nat_le (length bytes) 1024) (le_true n 100000 few)
     (le_true (length bytes) 1024 short)
@@ -45,37 +45,37 @@ too_long n bytes long = go (nat_le n 100000) (nat_le (length bytes) 1024) (le_fa
 too_many : (n : ℕ) (bytes : List ℕ) → 100001 ≤ n → is_within n bytes ≡ false
 too_many n bytes many = ap (λ (a : Bool). a && nat_le (length bytes) 1024) (le_false n 100000 (omega (arith, many)))
 
--- Bytes within the limits, after which a reader failed, say nothing.
+-- If bytes are within the limits, and the reader fails after them, their reading is empty.
 pub breaks_nothing : {E C : Type 0} → (c : C) (n : ℕ) (bytes : List ℕ) → is_within n bytes ≡ true
     → ◌≡◌ {A = Said E} (breaks_off c n bytes) says_nothing
 breaks_nothing c n [] is = refl
 breaks_nothing {E = E} c n (byte ∷ bytes) is = ap (λ (b : Bool). if b then says_nothing {E = E} else only_bad n) is
 
 module _ {W E C : Type 0} (play : Play W E C) where
-  -- The meaning of a line within the limits is that of its bytes.
+  -- A line within the limits has the meaning of its bytes.
   pub line_within : (c : C) (n : ℕ) (bytes : List ℕ) → n ≤ 100000 → length bytes ≤ 1024
       → line_at play c n bytes ≡ play.says c bytes
   line_within c n bytes few short = ap (λ (b : Bool). if b then play.says c bytes else (lines.Bad, c)) (within n bytes few short)
 
-  -- A line beyond the limits is bad, and carries its value on.
+  -- A line beyond the limits is bad, and leaves the carried value unchanged.
   line_bad : (c : C) (n : ℕ) (bytes : List ℕ) → is_within n bytes ≡ false → line_at play c n bytes ≡ (lines.Bad, c)
   line_bad c n bytes out = ap (λ (b : Bool). if b then play.says c bytes else (lines.Bad, c)) out
 
   -- ---- lines
 
-  -- The reading of two lines or more is that of the first, and then that of the others.
+  -- The reading of two or more lines is that of the first, and then that of the others.
   says_first : (end : C → ℕ → List ℕ → Said E) (c : C) (n : ℕ) (first second : List ℕ) (more : List (List ℕ))
       → says_from play end c n (first ∷ second ∷ more)
       ≡ then_says (line_at play c n first).0 n (says_from play end (line_at play c n first).1 (n + 1) (second ∷ more))
   unfolding says_from
   says_first end c n first second more = refl
 
-  -- The reading of the last line is that of `end`.
+  -- `end` reads the last line.
   says_last : (end : C → ℕ → List ℕ → Said E) (c : C) (n : ℕ) (rest : List ℕ) → says_from play end c n (rest ∷ []) ≡ end c n rest
   unfolding says_from
   says_last end c n rest = refl
 
-  -- The reading of a line that an LF closes is that of the line, and then that of the rest.
+  -- If an LF closes a line, the reading is that of the line, and then that of the rest.
   pub says_line : (end : C → ℕ → List ℕ → Said E) (c : C) (n : ℕ) (bytes rest : List ℕ) → has_lf bytes ≡ false
       → says_on play end c n (bytes ++ 10 ∷ rest)
       ≡ then_says (line_at play c n bytes).0 n (says_on play end (line_at play c n bytes).1 (n + 1) rest)
@@ -86,7 +86,7 @@ module _ {W E C : Type 0} (play : Play W E C) where
       ∙ says_first end c n bytes some.0 some.1
       ∙ ap (λ parts. then_says line.0 n (says_from play end line.1 (n + 1) parts)) (sym some.2)
 
-  -- The reading of bytes that no LF closes is that of `end`.
+  -- If no LF closes the bytes, `end` reads them.
   pub says_rest : (end : C → ℕ → List ℕ → Said E) (c : C) (n : ℕ) (bytes : List ℕ) → has_lf bytes ≡ false
       → says_on play end c n bytes ≡ end c n bytes
   says_rest end c n bytes none = ap (says_from play end c n) (line_alone bytes none) ∙ says_last end c n bytes
@@ -104,7 +104,7 @@ module _ {W E C : Type 0} (play : Play W E C) where
   bad_ends c n bytes some out = ends_line c n bytes some
       ∙ ap (λ (line : ScriptLine E × C). then_says line.0 n says_nothing) (line_bad c n bytes out)
 
-  -- A first line beyond the limits is the bad one, if lines follow.
+  -- If a first line is beyond the limits, and lines follow, it is bad.
   bad_first : (c : C) (n : ℕ) (first second : List ℕ) (more : List (List ℕ)) → is_within n first ≡ false
       → says_from play (ends play) c n (first ∷ second ∷ more) ≡ only_bad n
   bad_first c n first second more out =
@@ -112,13 +112,13 @@ module _ {W E C : Type 0} (play : Play W E C) where
       ∙ ap (λ (line : ScriptLine E × C). then_says line.0 n (says_from play (ends play) line.1 (n + 1) (second ∷ more)))
       (line_bad c n first out)
 
-  -- A first line beyond the limits, which is not empty, is the bad one.
+  -- If a first line is beyond the limits, and is not empty, it is bad.
   first_bad : (c : C) (n : ℕ) (first : List ℕ) (more : List (List ℕ)) → is_within n first ≡ false → 1 ≤ length first
       → says_from play (ends play) c n (first ∷ more) ≡ only_bad n
   first_bad c n first [] out some = says_last (ends play) c n first ∙ bad_ends c n first some out
   first_bad c n first (second ∷ more) out some = bad_first c n first second more out
 
-  -- Bytes without LF that are too long for a line are a bad line, with anything after them.
+  -- If bytes without an LF are too long for a line, they are a bad line, with any bytes after them.
   pub says_too_long : (c : C) (n : ℕ) (bytes rest : List ℕ) → has_lf bytes ≡ false → 1025 ≤ length bytes
       → says_on play (ends play) c n (bytes ++ rest) ≡ only_bad n
   says_too_long c n bytes rest none long =

@@ -1,4 +1,4 @@
--- Why all events of a night of the desks of a group have their home there.
+-- All events of a night of the desks of a group have their home at this group.
 use Rattle.std.proofs.Common.{◌≡◌, ℕ, Bool, true, false, cond, if◌then◌else◌, List, [], ◌∷◌, ◌++◌, length, map, refl, sym, ap}
 use Rattle.std.proofs.Common.{◌∙◌, subst, true≢false}
 use Rattle.std.specs.Prelude.{bytes_eq, filter, flat_map}
@@ -33,12 +33,12 @@ use Rattle.ill_world.proofs.Shelves.{BothLack, lack_elsewhere, group_in_order}
 -- ---- events that have their home at a group
 
 module _ (group : List ℕ) where
-  -- Each of the events has its home at the group with which it is said.
+  -- Each of the events, given with `group`, has its home there.
   abbrev pub AllAt : List DeskEvent → Type 0
   AllAt [] = Unit {0}
   AllAt (event ∷ more) = (group_of group event ≡ group) × AllAt more
 
-  -- If all events have their home at the group, they are the events of the group.
+  -- If all events have their home at the group, `events_at` returns all of them.
   pub all_at : (all : List DeskEvent) → AllAt all → events_at group (said_in group all) ≡ all
   all_at [] at = refl
   all_at (event ∷ more) at =
@@ -46,7 +46,7 @@ module _ (group : List ℕ) where
       ap (λ b. if b then event ∷ others else others) ((bytes_eq-Decides group (group_of group event)).1 (sym at.0))
       ∙ ap (λ l. event ∷ l) (all_at more at.1)
 
-  -- If two lists of events have their home at the group, so has the list of both.
+  -- If two lists of events have their home at the group, so has the joined list.
   both_at : (first second : List DeskEvent) → AllAt first → AllAt second → AllAt (first ++ second)
   both_at [] second at second_at = second_at
   both_at (event ∷ first) second at second_at = (at.0, both_at first second at.1 second_at)
@@ -81,7 +81,7 @@ module _ (group : List ℕ) where
       both_at (passes_side role side) (flat_map (passes_side role) more)
       (txn_at (txn_of side) (sends_and_delivers role 1 (length (issued_of side))) of.0) (passes_at role more of.1)
 
-  -- If sides are of the group, so are those of them that want sending.
+  -- If all sides are of the group, so are those of which `wants` holds.
   wanted_of : (wants : Side → Bool) (all : List Side) → AllOf all → AllOf (filter wants all)
   wanted_of wants [] of = tt
   wanted_of wants (side ∷ more) of = go (wants side) (wanted_of wants more of.1)
@@ -90,7 +90,7 @@ module _ (group : List ℕ) where
       go true rest = (of.0, rest)
       go false rest = rest
 
-  -- Sides that a desk holds are of the group, if it lacks each transaction of another.
+  -- If a desk lacks each transaction of another group, its sides are of the group.
   held_of : (held : List DeskEntry) → ((txn : Qualifiers) → (txn.group ≡ group → ⊥) → is_one_of txn (map txn_held held) ≡ false)
       → AllOf (map (λ (h : DeskEntry). h.side) held)
   held_of [] lacks = tt
@@ -112,11 +112,11 @@ module _ (group : List ℕ) where
 
   -- ---- a night
 
-  -- Two desks lack each transaction of another group.
+  -- Both desks lack each transaction of another group.
   abbrev LackOthers : DeskParties → Type 0
   LackOthers w = (txn : Qualifiers) → (txn.group ≡ group → ⊥) → BothLack txn w
 
-  -- The half of such a desk has its home at the group.
+  -- If both desks lack the other groups, all events of a half of a night have their home at the group.
   half_at : (wants : Side → Bool) (role : Who) (w : DeskParties) → LackOthers w → AllAt (desk_half_if wants role w)
   half_at wants who.Requester w lack =
       let all = (sides_held w.requester.live).sides in (
@@ -131,7 +131,7 @@ module _ (group : List ℕ) where
             (wanted_of wants all (held_of w.responder.live.held (λ txn apart. (lack txn apart).1.0))),
       )
 
-  -- All events of a night of the desks of a group, said with the group, have their home there.
+  -- All events of a night of the desks of a group, given with the group, have their home there.
   pub night_at : RowsGrow → EachStands → DesksStand first_desks → (all : List ShelfEvent)
       → let night = desk_night_of (desks_run first_desks (events_at group all)) in events_at group (said_in group night) ≡ night
   night_at grows after first all =

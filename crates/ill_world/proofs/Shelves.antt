@@ -1,4 +1,4 @@
--- Why each group of two shelves has two desks of its own.
+-- The desks of each group of two shelves are two desks of their own.
 use Rattle.std.proofs.Common.{◌≡◌, ℕ, Bool, true, false, if◌then◌else◌, List, [], ◌∷◌, ◌++◌, Option, Some, None, is_some, refl}
 use Rattle.std.proofs.Common.{sym, ap, ◌∙◌, subst, true≢false}
 use Rattle.std.specs.Prelude.{bytes_eq}
@@ -31,7 +31,7 @@ use Rattle.ill_world.proofs.DeskCounts.{Leads, stays, begun, lands, returns, Per
 
 -- ---- groups
 
--- An event that names no transaction is of the group that is said with it.
+-- If an event names no transaction, its group is the group `said`.
 whole_group : (said : List ℕ) (event : DeskEvent) → ((txn : Qualifiers) → Names txn event → ⊥) → group_of said event ≡ said
 whole_group said (events.Wish of wish) none = absurd (none of refl)
 whole_group said (events.Deed of deed today) none = absurd (none of refl)
@@ -39,13 +39,13 @@ whole_group said (events.Send role of n) none = absurd (none of refl)
 whole_group said (events.Deliver role of n) none = absurd (none of refl)
 whole_group said event none = refl
 
--- The home of an event that names no transaction is the group that is said with it.
+-- If an event names no transaction, its home is its group.
 pub whole_home : (e : ShelfEvent) → ((txn : Qualifiers) → Names txn e.event → ⊥) → home e ≡ e.group
 whole_home e none = whole_group e.group e.event none
 
 -- ---- the events of a group
 
--- The events of a group come in the order of those of the shelves.
+-- The events of a group have the order of the events of the shelves.
 pub group_in_order : (group : List ℕ) (before after : List ShelfEvent)
     → events_at group (before ++ after) ≡ events_at group before ++ events_at group after
 group_in_order group [] after = refl
@@ -55,7 +55,7 @@ group_in_order group (e ∷ before) after =
 
 -- ---- runs
 
--- An event leads the desks of a group on if it is one of theirs.
+-- An event changes the desks of a group if its home is this group.
 one_on : (w : Shelves) (group at : List ℕ) (event : DeskEvent) (more : List DeskEvent) (same : Bool) → bytes_eq group at ≡ same
     → desks_run (if same then (desks_happen (w at) event).1 else w group) more
     ≡ desks_run (w group) (if same then event ∷ more else more)
@@ -64,7 +64,7 @@ one_on w group at event more true same =
     ap (λ g. desks_run (desks_happen (w g) event).1 more) (sym ((bytes_eq-Decides group at).0 same))
 one_on w group at event more false same = refl
 
--- The desks of a group after events are two desks after the events of the group.
+-- The desks of a group after events are two desks after the events of this group.
 pub shelves_run_at : (w : Shelves) (group : List ℕ) (all : List ShelfEvent)
     → shelves_run w all group ≡ desks_run (w group) (events_at group all)
 unfolding run_by
@@ -75,11 +75,11 @@ shelves_run_at w group (e ∷ more) =
 
 -- ---- transactions of another group
 
--- A desk lacks a transaction: it holds no side of it, and none has landed.
+-- The desk lacks `txn`: it holds no side of it, and no side of it has landed.
 abbrev pub Lacks : Qualifiers → DeskParty → Type 0
 Lacks txn p = (is_one_of txn (live_txns p) ≡ false) × (is_one_of txn (landed_txns p) ≡ false)
 
--- Two desks lack a transaction.
+-- Both desks lack `txn`.
 abbrev pub BothLack : Qualifiers → DeskParties → Type 0
 BothLack txn w = Lacks txn w.requester × Lacks txn w.responder
 
@@ -87,7 +87,7 @@ BothLack txn w = Lacks txn w.requester × Lacks txn w.responder
 abbrev IsOther : Qualifiers → Qualifiers → Type 0
 IsOther txn of = is_same_txn txn of ≡ false
 
--- A desk that lacks a transaction lacks it after what begins only others.
+-- If a desk lacks `txn`, and an event begins only other transactions, the desk still lacks it.
 lacks_still : (txn : Qualifiers) (live landed new_live new_landed : List Qualifiers)
     → Leads (IsOther txn) live landed new_live new_landed
     → (is_one_of txn live ≡ false) × (is_one_of txn landed ≡ false)
@@ -101,7 +101,7 @@ lacks_still txn live landed new_live new_landed (lands is there) lacks =
 lacks_still txn live landed new_live new_landed (returns is there) lacks =
     (ap (is_one_of txn) is ∙ lacks.1, ap (is_one_of txn) there ∙ lacks.1)
 
--- An event names another transaction than this one, or none.
+-- The event names another transaction than `txn`, or none.
 abbrev NamesOther : Qualifiers → DeskEvent → Type 0
 NamesOther txn (events.Wish of wish) = IsOther txn of
 NamesOther txn (events.Deed of deed today) = IsOther txn of
@@ -109,7 +109,7 @@ NamesOther txn (events.Send role of n) = IsOther txn of
 NamesOther txn (events.Deliver role of n) = IsOther txn of
 NamesOther txn whole = Unit {0}
 
--- An event that names another transaction begins only others: a message is of the transaction in which it was sent.
+-- An event that names another transaction begins only others. For a message is of the transaction in which it was sent.
 permits_other : (txn : Qualifiers) (partner_sent : List Sending) (event : DeskEvent)
     → ((of : Qualifiers) (n : ℕ) (a : Apdu) → sent_message (sent_for of partner_sent) n ≡ Some a → of ≡ a.txn)
     → NamesOther txn event
@@ -119,7 +119,7 @@ permits_other txn partner_sent (events.Deliver role of n) txn_of_sent names = λ
     subst (IsOther txn) (txn_of_sent of n a sent) names
 permits_other txn partner_sent event txn_of_sent names = tt
 
--- Two desks that lack a transaction lack it after an event of another.
+-- If both desks lack `txn`, they lack it after an event that names another transaction.
 lack_at : RowsGrow → (txn : Qualifiers) (w : DeskParties) (event : DeskEvent) → DesksStand w → NamesOther txn event
     → BothLack txn w → (role : Who)
     → BothLack txn (happens_at w role (λ p partner. desk_happens_to p partner.sent event)).1
@@ -138,7 +138,7 @@ lack_at grows txn w event stands names lack who.Responder =
           (permits_other txn w.requester.sent event (keeps_to w who.Responder stands).txn_of_sent names)) lack.1,
     )
 
--- A transaction of another group is not the one of an event at these desks.
+-- If `txn` is of another group than `of`, it is another transaction.
 other_txn : (txn of : Qualifiers) (group : List ℕ) → (txn.group ≡ group → ⊥) → of.group ≡ group → IsOther txn of
 other_txn txn of group apart is = go (is_same_txn txn of) refl
   where
@@ -155,7 +155,7 @@ names_other txn said group (events.Send role of n) apart is = other_txn txn of g
 names_other txn said group (events.Deliver role of n) apart is = other_txn txn of group apart is
 names_other txn said group event apart is = tt
 
--- A fact that desks keep at each event of a group holds after all its events.
+-- If each event of a group keeps `P`, all its events keep it.
 kept_at : (P : DeskParties → Type 0) → (group : List ℕ)
     → ((w : DeskParties) (e : ShelfEvent) → home e ≡ group → P w → P (desks_happen w e.event).1)
     → (w : DeskParties) (all : List ShelfEvent) → P w
@@ -169,7 +169,7 @@ kept_at P group keeps w (e ∷ more) holds = go (λ v. kept_at P group keeps v m
     go further true same = further (desks_happen w e.event).1 (keeps w e (sym ((bytes_eq-Decides group (home e)).0 same)) holds)
     go further false same = further w holds
 
--- Two desks stand, and lack a transaction.
+-- `DesksStand` holds, and both desks lack `txn`.
 abbrev pub StandWithout : Qualifiers → DeskParties → Type 0
 StandWithout txn w = DesksStand w × BothLack txn w
 
@@ -185,7 +185,7 @@ lack_elsewhere grows after first txn group all apart =
     ))
     first_desks all (first, ((refl, refl), (refl, refl)))
 
--- A desk that lacks a transaction holds no side of it.
+-- If a desk lacks `txn`, it holds no side of it.
 none_held : (txn : Qualifiers) (p : DeskParty) → Lacks txn p → found_by txn_held txn p.live.held ≡ None
 none_held txn p lacks = go (found_by txn_held txn p.live.held) (has_found txn_held txn p.live.held ∙ lacks.0)
   where
@@ -193,7 +193,7 @@ none_held txn p lacks = go (found_by txn_held txn p.live.held) (has_found txn_he
     go (Some held) is = absurd (true≢false is)
     go None is = refl
 
--- Two desks that lack a transaction hold no side of it.
+-- If both desks lack `txn`, neither holds a side of it.
 neither_holds : (txn : Qualifiers) (w : DeskParties) (role : Who) → BothLack txn w
     → found_by txn_held txn (party w role).live.held ≡ None
 neither_holds txn w who.Requester lack = none_held txn w.requester lack.0
@@ -210,7 +210,7 @@ none_elsewhere grows after first txn group all role apart =
 
 -- ---- sides of a transaction of another group
 
--- An event of a whole desk leaves idle sides as they are.
+-- An event of a whole desk leaves idle sides idle.
 whole_idle : (txn : Qualifiers) (event : DeskEvent) → NamesOther txn event → concerns txn event ≡ true
     → (happens (first_world txn) (plain event)).1 ≡ first_world txn
 whole_idle txn (events.Wish of wish) names is = absurd (true≢false (sym is ∙ names))
@@ -227,7 +227,7 @@ whole_idle txn (events.Noise role bytes) names is = absurd (true≢false (sym is
 whole_idle txn (events.Restart who.Requester) names is = refl
 whole_idle txn (events.Restart who.Responder) names is = refl
 
--- Idle sides stay idle at an event, if it is expected to leave them so.
+-- If the expected sides of an event are idle, idle sides stay idle at it.
 seen_idle : (own : Bool) (expected : Outcome × Parties) (old new idle : Parties) (outcome : DeskOutcome)
     → IsSeenAs (if_reached outcome own) expected old outcome new → (own ≡ true → expected.1 ≡ idle) → old ≡ idle
     → new ≡ idle
@@ -236,11 +236,11 @@ seen_idle false expected old new idle (Plain outcome) seen stay is = seen ∙ is
 seen_idle own expected old new idle NoSuchTransaction seen stay is = seen ∙ is
 seen_idle own expected old new idle DeskFull seen stay is = seen ∙ is
 
--- Two desks stand, and show idle sides of a transaction.
+-- `DesksStand` holds, and the projection to `txn` has idle sides.
 abbrev StandIdle : Qualifiers → DeskParties → Type 0
 StandIdle txn w = DesksStand w × (project txn w ≡ first_world txn)
 
--- Such two desks show idle sides after an event of another transaction.
+-- If `StandIdle` holds, the sides of `txn` are idle after an event that names another transaction.
 idle_on : EachProjects → (txn : Qualifiers) (w : DeskParties) (event : DeskEvent) → NamesOther txn event
     → StandIdle txn w → project txn (desks_happen w event).1 ≡ first_world txn
 idle_on projects txn w event names holds =

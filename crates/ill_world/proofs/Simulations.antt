@@ -1,4 +1,4 @@
--- The trace of a run, and a simulation that goes on after a line.
+-- A trace grows by one text with each event. A simulation may go on after each line.
 use Rattle.std.proofs.Common.{arith, ◌≡◌, ℕ, ◌+◌, true, List, [], ◌∷◌, ◌++◌, length, Option, Some, Result, Ok, Err, refl, sym, ap}
 use Rattle.std.proofs.Common.{◌∙◌, subst, append_assoc, append-nil, length-append}
 use Rattle.std.specs.Io.KnownBytes.{Consumes, Appends}
@@ -25,7 +25,7 @@ module _ {W E C : Type 0} (play : Play W E C) where
   unfolding trace_from
   trace_of_none n w = refl
 
-  -- The trace of events is the text of the first, and then the trace of the others.
+  -- The trace of events is the text of the first event, and then the trace of the others.
   pub trace_next : (n : ℕ) (w : W) (event : E) (events : List E)
       → trace_from play n w (event ∷ events) ≡ play.text n w event ++ trace_from play (n + 1) (play.next w event) events
   unfolding trace_from
@@ -41,7 +41,7 @@ module _ {W E C : Type 0} (play : Play W E C) where
 
 module _ {W E C : Type 0} (play : Play W E C) (run : W → List E → W) (none : (w : W) → run w [] ≡ w)
     (next : (w : W) (event : E) (events : List E) → run w (event ∷ events) ≡ run (play.next w event) events) where
-  -- The trace goes on after these events.
+  -- The trace of `events ++ more` is the trace of `events`, and then that of `more`.
   pub trace_more : (n : ℕ) (w : W) (events more : List E)
       → trace_from play n w (events ++ more)
       ≡ trace_from play n w events ++ trace_from play (n + length events) (run w events) more
@@ -61,14 +61,14 @@ module _ {W E C : Type 0} (play : Play W E C) (run : W → List E → W) (none :
       ∙ ap (λ v. trace_from play n w (event ∷ events) ++ trace_from play (n + length (event ∷ events)) v more)
       (sym (next w event events))
 
-  -- Running events and one more is running the events, and then that one.
+  -- The run of `events` and one more is the run of `events`, and then that event.
   pub run_more : (w : W) (events : List E) (event : E) → run w (events ++ event ∷ []) ≡ play.next (run w events) event
   run_more w [] event = next w event [] ∙ none (play.next w event) ∙ ap (λ v. play.next v event) (sym (none w))
   run_more w (first ∷ events) event =
       next w first (events ++ event ∷ []) ∙ run_more (play.next w first) events event
       ∙ ap (λ v. play.next v event) (sym (next w first events))
 
-  -- One event more adds its text.
+  -- One more event adds its text to the trace.
   pub trace_line : (n : ℕ) (w : W) (events : List E) (event : E)
       → trace_from play n w (events ++ event ∷ [])
       ≡ trace_from play n w events ++ play.text (n + length events) (run w events) event
@@ -76,23 +76,24 @@ module _ {W E C : Type 0} (play : Play W E C) (run : W → List E → W) (none :
       trace_more n w events (event ∷ [])
       ∙ ap (λ t. trace_from play n w events ++ t) (trace_of_one play (n + length events) (run w events) event)
 
+  -- The trace of `events` is a prefix of the trace of `events ++ more`.
   pub trace_prefix : (n : ℕ) (w : W) (events more : List E)
       → IsPrefix (trace_from play n w events) (trace_from play n w (events ++ more))
   trace_prefix n w events more = (trace_from play (n + length events) (run w events) more, trace_more n w events more)
 
 -- ---- the trace of two sides
 
--- Running events is running all but the first from the world after the first.
+-- The run of events is the first event, and then the run of the others.
 run_of_next : (w : Parties) (event : Event) (events : List Event) → run_of w (event ∷ events) ≡ run_of (happens w event).1 events
 unfolding run_by
 run_of_next w event events = refl
 
--- Running no events leaves the world.
+-- The run of no events leaves the world unchanged.
 run_of_none : (w : Parties) → run_of w [] ≡ w
 unfolding run_by
 run_of_none w = refl
 
--- One event more adds its line to the trace.
+-- One more event adds its line to the trace.
 pub sides_line : (txn : Qualifiers) (events : List Event) (event : Event)
     → trace_of txn (events ++ event ∷ []) ≡ trace_of txn events ++ line_after txn events event
 sides_line txn events event =
@@ -105,6 +106,7 @@ sides_line txn events event =
     (sym (run_more two_sides run_of run_of_none run_of_next first events event)) in
     trace_line two_sides run_of run_of_none run_of_next 1 first events event ∙ ap (λ t. trace_of txn events ++ t) text
 
+-- The trace of `events` is a prefix of the trace of `events ++ more`.
 pub sides_prefix : (txn : Qualifiers) (events more : List Event) → IsPrefix (trace_of txn events) (trace_of txn (events ++ more))
 sides_prefix txn events more = trace_prefix two_sides run_of run_of_none run_of_next 1 (first_world txn) events more
 
@@ -114,7 +116,8 @@ sides_prefix txn events more = trace_prefix two_sides run_of run_of_none run_of_
 abbrev pub with_events : {E : Type 0} → List E → Said E → Said E
 with_events events more = record { events = events ++ more.events; bad = more.bad }
 
--- If `prefix` says `events`, and `shown` shows them, an answer that fits the rest of a text fits the whole.
+-- If `prefix` has the events `events`, and `shown` is their trace, a result that fits the rest of a text fits the
+-- whole.
 answers_on : {E : Type 0}
     → (whole broken rest rest_broken : List ℕ → Said E) (trace trace_on : List E → List ℕ) (count next_count : ℕ)
     (prefix shown : List ℕ) (events : List E)
@@ -167,10 +170,10 @@ answers_on whole broken rest rest_broken trace trace_on count next_count prefix 
       ap (λ t. shown ++ t) answered.2 ∙ sym (shows answered.0),
     )
 
--- ---- a line, and the rest after it
+-- ---- a line, and the rest of the script after it
 
 module _ {W E C : Type 0} (play : Play W E C) where
-  -- If `prefix` was read, and its events were shown, performing the rest of the script performs the whole.
+  -- If `prefix` was read, and its events were shown, the rest of the script performs the whole.
   plays_after : (c kept : C) (n m : ℕ) (w next : W) (count next_count : ℕ) (prefix shown : List ℕ) (events : List E)
       (old middle new before between after : Option (List ℕ)) (result : Result ℕ SimFault)
       → ((end : C → ℕ → List ℕ → Said E) (text : List ℕ)
@@ -191,7 +194,7 @@ module _ {W E C : Type 0} (play : Play W E C) where
             prefix shown events (says (ends play)) (says breaks_off) shows counts result rest.0 new rest.1 rest.4,
       )
 
-  -- what a line says that an LF closes, and then the rest
+  -- If an LF closes line n, the reading is that of the line, and then that of the rest.
   says_closed : (c kept : C) (n : ℕ) (bytes : List ℕ) (says : ScriptLine E) → IsLine bytes → (line_at play c n bytes).0 ≡ says
       → kept ≡ (line_at play c n bytes).1 → (end : C → ℕ → List ℕ → Said E) (text : List ℕ)
       → says_on play end c n ((bytes ++ 10 ∷ []) ++ text) ≡ then_says says n (says_on play end kept (n + 1) text)
@@ -200,6 +203,7 @@ module _ {W E C : Type 0} (play : Play W E C) where
       ∙ ap (λ line. then_says line n (says_on play end (line_at play c n bytes).1 (n + 1) text)) e
       ∙ ap (λ l. then_says says n (says_on play end l (n + 1) text)) (sym leaves)
 
+  -- If line n was performed, and then the rest of the script, the script was performed from line n on.
   line_first : (c kept : C) (n : ℕ) (w next : W) (count next_count : ℕ) (bytes : List ℕ) (says : ScriptLine E)
       (old middle new before between after : Option (List ℕ)) (result : Result ℕ SimFault)
       → IsLine bytes → (line_at play c n bytes).0 ≡ says → kept ≡ (line_at play c n bytes).1
@@ -228,7 +232,7 @@ module _ {W E C : Type 0} (play : Play W E C) where
   line_first c kept n w next count next_count bytes lines.Bad old middle new before between after result is e leaves read done
       rest = absurd done
 
-  -- If a step has performed line n, and then the rest was performed, the script was performed from line n on.
+  -- If `StepsLine` holds of line n, and the rest of the script was performed, the script was performed from line n on.
   pub goes_on : (c kept : C) (n : ℕ) (w next : W) (count next_count : ℕ) (old middle new before between after : Option (List ℕ))
       (result : Result ℕ SimFault)
       → StepsLine play c n w count old middle before between (Ok true) kept next next_count

@@ -1,4 +1,4 @@
--- One line of a script in a simulation.
+-- One line of a script is performed in a simulation.
 use Rattle.std.proofs.Common.{rules, arith, ◌≡◌, ℕ, ◌+◌, ◌≤◌, Bool, List, [], ◌∷◌, ◌++◌, length, take, drop, Option, Some, None}
 use Rattle.std.proofs.Common.{Result, Ok, Err, refl, sym, ap, ◌∙◌, subst, append_assoc, append-nil}
 use Rattle.std.specs.Prelude.{IsErrAnd}
@@ -25,12 +25,12 @@ nothing_left left more at_end e = subst IsAtEnd e at_end
 module _ {W E C : Type 0} (play : Play W E C) where
   -- ---- the text that was read
 
-  -- The text, with whatever bytes the reader has left, has `bytes` as line n, and then a rest.
+  -- The text, with all bytes that the reader has left, has `bytes` as line n. A rest follows it.
   abbrev pub Begins : C → ℕ → List ℕ → List ℕ → Option (List ℕ) → Type 0
   Begins c n bytes text left = (more : List ℕ) → left ≡ Some more → (rest : Said E)
       × (says_on play (ends play) c n (text ++ more) ≡ then_says (line_at play c n bytes).0 n rest)
 
-  -- A text of `bytes` and an LF has `bytes` as line n.
+  -- The text `bytes` with an LF has `bytes` as line n.
   pub begins_closed : (c : C) (n : ℕ) (bytes : List ℕ) (left : Option (List ℕ)) → IsLine bytes
       → Begins c n bytes (bytes ++ 10 ∷ []) left
   begins_closed c n bytes left is =
@@ -39,7 +39,7 @@ module _ {W E C : Type 0} (play : Play W E C) where
         ap (says_on play (ends play) c n) (append_assoc bytes (10 ∷ []) more) ∙ says_line play (ends play) c n bytes more is.0,
       )
 
-  -- A text of `bytes` at the end of the reader has `bytes` as line n, if there are any.
+  -- The text `bytes` at the end of the reader has `bytes` as line n, if they are not empty.
   pub begins_last : (c : C) (n : ℕ) (bytes : List ℕ) (left : Option (List ℕ)) → IsLine bytes → 1 ≤ length bytes → IsAtEnd left
       → Begins c n bytes bytes left
   begins_last c n bytes left is some at_end =
@@ -50,7 +50,7 @@ module _ {W E C : Type 0} (play : Play W E C) where
             ∙ ends_line play c n bytes some,
       )
 
-  -- ---- a line that failed
+  -- ---- a line that ends the script with a fault
 
   -- The result and `trace` fit the rest of a script, from line n on.
   abbrev pub AnswersFrom : C → ℕ → W → ℕ → Result ℕ SimFault → List ℕ → Option (List ℕ) → List ℕ → Type 0
@@ -58,12 +58,12 @@ module _ {W E C : Type 0} (play : Play W E C) where
       Answers (says_on play (ends play) c n) (says_on play breaks_off c n) (trace_from play (count + 1) w) count result text left
       trace
 
-  -- A trace was written, from `before` to `after`, that fits the rest of a script that ends with `fault`.
+  -- The rest of a script ends with `fault`. The trace that was written, from `before` to `after`, fits it.
   abbrev pub Fails : C → ℕ → W → ℕ → SimFault → List ℕ → Option (List ℕ) → Option (List ℕ) → Option (List ℕ) → Type 0
   Fails c n w count fault text left before after =
       (trace : List ℕ) × Appends before after trace × AnswersFrom c n w count (Err fault) text left trace
 
-  -- Nothing written fits the rest of a script that ends for want of memory.
+  -- If memory ran out and nothing was written, `Fails` holds of the rest of the script.
   no_memory : (c : C) (n : ℕ) (w : W) (count : ℕ) (text : List ℕ) (left before after : Option (List ℕ)) → Appends before after []
       → Fails c n w count OutOfMemory text left before after
   no_memory c n w count text left before after nothing = (
@@ -76,7 +76,7 @@ module _ {W E C : Type 0} (play : Play W E C) where
     ),
   )
 
-  -- the prefix of a line is the prefix of the trace
+  -- A prefix of the text of an event is a prefix of the trace that begins with the event.
   prefix_of : (w : W) (count size : ℕ) (event : E) (events : List E)
       → IsPrefix (take size (play.text (count + 1) w event)) (trace_from play (count + 1) w (event ∷ events))
   prefix_of w count size event events =
@@ -87,6 +87,7 @@ module _ {W E C : Type 0} (play : Play W E C) where
             ∙ append_assoc (take size shown) (drop size shown) rest,
       )
 
+  -- If line n ends with a fault, the rest of the script ends with it.
   line_fails : (c : C) (n : ℕ) (w next : W) (count next_count : ℕ) (bytes text : List ℕ) (left before after : Option (List ℕ))
       (says : ScriptLine E) (fault : SimFault) → (line_at play c n bytes).0 ≡ says
       → Begins c n bytes text left → PerformsLine play says n w count before after (Err fault) next next_count
@@ -133,9 +134,9 @@ module _ {W E C : Type 0} (play : Play W E C) where
       subst (λ (line : ScriptLine E × C). PerformsLine play line.0 n w count before after result next next_count)
       (sym (line_within play c n bytes few is.1)) performs
 
-  -- ---- the answers of a step
+  -- ---- the result of `StepsLine`
 
-  -- If the rest of a script ends with a fault, so does a step of the simulation.
+  -- If the rest of a script ends with a fault, `StepsLine` holds with this fault.
   pub sends_and_delivers : (c kept : C) (n : ℕ) (w next : W) (count next_count : ℕ) (old new before after : Option (List ℕ))
       (result : Result Bool SimFault) (fault : SimFault)
       → IsErrAnd result (λ f. f ≡ fault) → Plays play c n w count old new before after (Err fault)
@@ -144,7 +145,7 @@ module _ {W E C : Type 0} (play : Play W E C) where
   sends_and_delivers c kept n w next count next_count old new before after (Err f) fault is plays =
       subst (λ f. Plays play c n w count old new before after (Err f)) (sym is) plays
 
-  -- If line n cannot be read for a fault, the rest of the script ends with this fault.
+  -- If line n cannot be read because of a fault, the rest of the script ends with this fault.
   pub not_read : (c : C) (n : ℕ) (w : W) (count : ℕ) (old new before : Option (List ℕ)) (bytes : List ℕ) (fault : SimFault)
       → n ≤ 100000 → ReadsLine old new bytes (Err fault)
       → Plays play c n w count old new before before (Err fault)
@@ -166,7 +167,7 @@ module _ {W E C : Type 0} (play : Play W E C) where
   not_read c n w count old new before bytes (Script m) few read = absurd read
   not_read c n w count old new before bytes Write few read = absurd read
 
-  -- If a line was read whole, and performing it ends with a fault, the script ends with it.
+  -- If a line was read whole, and its performance ends with a fault, the script ends with this fault.
   pub line_stops : (c : C) (n : ℕ) (w next : W) (count next_count : ℕ) (old new before after : Option (List ℕ))
       (bytes text : List ℕ) (fault : SimFault) → n ≤ 100000 → IsLine bytes
       → Consumes old new text → Begins c n bytes text new
@@ -178,7 +179,7 @@ module _ {W E C : Type 0} (play : Play W E C) where
       (performs_at c n w next count next_count bytes before after (Err fault) few is fails) in
       (text, partner_sent.0, read, partner_sent.1, partner_sent.2)
 
-  -- If nothing follows the last LF, the rest of the script ends well, with no more events.
+  -- If no byte follows the last LF, the rest of the script ends well, with no more events.
   pub nothing_follows : (c : C) (n : ℕ) (w : W) (count : ℕ) (old new before : Option (List ℕ)) (bytes : List ℕ) → length bytes ≡ 0
       → Consumes old new bytes → IsAtEnd new
       → Plays play c n w count old new before before (Ok count)
@@ -187,7 +188,7 @@ module _ {W E C : Type 0} (play : Play W E C) where
       ([], [], read, Appends-nil before, (at_end, refl, sym (trace_of_none play (count + 1) w), omega arith))
   nothing_follows c n w count old new before (byte ∷ bytes) none read at_end = absurd (omega (arith, none))
 
-  -- the last line was performed, which no LF closes
+  -- If no LF closes the last line, and it was performed, the rest of the script ends well.
   last_performed : (c : C) (n : ℕ) (w next : W) (count next_count : ℕ) (old new before after : Option (List ℕ)) (bytes : List ℕ)
       (says : ScriptLine E) → Consumes old new bytes → IsAtEnd new
       → says_on play (ends play) c n bytes ≡ then_says says n says_nothing
@@ -232,7 +233,7 @@ module _ {W E C : Type 0} (play : Play W E C) where
       (says_rest play (ends play) c n bytes is.0 ∙ ends_line play c n bytes some)
       (performs_at c n w next count next_count bytes before after (Ok tt) few is done)
 
-  -- If line n is too long, the rest of the script ends with line n as a bad one.
+  -- If line n is too long, the rest of the script ends with line n as the bad line.
   pub too_long_stops : (c : C) (n : ℕ) (w : W) (count : ℕ) (old new before : Option (List ℕ)) (bytes : List ℕ)
       → ReadsLine old new bytes (Ok found.TooLong)
       → Plays play c n w count old new before before (Err (Script n))
@@ -255,7 +256,7 @@ module _ {W E C : Type 0} (play : Play W E C) where
   too_many_follow c [] some = absurd (omega (arith, some))
   too_many_follow c (byte ∷ text) some = says_too_many play c 100001 byte text (omega arith)
 
-  -- After line 100,000 the rest of the script ends as the look for its end.
+  -- After line 100,000 the rest of the script ends as `FindsEnd` says.
   end_found : (c : C) (w : W) (count : ℕ) (old new before : Option (List ℕ)) (result : Result ℕ SimFault)
       → FindsEnd count old new result → Plays play c 100001 w count old new before before result
   unfolding says_from
@@ -277,14 +278,14 @@ module _ {W E C : Type 0} (play : Play W E C) where
   end_found c w count old new before (Err Write) finds = absurd finds
   end_found c w count old new before (Err OutOfMemory) finds = absurd finds
 
-  -- If line n is line 100,001, the rest of the script ends as the look for its end.
+  -- If n is 100,001, the rest of the script ends as `FindsEnd` says.
   pub finds_end : (c : C) (n : ℕ) (w : W) (count : ℕ) (old new before : Option (List ℕ)) (result : Result ℕ SimFault) → n ≡ 100001
       → FindsEnd count old new result
       → Plays play c n w count old new before before result
   finds_end c n w count old new before result all finds =
       subst (λ m. Plays play c m w count old new before before result) (sym all) (end_found c w count old new before result finds)
 
-  -- If memory runs out before line 1, the script ends for want of memory, with nothing read or written.
+  -- If memory runs out before line 1, the script ends with `OutOfMemory`, and no byte is read or written.
   pub not_begun : (c : C) (w : W) (old before : Option (List ℕ)) (result : Result ℕ SimFault)
       → IsErrAnd result (λ f. f ≡ OutOfMemory) → Plays play c 1 w 0 old old before before result
   not_begun c w old before (Ok count) failed = absurd failed
@@ -294,25 +295,25 @@ module _ {W E C : Type 0} (play : Play W E C) where
 
 -- ---- bytes that were read ahead
 
--- If `P` holds of `text` and all bytes that are left, it does so with those ahead counted as read.
+-- If `P` holds of `text` and all bytes that are left, it holds if the bytes ahead count as read.
 read_of_all : (text ahead rest : List ℕ) (P : List ℕ → Type 0) → OfAll text (Some (ahead ++ rest)) P
     → OfAll (text ++ ahead) (Some rest) P
 read_of_all text ahead rest P of_all = λ more e.
     subst P (sym (append_assoc text ahead more)) (of_all (ahead ++ more) (ap (λ left. prepend_known ahead left) e))
 
--- If two lists joined are empty, both are empty.
+-- If `ahead ++ rest` is empty, both lists are empty.
 none_ahead : (ahead rest : List ℕ) → ahead ++ rest ≡ [] → (ahead ≡ []) × (rest ≡ [])
 none_ahead [] rest none = (refl, none)
 none_ahead (byte ∷ ahead) rest none = search rules
 
--- If a reader consumes `text` and leaves `ahead` and `rest`, it consumes `text` and `ahead` and leaves `rest`.
+-- If a reader consumes `text` and leaves `ahead` and `rest`, it consumes `text ++ ahead` and leaves `rest`.
 consumes_ahead : (old : Option (List ℕ)) (text ahead rest : List ℕ)
     → Consumes (prepend_known [] old) (Some (ahead ++ rest)) text → Consumes old (Some rest) (text ++ ahead)
 consumes_ahead None text ahead rest read = tt
 consumes_ahead (Some bytes) text ahead rest read = read ∙ sym (append_assoc text ahead rest)
 
 module _ {E : Type 0} (whole broken : List ℕ → Said E) (trace_of : List E → List ℕ) (before : ℕ) where
-  -- If nothing is ahead, an answer that fits `text` fits `text` with the bytes ahead.
+  -- If no byte is ahead, a result that fits `text` fits `text` with the bytes ahead.
   read_whole : (text ahead rest trace : List ℕ) (result : Result ℕ SimFault) → ahead ≡ []
       → Answers whole broken trace_of before result text (Some rest) trace
       → Answers whole broken trace_of before result (text ++ ahead) (Some rest) trace
@@ -320,7 +321,7 @@ module _ {E : Type 0} (whole broken : List ℕ → Said E) (trace_of : List E �
       subst (λ t. Answers whole broken trace_of before result t (Some rest) trace)
       (sym (ap (λ l. text ++ l) none ∙ append-nil text)) answers
 
-  -- An answer that fits with bytes left ahead fits with these counted as read. A failed reader has left none.
+  -- If a result fits with bytes ahead, it fits if these count as read. After a reader's fault no byte is ahead.
   answers_of_all : (text ahead rest trace : List ℕ) (result : Result ℕ SimFault) → IsUsedUp ahead result
       → Answers whole broken trace_of before result text (Some (ahead ++ rest)) trace
       → Answers whole broken trace_of before result (text ++ ahead) (Some rest) trace
@@ -336,7 +337,7 @@ module _ {E : Type 0} (whole broken : List ℕ → Said E) (trace_of : List E �
       read_of_all text ahead rest (λ t. (events : List E) × IsPrefix events (whole t).events × (trace ≡ trace_of events)) answers
 
 module _ {W E C : Type 0} (play : Play W E C) where
-  -- If a script was performed with bytes left ahead, it was performed with these counted as read.
+  -- If a script was performed with bytes ahead, it was performed if these count as read.
   all_read : (c : C) (n : ℕ) (w : W) (count : ℕ) (ahead : List ℕ) (old new before after : Option (List ℕ))
       (result : Result ℕ SimFault) → IsUsedUp ahead result
       → Plays play c n w count (prepend_known [] old) (prepend_known ahead new) before after result
@@ -354,7 +355,7 @@ module _ {W E C : Type 0} (play : Play W E C) where
             ahead rest trace result used plays.4,
       )
 
-  -- If nothing was ahead at first, a script was performed on the reader, the bytes ahead counted as read.
+  -- If no byte was ahead at first, a script was performed on the reader, and the bytes ahead count as read.
   pub counts_as_read : (c : C) (n : ℕ) (w : W) (count : ℕ) (first ahead : List ℕ) (old new before after : Option (List ℕ))
       (result : Result ℕ SimFault) → first ≡ [] → IsUsedUp ahead result
       → Plays play c n w count (prepend_known first old) (prepend_known ahead new) before after result

@@ -1,4 +1,4 @@
--- The bytes of lines.
+-- A text of bytes is a list of lines, between its LFs.
 use Rattle.std.proofs.Common.{rules, arith, ◌≡◌, ℕ, suc, ◌+◌, ◌-◌, ◌<◌, ◌≤◌, min, Bool, true, false, ◌||◌, ◌==◌, cond, List, []}
 use Rattle.std.proofs.Common.{◌∷◌, ◌++◌, length, take, drop, Option, Some, None, Ok, refl, sym, ap, ◌∙◌, subst, add-one, eqb-true}
 use Rattle.std.proofs.Common.{take_all, take-append-drop, drop_of_length-le, length-append, length-take}
@@ -9,14 +9,14 @@ use Rattle.ill_world.specs.Simulating.{has_lf, lf_place, TakesPart}
 
 -- ---- the first LF
 
--- `bytes` have their first LF at this place, counted from `from`, and the rest follows it. Or they have no LF.
+-- `bytes` have their first LF at this index, counted from `from`, and `rest` follows it. Or they have no LF.
 abbrev FirstLf : List ℕ → List ℕ → ℕ → Option ℕ → Type 0
 FirstLf bytes rest from None = has_lf bytes ≡ false
 FirstLf bytes rest from (Some at) =
     (k : ℕ) × (at ≡ from + k) × (k < length bytes) × (has_lf (take k bytes) ≡ false)
     × (bytes ++ rest ≡ take k bytes ++ 10 ∷ drop (suc k) (bytes ++ rest))
 
--- `FirstLf` holds of the place that `position_from` finds.
+-- `FirstLf` holds of the index that `position_from` finds.
 lf_stands : (bytes rest : List ℕ) (from : ℕ) (place : Option ℕ) → position_from (λ b. b == 10) from bytes ≡ place
     → FirstLf bytes rest from place
 lf_stands [] rest from None is = refl
@@ -41,7 +41,7 @@ lf_stands (byte ∷ bytes) rest from place is = go (byte == 10) place refl is (l
           ap (λ l. byte ∷ l) stands.4,
         )
 
--- The place of the first LF is within `bytes`, no LF stands before it, and the rest follows it.
+-- The index of the first LF is within `bytes`. No LF is before it, and `rest` follows it.
 first_lf : (bytes rest : List ℕ) (at : ℕ) → lf_place bytes ≡ Some at
     → (at < length bytes) × (has_lf (take at bytes) ≡ false)
     × (bytes ++ rest ≡ take at bytes ++ 10 ∷ drop (at + 1) (bytes ++ rest))
@@ -57,13 +57,13 @@ first_lf bytes rest at is =
           stands.4,
     )
 
--- If there is no place of an LF, `bytes` have no LF.
+-- If `lf_place` finds no index, `bytes` have no LF.
 no_lf : (bytes : List ℕ) → lf_place bytes ≡ None → has_lf bytes ≡ false
 no_lf bytes is = lf_stands bytes [] 0 None is
 
 -- ---- a part of a line
 
--- up to its LF
+-- If an LF is within the limit, the bytes before it are appended to the line.
 pub takes_line : (before ahead prefix line : List ℕ) (most at : ℕ) → length prefix ≤ 1024 → most ≤ 1025 - length prefix
     → lf_place (take most before) ≡ Some at
     → line ≡ prefix ++ take at (take most before) → ahead ≡ drop (at + 1) before
@@ -88,7 +88,7 @@ takes_too_long before ahead prefix line most few most_is long is ahead_is =
     omega (arith, length-append prefix bytes, length-take most before, few, most_is, long) in
     (bytes, sym (take-append-drop most before) ∙ ap (λ l. bytes ++ l) (sym ahead_is), no_lf bytes is, size)
 
--- If the bytes ahead are within the limit, and have no LF, all of them join the line.
+-- If the bytes ahead are within the limit, and have no LF, all of them are appended to the line.
 pub takes_all : (before ahead prefix line : List ℕ) (most : ℕ) → length prefix ≤ 1024
     → most ≡ min (length before) (1024 - length prefix + 1) → most ≤ 1024 - length prefix
     → lf_place (take most before) ≡ None → line ≡ prefix ++ take most before → ahead ≡ drop most before
@@ -106,7 +106,7 @@ takes_all before ahead prefix line most few most_is short is line_is ahead_is =
 
 -- ---- the lines of a text
 
--- If `a || b` is false, so are a and b.
+-- If `a || b` is false, both are false.
 neither : (a b : Bool) → (a || b) ≡ false → (a ≡ false) × (b ≡ false)
 neither false b none = (refl, none)
 neither true b none = search rules
@@ -115,7 +115,7 @@ neither true b none = search rules
 no_lf_first : (byte : ℕ) (bytes : List ℕ) → has_lf (byte ∷ bytes) ≡ false → ((byte == 10) ≡ false) × (has_lf bytes ≡ false)
 no_lf_first byte bytes none = neither (byte == 10) (has_lf bytes) none
 
--- Bytes without LF, before an LF, are the first line, and the lines of the rest follow.
+-- If bytes without an LF are before an LF, they are the first line. The lines of the rest follow.
 pub line_first : (bytes rest : List ℕ) → has_lf bytes ≡ false → lines_in (bytes ++ 10 ∷ rest) ≡ bytes ∷ lines_in rest
 line_first [] rest none = refl
 line_first (byte ∷ bytes) rest none =
@@ -123,7 +123,7 @@ line_first (byte ∷ bytes) rest none =
     ap (λ (b : Bool). cond b ([] ∷ lines_in (bytes ++ 10 ∷ rest)) (onto_first byte (lines_in (bytes ++ 10 ∷ rest)))) first.0
     ∙ ap (onto_first byte) (line_first bytes rest first.1)
 
--- Bytes without LF are one line.
+-- Bytes without an LF are one line.
 pub line_alone : (bytes : List ℕ) → has_lf bytes ≡ false → lines_in bytes ≡ bytes ∷ []
 line_alone [] none = refl
 line_alone (byte ∷ bytes) none =
@@ -142,7 +142,7 @@ some_line (byte ∷ text) = begun byte (byte == 10) (lines_in text) (some_line t
     begun byte true parts some = ([], parts, refl)
     begun byte false parts some = (byte ∷ some.0, some.1, ap (onto_first byte) some.2)
 
--- Bytes without LF before a text begin its first line.
+-- If bytes without an LF are before a text, they begin its first line.
 pub line_begins : (bytes rest first : List ℕ) (more : List (List ℕ)) → has_lf bytes ≡ false
     → lines_in rest ≡ first ∷ more → lines_in (bytes ++ rest) ≡ (bytes ++ first) ∷ more
 line_begins [] rest first more none e = e

@@ -1,4 +1,4 @@
--- The first world, and one event of a world.
+-- The code gives the first world of the model, and each event of the code gives the event of the model.
 use Rattle.std.proofs.Common.{◌≡◌, inl, inr, Result, Ok, Err, refl, sym, ap, ◌∙◌, subst}
 use Rattle.ill_values.specs.TxnId.{Qualifiers}
 use Rattle.ill_saved.specs.declared.side.Side.{Side}
@@ -14,13 +14,13 @@ use Rattle.ill_world.specs.PartyRefinement.{GivesOutcome}
 use Rattle.ill_world.specs.Invariant.{Invariant}
 use Rattle.ill_world.specs.Agreement.{KeepsDates}
 
--- A party that is a first party of an idle side of `txn` is that of the first world.
+-- The first party of an idle side of `txn` is a party of the first world.
 first_side : (role : Who) (txn t : Qualifiers) (side : Side) (p : Party) → t ≡ txn → side ≡ idle_side role t
     → p ≡ first_party side → p ≡ party (first_world txn) role
 first_side who.Requester txn t side p copied idle new = new ∙ ap first_party (idle ∙ ap (idle_side who.Requester) copied)
 first_side who.Responder txn t side p copied idle new = new ∙ ap first_party (idle ∙ ap (idle_side who.Responder) copied)
 
--- Two first parties of the idle sides of `txn` are its first world.
+-- The first parties of both idle sides of `txn` are its first world.
 pub first_is : (txn t u : Qualifiers) (x y : Side) (p q : Party) → t ≡ txn → u ≡ txn → x ≡ idle_side who.Requester t
     → y ≡ idle_side who.Responder u
     → p ≡ first_party x → q ≡ first_party y → ◌≡◌ {A = Parties} (record { requester = p; responder = q }) (first_world txn)
@@ -29,9 +29,9 @@ first_is txn t u x y p q copied again idle_x idle_y new_x new_y =
     ∙ ap (λ q. record { requester = (first_world txn).requester; responder = q })
     (first_side who.Responder txn u y q again idle_y new_y)
 
--- ---- one event of the world, by one of a party
+-- ---- one event of the world, as an event of a party
 
--- Two of which one is replaced by itself stay as they are.
+-- If a member of a pair is replaced by itself, the pair is unchanged.
 stays_whole : {P : Type 0} (w : TwoOf P) (of : Who) → with_party w of (party w of) ≡ w
 stays_whole w who.Requester = refl
 stays_whole w who.Responder = refl
@@ -44,6 +44,7 @@ both_give {O = O} {P = P} happening w at of (Ok outcome) new is gives =
     ap (λ o. happens_at w o happening) is ∙ ap (λ (after : O × P). (after.0, with_party w of after.1)) gives
 both_give happening w at of (Err memory) new is same = ap (with_party w of) same ∙ stays_whole w of
 
+-- If a call gives the outcome of an event and its party, it gives the outcome and the world.
 pub world_gives : {M : Type 0} → (w : Parties) (event : Event) (of : Who) (result : Result Outcome M) (new : Party)
     → who_of event ≡ of
     → GivesOutcome (happens_to (party w of) (party w (other of)).sent event) (party w of) result new
@@ -51,23 +52,25 @@ pub world_gives : {M : Type 0} → (w : Parties) (event : Event) (of : Who) (res
 world_gives w event of result new is gives =
     both_give (λ (p : Party) (partner : Party). happens_to p partner.sent event) w (who_of event) of result new is gives
 
--- what held before holds after, where it does after what is given
+-- If `F` holds of the old and of the expected world, it holds after the call.
 pub given_keeps : {M O P : Type 0} (F : P → Type 0) (expected : O × P) (old new : P) (result : Result O M)
     → GivesOutcome expected old result new → F old → F expected.1 → F new
 given_keeps {O = O} {P = P} F expected old new (Ok outcome) gives before after = subst (λ (x : O × P). F x.1) gives after
 given_keeps F expected old new (Err memory) same before after = subst F (sym same) before
 
+-- If each event keeps the invariant, so does each call.
 pub still_stands : {M : Type 0} → (txn : Qualifiers) (w new : Parties) (event : Event) (result : Result Outcome M)
     → ((w : Parties) (event : Event) → Invariant txn w → Invariant txn (happens w event).1)
     → GivesOutcome (happens w event) w result new → Invariant txn w → Invariant txn new
 still_stands txn w new event result after gives stands =
     given_keeps (Invariant txn) (happens w event) w new result gives stands (after w event stands)
 
--- A world that stays as it is keeps the requester's due dates.
+-- An unchanged world keeps the requester's due dates.
 pub same_dates : (w : Parties) (event : Event) → KeepsDates w event w
 same_dates w (events.Restart who.Requester) = (tt, inr (inl refl))
 same_dates w event = (inr (inl refl), inr (inl refl))
 
+-- If an event keeps the requester's due dates, so does its call.
 pub dates_of : {M : Type 0} → (w new : Parties) (event : Event) (result : Result Outcome M)
     → KeepsDates w event (happens w event).1 → GivesOutcome (happens w event) w result new → KeepsDates w event new
 dates_of w new event result keeps gives =

@@ -1,4 +1,5 @@
--- Answers the contract of `deliveries_find_room` (`src/desk_laws.rt`).
+-- Proves the clauses `room`, `run` and `unheld` of `deliveries_find_room` (`src/desk_laws.rt`). The requester's desk
+-- holds each transaction of the responder's desk, by `finds_room`.
 use Rattle.ill_world.specs.Desks.{first_desks, desks_run}
 use Rattle.ill_world.proofs.Desks.{desks_stand_on}
 use Rattle.ill_world.proofs.DeskCounts.{finds_room, unheld_is_not_sent}

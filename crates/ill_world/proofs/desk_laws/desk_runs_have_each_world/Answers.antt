@@ -1,4 +1,5 @@
--- Answers the contract of `desk_runs_have_each_world` (`src/desk_laws.rt`).
+-- Proves the clauses `safe`, `agrees` and `next` of `desk_runs_have_each_world` (`src/desk_laws.rt`). A run of joined
+-- events goes through the world after the first of them.
 use Rattle.ill_world.specs.Desks.{desks_happen, project}
 use Rattle.ill_world.specs.Safety.{Safe}
 use Rattle.ill_world.specs.Agreement.{Agrees}

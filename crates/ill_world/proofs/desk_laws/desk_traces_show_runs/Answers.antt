@@ -1,4 +1,5 @@
--- Answers the contract of `desk_traces_show_runs` (`src/desk_laws.rt`).
+-- Proves the clauses `first`, `next` and `prefix` of `desk_traces_show_runs` (`src/desk_laws.rt`). Each event adds one
+-- line at the end of the trace.
 use Rattle.ill_world.specs.Desks.{first_desks}
 use Rattle.ill_world.specs.DeskSimulation.{two_desks}
 use Rattle.ill_world.proofs.Simulations.{trace_of_none}

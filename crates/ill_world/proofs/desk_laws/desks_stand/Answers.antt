@@ -1,4 +1,5 @@
--- Answers the contract of `desks_stand` (`src/desk_laws.rt`).
+-- Proves the clauses `first` and `after` of `desks_stand` (`src/desk_laws.rt`). Each event is one of a transaction, or
+-- leaves its projection. It also keeps `DesksCount`.
 use Rattle.std.proofs.Common.{refl}
 use Rattle.ill_world.specs.World.{who_of}
 use Rattle.ill_world.specs.Desks.{plain}

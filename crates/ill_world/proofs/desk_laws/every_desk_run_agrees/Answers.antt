@@ -1,4 +1,5 @@
--- Answers the contract of `every_desk_run_agrees` (`src/desk_laws.rt`).
+-- Proves the contract of `every_desk_run_agrees` (`src/desk_laws.rt`). Each projection is the world after events of its
+-- transaction, and both sides agree in it.
 use Rattle.std.proofs.Common.{sym, subst, take}
 use Rattle.ill_world.specs.Desks.{first_desks, events_for}
 use Rattle.ill_world.specs.Agreement.{Agrees}

@@ -1,4 +1,5 @@
--- Answers the contract of `every_desk_run_is_safe` (`src/desk_laws.rt`).
+-- Proves the contract of `every_desk_run_is_safe` (`src/desk_laws.rt`). Each projection is the world after events of
+-- its transaction, and this world is safe.
 use Rattle.std.proofs.Common.{sym, subst, take}
 use Rattle.ill_world.specs.Desks.{first_desks, events_for}
 use Rattle.ill_world.specs.Safety.{Safe}

@@ -1,4 +1,5 @@
--- Answers the contract of `no_bad_desk_event_passes` (`src/desk_laws.rt`).
+-- Proves the clauses `reaches`, `changes` and `arrives` of `no_bad_desk_event_passes` (`src/desk_laws.rt`). Each case
+-- of a bad event contradicts its definition, by the lemmas of `BadDesks`.
 use Rattle.ill_world.proofs.BadDesks.{none_missed, none_changed, none_in_vain_at}
 use Rattle.ill_world.proofs.desk_laws.no_bad_desk_event_passes.Goals as goal
 

@@ -1,4 +1,5 @@
--- Answers the contract of `no_bad_desk_trace_is_written` (`src/desk_laws.rt`).
+-- Proves the clauses `write` and `memory` of `no_bad_desk_trace_is_written` (`src/desk_laws.rt`). Both hold of any
+-- play, by the lemmas of `BadTraces`.
 use Rattle.std.proofs.Common.{None}
 use Rattle.ill_world.specs.Desks.{first_desks}
 use Rattle.ill_world.specs.DeskSimulation.{two_desks}

@@ -1,4 +1,5 @@
--- Answers the contract of `one_desk_round_is_enough` (`src/desk_laws.rt`).
+-- Proves the clauses `each`, `in_step` and `run` of `one_desk_round_is_enough` (`src/desk_laws.rt`). In each
+-- transaction the round is a round of two parties, by `round_alike`.
 use Rattle.std.proofs.Common.{sym, subst}
 use Rattle.ill_world.specs.Desks.{project, desks_run, first_desks}
 use Rattle.ill_world.specs.Round.{AreInStep}

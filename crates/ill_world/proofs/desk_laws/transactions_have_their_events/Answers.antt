@@ -1,4 +1,5 @@
--- Answers the contract of `transactions_have_their_events` (`src/desk_laws.rt`).
+-- Proves all clauses of `transactions_have_their_events` (`src/desk_laws.rt`). Each is a case of `events_for` and
+-- `is_event_of`, by a lemma of `BadDesks`.
 use Rattle.ill_world.proofs.BadDesks.{events_in_order, whole_events, named_event, other_event, unreached_event, noise_event}
 use Rattle.ill_world.proofs.desk_laws.transactions_have_their_events.Goals as goal
 

@@ -1,4 +1,5 @@
--- Answers the contract of `half_of_desk_round` (`src/desk_world.rt`).
+-- Proves that the loop of `half_of_desk_round` (`src/desk_world.rt`) keeps its invariant. `push_passes` appends the
+-- events of the next side.
 use Rattle.std.proofs.Common.{rules, ◌≡◌, Some}
 use Rattle.std.specs.List.{slice_get}
 use Rattle.ill_world.specs.declared.event.DeskEvent.TheVariants.{Save}

@@ -1,4 +1,5 @@
--- Answers the contract of `run_desks` (`src/desk_world.rt`).
+-- Proves the loop invariant and the clause `runs` of `run_desks` (`src/desk_world.rt`). Each step performs the first of
+-- the events that are left.
 use Rattle.std.proofs.Common.{arith, ap, sym, ◌∙◌}
 use Rattle.ill_world.specs.Desks.{desks_happen, desks_run}
 use Rattle.ill_world.proofs.Runs.{run_on, run_ended}

@@ -1,4 +1,4 @@
--- The loop invariant of `run_desks` (`src/desk_world.rt`).
+-- The loop of `run_desks` (`src/desk_world.rt`) keeps this invariant.
 use Rattle.std.proofs.Common.{◌≡◌, drop}
 use Rattle.ill_world.specs.Desks.{first_desks, desks_run}
 use Rattle.ill_world.proofs.desk_world.run_desks.Given as goal

@@ -1,4 +1,5 @@
--- Answers the contract of `every_world_is_safe` (`src/laws.rt`).
+-- Proves the contract of `every_world_is_safe` (`src/laws.rt`). A run keeps the invariant, and the invariant has the
+-- three parts of safety.
 use Rattle.ill_world.specs.World.{first_world, run_of}
 use Rattle.ill_world.proofs.Runs.{run_stands}
 use Rattle.ill_world.proofs.laws.every_world_is_safe.Goals as goal

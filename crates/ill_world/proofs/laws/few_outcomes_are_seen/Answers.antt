@@ -1,4 +1,5 @@
--- Answers the contract of `few_outcomes_are_seen` (`src/laws.rt`).
+-- Proves the contract of `few_outcomes_are_seen` (`src/laws.rt`). A run keeps the invariant, from which `outcome_seen`
+-- follows.
 use Rattle.ill_world.specs.World.{first_world, run_of}
 use Rattle.ill_world.proofs.Runs.{run_stands}
 use Rattle.ill_world.proofs.Outcomes.{outcome_seen}

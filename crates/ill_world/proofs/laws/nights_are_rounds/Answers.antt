@@ -1,4 +1,5 @@
--- Answers the contract of `nights_are_rounds` (`src/laws.rt`).
+-- Proves the clauses `open` and `over` of `nights_are_rounds` (`src/laws.rt`). If the loan is over for the requester,
+-- both sides are at rest, and neither sends.
 use Rattle.ill_world.proofs.Nights.{night_is_round, night_is_saves}
 use Rattle.ill_world.proofs.laws.nights_are_rounds.Goals as goal
 

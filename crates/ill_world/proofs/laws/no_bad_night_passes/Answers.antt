@@ -1,4 +1,5 @@
--- Answers the contract of `no_bad_night_passes` (`src/laws.rt`).
+-- Proves the clauses of `no_bad_night_passes` (`src/laws.rt`). Each case of a wrong answer contradicts its definition,
+-- by the lemmas of `BadNights`.
 use Rattle.std.proofs.Common.{refl}
 use Rattle.ill_world.specs.Night.{is_over, wants_sending, asks}
 use Rattle.ill_world.proofs.BadNights.{not_misjudged, not_missent, not_misasked, not_at_rest}

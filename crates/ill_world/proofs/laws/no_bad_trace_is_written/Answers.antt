@@ -1,4 +1,5 @@
--- Answers the contract of `no_bad_trace_is_written` (`src/laws.rt`).
+-- Proves the clauses `write` and `memory` of `no_bad_trace_is_written` (`src/laws.rt`). Both hold of any play, by the
+-- lemmas of `BadTraces`.
 use Rattle.ill_world.specs.World.{first_world}
 use Rattle.ill_world.specs.Simulation.{two_sides}
 use Rattle.ill_world.proofs.BadTraces.{none_leaves, some_prefix}

@@ -1,4 +1,5 @@
--- Answers the contract of `one_night_is_enough` (`src/laws.rt`).
+-- Proves the clauses `stands` and `run` of `one_night_is_enough` (`src/laws.rt`). A night is a round, or both sides are
+-- at rest already.
 use Rattle.ill_world.specs.World.{first_world}
 use Rattle.ill_world.proofs.Nights.{one_night}
 use Rattle.ill_world.proofs.Runs.{run_stands}

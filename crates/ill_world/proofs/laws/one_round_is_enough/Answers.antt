@@ -1,4 +1,5 @@
--- Answers the contract of `one_round_is_enough` (`src/laws.rt`).
+-- Proves the clauses `stands` and `run` of `one_round_is_enough` (`src/laws.rt`). By the tables `has_heard` holds of
+-- each message of a round, so that the records are in step.
 use Rattle.ill_world.specs.World.{first_world}
 use Rattle.ill_world.proofs.OneRound.{RowsHear, one_round}
 use Rattle.ill_world.proofs.Runs.{run_stands}

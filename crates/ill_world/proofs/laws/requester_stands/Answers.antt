@@ -1,4 +1,5 @@
--- Answers the contract of `requester_stands` (`src/laws.rt`).
+-- Proves the clauses `acts` and `takes` of `requester_stands` (`src/laws.rt`). Each part of `RequesterStands` is a law
+-- of the tables in `ill_core`.
 use Rattle.std.proofs.Common.{◌≤◌, ◌∙◌, inl, inr, length, subst, sym}
 use Rattle.ill_world.proofs.laws.requester_stands.Goals as goal
 

@@ -1,4 +1,5 @@
--- Answers the contract of `responder_stands` (`src/laws.rt`).
+-- Proves the clauses `acts` and `takes` of `responder_stands` (`src/laws.rt`). Each part of `ResponderStands` is a law
+-- of the tables in `ill_core`.
 use Rattle.std.proofs.Common.{◌∙◌, inl, inr}
 use Rattle.ill_core.specs.ResponderEvidence.{MayCancel, MayRenew}
 use Rattle.ill_world.proofs.Standings.{cancel_is_there, question_is_there}

@@ -1,4 +1,5 @@
--- Answers the contract of `runs_have_each_world` (`src/laws.rt`).
+-- Proves the clauses `safe` and `agrees` of `runs_have_each_world` (`src/laws.rt`). A run of joined events goes through
+-- the world after the first of them.
 use Rattle.ill_world.specs.World.{happens}
 use Rattle.ill_world.specs.Safety.{Safe}
 use Rattle.ill_world.specs.Agreement.{Agrees}

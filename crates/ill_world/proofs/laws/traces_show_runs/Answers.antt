@@ -1,4 +1,5 @@
--- Answers the contract of `traces_show_runs` (`src/laws.rt`).
+-- Proves the clauses `first`, `next` and `prefix` of `traces_show_runs` (`src/laws.rt`). Each event adds one line at
+-- the end of the trace.
 use Rattle.ill_world.specs.World.{first_world}
 use Rattle.ill_world.specs.Simulation.{two_sides}
 use Rattle.ill_world.proofs.Simulations.{trace_of_none, sides_line, sides_prefix}

@@ -1,4 +1,5 @@
--- Answers the contract of `world_stands` (`src/laws.rt`).
+-- Proves the clauses `first` and `after` of `world_stands` (`src/laws.rt`). An event changes one party, and keeps its
+-- invariant and the other party's evidence.
 use Rattle.ill_world.proofs.Standings.{requester_keeps, responder_keeps, world_first, world_after}
 use Rattle.ill_world.proofs.laws.world_stands.Goals as goal
 

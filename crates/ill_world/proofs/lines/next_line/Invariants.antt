@@ -1,16 +1,16 @@
--- The loop invariant of `next_line` (`src/lines.rt`).
+-- The loop of `next_line` (`src/lines.rt`) keeps this invariant, and comes to an end.
 use Rattle.std.proofs.Common.{◌-◌, length}
 use Rattle.std.specs.Io.KnownBytes.{Consumes, prepend_known}
 use Rattle.ill_world.specs.Simulating.{IsLine}
 use Rattle.ill_world.proofs.lines.next_line.Given as goal
 
--- The bytes that were read are a prefix of a line.
+-- The bytes that were read are the first part of a line.
 abbrev pub invariant-loop-ahead : goal.invariant-loop-ahead
 invariant-loop-ahead g l =
     IsLine l.line.items
     × Consumes (prepend_known l.initial.ahead (g.R.Read.remaining l.initial.reader))
     (prepend_known l.ahead (g.R.Read.remaining l.reader)) l.line.items
 
--- The count of the bytes that may still come falls.
+-- The count of the bytes that the line may still have decreases.
 abbrev pub decreases-loop-ahead : goal.decreases-loop-ahead
 decreases-loop-ahead g l = 1025 - length l.line.items

@@ -1,4 +1,5 @@
--- Answers the contract of `take_part` (`src/lines.rt`).
+-- Proves the contract of `take_part` (`src/lines.rt`). The bytes ahead have an LF within the limit, go beyond it, or
+-- all belong to the line.
 use Rattle.std.proofs.Common.{arith, rules}
 use Rattle.ill_world.proofs.Texts.{takes_line, takes_too_long, takes_all}
 use Rattle.ill_world.proofs.lines.take_part.Goals as goal

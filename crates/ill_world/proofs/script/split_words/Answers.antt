@@ -1,4 +1,5 @@
--- Answers the contract of `split_words` (`src/script.rt`).
+-- Proves the contract of `split_words` (`src/script.rt`). The iterator splits the line at its spaces, and filters the
+-- empty parts out.
 use Rattle.std.proofs.Common.{rules, not, ◌==◌, List, ℕ, length, ap, ◌∙◌}
 use Rattle.std.specs.Slice.Iter.{split_rest, split_done, split_callee}
 use Rattle.std.proofs.lemmas.Iterator.Consumers.{map_from_collect, YieldsList-from_filter}

@@ -1,4 +1,5 @@
--- Answers the contract of `a_night_of_a_group_is_enough` (`src/shelf_laws.rt`).
+-- Proves the clauses `home` and `run` of `a_night_of_a_group_is_enough` (`src/shelf_laws.rt`). The desks of the group
+-- perform the night of two desks.
 use Rattle.std.proofs.Common.{◌≡◌, sym, ap, subst, ◌∙◌}
 use Rattle.ill_world.specs.Desks.{project, desks_run}
 use Rattle.ill_world.specs.Round.{CanAnswer}

@@ -1,4 +1,5 @@
--- Answers the contract of `every_shelf_run_agrees` (`src/shelf_laws.rt`).
+-- Proves the contract of `every_shelf_run_agrees` (`src/shelf_laws.rt`). The desks of a group are two desks after its
+-- events, in which both sides agree.
 use Rattle.std.proofs.Common.{[], ◌++◌, sym, subst, take}
 use Rattle.ill_world.specs.Desks.{first_desks, project}
 use Rattle.ill_world.specs.Shelves.{events_at}

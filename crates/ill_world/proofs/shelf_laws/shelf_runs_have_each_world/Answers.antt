@@ -1,4 +1,5 @@
--- Answers the contract of `shelf_runs_have_each_world` (`src/shelf_laws.rt`).
+-- Proves the clauses `safe` and `agrees` of `shelf_runs_have_each_world` (`src/shelf_laws.rt`). A run of joined events
+-- goes through the world after the first of them.
 use Rattle.ill_world.specs.Desks.{project}
 use Rattle.ill_world.specs.Safety.{Safe}
 use Rattle.ill_world.specs.Agreement.{Agrees}

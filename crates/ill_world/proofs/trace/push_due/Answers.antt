@@ -1,4 +1,4 @@
--- Answers the contract of `push_due` (`src/trace.rt`).
+-- Proves the clause `prefix` of `push_due` (`src/trace.rt`) if memory runs out. Then no byte of the date was added.
 use Rattle.std.proofs.Common.{rules, ◌≡◌, ◌<◌, Some, length, sym, subst}
 use Rattle.ill_values.specs.Day.{date_text}
 use Rattle.ill_der.specs.Adding.{AddsPrefix}

@@ -1,4 +1,5 @@
--- Answers the contract of `push_shown` (`src/trace.rt`).
+-- Proves the clause `prefix` of `push_shown` (`src/trace.rt`) for each part after which memory may run out. The parts
+-- that were added are a prefix of the text.
 use Rattle.std.proofs.Common.{rules, ◌≡◌, ℕ, ◌<◌, List, ◌++◌, ◌∷◌, [], codes, length, ap, ◌∙◌, arith, append_assoc, length-append}
 use Rattle.std.specs.Fmt.{decimal}
 use Rattle.ill_core.specs.State.{state_name}
@@ -24,37 +25,37 @@ to_gap shown = to_due shown ++ codes " "
 abbrev to_released : Shown → List ℕ
 to_released shown = to_gap shown ++ decimal shown.released
 
--- Returns the text of a side up to the stroke.
+-- Returns the text of a side up to the slash.
 abbrev to_stroke : Shown → List ℕ
 to_stroke shown = to_released shown ++ codes "/"
 
 module _ (shown : Shown) (old new : List ℕ) where
-  -- A prefix of the text up to the stroke is a prefix of all.
+  -- A prefix of the text up to the slash is a prefix of the whole text.
   stroke_all : AddsPrefix old new (to_stroke shown) → AddsPrefix old new (shown_text shown)
   unfolding shown_text
   stroke_all is = adds_first old new (to_stroke shown) (decimal shown.issued) is
 
-  -- A prefix of the text up to the released count is a prefix of all.
+  -- A prefix of the text up to the released count is a prefix of the whole text.
   released_all : AddsPrefix old new (to_released shown) → AddsPrefix old new (shown_text shown)
   released_all is = stroke_all (adds_first old new (to_released shown) (codes "/") is)
 
-  -- A prefix of the text up to the space after the due date is a prefix of all.
+  -- A prefix of the text up to the space after the due date is a prefix of the whole text.
   gap_all : AddsPrefix old new (to_gap shown) → AddsPrefix old new (shown_text shown)
   gap_all is = released_all (adds_first old new (to_gap shown) (decimal shown.released) is)
 
-  -- A prefix of the text up to the due date is a prefix of all.
+  -- A prefix of the text up to the due date is a prefix of the whole text.
   due_all : AddsPrefix old new (to_due shown) → AddsPrefix old new (shown_text shown)
   due_all is = gap_all (adds_first old new (to_due shown) (codes " ") is)
 
-  -- A prefix of the text up to the space after the state is a prefix of all.
+  -- A prefix of the text up to the space after the state is a prefix of the whole text.
   space_all : AddsPrefix old new (to_space shown) → AddsPrefix old new (shown_text shown)
   space_all is = due_all (adds_first old new (to_space shown) (due_text shown.due) is)
 
--- If `old` and `text` were there, and `part` was added, `old` and `text ++ part` are there.
+-- If `middle` is `old ++ text`, and `next` is `middle ++ part`, `next` is `old` and then `text ++ part`.
 one_more : (old middle next text part : List ℕ) → middle ≡ old ++ text → next ≡ middle ++ part → next ≡ old ++ (text ++ part)
 one_more old middle next text part before more = more ∙ ap (λ (x : List ℕ). x ++ part) before ∙ append_assoc old text part
 
--- If `text` was added and the byte after it was not, a prefix of both was added.
+-- If `text` was added, and the byte after it was not, a prefix of both was added.
 no_byte : (old middle new text : List ℕ) (byte : ℕ) → middle ≡ old ++ text → new ≡ middle → AddsPrefix old new (text ++ byte ∷ [])
 no_byte old middle new text byte before stays =
     adds_second old middle new text (byte ∷ []) before (adds_nothing middle new (byte ∷ []) stays (omega arith))

@@ -1,4 +1,5 @@
--- Answers the contract of `run` (`src/world.rt`).
+-- Proves the loop invariant and all clauses of `run` (`src/world.rt`). Each step performs the first of the events that
+-- are left.
 use Rattle.std.proofs.Common.{arith, ap, sym, ◌∙◌}
 use Rattle.ill_world.specs.World.{happens, run_of}
 use Rattle.ill_world.proofs.Runs.{run_on, run_ended}

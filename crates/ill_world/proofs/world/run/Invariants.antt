@@ -1,4 +1,4 @@
--- The loop invariant of `run` (`src/world.rt`).
+-- The loop of `run` (`src/world.rt`) keeps this invariant.
 use Rattle.std.proofs.Common.{◌≡◌, drop}
 use Rattle.ill_world.specs.World.{first_world, run_of}
 use Rattle.ill_world.proofs.world.run.Given as goal

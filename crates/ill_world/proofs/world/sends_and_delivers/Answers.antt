@@ -1,4 +1,5 @@
--- Answers the contract of `sends_and_delivers` (`src/world.rt`).
+-- Proves the loop invariant and the contract of `sends_and_delivers` (`src/world.rt`). Each turn of the loop appends
+-- the two events of one message.
 use Rattle.std.proofs.Common.{arith, ◌+◌, ◌-◌, ◌∙◌}
 use Rattle.ill_world.proofs.Rounds.{passes_grow, passes_none}
 use Rattle.ill_world.proofs.world.sends_and_delivers.Goals as goal

@@ -1,10 +1,11 @@
--- Answers the contract of `Ahead::skip` (`src/ahead.rt`).
+-- Proves the contract of `Ahead::skip` (`src/ahead.rt`). The buffer begins its range `count` later, and so lacks the
+-- first `count` bytes.
 use Rattle.std.proofs.Common.{arith, ◌≡◌, ◌≤◌, ◌+◌, ◌-◌, ℕ, List, length, take, drop, slice_range, sym, ap, ◌∙◌, subst}
 use Rattle.std.proofs.Common.{length-take, drop-drop}
 use Rattle.std.proofs.lemmas.List.{drop-take}
 use Rattle.ill_world.proofs.ahead.Ahead.skip.Goals as goal
 
--- A range that begins `count` later is the range without its first `count` items.
+-- If a range begins `count` later, it lacks its first `count` items.
 fewer : (xs : List ℕ) (start end count : ℕ) → count ≤ length (slice_range xs start end)
     → slice_range xs (start + count) end ≡ drop count (slice_range xs start end)
 fewer xs start end count there =

@@ -1,4 +1,5 @@
--- Answers the contract of `DeskParty::fail_to_save` (`src/desk_party.rt`).
+-- Proves the invariant and the contract of `DeskParty::fail_to_save` (`src/desk_party.rt`) after a failed save. The
+-- record in the store is read again as the saved sides.
 use Rattle.std.proofs.Common.{rules, ◌≡◌, Ok, ap}
 use Rattle.ill_saved.specs.Holdings.{map_ok}
 use Rattle.ill_saved.specs.ManySides.{many_sides, sides_held, whole_of}
@@ -6,7 +7,7 @@ use Rattle.ill_saved.specs.RecordsV2.{AreSides}
 use Rattle.ill_saved.proofs.Contents.{sides_of_whole}
 use Rattle.ill_world.proofs.desk_party.DeskParty.fail_to_save.Goals as goal
 
--- The desk is ready after the save: what has landed is read again.
+-- The desk is ready after the save, since the landed record can be read.
 pub invariant_of-self : goal.invariant_of-self
 invariant_of-self c =
     let live = c.self.inside.desk.live in
@@ -15,7 +16,7 @@ invariant_of-self c =
     let sides = sides_of_whole (sides_held live) in
     search (rules, again, sides)
 
--- The desk of the model fails to save too.
+-- The desk fails to save as the desk of the model does.
 pub returns-in-Err-Store-Failed : goal.returns-in-Err-Store-Failed
 returns-in-Err-Store-Failed c =
     let live = c.self.inside.desk.live in

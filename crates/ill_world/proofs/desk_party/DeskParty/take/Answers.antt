@@ -1,4 +1,5 @@
--- Answers the contract of `DeskParty::take` (`src/desk_party.rt`).
+-- Proves the invariant and the contract of `DeskParty::take` (`src/desk_party.rt`), and the premise of `seen`. The
+-- bytes of the message are exactly one APDU.
 use Rattle.std.proofs.Common.{rules, [], Ok, subst}
 use Rattle.ill_saved.specs.Desk.{DeskTakes}
 use Rattle.ill_saved.specs.ManySides.{many_sides}

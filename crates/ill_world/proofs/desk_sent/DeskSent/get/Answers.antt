@@ -1,4 +1,5 @@
--- Answers the contract of `DeskSent::get` (`src/desk_sent.rt`).
+-- Proves the contract of `DeskSent::get` (`src/desk_sent.rt`), if `txn` has an entry and if it has none. The list of
+-- the model has the entries of the map, by `sent_there`.
 use Rattle.std.proofs.Common.{rules, ◌≡◌, Some, None, sym, ap, ◌∙◌}
 use Rattle.std.specs.Map.{lookup}
 use Rattle.ill_core.specs.Issued.{is_same_txn}

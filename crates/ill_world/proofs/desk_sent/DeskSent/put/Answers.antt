@@ -1,4 +1,5 @@
--- Answers the contract of `DeskSent::put` (`src/desk_sent.rt`).
+-- Proves the clause `put` of `DeskSent::put` (`src/desk_sent.rt`), if `txn` has an entry and if it has none. The
+-- changed or added entry is that of the model, by `DeskMaps`.
 use Rattle.std.proofs.Common.{◌≡◌, OnOk, refl, ap, sym, ◌∙◌, subst}
 use Rattle.std.specs.Map.{lookup}
 use Rattle.ill_core.specs.Issued.{is_same_txn}

@@ -1,4 +1,5 @@
--- Answers the contract of `DeskWorld::exchange` (`src/desk_world.rt`).
+-- Proves the clauses `performs` and `in_step` of `DeskWorld::exchange` (`src/desk_world.rt`). It performs both halves
+-- of a round, after which `one_desk_round_is_enough` holds.
 use Rattle.std.proofs.Common.{◌++◌, subst}
 use Rattle.ill_values.specs.TxnId.{Qualifiers}
 use Rattle.ill_saved.specs.declared.role.Role.TheVariants.{Requester, Responder}

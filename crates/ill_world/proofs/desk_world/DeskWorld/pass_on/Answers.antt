@@ -1,4 +1,5 @@
--- Answers the contract of `DeskWorld::pass_on` (`src/desk_world.rt`).
+-- Proves the contract of `DeskWorld::pass_on` (`src/desk_world.rt`) if memory runs out before the first event. Then no
+-- event has happened.
 use Rattle.std.proofs.Common.{[], refl}
 use Rattle.ill_world.specs.World.{run_by}
 use Rattle.ill_world.specs.Desks.{desks_happen}

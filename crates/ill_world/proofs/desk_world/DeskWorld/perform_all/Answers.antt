@@ -1,4 +1,5 @@
--- Answers the contract of `DeskWorld::perform_all` (`src/desk_world.rt`).
+-- Proves the loop invariant and the contract of `DeskWorld::perform_all` (`src/desk_world.rt`). Each step leads on from
+-- the desks after the events so far.
 use Rattle.std.proofs.Common.{arith, sym, ap, ◌∙◌, drop, take, refl}
 use Rattle.std.proofs.Math.ListN.{take-append-drop}
 use Rattle.ill_world.specs.World.{run_by}

@@ -1,4 +1,4 @@
--- Answers the contract of `Message::new` (`src/message.rt`).
+-- Proves the invariant and the contract of `Message::new` (`src/message.rt`). An APDU is read from its spelling.
 use Rattle.ill_world.proofs.Messages.{apdu_is, is_whole}
 use Rattle.ill_world.proofs.message.Message.new.Goals as goal
 

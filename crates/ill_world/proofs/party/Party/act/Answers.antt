@@ -1,10 +1,10 @@
--- Answers the contract of `Party::act` (`src/party.rt`).
+-- Proves the contract of `Party::act` (`src/party.rt`). The desk does or refuses an action as its side does.
 use Rattle.std.proofs.Common.{rules}
 use Rattle.ill_saved.specs.Side.{acts}
 use Rattle.ill_world.proofs.Parties.{one_done, one_refused}
 use Rattle.ill_world.proofs.party.Party.act.Goals as goal
 
--- The party does what its side does.
+-- The party does or refuses the action as its side does.
 pub returns : goal.returns
 returns c =
     let held = c.self.inside.desk.live in

@@ -1,4 +1,5 @@
--- Answers the contract of `Party::is_forged` (`src/party.rt`).
+-- Proves the contract of `Party::is_forged` (`src/party.rt`) if the bytes begin with an APDU. They are exactly one APDU
+-- if it has their length.
 use Rattle.std.proofs.Common.{rules}
 use Rattle.ill_saved.specs.Side.{txn_of}
 use Rattle.ill_der.specs.ShortForm.{apdu_at}

@@ -1,4 +1,5 @@
--- Answers the contract of `Party::take` (`src/party.rt`).
+-- Proves the invariant and the contract of `Party::take` (`src/party.rt`). The bytes of the message are exactly one
+-- APDU, and the side keeps its transaction.
 use Rattle.std.proofs.Common.{rules}
 use Rattle.ill_world.proofs.Parties.{takes_one, taken_idle}
 use Rattle.ill_world.proofs.party.Party.take.Goals as goal

@@ -1,4 +1,4 @@
--- The loop invariant of `Sent::nothing` (`src/sent.rt`).
+-- The loop of `Sent::nothing` (`src/sent.rt`) keeps this invariant.
 use Rattle.std.proofs.Common.{◌≡◌, None, replicate}
 use Rattle.ill_world.proofs.sent.Sent.nothing.Given as goal
 

@@ -1,4 +1,5 @@
--- Answers the contract of `Simulation::run` (`src/simulation.rt`).
+-- Proves the loop invariant and the contract of `Simulation::run` (`src/simulation.rt`). Each step performs the next
+-- line, or ends the script.
 use Rattle.std.proofs.Common.{arith, ◌+◌, ℕ, Bool, Ok, Err, subst}
 use Rattle.std.specs.Io.KnownBytes.{prepend_known}
 use Rattle.ill_world.specs.Play.{Plays}

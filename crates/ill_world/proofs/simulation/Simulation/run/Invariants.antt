@@ -1,11 +1,11 @@
--- The loop invariant of `Simulation::run` (`src/simulation.rt`).
+-- The loop of `Simulation::run` (`src/simulation.rt`) keeps this invariant.
 use Rattle.std.proofs.Common.{◌+◌, ◌≤◌, ℕ, List, Option, Result}
 use Rattle.std.specs.Io.KnownBytes.{prepend_known}
 use Rattle.ill_world.specs.declared.fault.SimFault.{SimFault}
 use Rattle.ill_world.specs.Play.{Plays}
 use Rattle.ill_world.proofs.simulation.Simulation.run.Given as goal
 
--- If performing the rest of the script gives a result, performing the whole gives it.
+-- If the rest of the script ends with a result, the whole script ends with it.
 abbrev pub invariant-loop-before : goal.invariant-loop-before
 invariant-loop-before g l =
     ((left after : Option (List ℕ)) (result : Result ℕ SimFault)

@@ -1,4 +1,5 @@
--- Answers the contract of `Simulation::step` (`src/simulation.rt`).
+-- Proves the clause `steps` of `Simulation::step` (`src/simulation.rt`). The cases are the kinds of a line, and the
+-- faults of reading and performing it.
 use Rattle.std.proofs.Common.{arith, ◌≡◌, ◌≤◌, length, Ok, sym, subst}
 use Rattle.std.specs.Io.KnownBytes.{prepend_known}
 use Rattle.ill_world.specs.declared.lines.Found.TheVariants as found

@@ -1,4 +1,4 @@
--- The loop invariant of `joined` (`src/words/actions.rt`).
+-- The loop of `joined` (`src/words/actions.rt`) keeps this invariant.
 use Rattle.std.proofs.Common.{◌≡◌, map, take}
 use Rattle.ill_world.specs.Words.{spaced}
 use Rattle.ill_world.proofs.words.actions.joined.Given as goal

@@ -1,4 +1,5 @@
--- Answers the contract of `World::exchange` (`src/world.rt`).
+-- Proves the clauses `performs` and `in_step` of `World::exchange` (`src/world.rt`). It performs both halves of a
+-- round, after which `one_round_is_enough` holds.
 use Rattle.std.proofs.Common.{◌++◌, subst}
 use Rattle.ill_saved.specs.declared.role.Role.TheVariants.{Requester, Responder}
 use Rattle.ill_world.specs.World.{Parties, happens, run_of}

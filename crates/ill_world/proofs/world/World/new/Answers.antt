@@ -1,4 +1,5 @@
--- Answers the contract of `World::new` (`src/world.rt`).
+-- Proves the contract and the invariant of `World::new` (`src/world.rt`). Two parties of idle sides are the first
+-- world.
 use Rattle.std.proofs.Common.{sym, subst}
 use Rattle.ill_world.specs.Invariant.{Invariant}
 use Rattle.ill_world.proofs.Worlds.{first_is}

@@ -1,4 +1,5 @@
--- Answers the contract of `World::pass_on` (`src/world.rt`).
+-- Proves the contract of `World::pass_on` (`src/world.rt`) if memory runs out before the first event. Then no event has
+-- happened.
 use Rattle.std.proofs.Common.{[], refl}
 use Rattle.ill_world.specs.World.{happens, run_by}
 use Rattle.ill_world.specs.Round.{half_of}

@@ -1,4 +1,5 @@
--- Answers the contract of `World::perform_all` (`src/world.rt`).
+-- Proves the loop invariant and the contract of `World::perform_all` (`src/world.rt`). Each step leads on from the
+-- world after the events so far.
 use Rattle.std.proofs.Common.{arith, sym, ap, ◌∙◌, drop, take, refl}
 use Rattle.std.proofs.Math.ListN.{take-append-drop}
 use Rattle.ill_world.specs.World.{happens, run_by}

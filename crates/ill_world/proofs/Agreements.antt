@@ -224,7 +224,7 @@ facing P pair txn (sides.Responder x) y requester_sent responder_sent requester_
 facing P pair txn (sides.Requester x) (sides.Requester y) requester_sent responder_sent requester_stands responder_stands issued
     heeded = absurd responder_stands
 
--- If `P` holds of all such pairs, it holds of all four pairs of sides in a world that satisfies the invariant.
+-- If `P` holds of all such pairs, and a world satisfies the invariant, `P` holds of its four pairs.
 of_both_facing : (P : RequesterRecord → ResponderRecord → Type 0) → PairOf P → (txn : Qualifiers) (w : Parties) → Invariant txn w
     → OfBoth (Facing P) w
 of_both_facing P pair txn w stands =

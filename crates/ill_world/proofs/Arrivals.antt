@@ -56,7 +56,7 @@ pub record RowsFollow : Type 0 where
 
 -- ---- states
 
--- A requester in none of IDLE, CANCELLED and NOT-SUPPLIED is in a state in which it takes a Shipped.
+-- A requester in none of IDLE, CANCELLED and NOT-SUPPLIED may take a Shipped.
 may_ship : (state : State) → is_among (states.InProcess ∷ states.CheckedIn ∷ []) state ≡ false
     → is_among (states.Idle ∷ []) state ≡ false → (state ≡ states.Cancelled → ⊥)
     → (state ≡ states.NotSupplied → ⊥)
@@ -65,7 +65,7 @@ may_ship states.Cancelled role idle cancelled ended = absurd (cancelled refl)
 may_ship states.NotSupplied role idle cancelled ended = absurd (ended refl)
 may_ship state role idle cancelled ended = search rules
 
--- A requester in none of IDLE, CANCELLED, SHIPPED and later is in a state in which it takes an end without the item.
+-- A requester in none of IDLE, CANCELLED, SHIPPED and later may take an end without the item.
 may_end : (state : State) → is_among (states.InProcess ∷ states.CheckedIn ∷ []) state ≡ false
     → is_among (states.Idle ∷ []) state ≡ false → (state ≡ states.Cancelled → ⊥)
     → (is_among later state ≡ true → ⊥)
@@ -218,7 +218,7 @@ yes_arrives rows txn x y requester_sent responder_sent n c a requester_stands re
 abbrev Leads : RequesterRecord → Apdu → Body → Type 0
 Leads x a body = requester.LeadsTo (settled_by body) (requester_deliveries.takes x a)
 
--- If the requester takes an end of the request that the responder has issued, it gets to the states of this end.
+-- If the requester takes an issued end of the request, it gets to the states of this end.
 arrives_as : RowsFollow
     → (txn : Qualifiers) (x : RequesterRecord) (y : ResponderRecord) (requester_sent responder_sent : List (Option Apdu)) (n : ℕ)
     (a : Apdu) (body : Body)

@@ -79,7 +79,7 @@ pub whole_events : (txn : Qualifiers) (w : DeskParties) (role : Who) (landed : B
 unfolding events_for
 whole_events txn w role landed = refl
 
--- If `is_event_of` has the value `own`, a single event of desks is an event of the transaction if `own` is true.
+-- A single event of desks is an event of the transaction if `own`, the value of `is_event_of`, is true.
 is_one : (txn : Qualifiers) (w : DeskParties) (event : DeskEvent) (own : Bool) → is_event_of txn w event ≡ own
     → events_for txn w (event ∷ []) ≡ (if own then plain event ∷ [] else [])
 is_one txn w event own is = one_event txn w event ∙ ap (λ b. if b then plain event ∷ [] else []) is

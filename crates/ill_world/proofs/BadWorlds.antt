@@ -92,7 +92,7 @@ not_twice : (answered : Body → Option ℕ) (at : ℕ → Option Apdu) (k : ℕ
 not_twice answered at k this that first second once two =
     two.6 (once two.0 two.1 k two.2 two.3 two.4 two.5 (ap answered two.7 ∙ first) (ap answered two.8 ∙ second))
 
--- If no two messages of a party answer one number, this holds of the live messages and of the sent ones.
+-- If `AnswersOnceBoth` holds of a party, `AnswersOnce` holds of its live messages and of its sent ones.
 of_messages : (answered : Body → Option ℕ) (p : Party) (at : ℕ → Option Apdu) → AnswersOnceBoth answered p
     → HasMessages p at → AnswersOnce answered at
 of_messages answered p at both (inl is) = subst (AnswersOnce answered) (sym is) both.0

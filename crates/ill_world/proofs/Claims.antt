@@ -33,7 +33,7 @@ tells_cancelled (types.CancelReply c true) tells = refl
 tells_cancelled (types.CancelReply c false) tells = absurd tells
 tells_cancelled body tells = search rules
 
--- A message that is evidence of an end without the item tells such an end.
+-- A message that is evidence of an end without the item is such an end.
 tells_ended : (body : Body) → requester.IsEvidence body requester.Ended → responder.is_unsupplied body ≡ true
 tells_ended (types.IllAnswer answer) tells = tells
 tells_ended types.Expired tells = refl

@@ -1,4 +1,4 @@
--- One arrival of the end of a request, or of a Returned, is enough at a desk too, since it holds the transaction.
+-- One arrival of the end of a request, or of a Returned, is enough at a desk too. For it holds the transaction.
 use Rattle.std.proofs.Common.{rules, ◌≡◌, ℕ, nat_lt, length, zero, suc, Bool, true, false, ◌&&◌, not, List, [], ◌∷◌, Option, Some}
 use Rattle.std.proofs.Common.{None, is_some, refl, sym, ap, ◌∙◌, subst, true≢false}
 use Rattle.ill_values.specs.TxnId.{Qualifiers}
@@ -118,7 +118,7 @@ settles_as among false expected old new outcome side seen concerned is_plain set
 settles_as among true expected old new NoSuchTransaction side seen concerned is_plain settles = absurd is_plain
 settles_as among true expected old new DeskFull side seen concerned is_plain settles = absurd is_plain
 
--- `ReachesSide` holds of each event at two desks that stand.
+-- `ReachesSide` holds of each event at two desks that satisfy `DesksStand`.
 abbrev pub EachReaches : Type 0
 EachReaches = (w : DeskParties) (event : DeskEvent) → DesksStand w → ReachesSide w event
 

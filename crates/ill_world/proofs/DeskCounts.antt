@@ -78,7 +78,7 @@ has_not txn new txns none other =
     list_any-append (is_same_txn txn) txns (new ∷ [])
     ∙ or_from (is_one_of txn txns) (is_one_of txn (new ∷ [])) none (or_from (is_same_txn txn new) false other refl)
 
--- If no transaction is twice in `txns`, and `new` is not in it, none is twice with `new` at the end.
+-- If no transaction is twice in `txns`, and `new` is not in it, none is twice in the longer list.
 apart_still : (new : Qualifiers) (txns : List Qualifiers) → AreApart txns → is_one_of new txns ≡ false
     → AreApart (txns ++ new ∷ [])
 apart_still new [] apart none = (refl, tt)
@@ -437,7 +437,7 @@ never_full true true None room reaches = reaches
 never_full true false None room reaches = room refl refl
 never_full false has_room None room reaches = search rules
 
--- A delivery is not DeskFull, if a desk without room holds the transaction of each message that was sent to it.
+-- A delivery is not DeskFull, if a desk without room holds the transaction of each sent message.
 none_full : EachReaches → (w : DeskParties) → DesksStand w → (role : Who) (txn : Qualifiers) (n : ℕ)
     → ((a : Apdu) → sent_message (sent_for txn (party w (other role)).sent) n ≡ Some a
     → found_by txn_held txn (party w role).live.held ≡ None → nat_lt (length (party w role).live.held) 1000 ≡ false → ⊥)
@@ -474,7 +474,7 @@ unheld_is_not_sent w txn n stands none = go (sent_message (sent_for txn w.respon
     go None e = ap (λ o. (desk_receives w.requester o).0) e
     go (Some a) e = absurd (none_sent w stands txn n a e none)
 
--- If the requester has sent in a transaction that the responder's desk does not hold, that desk has room for it.
+-- If the requester has sent in a transaction, the responder's desk holds it, or has room for it.
 responder_room : (w : DeskParties) → DesksStand w → (txn : Qualifiers) (n : ℕ) (a : Apdu)
     → sent_message (sent_for txn w.requester.sent) n ≡ Some a → found_by txn_held txn w.responder.live.held ≡ None
     → nat_lt (length w.responder.live.held) 1000 ≡ false → ⊥

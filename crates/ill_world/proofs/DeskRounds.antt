@@ -260,7 +260,7 @@ module _ (projects : EachProjects) (reaches : EachReaches) (after : EachStands) 
 
   -- ---- the messages of a desk
 
-  -- To pass on the messages of sides is to pass on those of the first side, and then those of the others.
+  -- The messages of sides are passed on by those of the first side, and then those of the others.
   passes_both : (w : DeskParties) (role : Who) (side : Side) (more : List Side)
       → desks_run w (flat_map (passes_side role) (side ∷ more))
       ≡ desks_run (desks_run w (passes_side role side)) (flat_map (passes_side role) more)

@@ -1,4 +1,4 @@
--- In each transaction two desks are safe, since each of their events is an event of the two parties or changes nothing.
+-- In each transaction two desks are safe. For each of their events is one of the two parties, or changes nothing.
 use Rattle.std.proofs.Common.{rules, ◌≡◌, ℕ, Bool, true, false, if◌then◌else◌, List, [], ◌∷◌, Option, Some, None, Result, Ok, Err}
 use Rattle.std.proofs.Common.{refl, sym, ap, ◌∙◌, subst}
 use Rattle.ill_values.specs.TxnId.{Qualifiers}
@@ -251,8 +251,8 @@ EachProjects = (txn : Qualifiers) (w : DeskParties) (event : DeskEvent) → Desk
 abbrev pub EachStands : Type 0
 EachStands = (w : DeskParties) (event : DeskEvent) → DesksStand w → DesksStand (desks_happen w event).1
 
--- If the event is one of the transaction, the run of `more` from `new` is the run of the event and `more` from `w`.
--- Otherwise it is the run of `more` from `w`.
+-- If the event is one of the transaction, `more` after it leads to the run of both from `w`. Otherwise `more` alone
+-- leads on from `w`.
 leads_on : (own : Bool) (w : Parties) (event : Event) (more : List Event) (new : Parties) (outcome : DeskOutcome)
     → IsSeenAs own (happens w event) w outcome new
     → run_of new more ≡ run_of w (if own then event ∷ more else more)
@@ -316,7 +316,7 @@ unchanged false expected old new (Plain outcome) seen changes same =
 unchanged own expected old new NoSuchTransaction seen changes same = seen
 unchanged own expected old new DeskFull seen changes same = seen
 
--- If the outcome of each event of two parties allows its change, so does the outcome of each event of two desks.
+-- If each outcome of two parties allows its change, so does each outcome of two desks.
 pub desk_changes : EachProjects
     → ((w : Parties) (event : Event) → MayChange OnlyLandedChanges (happens w event).0 w (happens w event).1)
     → (txn : Qualifiers) (w : DeskParties) (event : DeskEvent) → DesksStand w

@@ -93,13 +93,13 @@ sends_same p n None released = (refl, refl)
 sends_same p n (Some a) false = (refl, refl)
 sends_same p n (Some a) true = (refl, refl)
 
--- If q has the sides of p, and `KeepsDue` holds from the landed to the live date of p, it holds for q.
+-- If q has the sides of p, and `KeepsDue` holds of the dates of p, it holds of those of q.
 same_dates : (p q : Party) → (q.live ≡ p.live) × (q.landed ≡ p.landed)
     → KeepsDue (due_date_of p.landed) (due_date_of p.live) → KeepsDue (due_date_of q.landed) (due_date_of q.live)
 same_dates p q same kept = subst (λ side. KeepsDue (due_date_of side) (due_date_of q.live)) (sym same.1)
     (subst (λ side. KeepsDue (due_date_of p.landed) (due_date_of side)) (sym same.0) kept)
 
--- If q has the landed side of p, and a kept or raised live date, `KeepsDue` stays true from landed to live.
+-- If q has the landed side of p, and keeps or raises the live date, `KeepsDue` holds of its dates.
 live_kept : (p q : Party) → KeepsDue (due_date_of p.live) (due_date_of q.live) × (q.landed ≡ p.landed)
     → KeepsDue (due_date_of p.landed) (due_date_of p.live) → KeepsDue (due_date_of q.landed) (due_date_of q.live)
 live_kept p q both kept = subst (λ side. KeepsDue (due_date_of side) (due_date_of q.live)) (sym both.1)

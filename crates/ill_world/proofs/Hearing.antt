@@ -1,5 +1,5 @@
--- `has_heard` holds of a message if it would not change the record now. It holds of all messages of the other side
--- after the record takes them in order, unless one reopens an earlier one.
+-- `has_heard` holds of a message if it would not change the record now. After a record takes all messages in order, it
+-- holds of each that no later one reopens.
 use Rattle.std.proofs.Common.{rules, arith, ◌≡◌, ℕ, zero, suc, ◌<◌, Bool, true, false, List, [], ◌∷◌, Some, refl, sym, subst}
 use Rattle.std.specs.Prelude.{slice_get}
 use Rattle.ill_values.specs.declared.apdu.Apdu.{Apdu}

@@ -298,8 +298,7 @@ settled_answers states.Shipped is = refl
 settled_answers states.Overdue is = refl
 settled_answers t is = search rules
 
--- A responder that has shipped, and is in none of SHIPPED, OVERDUE, RECALL, RETURNED and CHECKED-IN, waits to answer a
--- Renew.
+-- A responder that has shipped, but is in none of these other states, is in RENEW/PENDING or RENEW/OVERDUE.
 renew_left : (t : State) → is_among shipped_states t ≡ true → is_among (states.Recall ∷ []) t ≡ false
     → is_among (states.Returned ∷ states.CheckedIn ∷ []) t ≡ false
     → is_among (states.Shipped ∷ states.Overdue ∷ []) t ≡ false

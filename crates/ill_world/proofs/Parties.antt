@@ -39,7 +39,7 @@ taken_idle grows old new a (Ok answered) is = answered_idle grows old new a (Ok 
 taken_idle grows old new a (Err faults.OutOfMemory) is = ap (λ (held : DeskEntry). idle_of held.side) is
 taken_idle grows old new a (Err fault) is = answered_idle grows old new a (Err fault) is.0
 
--- If the action of a desk of one side is done, its side has done it, and the released count is unchanged.
+-- If a desk of one side does an action, its side has done it, and the released count is unchanged.
 pub one_done : (held new : DeskEntry) (r : Result Side Refusal) → one_acts held r ≡ Ok new
     → (r ≡ Ok new.side) × (new.released ≡ held.released)
 one_done held new (Ok side) is =
@@ -47,7 +47,7 @@ one_done held new (Ok side) is =
     (ap (λ (h : DeskEntry). Ok h.side) same, sym (ap (λ (h : DeskEntry). h.released) same))
 one_done held new (Err refusal) is = absurd cc
 
--- If the action of a desk of one side is refused, its side has refused it.
+-- If a desk of one side refuses an action, its side has refused it.
 pub one_refused : (held : DeskEntry) (r : Result Side Refusal) (refusal : Refusal) → one_acts held r ≡ Err (faults.Core refusal)
     → r ≡ Err refusal
 one_refused held (Err other) refusal is = search rules

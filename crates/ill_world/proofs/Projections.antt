@@ -53,7 +53,7 @@ found_either : {X : Type 0} (same : Bool) (instead new : X) (found : Option X)
 found_either true instead new found = refl
 found_either false instead new found = refl
 
--- After the desk puts the entry `new`, `txn` has this entry if it is its transaction, or else its old one.
+-- After the desk puts the entry `new`, its transaction has this entry. Each other one has its old entry.
 held_after : (txn : Qualifiers) (live : DeskContents) (new : DeskEntry)
     → held_for txn (with_held live new) ≡ cond (is_same_txn txn (txn_held new)) new (held_for txn live)
 held_after txn live new =
@@ -79,7 +79,7 @@ whole_idle : (role : Who) (txn : Qualifiers) → idle_held role txn ≡ whole (i
 whole_idle who.Requester txn = refl
 whole_idle who.Responder txn = refl
 
--- The entry of the found side, or an idle entry, is the entry of the found side or of an idle side.
+-- If a side is found, its entry is found. Else an idle entry is the entry of an idle side.
 whole_found : (role : Who) (txn : Qualifiers) (found : Option Side)
     → found_or (idle_held role txn) (option_map whole found) ≡ whole (found_or (idle_side role txn) found)
 whole_found role txn (Some side) = refl

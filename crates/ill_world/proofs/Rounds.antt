@@ -204,8 +204,7 @@ passes_none before of n (suc count) none = absurd (omega (arith, none))
 -- ---- events that are performed
 
 module _ {W E O M : Type 0} (happening : W → E → O × W) where
-  -- If memory ran out, and a prefix of the events has led to this world, the events were performed in the sense of
-  -- `Performs`.
+  -- If memory ran out, and a prefix of the events has led to this world, `Performs` holds of the events.
   pub performs_prefix : (events first : List E) (old new : W) (result : Result (Unit {0}) M) → IsErr result
       → IsPrefix first events → new ≡ run_by happening old first → Performs (run_by happening) events old result new
   performs_prefix events first old new (Ok done) failed prefix is = search rules

@@ -8,13 +8,13 @@ use Rattle.ill_world.specs.World.{Parties, happens, run_by, run_of}
 use Rattle.ill_world.specs.Invariant.{Invariant}
 
 module _ {W E O : Type 0} (happening : W → E → O × W) where
-  -- If the first event leads from `w` to `new`, the run from `w` is the run of the others from `new`.
+  -- If the first event leads to `new`, the run of all is the run of the others from `new`.
   run_next : (w new : W) (events : List E) (event : E) (outcome : O) → happening w event ≡ (outcome, new)
       → run_by happening w (event ∷ events) ≡ run_by happening new events
   unfolding run_by
   run_next w new events event outcome happened = ap (λ (after : O × W). run_by happening after.1 events) happened
 
-  -- If event i leads from `w` to `new`, the run from event i on is the run from the next event on, from `new`.
+  -- If event i leads to `new`, the run from event i on is the run of the later events from `new`.
   pub run_on : (w new : W) (events : List E) (i : ℕ) (event : E) (outcome : O) → i < length events → event ≡ get_or events i event
       → happening w event ≡ (outcome, new)
       → run_by happening w (drop i events) ≡ run_by happening new (drop (i + 1) events)
@@ -45,7 +45,7 @@ module _ {W E O : Type 0} (happening : W → E → O × W) where
   unfolding run_by
   run_one w event = refl
 
-  -- If the first i events lead to a world from which event i leads to `new`, one event more leads to `new`.
+  -- If event i leads to `new` after the events before it, the events up to i lead to `new`.
   pub run_taken : (w new : W) (events : List E) (i : ℕ) (event : E) (outcome : O) → i < length events
       → event ≡ get_or events i event → happening (run_by happening w (take i events)) event ≡ (outcome, new)
       → run_by happening w (take (i + 1) events) ≡ new

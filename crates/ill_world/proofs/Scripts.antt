@@ -118,7 +118,7 @@ module _ {W E C : Type 0} (play : Play W E C) where
   first_bad c n first [] out some = says_last (ends play) c n first ∙ bad_ends c n first some out
   first_bad c n first (second ∷ more) out some = bad_first c n first second more out
 
-  -- If bytes without an LF are too long for a line, they are a bad line, with any bytes after them.
+  -- If bytes without an LF are too long for a line, they are a bad line, whatever follows them.
   pub says_too_long : (c : C) (n : ℕ) (bytes rest : List ℕ) → has_lf bytes ≡ false → 1025 ≤ length bytes
       → says_on play (ends play) c n (bytes ++ rest) ≡ only_bad n
   says_too_long c n bytes rest none long =

@@ -15,7 +15,7 @@ use Rattle.ill_world.specs.Invariant.{SendsSaved}
 
 -- ---- lists
 
--- After `a` was put at place i, a message at place j is `a` with j equal to i, or was there before.
+-- After `a` was put at place i, place j has `a` if j is i, or its old message.
 put_there : (slots : List (Option Apdu)) (i j : ℕ) (a b : Apdu)
     → option_flatten (slice_get (slice_set slots i (Some a)) j) ≡ Some b
     → ((j ≡ i) × (b ≡ a)) ⊎ (option_flatten (slice_get slots j) ≡ Some b)
@@ -26,7 +26,7 @@ put_there (slot ∷ slots) (suc i) zero a b e = inr e
 put_there (slot ∷ slots) (suc i) (suc j) a b e =
     elim (put_there slots i j a b e) [ inl here ↦ inl (ap suc here.0, here.1) | inr before ↦ inr before ]
 
--- After `a` is put at place i, message b stays at place j, if `a` is b when i is j.
+-- After `a` is put at place i, b stays at place j, if `a` is b when i is j.
 still_there : (slots : List (Option Apdu)) (i j : ℕ) (a b : Apdu) → option_flatten (slice_get slots j) ≡ Some b
     → (j ≡ i → a ≡ b) → option_flatten (slice_get (slice_set slots i (Some a)) j) ≡ Some b
 still_there [] i j a b e same = e
@@ -91,7 +91,7 @@ some_is a b e = search rules
 
 -- ---- a party
 
--- If the list of a new live side has the old list as a prefix, `SendsSaved` is kept.
+-- If the list of a new live side has the old list as a prefix, `SendsSaved` still holds.
 pub live_grows : (p : Party) (new : Side) → IsPrefix (issued_of p.live) (issued_of new) → SendsSaved p
     → SendsSaved (record p { live = new })
 live_grows p new grows saved = record {
@@ -132,7 +132,7 @@ sent_landed p n a saved is released =
     within_prefix (issued_of p.landed) (issued_of p.live) n a saved.prefix
     (omega (arith, leb-true n p.released released, saved.released)) is
 
--- After `a` was sent as message n, sent message m is `a` with m equal to n, or was sent before.
+-- After `a` was sent as message n, sent message m is `a` if m is n, or was sent before.
 sent_with : (sent : List (Option Apdu)) (n m : ℕ) (a b : Apdu) → sent_message (with_sent sent n a) m ≡ Some b
     → ((m ≡ n) × (b ≡ a)) ⊎ (sent_message sent m ≡ Some b)
 sent_with sent zero m a b e = inr e
@@ -140,7 +140,7 @@ sent_with sent (suc n) zero a b e = inr e
 sent_with sent (suc n) (suc m) a b e =
     elim (put_there sent n m a b e) [ inl here ↦ inl (ap suc here.0, here.1) | inr before ↦ inr before ]
 
--- After `a` is sent as message n, message b stays sent under m, if `a` is b when n is m.
+-- After `a` is sent under n, b stays sent under m, if `a` is b when n is m.
 sent_still : (sent : List (Option Apdu)) (n m : ℕ) (a b : Apdu) → sent_message sent m ≡ Some b → (m ≡ n → a ≡ b)
     → sent_message (with_sent sent n a) m ≡ Some b
 sent_still sent zero m a b e same = e

@@ -116,7 +116,7 @@ module _ (group : List ℕ) where
   abbrev LackOthers : DeskParties → Type 0
   LackOthers w = (txn : Qualifiers) → (txn.group ≡ group → ⊥) → BothLack txn w
 
-  -- If both desks lack the other groups, all events of a half of a night have their home at the group.
+  -- If `LackOthers` holds of two desks, all events of a half of a night have their home at the group.
   half_at : (wants : Side → Bool) (role : Who) (w : DeskParties) → LackOthers w → AllAt (desk_half_if wants role w)
   half_at wants who.Requester w lack =
       let all = (sides_held w.requester.live).sides in (

@@ -116,8 +116,8 @@ sides_prefix txn events more = trace_prefix two_sides run_of run_of_none run_of_
 abbrev pub with_events : {E : Type 0} → List E → Said E → Said E
 with_events events more = record { events = events ++ more.events; bad = more.bad }
 
--- If `prefix` has the events `events`, and `shown` is their trace, a result that fits the rest of a text fits the
--- whole.
+-- The text `prefix` has the events `events`, and `shown` is their trace. A result that fits the rest of the text fits
+-- the whole.
 answers_on : {E : Type 0}
     → (whole broken rest rest_broken : List ℕ → Said E) (trace trace_on : List E → List ℕ) (count next_count : ℕ)
     (prefix shown : List ℕ) (events : List E)
@@ -232,7 +232,7 @@ module _ {W E C : Type 0} (play : Play W E C) where
   line_first c kept n w next count next_count bytes lines.Bad old middle new before between after result is e leaves read done
       rest = absurd done
 
-  -- If `StepsLine` holds of line n, and the rest of the script was performed, the script was performed from line n on.
+  -- If `StepsLine` holds of line n, and then `Plays` of the rest, `Plays` holds of the script from line n on.
   pub goes_on : (c kept : C) (n : ℕ) (w next : W) (count next_count : ℕ) (old middle new before between after : Option (List ℕ))
       (result : Result ℕ SimFault)
       → StepsLine play c n w count old middle before between (Ok true) kept next next_count

@@ -355,7 +355,7 @@ module _ {W E C : Type 0} (play : Play W E C) where
             ahead rest trace result used plays.4,
       )
 
-  -- If no byte was ahead at first, a script was performed on the reader, and the bytes ahead count as read.
+  -- If no byte was ahead at first, the script was performed on the reader. Bytes that are ahead now count as read.
   pub counts_as_read : (c : C) (n : ℕ) (w : W) (count : ℕ) (first ahead : List ℕ) (old new before after : Option (List ℕ))
       (result : Result ℕ SimFault) → first ≡ [] → IsUsedUp ahead result
       → Plays play c n w count (prepend_known first old) (prepend_known ahead new) before after result

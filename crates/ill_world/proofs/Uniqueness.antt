@@ -142,7 +142,7 @@ one_more_end : (ends : Bool) (count : ℕ) → ends ≡ true → (cond ends 1 0)
 one_more_end true count is most = omega (arith, most)
 one_more_end false count is most = search rules
 
--- In a list with at most one end, the number of the APDU that ends the request is the last found.
+-- In a list with at most one end, the number of this end is the last number found.
 one_last : (apdus : List Apdu) (i : ℕ) (a : Apdu) (o : Option ℕ) → ends_in apdus ≤ 1 → slice_get apdus i ≡ Some a
     → is_end a.body ≡ true → last_or o (filter_map number_of_end apdus) ≡ Some a.number
 one_last [] i a o most e is = search rules
@@ -155,7 +155,7 @@ one_last (b ∷ apdus) (suc i) a o most e is =
     tail_go (is_end b.body) b.number a.number (filter_map number_of_end apdus) o
     (λ p. one_last apdus i a p (omega (arith, most, count_first b apdus)) e is)
 
--- In a numbered list with at most one end, if message n ends the request, n is the last number found.
+-- In a numbered list with at most one end, n is the last number found if message n ends the request.
 pub one_end : (txn : Qualifiers) (apdus : List Apdu) (n : ℕ) (a : Apdu) → are_numbered txn 1 apdus ≡ true
     → ends_in apdus ≤ 1 → message apdus n ≡ Some a → is_end a.body ≡ true
     → last_of number_of_end apdus ≡ Some n

@@ -1,4 +1,4 @@
--- The code gives the first world of the model, and each event of the code gives the event of the model.
+-- The code begins with the first world of the model, and gives each event of the model.
 use Rattle.std.proofs.Common.{◌≡◌, inl, inr, Result, Ok, Err, refl, sym, ap, ◌∙◌, subst}
 use Rattle.ill_values.specs.TxnId.{Qualifiers}
 use Rattle.ill_saved.specs.declared.side.Side.{Side}

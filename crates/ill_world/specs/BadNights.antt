@@ -35,7 +35,7 @@ pub data MisjudgesSending (was_asked : Bool) : Side → Bool → Type 0 where
   -- The loan is over for the requester, and it sends.
   over_requester_sends : (x : RequesterRecord) → is_over (sides.Requester x) ≡ true →
       MisjudgesSending was_asked (sides.Requester x) true
-  -- the loan is over for the responder, which was not asked, and it sends
+  -- The loan is over for the responder, and it was not asked. But it sends its messages.
   unasked_sends : (y : ResponderRecord) → is_over (sides.Responder y) ≡ true → was_asked ≡ false →
       MisjudgesSending was_asked (sides.Responder y) true
   -- The responder was asked, and sends nothing.

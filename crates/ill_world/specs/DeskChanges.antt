@@ -17,7 +17,7 @@ use Rattle.ill_world.specs.World.{Party, Parties, party, sent_message}
 use Rattle.ill_world.specs.Changes.{MayChange, OnlyLandedChanges}
 use Rattle.ill_world.specs.Desks.{Sending, DeskParty, DeskParties, txn_sent, sent_for, desks_happen}
 
--- `shown` has what the desk holds of `txn`, what has landed of it, and what was sent in it.
+-- `shown` has the held side of `txn`, its landed side and its sent messages, if the desk has them.
 pub record ProjectsTo (p : DeskParty) (txn : Qualifiers) (shown : Party) : Type 0 where
   pub live : (held : DeskEntry) → found_by txn_held txn p.live.held ≡ Some held →
       (shown.live ≡ held.side) × (shown.released ≡ held.released)

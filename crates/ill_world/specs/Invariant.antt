@@ -1,5 +1,6 @@
--- The invariant holds in every world, and makes each safe. Each record keeps its own rules. It claims only what sent
--- messages of the other side say. No part of the invariant compares the two sides' records.
+-- The invariant holds in every world, and makes each safe. Each record keeps its own rules. Each of its claims on the
+-- other side has a message that the other side has sent as evidence. No part of the invariant compares the two sides'
+-- records.
 use Rattle.std.specs.Prelude.{◌≡◌, ℕ, ◌≤◌, true, List, length, Option, Some}
 use Rattle.ill_values.specs.TxnId.{Qualifiers}
 use Rattle.ill_values.specs.declared.apdu.Apdu.{Apdu}

@@ -69,7 +69,7 @@ due_text (Some d) = date_text d
 abbrev pub party_shown : Party → Shown
 party_shown p = shown_of p.live p.released
 
--- Returns the text of a side: its state, its due date, and the counts of its released and its issued messages.
+-- Returns the text of a side. It has the state, the due date, and the counts of released and of issued messages.
 unfoldable pub shown_text : Shown → List ℕ
 shown_text shown =
     state_name shown.state ++ codes " " ++ due_text shown.due ++ codes " "

@@ -36,7 +36,7 @@ ghost use Rattle.ill_world.specs.DeskSafety.{ArrivesAt, DesksStand, IsRunOfEach,
 
 use crate::laws;
 
-/// The projection of two desks to a transaction has all that they hold of it, that has landed and that was sent.
+/// The projection of two desks to a transaction has all that they hold, have landed and have sent in it.
 pub fn desks_show_what_they_hold()
     ensures { (txn : Qualifiers) (w : DeskParties) → ProjectsTo w.requester txn (project txn w).requester
         × ProjectsTo w.responder txn (project txn w).responder }

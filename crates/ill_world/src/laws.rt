@@ -235,8 +235,8 @@ pub fn one_night_is_enough()
     nights_are_rounds();
 }
 
-/// The answers of `is_over`, `wants_sending` and `asks` are right. Two records are not at rest if the loan is open
-/// for one, or if their states do not face each other.
+/// The answers of `is_over`, `wants_sending` and `asks` are right. Two records are not at rest if the loan is open for
+/// one, or their states face others.
 pub fn no_bad_night_passes()
     ensures over { (side : Side) → MisjudgesEnd side (is_over side) → ⊥ }
     ensures sends { (was_asked : Bool) (side : Side) →
@@ -259,7 +259,7 @@ pub fn no_unsafe_world_is_safe()
 {}
 
 /// The sides do not agree in a world with two answers to a question, or two ends of the request. They do not agree if
-/// accepted conditions have no yes, or if a record's claim on the other side is wrong.
+/// accepted conditions have no yes, or a record's claim on the other side is wrong.
 pub fn no_disagreeing_world_agrees()
     ensures { (w : Parties) → Disagrees w → Agrees w → ⊥ }
 {}

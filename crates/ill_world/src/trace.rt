@@ -8,9 +8,9 @@ use ill_saved::{Shown, Side};
 use ill_values::{Day, OutOfMemory};
 use itoa::{Buffer, Integer};
 
-/// Appends the line of event `number`, counted from 1, with an LF after it. It has the number, `word`, and for each
-/// side the state, the due date, and the counts of its released and its issued messages: `3 saved requester PENDING
-/// - 1/1 responder IDLE - 0/0`.
+/// Appends the line of event `number`, counted from 1, with an LF after it. It has the number and `word`. For each side
+/// it has the state, the due date, and the counts of its released and its issued messages, as in `3 saved requester
+/// PENDING - 1/1 responder IDLE - 0/0`.
 pub(crate) fn push_line(
     lines: &mut Vec<u8>,
     number: u32,

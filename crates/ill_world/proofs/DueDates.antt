@@ -93,7 +93,7 @@ sends_same p n None released = (refl, refl)
 sends_same p n (Some a) false = (refl, refl)
 sends_same p n (Some a) true = (refl, refl)
 
--- If q has the sides of p, and `KeepsDue` holds of the dates of p, it holds of those of q.
+-- If q has the sides of p, and `KeepsDue` holds of p's dates, it holds of q's dates.
 same_dates : (p q : Party) → (q.live ≡ p.live) × (q.landed ≡ p.landed)
     → KeepsDue (due_date_of p.landed) (due_date_of p.live) → KeepsDue (due_date_of q.landed) (due_date_of q.live)
 same_dates p q same kept = subst (λ side. KeepsDue (due_date_of side) (due_date_of q.live)) (sym same.1)

@@ -173,7 +173,7 @@ module _ (txn : Qualifiers) (after : (w : Parties) (event : Event) → Invariant
       ap (night_from w) (ap (λ b. half_if b who.Requester w) (open_wants false w.requester.live is_open))
       ∙ ap (λ b. first ++ half_if b who.Responder (run_of w first)) (responder_wants w stands is_open)
 
-  -- If both sides are at rest, and so the loan is over for both, a night is a save of each.
+  -- If both sides are at rest, and the loan is over, a night is a save of each side.
   pub night_is_saves : (w : Parties) → AreAtRest w → is_over w.requester.live ≡ true
       → night_of w ≡ Save who.Requester ∷ Save who.Responder ∷ []
   unfolding run_by

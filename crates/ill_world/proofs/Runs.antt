@@ -14,7 +14,7 @@ module _ {W E O : Type 0} (happening : W → E → O × W) where
   unfolding run_by
   run_next w new events event outcome happened = ap (λ (after : O × W). run_by happening after.1 events) happened
 
-  -- If event i leads to `new`, the run from event i on is the run of the later events from `new`.
+  -- If event i leads to `new`, the run from event i on is that of the later events from `new`.
   pub run_on : (w new : W) (events : List E) (i : ℕ) (event : E) (outcome : O) → i < length events → event ≡ get_or events i event
       → happening w event ≡ (outcome, new)
       → run_by happening w (drop i events) ≡ run_by happening new (drop (i + 1) events)

@@ -232,7 +232,7 @@ module _ {W E C : Type 0} (play : Play W E C) where
   line_first c kept n w next count next_count bytes lines.Bad old middle new before between after result is e leaves read done
       rest = absurd done
 
-  -- If `StepsLine` holds of line n, and then `Plays` of the rest, `Plays` holds of the script from line n on.
+  -- If `StepsLine` holds of line n, and `Plays` of the rest, `Plays` holds of the script from n on.
   pub goes_on : (c kept : C) (n : ℕ) (w next : W) (count next_count : ℕ) (old middle new before between after : Option (List ℕ))
       (result : Result ℕ SimFault)
       → StepsLine play c n w count old middle before between (Ok true) kept next next_count

@@ -155,7 +155,7 @@ one_last (b ∷ apdus) (suc i) a o most e is =
     tail_go (is_end b.body) b.number a.number (filter_map number_of_end apdus) o
     (λ p. one_last apdus i a p (omega (arith, most, count_first b apdus)) e is)
 
--- In a numbered list with at most one end, n is the last number found if message n ends the request.
+-- In a numbered list with at most one end, if message n is the end, n is the last found.
 pub one_end : (txn : Qualifiers) (apdus : List Apdu) (n : ℕ) (a : Apdu) → are_numbered txn 1 apdus ≡ true
     → ends_in apdus ≤ 1 → message apdus n ≡ Some a → is_end a.body ≡ true
     → last_of number_of_end apdus ≡ Some n

@@ -103,8 +103,8 @@ abbrev pub IsTakenBack : Option Date → Option Date → Type 0
 IsTakenBack old new =
     (due : Date) × (old ≡ Some due) × ((now : Date) → new ≡ Some now → is_before now due ≡ true)
 
--- The event takes the requester's due date back. It is the live date and the event is no restart, or it is the landed
--- one.
+-- The event takes the requester's due date back. It is the live date and the event is not its restart, or it is the
+-- landed date.
 pub data TakesBack (old : Parties) (event : Event) (new : Parties) : Type 0 where
   in_memory : (event ≡ Restart Requester → ⊥) →
       IsTakenBack (due_date_of old.requester.live) (due_date_of new.requester.live) → TakesBack old event new

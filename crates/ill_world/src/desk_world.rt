@@ -74,7 +74,7 @@ impl DeskWorld {
     /// Then it does so for the responder's desk. If memory runs out, only a prefix of the events of the round has
     /// happened.
     ///
-    /// Then both sides of a transaction are in step, if the responder had ended the request or had a number left.
+    /// Then both sides of a transaction are in step, if the responder had ended the request or has a number left.
     pub fn exchange(&mut self, alloc: Global) -> Result<(), OutOfMemory>
         ensures performs { Performs model.desks_run (desk_round_of self.old) self.old result self.new }
         ensures in_step { OnOk result ((txn : Qualifiers) →

@@ -235,8 +235,8 @@ pub fn one_night_is_enough()
     nights_are_rounds();
 }
 
-/// The answers of `is_over`, `wants_sending` and `asks` are right. Two records are not at rest if the loan is open for
-/// one, or their states face others.
+/// The answers of `is_over`, `wants_sending` and `asks` are right. Records are not at rest if the loan is open for one,
+/// or their states do not face each other.
 pub fn no_bad_night_passes()
     ensures over { (side : Side) → MisjudgesEnd side (is_over side) → ⊥ }
     ensures sends { (was_asked : Bool) (side : Side) →

@@ -1,4 +1,4 @@
--- A round without its last message of a side leaves both sides out of step. A whole round brings them in step.
+-- A round without the last message of a side leaves both sides out of step. A whole round brings them in step.
 use Rattle.std.proofs.Common.{rules, refl, sym}
 use Rattle.std.proofs.lemmas.Bool.{true≢false}
 use Rattle.ill_saved.specs.declared.role.Role.{Role as Who}

@@ -157,8 +157,8 @@ has_found key txn (item ∷ items) =
     either_some (is_same_txn txn (key item)) (is_one_of txn (map key items)) item (found_by key txn items)
     (has_found key txn items)
 
--- An event leaves the live and landed transactions, or begins one of which `May` holds. Or it lands the live ones, or
--- restarts with the landed ones.
+-- An event leaves the live and landed transactions unchanged, or begins one of which `May` holds. Or it lands the live
+-- ones, or replaces them by the landed ones.
 pub data Leads (May : Qualifiers → Type 0) (live landed new_live new_landed : List Qualifiers) : Type 0 where
   stays : new_live ≡ live → new_landed ≡ landed → Leads May live landed new_live new_landed
   begun : (txn : Qualifiers) → is_one_of txn live ≡ false → length live + 1 ≤ 1000 → May txn → new_live ≡ live ++ txn ∷ []

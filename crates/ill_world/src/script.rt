@@ -23,9 +23,9 @@ pub(crate) enum ScriptLine<E> {
 
 /// Reads a line of a script, which ends before its LF.
 ///
-/// The words of a line are its runs of bytes other than spaces; a tab, a CR and a NUL are bytes of
-/// words. A line without words says nothing, and neither does a remark: a line whose very first byte
-/// is `#`. Any other line says one of these events, or is `Bad`:
+/// The words of a line are its runs of bytes other than spaces. A tab, a CR and a NUL are bytes of words. A line
+/// without words says no event. Nor does a remark, whose very first byte is `#`. Any other line says one of these
+/// events, or is `Bad`:
 ///
 /// | Words | Event |
 /// |---|---|

@@ -1,4 +1,4 @@
--- The command `act`: one action, which is saved.
+-- The command `act`: it performs one action, and saves it.
 use Rattle.std.specs.Prelude.{◌≡◌, ◌⊎◌, ℕ, Bool, List, [], Option, None, Some, Result, Err}
 use Rattle.std.specs.Io.KnownBytes.{Appends}
 use Rattle.ill_saved.specs.declared.side.Action.{Action}
@@ -9,7 +9,7 @@ use Rattle.ill_saved.specs.Holdings.{Effects}
 use Rattle.ill_tool.specs.Performing.{HeldAndLanded, acted, Performs}
 use Rattle.ill_tool.specs.Telling.{side_line, Reports}
 
--- One action on the side `key` of `old` has this result and leads to `new`. It was done and saved. Or it was
+-- An action on the side `key` leads from `old` to `new`, with this result. It was done and saved. Or it was
 -- refused, and nothing changed. Or it was done, and the save failed. Or memory ran out before it was done or
 -- saved.
 abbrev pub ActsAndSaves : {L K : Type 0} → Effects L K → K → HeldAndLanded L → Action → Result DeskOutcome ToolFault →
@@ -17,8 +17,8 @@ abbrev pub ActsAndSaves : {L K : Type 0} → Effects L K → K → HeldAndLanded
 ActsAndSaves effects key old action result new =
     Performs effects (Unit {0}) old (acted old.live (effects.acts old.live key action)) result new
 
--- The command `act`. If the words name an action, it is performed, and its line written. If they name none,
--- nothing changes. Without memory it may stay open which of both holds.
+-- The command `act`. If the words name an action, it was performed, and its line written. If they name none,
+-- nothing changed. The fault `OutOfMemory` is possible in both cases.
 abbrev pub RunsAct : {L K : Type 0} → Effects L K → K → Option Action → HeldAndLanded L → Option (List ℕ) →
     Option (List ℕ) → Result Bool ToolFault → HeldAndLanded L → Type 0
 RunsAct effects key (Some action) old before after result new =

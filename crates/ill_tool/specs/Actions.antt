@@ -8,16 +8,18 @@ use Rattle.ill_saved.specs.declared.side.Action.{Action}
 use Rattle.ill_saved.specs.declared.side.Action.TheVariants.{Wish, Deed}
 use Rattle.ill_world.specs.Words.{wish_of, deed_of}
 
--- Returns true if a script may have `word` too: it is not empty, and has no space.
+-- Returns true if `word` could be a word of a script: it is not empty, and has no space.
 abbrev pub is_word : List ℕ → Bool
 is_word word = not (length word == 0) && not (list_any (λ byte. byte == 0x20) word)
 
--- Returns the deed that `words` name on the day `today`, from which due days may be counted.
+-- Returns the deed that `words` name on the day `today`. A due day in `words` may count from `today`. Without
+-- a day there is no deed.
 abbrev pub deed_on : Option Date → List (List ℕ) → Option Action
 deed_on None words = None
 deed_on (Some today) words = option_map (λ deed. Deed deed today) (deed_of (Some today) words)
 
--- Returns the action that `words` name for this role, as they would after the side in a script.
+-- Returns the action that `words` name for this role. They are spelled as after the side in a line of a
+-- script.
 abbrev pub action_for : Role → Option Date → List (List ℕ) → Option Action
 action_for Requester today words = option_map Wish (wish_of words)
 action_for Responder today words = deed_on today words

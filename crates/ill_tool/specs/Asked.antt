@@ -1,4 +1,5 @@
--- The requests of command lines, by the words after the word of a command (this profile's own).
+-- The requests of command lines: each is read from the words after the word of a command (this profile's
+-- own).
 use Rattle.std.specs.Prelude.{◌≡◌, ℕ, Bool, true, false, ◌||◌, if◌then◌else◌, List, map, codes, Option, None, Some, option_map}
 use Rattle.std.specs.Prelude.{is_none, Result, Ok, Err, is_ok}
 use Rattle.std.specs.Result.{result_ok}
@@ -33,79 +34,81 @@ use Rattle.ill_core.specs.State.{state_named}
 
 -- ---- the arguments
 
--- The arguments that were found after the word of a command.
+-- The arguments that `clap` found after the word of a command.
 abbrev pub Found : Type 0
 Found = List Row
 
--- Returns the text of `argument`, if it is there.
+-- Returns the text of `argument`, if the line has one.
 abbrev pub text_of : Argument → Found → Option (List ℕ)
 text_of argument found = first_of (id_of argument) found
 
--- Returns the role of a desk.
+-- Returns the role in the arguments, if it is one.
 abbrev pub role_of : Found → Option Who
 role_of found = text_of Role found >>= who_named
 
--- Returns the transaction of a loan, if an id can have both qualifiers.
+-- Returns the transaction in the arguments, if both qualifiers are valid.
 abbrev pub loan_of : Found → Option Qualifiers
 loan_of found = do
   group ← text_of Group found
   transaction ← text_of Transaction found
   result_ok (txn_id_of group transaction)
 
--- Returns `group`, if an id can have it.
+-- Returns `group` if the Bool is true.
 abbrev pub group_if : Bool → List ℕ → Option (List ℕ)
 group_if true group = Some group
 group_if false group = None
 
--- Returns the group of an argument, if an id can have it.
+-- Returns the group in the arguments, if it is a valid qualifier.
 abbrev pub group_of : Found → Option (List ℕ)
 group_of found = text_of Group found >>= λ group. group_if (is_ok (qualifier_check group)) group
 
--- Returns the texts of an argument that has one or more.
+-- Returns the texts of an argument that may have several.
 abbrev pub texts_of : Argument → Found → Option (List (List ℕ))
 texts_of argument found = all_of (id_of argument) found
 
--- Returns the day that a word says: Some None if there is no word, and None if the word is no day.
+-- Returns the day that an optional word spells. It is Some None without a word, and None if the word is no
+-- day.
 abbrev pub day_said : Option (List ℕ) → Option (Option Date)
 day_said None = Some None
 day_said (Some word) = option_map Some (day_of word)
 
--- Returns the day of `argument`, which may be left out.
+-- Returns the day of the optional argument `argument`, as `day_said` does.
 abbrev pub day_in : Argument → Found → Option (Option Date)
 day_in argument found = day_said (text_of argument found)
 
--- Returns the day of a report.
+-- Returns the day of a report, if it is one.
 abbrev pub report_day_of : Found → Option Date
 report_day_of found = text_of ReportDay found >>= day_of
 
--- Returns the state that a word says: Some None if there is no word, and None if the word is no state.
+-- Returns the state that an optional word names. It is Some None without a word, and None if the word is no
+-- state.
 abbrev pub state_said : Option (List ℕ) → Option (Option State)
 state_said None = Some None
 state_said (Some word) = option_map Some (state_named word)
 
--- Returns the state of the option, which may be left out.
+-- Returns the state of the option `--state`, as `state_said` does.
 abbrev pub state_in : Found → Option (Option State)
 state_in found = state_said (text_of InState found)
 
--- Returns the number of a message.
+-- Returns the number of a message in the arguments, if it is one.
 abbrev pub number_of_message : Found → Option ℕ
 number_of_message found = text_of Number found >>= number_of
 
--- Returns true if a flag has the text `true`, as one has that stands in the words.
+-- Returns true if the text of a flag is `true`. `clap` gives this text to a flag in the command line.
 abbrev pub is_true : Option (List ℕ) → Bool
 is_true None = false
 is_true (Some text) = bytes_eq text (codes "true")
 
--- Returns true if the flag `flag` stands in the words.
+-- Returns true if `flag` is in the command line.
 abbrev pub is_set : Argument → Found → Bool
 is_set flag found = is_true (text_of flag found)
 
--- Returns the turns of the loans that are listed. Of two flags the narrower one holds.
+-- Returns the turns of the loans to list. If both flags are set, `--mine` decides.
 abbrev pub which_of : Found → Which
 which_of found =
     if is_set Mine found then loans.Mine else (if is_set Open found then loans.Open else loans.All)
 
--- Returns the conditions on the loans that are listed. Each loan meets all of them.
+-- Returns the conditions on the loans to list, if each argument is valid. A listed loan meets all of them.
 abbrev pub wanted_of : Found → Option Wanted
 wanted_of found = do
   today ← day_in OnDay found
@@ -113,37 +116,38 @@ wanted_of found = do
   state ← state_in found
   Some (record { which = which_of found; today = today; due_before = due_before; state = state })
 
--- Returns the form in which a command writes.
+-- Returns the form of the output.
 abbrev pub form_of : Found → Form
 form_of found = if is_set Json found then forms.Json else forms.Lines
 
--- Returns the outlet that flag and folder name: the folder, or None for the output. They must name one of
--- both.
+-- Returns the outlet of messages: a folder, or None for the output. Exactly one of the flag and the folder
+-- must be given.
 abbrev pub outlet : Bool → Option (List ℕ) → Option (Option (List ℕ))
 outlet false (Some folder) = Some (Some folder)
 outlet true None = Some None
 outlet is_stream folder = None
 
--- Returns the outlet that the words name.
+-- Returns the outlet in the arguments, if there is exactly one.
 abbrev pub outlet_of : Found → Option (Option (List ℕ))
 outlet_of found = outlet (is_set Stream found) (text_of OutFolder found)
 
--- Returns the deeds that the words ask of a responder.
+-- Returns the deeds that the flags ask of a responder.
 abbrev pub wanted_dates : Found → Dates
 wanted_dates found = record { overdue = is_set Overdue found; expire = is_set Expire found }
 
--- Returns the day and the deeds, if there are deeds. Then the day must be there.
+-- Returns the day and the deeds. It is Some None if no deed is wanted, and None if a deed is wanted without a
+-- day.
 abbrev pub dates_on : Dates → Option Date → Option (Option (Date × Dates))
 dates_on dates None = if dates.overdue || dates.expire then None else Some None
 dates_on dates (Some today) = if dates.overdue || dates.expire then Some (Some (today, dates)) else Some None
 
--- Returns the day and the deeds that the words ask for, if there are deeds.
+-- Returns the day and the deeds in the arguments, as `dates_on` does.
 abbrev pub dates_of : Found → Option (Option (Date × Dates))
 dates_of found = day_in NightDay found >>= dates_on (wanted_dates found)
 
 -- ---- the commands
 
--- The request of a command line.
+-- The request of a command line, with its arguments as texts and values.
 pub data Asked : Type 0 where
   Show : (form : Form) → Asked
   Check : Asked
@@ -164,7 +168,7 @@ pub data Asked : Type 0 where
   Retire : (file group : List ℕ) → Asked
   Verify : (file : List ℕ) → Asked
 
--- Returns the request that `Request` holds.
+-- Returns the request that a `Request` of the code holds.
 abbrev pub asked : Request → Asked
 asked (requests.Show form) = Show form
 asked requests.Check = Check
@@ -187,7 +191,7 @@ asked (requests.Report paths today) = Report (map (λ path. path.now) paths.item
 asked (requests.Retire file group) = Retire file.now group.now
 asked (requests.Verify file) = Verify file.now
 
--- Returns the request of a command with these arguments, if each is right.
+-- Returns the request of the command with these arguments, if each of them is valid.
 abbrev pub asked_of : Name → Found → Option Asked
 asked_of names.Show found = Some (Show (form_of found))
 asked_of names.Check found = Some Check
@@ -251,7 +255,7 @@ asked_of names.Verify found = do
   file ← text_of File found
   Some (Verify file)
 
--- Returns the request of the command `word` with these arguments.
+-- Returns the request of the command with the word `word` and these arguments.
 abbrev pub asked_by : List ℕ → Found → Option Asked
 asked_by word found = name_read word >>= λ name. asked_of name found
 
@@ -262,14 +266,15 @@ asked_in (Some said) = asked_by said.0 said.1
 
 -- ---- the reading of the words
 
--- A refusal is right: the words have no request (`is_nothing`), or memory ran out.
+-- The refusal is justified: the words have no request (`is_nothing`), or memory ran out.
 abbrev pub IsRefusal : Bool → Refusal → Type 0
 IsRefusal is_nothing (Usage error) = is_nothing ≡ true
 IsRefusal is_nothing (Fault Arguments) = is_nothing ≡ true
 IsRefusal is_nothing (Fault OutOfMemory) = Unit {0}
 IsRefusal is_nothing (Fault other) = ⊥
 
--- The value was read that the arguments say; or they say none, or memory ran out for it.
+-- The result holds the value `said` of the arguments. If they have none, or memory ran out, it is a justified
+-- refusal.
 abbrev pub ReadsValue : {A B : Type 0} → (B → A) → Option A → Result B Refusal → Type 0
 ReadsValue value said (Ok read) = said ≡ Some (value read)
 ReadsValue value said (Err refusal) = IsRefusal (is_none said) refusal

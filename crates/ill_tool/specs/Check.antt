@@ -1,4 +1,4 @@
--- Counts all APDUs of an input, and writes the line of their number.
+-- The command `check`: it counts the APDUs of an input, and writes the line of their number.
 use Rattle.std.specs.Prelude.{◌≡◌, ℕ, List, [], Option, Result, Ok, Err}
 use Rattle.std.specs.Io.KnownBytes.{Appends}
 use Rattle.ill_tool.specs.declared.fault.ToolFault.{ToolFault}
@@ -7,29 +7,29 @@ use Rattle.ill_tool.specs.Input.{ReadsInput}
 use Rattle.ill_tool.specs.Output.{WritesText}
 use Rattle.ill_tool.specs.Lines.{count_line}
 
--- Nothing is done with an APDU, and that goes well.
+-- An APDU is skipped, with success.
 abbrev pub passes : Handles (Unit {0}) ToolFault
 passes before apdu result after = result ≡ Ok tt
 
--- The APDUs are counted, from the input `old` that the reader had left to `new`.
+-- The APDUs of the input were counted. The input went from `old` to `new`.
 abbrev pub Counts : Option (List ℕ) → Option (List ℕ) → Result ℕ ToolFault → Type 0
 Counts old new result = ReadsInput passes old new tt result tt
 
--- The line of `count` was written and `count` returned. If the writer failed, a prefix of the line was
--- written. Without memory for the line, nothing was.
+-- The line of `count` was written, and `count` returned. After the fault `Write` a prefix of the line was
+-- written. After `OutOfMemory` nothing was.
 abbrev pub WritesCount : Option (List ℕ) → Option (List ℕ) → ℕ → Result ℕ ToolFault → Type 0
 WritesCount before after count (Ok n) = (n ≡ count) × Appends before after (count_line count)
 WritesCount before after count (Err fault) = WritesText before after (count_line count) (Err fault)
 
--- After the counting the line of the number is written. If the reading failed, its fault is returned, and
--- nothing is written.
+-- After the count the line of the number was written. If the count has a fault, that is the result, and
+-- nothing was written.
 abbrev pub Reports : Result ℕ ToolFault → Option (List ℕ) → Option (List ℕ) →
     Result ℕ ToolFault → Type 0
 Reports (Ok count) before after result = WritesCount before after count result
 Reports (Err fault) before after result = (result ≡ Err fault) × Appends before after []
 
--- The command `check`, from the input `old` to `new`, and from the output `before` to `after`. The APDUs were
--- counted, and then their number was written.
+-- The command `check`. The APDUs were counted, and then their number was written. The input went from `old`
+-- to `new`, and the output from `before` to `after`.
 abbrev pub Checks : Option (List ℕ) → Option (List ℕ) → Option (List ℕ) → Option (List ℕ) →
     Result ℕ ToolFault → Type 0
 Checks old new before after result =

@@ -1,4 +1,4 @@
--- The words of commands in a command line, and the names that `clap` has for their arguments.
+-- The words of the commands, and the names of their arguments for `clap`.
 use Rattle.std.specs.Prelude.{ℕ, List, [], ◌∷◌, codes, Option, find, bytes_eq}
 use Rattle.ill_tool.specs.declared.command_line.Name.{Name}
 use Rattle.ill_tool.specs.declared.command_line.Name.TheVariants.{New, Act, Take, Inbox, Outbox, Exchange, Send, Status, Loan}
@@ -10,7 +10,7 @@ use Rattle.ill_tool.specs.declared.command_line.Argument.TheVariants.{Words, Num
 use Rattle.ill_tool.specs.declared.command_line.Argument.TheVariants.{OnDay, DueBefore, InState, ReportDay, OutFolder, Stream, In}
 use Rattle.ill_tool.specs.declared.command_line.Argument.TheVariants.{Out, NightDay, Overdue, Expire, Copy, Beat, NewGroup}
 
--- Returns the word of a command.
+-- Returns the word of a command on the command line.
 abbrev pub word_of : Name → List ℕ
 word_of New = codes "new"
 word_of Act = codes "act"

@@ -1,4 +1,4 @@
--- A copy over another one, which is not replaced if it has more loans (this profile's own).
+-- A copy of a desk over another copy. A copy with more loans is not replaced (this profile's own).
 use Rattle.std.specs.Prelude.{◌≡◌, ℕ, ◌<◌, ◌≤◌, List, length, Option, None, Some, Result, Ok, Err}
 use Rattle.ill_saved.specs.declared.fault.RecordFault.{RecordFault}
 use Rattle.ill_saved.specs.Sides.{SidesOf}
@@ -8,7 +8,7 @@ use Rattle.ill_tool.specs.declared.copy.Copied.{Copied}
 use Rattle.ill_tool.specs.declared.copy.Copied.TheVariants.{Done, Kept}
 use Rattle.ill_tool.specs.Copy.{Copies}
 
--- Returns the number of sides that were read, or 0 if bytes are no record.
+-- Returns the number of sides that were read from a record, or 0 if the record has a fault.
 abbrev pub sides_read : Result SidesOf RecordFault → ℕ
 sides_read (Ok held) = length held.sides
 sides_read (Err fault) = 0
@@ -18,13 +18,14 @@ abbrev pub loans_in : Option (List ℕ) → ℕ
 loans_in None = 0
 loans_in (Some bytes) = sides_read (records_at bytes)
 
--- The content of a store has `count` loans, if it is known.
+-- If the content of the store is known, it has `count` loans.
 abbrev pub HasLoans : ℕ → Option (Option (List ℕ)) → Type 0
 HasLoans count None = Unit {0}
 HasLoans count (Some content) = count ≡ loans_in content
 
--- The content of a store after a copy of `held` to it. It has the record of these sides, and had no more loans
--- before. Or it had more, as many as the answer says, and stays. Or the copy failed.
+-- A copy of `held` leads from the content `old` of a store to `new`. If the store had no more loans than
+-- `held`, its content is replaced. If it had more, it keeps its content, and the answer has their number. Or
+-- the copy failed.
 abbrev pub CopiesOver : SidesOf → Option (Option (List ℕ)) → Result Copied ToolFault → Option (Option (List ℕ)) → Type 0
 CopiesOver held old (Ok Done) new =
     ((count : ℕ) × HasLoans count old × (count ≤ length held.sides)) × Copies (sides_spelling held) old (Ok tt) new

@@ -1,5 +1,5 @@
--- The deeds that a day asks a responder for: it tells of overdue loans, and ends requests whose last day is
--- past (this profile's own).
+-- The deeds that a date makes due for a responder: Overdue in an overdue loan, and Expire of a request whose
+-- last day is past (this profile's own).
 use Rattle.std.specs.Prelude.{ℕ, Bool, true, ◌&&◌, if◌then◌else◌, List, [], ◌∷◌, ◌++◌, fold, Option, None, Some, option_map}
 use Rattle.std.specs.Prelude.{Result, Ok, Err}
 use Rattle.std.specs.List.{filter_map, flat_map}
@@ -38,76 +38,78 @@ is_overdue today state due = is_among (Shipped ∷ RenewPending ∷ []) state &&
 abbrev pub may_expire : State → Bool
 may_expire state = is_among (InProcess ∷ Conditional ∷ []) state
 
--- Returns the deed that a day asks for in a responder's loan, by its state and its due date.
+-- Returns the deed that is due on the day `today` in a responder's loan with this state and due date. `which`
+-- has the deeds that are wanted.
 abbrev pub deed_at : Dates → Date → State → Option Date → Option Deed
 deed_at which today state due =
     if which.overdue && is_overdue today state due then Some deeds.Overdue
     else if which.expire && may_expire state then Some deeds.Expire
     else None
 
--- Returns the deed that a day asks for in a loan of this role. A requester has no deeds.
+-- Returns the deed that is due on the day `today` in a loan of this role. A requester has no deeds.
 abbrev pub deed_of_role : Dates → Date → Role → State → Option Date → Option Deed
 deed_of_role which today Requester state due = None
 deed_of_role which today Responder state due = deed_at which today state due
 
--- Returns the deed that a day asks for in the loan of `side`.
+-- Returns the deed that is due on the day `today` in the loan of `side`.
 abbrev pub deed_by_date : Dates → Date → Side → Option Deed
 deed_by_date which today side = deed_of_role which today (role_of side) (state_of side) (due_date_of side)
 
--- Returns the deed that a day asks for in the loan of `side`, with its transaction.
+-- Returns the deed that is due on the day `today` in the loan of `side`, with its transaction.
 abbrev pub due_in : Dates → Date → Side → Option Due
 due_in which today side =
     option_map (λ deed. record { txn = txn_of side; deed = deed }) (deed_by_date which today side)
 
--- Returns the deed that a day asks for in the loan at a place, if there is a loan.
+-- Returns the deed that is due on the day `today` in a loan, if there is a loan.
 abbrev pub due_at : Dates → Date → Option Side → Option Due
 due_at which today None = None
 due_at which today (Some side) = due_in which today side
 
--- Returns the deeds that a day asks for in all loans, in their order.
+-- Returns the deeds that are due on the day `today` in all loans, in the order of `sides`.
 abbrev pub all_due : Dates → Date → List Side → List Due
 all_due which today sides = filter_map (due_in which today) sides
 
 -- ---- one deed after another
 
--- The sides that are held after some deeds, and the deeds that were done.
+-- The sides that a desk holds after some deeds, and the deeds that were done.
 pub record Doing (L : Type 0) : Type 0 where
   pub live : L
   pub done : List Due
 
--- Returns the record of these sides and deeds.
+-- Returns the record of the sides `live` and the deeds `done`.
 abbrev pub doing : {L : Type 0} → L → List Due → Doing L
 doing live done = record { live = live; done = done }
 
--- The state after a deed: it was done, or it was refused and nothing changed.
+-- Returns the sides and the done deeds after an attempt at `due`. If the deed was refused, nothing changes.
 abbrev pub after_act : {L : Type 0} → Due → Result L DeskFault → Doing L → Doing L
 after_act due (Ok live) old = doing live (old.done ++ due ∷ [])
 after_act due (Err fault) old = old
 
--- The state after the deed `due` on the day `today`.
+-- Returns the sides and the done deeds after an attempt at `due` on the day `today`.
 abbrev pub after_deed : {L : Type 0} → Effects L Qualifiers → Date → Doing L → Due → Doing L
 after_deed effects today old due =
     after_act due (effects.acts old.live due.txn (actions.Deed due.deed today)) old
 
--- The state after all deeds `dues`, in their order.
+-- Returns the sides and the done deeds after attempts at all of `dues`, in their order.
 abbrev pub after_deeds : {L : Type 0} → Effects L Qualifiers → Date → L → List Due → Doing L
 after_deeds effects today live dues = fold (after_deed effects today) (doing live []) dues
 
 -- ---- the lines
 
--- Returns the line of a deed that was done, with how its loan stands once all is saved.
+-- Returns the line of a deed that was done. It has the transaction, the verb, and the state of the side once
+-- all is saved.
 abbrev pub deed_line : {L : Type 0} → Effects L Qualifiers → L → Due → List ℕ
 deed_line effects live due =
     word due.txn.group ++ (word due.txn.transaction ++ (word (verb_name (deed_verb due.deed))
     ++ done_line (as_told true (effects.side_for due.txn live))))
 
--- Returns the lines of all deeds that were done.
+-- Returns the lines of all deeds of `done`.
 abbrev pub deed_lines : {L : Type 0} → Effects L Qualifiers → L → List Due → List ℕ
 deed_lines effects live done = flat_map (deed_line effects live) done
 
 -- ---- the run
 
--- Returns the run that the deeds make.
+-- Returns the run of the deeds that lead to `end`.
 abbrev pub deeds_run : {L : Type 0} → Effects L Qualifiers → Doing L → Run L (Unit {0})
 deeds_run effects end = record {
   live = end.live;
@@ -116,13 +118,15 @@ deeds_run effects end = record {
   answer = tt;
 }
 
--- A run of the deeds `dues` on the day `today`, from output `before` to `after`, and from `old` to `new`.
+-- The deeds `dues` were attempted on the day `today`, saved at once, and the lines of the done ones written.
+-- The output grew from `before` to `after`, and the desk went from `old` to `new`.
 abbrev pub RunsDeeds : {L : Type 0} → Effects L Qualifiers → Date → List Due → Option (List ℕ) → Option (List ℕ) →
     HeldAndLanded L → Result (Unit {0}) ToolFault → HeldAndLanded L → Type 0
 RunsDeeds effects today dues before after old result new =
     EndsRun effects (deeds_run effects (after_deeds effects today old.live dues)) before after old result new
 
--- A run at a desk of all deeds that the day asks for.
+-- All deeds that are due on the day `today` were attempted at a desk, saved at once, and the lines of the
+-- done ones written.
 abbrev pub RunsDates : Dates → Date → Option (List ℕ) → Option (List ℕ) → HeldAndLanded DeskContents →
     Result (Unit {0}) ToolFault → HeldAndLanded DeskContents → Type 0
 RunsDates which today before after old result new =

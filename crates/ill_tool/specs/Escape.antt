@@ -1,58 +1,58 @@
--- A text of UTF-8 on which no terminal acts, for a screen or in JSON. Each character that one may act on is
--- written as an escape, such as `\u{202e}` or `\u202e`.
+-- A text of UTF-8, written for a screen or in JSON so that no terminal acts on it. An escape such as
+-- `\u{202e}` or `\u202e` replaces each character on which one may act.
 use Rattle.std.specs.Prelude.{◌≡◌, ◌≤◌, ℕ, ◌+◌, ◌-◌, ◌*◌, ◌/◌, ◌%◌, nat_lt, nat_le, Bool, false, ◌&&◌, ◌||◌, ◌==◌, if◌then◌else◌}
 use Rattle.std.specs.Prelude.{List, [], ◌∷◌, ◌++◌, length, codes, Option, Some, None}
 use Rattle.std.specs.Fmt.{digits}
 use Rattle.ill_tool.specs.declared.escape.Escaping.{Escaping}
 use Rattle.ill_tool.specs.declared.escape.Escaping.TheVariants.{Screen, Json}
 
--- Returns true if `number` lies between `first` and `last`.
+-- Returns true if `number` is at least `first` and at most `last`.
 abbrev pub is_within : ℕ → ℕ → ℕ → Bool
 is_within first last number = nat_le first number && nat_le number last
 
--- Returns true if a terminal may act on a character. It may on the controls U+0080 to U+009F, and on the
--- marks that turn the direction of a text.
+-- Returns true if a terminal may act on the character `number`: on a control from U+0080 to U+009F, or a mark
+-- that changes the direction of a text.
 abbrev pub is_acting : ℕ → Bool
 is_acting number =
     is_within 0x80 0x9F number || (number == 0x61C || (is_within 0x200E 0x200F number
     || (is_within 0x202A 0x202E number || is_within 0x2066 0x2069 number)))
 
--- Returns the number of a character of two bytes.
+-- Returns the number of the character that two bytes encode.
 abbrev pub number_of_two : ℕ → ℕ → ℕ
 number_of_two first second = (first - 0xC0) * 64 + (second - 0x80)
 
--- Returns the number of a character of three bytes.
+-- Returns the number of the character that three bytes encode.
 abbrev pub number_of_three : ℕ → ℕ → ℕ → ℕ
 number_of_three first second third =
     (first - 0xE0) * 4096 + ((second - 0x80) * 64 + (third - 0x80))
 
--- Returns true if a byte may follow the first byte of a character.
+-- Returns true if `byte` can follow the first byte of a character.
 abbrev pub goes_on : ℕ → Bool
 goes_on byte = is_within 0x80 0xBF byte
 
--- Returns true if two bytes are a character that a terminal may act on.
+-- Returns true if the two bytes encode a character on which a terminal may act.
 abbrev pub two_act : ℕ → ℕ → Bool
 two_act first second =
     is_within 0xC0 0xDF first && (goes_on second && is_acting (number_of_two first second))
 
--- Returns true if three bytes are a character that a terminal may act on.
+-- Returns true if the three bytes encode a character on which a terminal may act.
 abbrev pub three_act : ℕ → ℕ → ℕ → Bool
 three_act first second third =
     is_within 0xE0 0xEF first
     && (goes_on second && (goes_on third && is_acting (number_of_three first second third)))
 
--- Returns a digit in hexadecimal.
+-- Returns the hexadecimal digit of `digit`.
 abbrev pub hex : ℕ → List ℕ
 hex digit = digits 16 false digit
 
--- Returns the escape of a character, by its number. For a screen it has hexadecimal digits between braces,
--- and in JSON (RFC 8259, section 7) four of them.
+-- Returns the escape of the character `number`. For a screen it has hexadecimal digits between braces. In
+-- JSON (RFC 8259, section 7) it has four hexadecimal digits.
 abbrev pub escape : Escaping → ℕ → List ℕ
 escape Screen number = codes "\\u{" ++ digits 16 false number ++ codes "}"
 escape Json number =
     codes "\\u" ++ hex (number / 4096 % 16) ++ hex (number / 256 % 16) ++ hex (number / 16 % 16) ++ hex (number % 16)
 
--- Returns true for a quotation mark and a backslash: in a string of JSON a backslash stands before them.
+-- Returns true for a quotation mark and a backslash, which have a backslash before them in a string of JSON.
 abbrev pub is_marked : ℕ → Bool
 is_marked byte = (byte == 0x22) || (byte == 0x5C)
 
@@ -61,13 +61,14 @@ abbrev pub is_control : ℕ → Bool
 is_control byte = nat_lt byte 0x20 || (byte == 0x7F)
 
 -- Returns the text of a byte that begins no character on which a terminal may act. A control character of
--- ASCII, which a path may have, is written as an escape.
+-- ASCII becomes an escape, since a path may have one.
 abbrev pub byte_text : Escaping → ℕ → List ℕ
 byte_text Screen byte = if is_control byte then escape Screen byte else byte ∷ []
 byte_text Json byte =
     if is_marked byte then 0x5C ∷ byte ∷ [] else (if is_control byte then escape Json byte else byte ∷ [])
 
--- Returns a text with an escape for each character that a terminal may act on. Other bytes stay.
+-- Returns `text` with an escape for each character on which a terminal may act. Other bytes stay, but for
+-- quotation marks and backslashes in JSON.
 unfoldable pub written : Escaping → List ℕ → List ℕ
 written escaping (first ∷ second ∷ third ∷ rest) =
     if two_act first second
@@ -81,12 +82,12 @@ written escaping (first ∷ second ∷ []) =
 written escaping (first ∷ []) = byte_text escaping first
 written escaping [] = []
 
--- Returns the text of an item or of a path for a screen. Other bytes stay as they are.
+-- Returns `text`, an item or a path, with escapes for a screen.
 abbrev pub escaped : List ℕ → List ℕ
 escaped text = written Screen text
 
--- A text begins with a character that is escaped, given by its number and the text after it. Or it begins
--- with a byte.
+-- The text `first ∷ after` begins with an escaped character, given by its number and the text after it. Or,
+-- given None, it begins with a byte of another kind.
 abbrev pub IsActingPrefix : Escaping → ℕ → List ℕ → Option (ℕ × List ℕ) → Type 0
 IsActingPrefix escaping first after (Some (number, rest)) =
     (written escaping (first ∷ after) ≡ escape escaping number ++ written escaping rest)

@@ -1,6 +1,7 @@
--- The exit status of a command. It is 0 if all went well. It is 1 if it was refused, or a message was refused
--- or in conflict. It is 2 after words, input or a record that are none. It is 3 if the machine could not do
--- it, or if mails are left. Lack of memory is a fault of its own, and stands in no other.
+-- The exit status of a command. It is 0 if all went well. It is 1 if the command was refused, or a message
+-- was refused or in conflict. It is 2 if the arguments, the input or the record are invalid. It is 3 if a
+-- file, a stream or memory failed, or if mails are left. A lack of memory is always `ToolFault.OutOfMemory`,
+-- never a fault within another one.
 use Rattle.std.specs.Prelude.{◌≡◌, ◌⊎◌, ℕ, Bool, true, false, Result, Ok, Err}
 use Rattle.ill_saved.specs.declared.fault.DeskFault.{DeskFault}
 use Rattle.ill_saved.specs.declared.fault.DeskFault.TheVariants as desks
@@ -8,7 +9,7 @@ use Rattle.ill_tool.specs.declared.fault.ToolFault.{ToolFault}
 use Rattle.ill_tool.specs.declared.fault.ToolFault.TheVariants.{Arguments, Der, TooMany, Script, Desk, Left, Read, Write}
 use Rattle.ill_tool.specs.declared.fault.ToolFault.TheVariants.{OutOfMemory}
 
--- Returns the status after a fault of a side or its record.
+-- Returns the exit status for a fault of a desk.
 abbrev pub desk_status : DeskFault → ℕ
 desk_status (desks.Core refusal) = 1
 desk_status desks.NoSuchMessage = 1
@@ -23,7 +24,7 @@ desk_status (desks.Saved fault) = 2
 desk_status (desks.Store fault) = 3
 desk_status desks.OutOfMemory = 3
 
--- Returns the status after a fault.
+-- Returns the exit status for a fault.
 abbrev pub status_of : ToolFault → ℕ
 status_of Arguments = 2
 status_of (Der fault) = 2
@@ -35,12 +36,12 @@ status_of Read = 3
 status_of Write = 3
 status_of OutOfMemory = 3
 
--- Returns the status after a command, by its answer if all went well.
+-- Returns the exit status for the result of a command.
 abbrev pub exit_status : Result Bool ToolFault → ℕ
 exit_status (Ok true) = 0
 exit_status (Ok false) = 1
 exit_status (Err fault) = status_of fault
 
--- The answer `done`, or the fault that the writer fails.
+-- `result` is `done`, or the fault `Write` of the flush.
 abbrev pub IsFlushed : Result Bool ToolFault → Result Bool ToolFault → Type 0
 IsFlushed done result = (result ≡ done) ⊎ (result ≡ Err Write)

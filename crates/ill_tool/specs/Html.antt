@@ -1,9 +1,10 @@
--- A text in a page of HTML, of any bytes: a browser shows it, and acts on none of it.
+-- A text of any bytes in a page of HTML. A browser shows it, and interprets none of it.
 use Rattle.std.specs.Prelude.{ℕ, Bool, not, ◌||◌, ◌==◌, if◌then◌else◌, List, [], ◌∷◌, codes}
 use Rattle.std.specs.List.{flat_map}
 use Rattle.ill_tool.specs.Escape.{escaped}
 
--- Returns a byte. If an element, an attribute or a name may begin or end by it, its name replaces it.
+-- Returns `byte`, or the HTML entity that replaces it if it could begin or end an element, an attribute or an
+-- entity.
 abbrev pub html_byte : ℕ → List ℕ
 html_byte byte =
     if byte == 0x26 then codes "&amp;"
@@ -13,15 +14,15 @@ html_byte byte =
     else (if byte == 0x27 then codes "&#39;"
     else byte ∷ []))))
 
--- Returns a text with the names of these characters in their place.
+-- Returns `text` with entities in place of these bytes.
 abbrev pub html_escaped : List ℕ → List ℕ
 html_escaped text = flat_map html_byte text
 
--- Returns the text of a person in a page. Marks that turn the direction of the text beside it are escaped
--- too.
+-- Returns a text that a person wrote, for a page. Characters that change the direction of the text around it
+-- are escaped too.
 abbrev pub html_text : List ℕ → List ℕ
 html_text text = html_escaped (escaped text)
 
--- Returns true if a byte begins or ends no element and no attribute: it is no `<`, no `>` and no quote.
+-- Returns true if `byte` can begin or end neither an element nor an attribute: it is no `<`, `>` or quote.
 abbrev pub is_inert : ℕ → Bool
 is_inert byte = not (byte == 0x3C || (byte == 0x3E || (byte == 0x22 || byte == 0x27)))

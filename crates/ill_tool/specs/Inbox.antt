@@ -1,4 +1,5 @@
--- The command `inbox`: it takes the mails of a folder one after another, and saves once (this profile's own).
+-- The command `inbox`: it takes the mails of a folder one after another, and saves the desk once (this
+-- profile's own).
 use Rattle.std.specs.Prelude.{◌≡◌, ℕ, nat_lt, Bool, true, false, not, ◌||◌, if◌then◌else◌, List, [], ◌∷◌, ◌++◌, length, fold}
 use Rattle.std.specs.Prelude.{count_by, codes, Option, None, Some, option_map, Result, Ok, Err}
 use Rattle.std.specs.Fmt.{decimal}
@@ -37,21 +38,23 @@ use Rattle.ill_tool.specs.Telling.{as_told, long}
 
 -- ---- the message of a mail
 
--- Returns the message that bytes are, by the APDU that begins them, or the reason that no desk takes them.
+-- Returns the only message of a mail. If decoding fails or bytes follow the message, it returns the reason
+-- that no desk takes the mail.
 abbrev pub one_message : Result (Apdu × List ℕ) DerFault → Result Apdu Unfit
 one_message (Ok (a, [])) = Ok a
 one_message (Ok (a, byte ∷ rest)) = Err unfits.Trailing
 one_message (Err fault) = Err (unfits.NoMessage fault)
 
--- Returns the message of a mail, or the reason that no desk will ever take its bytes. A message has 359 bytes
--- at most.
+-- Returns the message of a mail, or the reason that no desk will ever take it. A message has at most 359
+-- bytes.
 abbrev pub message_in : List ℕ → Result Apdu Unfit
 message_in bytes = if nat_lt 359 (length bytes) then Err unfits.TooLong else one_message (apdu_at bytes)
 
 -- ---- the verdict of a mail
 
--- Returns the verdict of a mail by the outcome of its message. A requester may have begun the loan by the
--- next run. A message that comes to a responder before its request comes again with that.
+-- Returns the verdict of a mail by the outcome of its message. A mail for an unknown loan waits at a
+-- requester's desk, which may begin the loan before the next run. It is done at a responder's desk: the
+-- requester sends the message again, after the request.
 abbrev pub verdict_of : Role → DeskOutcome → Verdict
 verdict_of role (seen.Plain (outcomes.Refused refusal)) = Aside (unfits.Refused refusal)
 verdict_of Requester seen.NoSuchTransaction = Left delays.NoSuchTransaction
@@ -60,7 +63,7 @@ verdict_of role outcome = Done outcome
 
 -- ---- the words of it
 
--- Returns the word of a fault of bytes.
+-- Returns the word of a fault in the bytes of a mail.
 abbrev pub der_word : DerFault → List ℕ
 der_word (ders.Short at) = codes "short"
 der_word (ders.Tag at) = codes "tag"
@@ -68,29 +71,29 @@ der_word (ders.Length at) = codes "length"
 der_word (ders.Field at) = codes "field"
 der_word ders.OutOfMemory = codes "memory"
 
--- Returns the place of a fault of bytes, if it has one.
+-- Returns the place of a fault in the bytes, if it has one.
 abbrev pub place_text : Option ℕ → List ℕ
 place_text None = []
 place_text (Some at) = codes " at " ++ decimal at
 
--- Returns the reason that no desk will ever take a mail.
+-- Returns the text of the reason that no desk will ever take a mail.
 abbrev pub unfit_text : Unfit → List ℕ
 unfit_text (unfits.NoMessage fault) = der_word fault ++ place_text (place_of fault)
 unfit_text unfits.TooLong = codes "too-long"
 unfit_text unfits.Trailing = codes "trailing"
 unfit_text (unfits.Refused refusal) = desk_outcome_word (seen.Plain (outcomes.Refused refusal))
 
--- Returns the reason that a mail waits for the next run.
+-- Returns the text of the reason that a mail waits for the next run.
 abbrev pub delay_text : Delay → List ℕ
 delay_text delays.NotRead = codes "not-read"
 delay_text delays.NoSuchTransaction = desk_outcome_word seen.NoSuchTransaction
 delay_text delays.DeskFull = desk_outcome_word seen.DeskFull
 
--- Returns the line of a mail that stays.
+-- Returns the line of a mail that is put aside or waits.
 abbrev pub stays_line : List ℕ → List ℕ → List ℕ → List ℕ
 stays_line name word reason = escaped name ++ (word ++ (reason ++ codes "\n"))
 
--- Returns the line of the mail `name`. A mail that is done has none.
+-- Returns the line of the mail `name`. A mail that is done has no line.
 abbrev pub verdict_line : List ℕ → Verdict → List ℕ
 verdict_line name (Done outcome) = []
 verdict_line name (Aside unfit) = stays_line name (codes " aside ") (unfit_text unfit)
@@ -98,15 +101,15 @@ verdict_line name (Left delay) = stays_line name (codes " left ") (delay_text de
 
 -- ---- one mail after another
 
--- The state after some mails: the sides that are held, the verdicts, the lines that were told, and the bytes
--- that were kept.
+-- The state after some mails: the sides, the verdicts, the lines of the mails, and the bytes of the taken
+-- messages.
 pub record Sorting (L : Type 0) : Type 0 where
   pub live : L
   pub verdicts : List Verdict
   pub told : List ℕ
   pub kept : List ℕ
 
--- Returns the state of `sorted`, with the sides `live`.
+-- Returns the state with the sides `live` and the verdicts, lines and bytes of `sorted`.
 abbrev pub sorting_of : {L : Type 0} → L → Sorted → Sorting L
 sorting_of live sorted = record {
   live = live;
@@ -119,7 +122,7 @@ sorting_of live sorted = record {
 abbrev pub unsorted : {L : Type 0} → L → Sorting L
 unsorted live = record { live = live; verdicts = []; told = []; kept = [] }
 
--- Returns the state in which the mail `name` has its verdict.
+-- Returns the state after the verdict of the mail `name`.
 abbrev pub settled : {L : Type 0} → List ℕ → Verdict → Sorting L → Sorting L
 settled name verdict old = record {
   live = old.live;
@@ -128,12 +131,12 @@ settled name verdict old = record {
   kept = old.kept;
 }
 
--- Returns the bytes that are kept of a mail: its own, if its message was taken.
+-- Returns the bytes of a mail if its message was taken, else nothing.
 abbrev pub kept_bytes : DeskOutcome → List ℕ → List ℕ
 kept_bytes outcome bytes = if is_change outcome then bytes else []
 
--- Returns the state after a message with this outcome. It is told as by `take --long`, with its side as it
--- stands once all is saved. It is kept if it was taken.
+-- Returns the state after a message with this outcome. Its lines are as by `take --long`, with its side as it
+-- is once all is saved. Its bytes are kept if it was taken.
 abbrev pub told_of : {L K : Type 0} → Effects L K → List ℕ → Apdu → DeskOutcome → L → Sorting L → Sorting L
 told_of effects bytes a outcome live old = record {
   live = live;
@@ -142,19 +145,20 @@ told_of effects bytes a outcome live old = record {
   kept = old.kept ++ kept_bytes outcome bytes;
 }
 
--- Returns the state after a message was handed to its side. No side returns a fault that is no refusal.
+-- Returns the state after a message was handed to its side, and its mail got a verdict. A fault that is no
+-- refusal changes nothing; no side returns one.
 abbrev pub after_hand : {L K : Type 0} → Effects L K → List ℕ → List ℕ → Apdu → Result DeskOutcome ToolFault × L →
     Sorting L → Sorting L
 after_hand effects name bytes a (Ok outcome, live) old =
     settled name (verdict_of (effects.role live) outcome) (told_of effects bytes a outcome live old)
 after_hand effects name bytes a (Err fault, live) old = old
 
--- Returns the state after a mail with this message, or without one.
+-- Returns the state after a mail with this message, or with the reason that it has none.
 abbrev pub after_message : {L K : Type 0} → Effects L K → List ℕ → List ℕ → Result Apdu Unfit → Sorting L → Sorting L
 after_message effects name bytes (Ok a) old = after_hand effects name bytes a (handed effects old.live a) old
 after_message effects name bytes (Err unfit) old = settled name (Aside unfit) old
 
--- Returns the state after a mail with these bytes, if they could be read.
+-- Returns the state after a mail with these bytes, or after one that could not be read.
 abbrev pub after_bytes : {L K : Type 0} → Effects L K → List ℕ → Option (List ℕ) → Sorting L → Sorting L
 after_bytes effects name None old = settled name (Left delays.NotRead) old
 after_bytes effects name (Some bytes) old = after_message effects name bytes (message_in bytes) old
@@ -164,13 +168,13 @@ abbrev pub after_mail : {L K : Type 0} → Effects L K → Sorting L → Mail �
 after_mail effects old mail =
     after_bytes effects mail.name.items (option_map (λ bytes. bytes.items) mail.bytes) old
 
--- Returns the state after all mails, in their order.
+-- Returns the state after all of `mails`, in their order.
 abbrev pub after_mails : {L K : Type 0} → Effects L K → L → List Mail → Sorting L
 after_mails effects live mails = fold (after_mail effects) (unsorted live) mails
 
 -- ---- counts
 
--- Returns the heap of a mail by its verdict.
+-- Returns the heap on which a mail with this verdict is counted.
 abbrev pub heap_of : Verdict → Heap
 heap_of (Done (seen.Plain (outcomes.Answered takings.Taken))) = heaps.Taken
 heap_of (Done (seen.Plain (outcomes.Answered takings.Repeat))) = heaps.Repeat
@@ -180,7 +184,7 @@ heap_of (Done outcome) = heaps.Unknown
 heap_of (Aside unfit) = heaps.Aside
 heap_of (Left delay) = heaps.Left
 
--- Returns true if two heaps are one.
+-- Returns true if the two heaps are equal.
 abbrev pub is_heap : Heap → Heap → Bool
 is_heap heaps.Taken heaps.Taken = true
 is_heap heaps.Repeat heaps.Repeat = true
@@ -191,11 +195,11 @@ is_heap heaps.Aside heaps.Aside = true
 is_heap heaps.Left heaps.Left = true
 is_heap heap other = false
 
--- Returns the number of mails on a heap.
+-- Returns the number of verdicts on a heap.
 abbrev pub count_on : Heap → List Verdict → ℕ
 count_on heap verdicts = count_by (λ verdict. is_heap heap (heap_of verdict)) verdicts
 
--- Returns the counts of the mails with these verdicts.
+-- Returns the numbers of verdicts on all heaps.
 abbrev pub tally_of : List Verdict → Tally
 tally_of verdicts = record {
   taken = count_on heaps.Taken verdicts;
@@ -207,35 +211,36 @@ tally_of verdicts = record {
   left = count_on heaps.Left verdicts;
 }
 
--- Returns the counts of the mails that are done, whose files go.
+-- Returns the text of the counts of done mails, whose files are removed.
 unfoldable pub done_text : Tally → List ℕ
 done_text tally =
     codes "taken " ++ decimal tally.taken ++ codes ", repeat " ++ decimal tally.repeat ++ codes ", stale "
     ++ decimal tally.stale ++ codes ", conflict " ++ decimal tally.conflict ++ codes ", unknown "
     ++ decimal tally.unknown
 
--- Returns the counts of the mails that stay, and of those for which there was no room in this run.
+-- Returns the text of the counts of mails that are put aside or wait. `waiting` mails had no room in this
+-- run.
 unfoldable pub staying_text : Tally → ℕ → List ℕ
 staying_text tally waiting =
     codes ", aside " ++ decimal tally.aside ++ codes ", left " ++ decimal tally.left ++ codes ", waiting "
     ++ decimal waiting ++ codes "\n"
 
--- Returns the line of the counts.
+-- Returns the line of all counts.
 abbrev pub tally_line : Tally → ℕ → List ℕ
 tally_line tally waiting = done_text tally ++ staying_text tally waiting
 
 -- ---- the command
 
--- A message was handed to its side; or memory ran out for it, and nothing changed.
+-- A message was handed to its side. Or memory ran out for it, and nothing changed.
 abbrev pub HandsOver : {L K : Type 0} → Effects L K → L → Apdu → Result DeskOutcome ToolFault → L → Type 0
 HandsOver effects old a (Ok outcome) new = handed effects old a ≡ (Ok outcome, new)
 HandsOver effects old a (Err fault) new = new ≡ old
 
--- Returns all lines of a run.
+-- Returns all lines of a run: those of the mails, and that of the counts.
 abbrev pub inbox_text : {L : Type 0} → Sorting L → ℕ → List ℕ
 inbox_text end waiting = end.told ++ tally_line (tally_of end.verdicts) waiting
 
--- Returns the state with the line of the counts after the lines of the mails.
+-- Returns the state after the line of the counts.
 abbrev pub concluded : {L : Type 0} → ℕ → Sorting L → Sorting L
 concluded waiting end = record {
   live = end.live;
@@ -244,7 +249,7 @@ concluded waiting end = record {
   kept = end.kept;
 }
 
--- Returns the run that the mails make. The bytes of each message that was taken are kept.
+-- Returns the run of the mails that lead to `end`.
 abbrev pub inbox_run : {L : Type 0} → Sorting L → ℕ → Run L (List Verdict)
 inbox_run end waiting = record {
   live = end.live;
@@ -253,20 +258,21 @@ inbox_run end waiting = record {
   answer = end.verdicts;
 }
 
--- Returns an answer, as the definitions have its value.
+-- Returns a result with `value` applied to its answer.
 abbrev pub answered_with : {X Y : Type 0} → (X → Y) → Result X ToolFault → Result Y ToolFault
 answered_with value (Ok answer) = Ok (value answer)
 answered_with value (Err fault) = Err fault
 
--- A run over `mails`, with `waiting` further ones. It leads from the kept bytes, the output and the sides
--- before to those after. The messages that were taken are kept before they are saved.
+-- A run took `mails`, with `waiting` further mails left. The kept bytes, the output and the desk went from
+-- before to after it. Taken messages are kept before they are saved.
 abbrev pub RunsInbox : {L K : Type 0} → Effects L K → List Mail → ℕ → Option (List ℕ) → Option (List ℕ) →
     Option (List ℕ) → Option (List ℕ) → HeldAndLanded L → Result (List Verdict) ToolFault → HeldAndLanded L → Type 0
 RunsInbox effects mails waiting kept_before kept_after before after old result new =
     KeepsBefore (after_mails effects old.live mails).kept result kept_before kept_after old new
     × EndsRun effects (inbox_run (after_mails effects old.live mails) waiting) before after old result new
 
--- A run over `mails` with `verdicts` has ended well at a desk that is `new` now: all its changes are saved.
+-- A run over `mails` ended without a fault and with these verdicts, at a desk that is `new` now. So all its
+-- changes are saved.
 unfoldable pub EndedWell : List Mail → List Verdict → HeldAndLanded DeskContents → Type 0
 EndedWell mails verdicts new =
     (waiting : ℕ) × (kept_before kept_after before after : Option (List ℕ)) × (old : HeldAndLanded DeskContents)
@@ -274,14 +280,14 @@ EndedWell mails verdicts new =
 
 -- ---- the answer
 
--- Returns true if a mail waits for the next run.
+-- Returns true if any mail waits for the next run.
 abbrev pub is_waiting : Tally → ℕ → Bool
 is_waiting tally waiting = nat_lt 0 tally.left || nat_lt 0 waiting
 
--- Returns true if nothing wants a person.
+-- Returns true if no mail was in conflict or put aside, so that no person is needed.
 abbrev pub is_quiet : Tally → Bool
 is_quiet tally = not (nat_lt 0 tally.conflict || nat_lt 0 tally.aside)
 
--- Returns the answer of a run in the end.
+-- Returns the result of the command after a run.
 abbrev pub ending : Tally → ℕ → Result Bool ToolFault
 ending tally waiting = if is_waiting tally waiting then Err faults.Left else Ok (is_quiet tally)

@@ -1,4 +1,4 @@
--- The messages of a loan that came and were kept: those of its transaction, each once.
+-- The messages that came in a transaction and were kept, each once.
 use Rattle.std.specs.Prelude.{◌≡◌, ℕ, Bool, true, not, ◌&&◌, if◌then◌else◌, List, [], ◌∷◌, ◌++◌, fold, codes, Option, None, Some}
 use Rattle.std.specs.Prelude.{Result, Ok, Err}
 use Rattle.std.specs.List.{flat_map, list_any}
@@ -22,11 +22,11 @@ use Rattle.ill_tool.specs.Output.{WritesText}
 
 -- ---- the messages that are kept
 
--- The messages `came` stand one after another in `bytes`, up to the end or a part that is none.
+-- The messages `came` begin `bytes`, one after another. The rest of `bytes` begins with no message.
 abbrev pub AreIn : List ℕ → List Apdu → Type 0
 AreIn bytes came = (left : feeds.Unread) × feeds.Feeds (Ok []) bytes came left
 
--- Returns true if two messages have equal bytes.
+-- Returns true if `a` and `b` have equal bytes.
 abbrev pub is_same : Apdu → Apdu → Bool
 is_same a b = bytes_eq (spelling a) (spelling b)
 
@@ -34,33 +34,35 @@ is_same a b = bytes_eq (spelling a) (spelling b)
 abbrev pub is_among : List Apdu → Apdu → Bool
 is_among kept a = list_any (λ b. is_same b a) kept
 
--- Returns `kept`, and `a` after it, if `a` is of the transaction `txn` and not among them.
+-- Returns `kept`, and `a` at its end if `a` is of the transaction `txn` and `kept` lacks it.
 abbrev pub with_new : Qualifiers → List Apdu → Apdu → List Apdu
 with_new txn kept a = if is_same_txn a.txn txn && not (is_among kept a) then kept ++ a ∷ [] else kept
 
--- Returns the messages of a transaction, in the order in which they came, each once.
+-- Returns the messages of the transaction `txn` in `came`, each once, in their order.
 abbrev pub kept_of : Qualifiers → List Apdu → List Apdu
 kept_of txn came = fold (with_new txn) [] came
 
 -- ---- the texts
 
--- Returns all lines of a loan, and after them those of the messages that came.
+-- Returns all lines of a loan, and after them the lines of the messages `kept` that came.
 abbrev pub kept_lines : DeskEntry → List Apdu → List ℕ
 kept_lines held kept = loan_lines held.side held.released ++ flat_map (marked_lines (codes "came") true) kept
 
--- Returns a loan and the messages that came, in lines, or in an object.
+-- Returns a loan and the messages that came to it, in lines or as an object of JSON.
 abbrev pub kept_text : Form → DeskEntry → List Apdu → List ℕ
 kept_text Lines = kept_lines
 kept_text Json = λ held kept. object_line (loan_fields held.side held.released ++ came_fields kept)
 
--- The text of the messages in `bytes` was written; or memory ran out for them.
+-- The output grew from `before` to `after` by the text of the messages of `txn` in `bytes`. If memory ran
+-- out, it did not grow.
 abbrev pub WritesKept : (List Apdu → List ℕ) → Qualifiers → List ℕ → Option (List ℕ) → Option (List ℕ) →
     Result (Unit {0}) ToolFault → Type 0
 WritesKept text txn bytes before after (Err OutOfMemory) = Appends before after []
 WritesKept text txn bytes before after result =
     (came : List Apdu) × AreIn bytes came × WritesText before after (text (kept_of txn came)) result
 
--- The command: the text of the side, and of the messages of its transaction that came, if the side is held.
+-- The command: if the side is held, it writes the text of the side and of the messages of its transaction in
+-- `bytes`. If it is not held, the fault is `NoSuchTransaction`, and nothing is written.
 abbrev pub RunsKeptLoan : (DeskEntry → List Apdu → List ℕ) → Option DeskEntry → List ℕ → Option (List ℕ) →
     Option (List ℕ) → Result (Unit {0}) ToolFault → Type 0
 RunsKeptLoan text None bytes before after result =

@@ -1,4 +1,4 @@
--- The loans that `list` lists, the line of each, and the line that counts all.
+-- The loans in the output of `list`, the line of each, and the line of the counts.
 use Rattle.std.specs.Prelude.{ℕ, ◌-◌, max, Bool, true, false, ◌&&◌, List, [], ◌∷◌, ◌++◌, length, fold, count_by, replicate}
 use Rattle.std.specs.Prelude.{Option, Some, None, codes}
 use Rattle.std.specs.List.{join_by}
@@ -27,35 +27,35 @@ use Rattle.ill_tool.specs.Waiting.{is_turn, is_sooner, turn_on}
 
 -- ---- the loans that are listed
 
--- Returns the turns whose loans are listed, in their order.
+-- Returns the turns of the loans that are listed, in the order of the list.
 abbrev pub turns_of : Which → List Turn
 turns_of All = turns.Mine ∷ turns.Theirs ∷ turns.Over ∷ []
 turns_of Open = turns.Mine ∷ turns.Theirs ∷ []
 turns_of Mine = turns.Mine ∷ []
 
--- Returns true if a loan is due before the day, if one is said.
+-- Returns true if the due date `due` is before the wanted day, or no day is wanted.
 abbrev pub is_due_before : Option Date → Option Date → Bool
 is_due_before None due = true
 is_due_before (Some day) due = is_sooner due (Some day)
 
--- Returns true if a loan is in the wanted state, if one is said.
+-- Returns true if `state` is the wanted state, or no state is wanted.
 abbrev pub is_in : Option State → State → Bool
 is_in None state = true
 is_in (Some wanted) state = is_among (wanted ∷ []) state
 
--- Returns true if a loan is listed when the loans of its turn are.
+-- Returns true if a loan meets the conditions on its due date and its state.
 abbrev pub is_wanted : Wanted → Side → Bool
 is_wanted wanted side =
     is_due_before wanted.due_before (due_date_of side) && is_in wanted.state (state_of side)
 
 -- ---- the item of a loan
 
--- Returns the item of a message, if it is an ILL-Request.
+-- Returns the item in an ILL-Request, and none in any other message.
 abbrev pub item_in : Body → Option (List ℕ)
 item_in (IllRequest expiry item) = Some item
 item_in other = None
 
--- Returns the item of a request, if there is one.
+-- Returns the item of a request, if there is a request.
 abbrev pub item_asked : Option Apdu → Option (List ℕ)
 item_asked None = None
 item_asked (Some a) = item_in a.body
@@ -67,26 +67,26 @@ title_text (Some item) = escaped item
 
 -- ---- the line of a loan
 
--- Returns a text, and spaces up to `width`.
+-- Returns `text` with spaces after it, up to `width`.
 unfoldable pub padded : ℕ → List ℕ → List ℕ
 padded width text = text ++ replicate (width - length text) 32
 
--- Returns a padded text, and two spaces before the next column.
+-- Returns `text` with spaces up to `width`, and two further ones before the next column.
 abbrev pub cell : ℕ → List ℕ → List ℕ
 cell width text = padded width text ++ codes "  "
 
--- Returns the length of the longest `text` of these sides.
+-- Returns the greatest length of `text` over these sides.
 abbrev pub widest : (Side → List ℕ) → List Side → ℕ
 widest text sides = fold (λ width side. max width (length (text side))) 0 sides
 
--- Returns true if only the loans that wait for this library are listed. Then a column has the actions that it
--- may take now.
+-- Returns true if only the loans that wait for this library are listed. The list then has a column of the
+-- actions that it may do now.
 abbrev pub has_verbs : Which → Bool
 has_verbs All = false
 has_verbs Open = false
 has_verbs Mine = true
 
--- Returns the columns for all sides of a desk, listed or not.
+-- Returns the columns that are wide enough for all sides of a desk, listed or not.
 abbrev pub columns_of : Bool → List Side → Columns
 columns_of has_verbs sides = record {
   group = widest (λ side. (txn_of side).group) sides;
@@ -94,16 +94,16 @@ columns_of has_verbs sides = record {
   has_verbs = has_verbs;
 }
 
--- Returns the actions that `act` takes now, with a comma between two.
+-- Returns the actions that the side may do now, with a comma between two of them.
 abbrev pub verbs_text : Side → List ℕ
 verbs_text side = join_by verb_name (codes ",") (verbs_of side)
 
--- Returns the column of these actions, if it is there.
+-- Returns the column of these actions, if the list has one.
 abbrev pub verbs_cell : Bool → Side → List ℕ
 verbs_cell true side = cell 20 (verbs_text side)
 verbs_cell false side = []
 
--- Returns the line of a side, whose turn is `turn`: its columns, and its title.
+-- Returns the line of a loan with the turn `turn`.
 unfoldable pub row : Columns → Turn → Side → List ℕ
 row columns turn side =
     cell 6 (turn_word turn) ++ cell 20 (state_name (state_of side))
@@ -113,22 +113,22 @@ row columns turn side =
 
 -- ---- the loans that have a line
 
--- Returns true if a loan has the turn `turn`, on the day `today` if one is said.
+-- Returns true if the loan has the turn `turn` on the day `today`, or by its record if there is no day.
 abbrev pub has_turn : Option Date → Turn → Side → Bool
 has_turn today turn side = is_turn turn (turn_on today side)
 
--- Returns true if a loan is listed among those of the turn `turn`.
+-- Returns true if the loan has the turn `turn` and meets the other conditions.
 abbrev pub is_listed : Wanted → Turn → Side → Bool
 is_listed wanted turn side = has_turn wanted.today turn side && is_wanted wanted side
 
 -- ---- counts
 
--- Returns the number of loans that have the turn `turn`.
+-- Returns the number of loans with the turn `turn`.
 abbrev pub count_of : Option Date → Turn → List Side → ℕ
 count_of today turn sides = count_by (has_turn today turn) sides
 
--- Returns the numbers of loans: all, those that are not over, those that wait for this library, and those for
--- which there is room.
+-- Returns the counts of a desk: all loans, open ones, those that wait for this library, and the loans for
+-- which there is still room.
 abbrev pub counts_of : Option Date → List Side → Counts
 counts_of today sides = record {
   loans = length sides;
@@ -137,7 +137,7 @@ counts_of today sides = record {
   room = most_sides - length sides;
 }
 
--- Returns the line of counts.
+-- Returns the line of the counts.
 unfoldable pub counts_line : Counts → List ℕ
 counts_line counts =
     codes "loans " ++ decimal counts.loans ++ codes ", open " ++ decimal counts.open_loans

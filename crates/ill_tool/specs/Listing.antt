@@ -1,4 +1,4 @@
--- The texts that `list` writes of desks, in lines or in objects.
+-- The texts of `list`, in lines or in objects of JSON.
 use Rattle.std.specs.Prelude.{ℕ, Bool, true, false, List, [], ◌++◌, filter, Option, None, Some, option_map, codes}
 use Rattle.std.specs.List.{flat_map, join_by}
 use Rattle.std.specs.Fmt.{decimal}
@@ -17,71 +17,71 @@ use Rattle.ill_tool.specs.Objects.{row_object, counts_object}
 
 -- ---- one desk
 
--- Returns the listed loans of the turn `turn`, in their order.
+-- Returns the rows of the listed loans that have the turn `turn`, in the order of `sides`.
 abbrev pub rows_of : (Turn → Side → List ℕ) → Wanted → List Side → Turn → List ℕ
 rows_of text wanted sides turn = flat_map (text turn) (filter (is_listed wanted turn) sides)
 
--- Returns the loans that are listed, in the order of the turns, and those of each turn in their order. After
--- them come the counts of all.
+-- Returns the rows of the listed loans, grouped by turn, and then the counts of all loans. Within a turn the
+-- loans are in the order of `sides`.
 abbrev pub listed : (Turn → Side → List ℕ) → (Counts → List ℕ) → Wanted → List Side → List ℕ
 listed text counts_text wanted sides =
     flat_map (rows_of text wanted sides) (turns_of wanted.which) ++ counts_text (counts_of wanted.today sides)
 
--- Returns a loan of this turn in a line, or in an object.
+-- Returns the row of a loan of this turn, as a line or an object.
 abbrev pub row_text : Rows → Turn → Side → List ℕ
 row_text (rows.Lines columns) = row columns
 row_text (rows.Objects file) = row_object (option_map (λ path. path.now) file)
 
--- Returns counts in a line, or in an object.
+-- Returns the counts as a line or an object.
 abbrev pub counts_text : Rows → Counts → List ℕ
 counts_text (rows.Lines columns) = counts_line
 counts_text (rows.Objects file) = counts_object (option_map (λ path. path.now) file)
 
--- Returns the lines of these loans.
+-- Returns the lines of a list of `sides`, within each turn in the order of `sides`.
 abbrev pub ordered_lines : Wanted → List Side → List ℕ
 ordered_lines wanted sides = listed (row (columns_of (has_verbs wanted.which) sides)) counts_line wanted sides
 
--- Returns the lines of a desk. Of each turn the most urgent loans come first.
+-- Returns the lines of a desk. Within each turn the most urgent loans come first.
 abbrev pub list_lines : Wanted → List Side → List ℕ
 list_lines wanted sides = ordered_lines wanted (most_urgent_first sides)
 
--- Returns the objects of a desk, in the order of the lines.
+-- Returns the objects of a desk, in the order of `list_lines`.
 abbrev pub list_objects : Option (List ℕ) → Wanted → List Side → List ℕ
 list_objects file wanted sides = listed (row_object file) (counts_object file) wanted (most_urgent_first sides)
 
 -- ---- several desks
 
--- Returns the empty line before a desk in a list, if another one is before it.
+-- Returns the empty line between two desks, or nothing before the first one.
 abbrev pub gap : Bool → List ℕ
 gap true = []
 gap false = codes "\n"
 
--- Returns the line of the path of a desk, if several are listed.
+-- Returns the line with the path of a desk, if several desks are listed.
 abbrev pub heading : Bool → List ℕ → List ℕ
 heading false path = []
 heading true path = escaped path ++ codes ":\n"
 
--- Returns the path of a desk, if several are listed.
+-- Returns the path of a desk, if several desks are listed.
 abbrev pub file_told : Bool → List ℕ → Option (List ℕ)
 file_told false path = None
 file_told true path = Some path
 
--- Returns the text of a desk among those that are listed.
+-- Returns the text of one listed desk.
 abbrev pub listed_desk : Form → Bool → Wanted → List ℕ → List Side → List ℕ
 listed_desk Lines is_headed wanted path sides = heading is_headed path ++ list_lines wanted sides
 listed_desk Json is_headed wanted path sides = list_objects (file_told is_headed path) wanted sides
 
--- Returns the text before a desk that follows another one: in lines an empty one.
+-- Returns the text before a desk: in lines an empty line, if another desk is before it.
 abbrev pub between : Form → Bool → List ℕ
 between Lines is_first = gap is_first
 between Json is_first = []
 
--- Returns the texts of desks, one after another.
+-- Returns the texts of several desks, one after another.
 abbrev pub listed_desks : Form → Bool → Wanted → List (List ℕ × List Side) → List ℕ
 listed_desks form is_headed wanted desks =
     join_by (λ desk. listed_desk form is_headed wanted desk.0 desk.1) (between form false) desks
 
--- Returns the line that warns how much room a desk has left.
+-- Returns the line that warns of the room left at a desk.
 abbrev pub room_line : List ℕ → ℕ → List ℕ
 room_line path room =
     codes "ill: " ++ escaped path ++ (codes " has room for " ++ (decimal room ++ codes " more loans\n"))

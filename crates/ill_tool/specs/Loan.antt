@@ -22,24 +22,24 @@ use Rattle.ill_tool.specs.Lines.{line, reply_word, shown_lines}
 use Rattle.ill_tool.specs.Status.{status_lines, spaced_or_dash}
 use Rattle.ill_tool.specs.Output.{WritesText}
 
--- Returns the word of the library that acts next.
+-- Returns the word for the library that acts next.
 abbrev pub turn_word : Turn → List ℕ
 turn_word Over = codes "over"
 turn_word Mine = codes "mine"
 turn_word Theirs = codes "theirs"
 
--- Returns the lines of the library that acts next, and of the actions that the side may take now.
+-- Returns the lines of the library that acts next, and of the actions that the side may do now.
 abbrev pub turn_lines : Side → List ℕ
 turn_lines side =
     line (codes "next") (turn_word (turn_of side))
     ++ line (codes "now") (spaced_or_dash (map verb_name (verbs_of side)))
 
--- Returns the request of a loan: the first message of a requester, and the one that a responder keeps.
+-- Returns the request of a loan: the first message of a requester, or the one in the record of a responder.
 abbrev pub request_of : Side → Option Apdu
 request_of (Requester x) = slice_get x.issued 0
 request_of (Responder y) = y.request
 
--- Returns the lines of the item and the expiry day of a request.
+-- Returns the lines of the item and the expiry date of a request.
 abbrev pub item_lines : Body → List ℕ
 item_lines (IllRequest expiry item) =
     line (codes "item") (escaped item) ++ line (codes "expiry") (due_text expiry)
@@ -50,13 +50,14 @@ abbrev pub request_lines : Option Apdu → List ℕ
 request_lines None = []
 request_lines (Some apdu) = item_lines apdu.body
 
--- Returns the line of the number of a message: a dash, if there is none.
+-- Returns the line of the number of a message, or of a dash if there is none.
 abbrev pub optional_number_line : List ℕ → Option ℕ → List ℕ
 optional_number_line label None = line label (codes "-")
 optional_number_line label (Some number) = line label (decimal number)
 
--- Returns the lines of the messages that a side has taken. A requester's record has the conditions that
--- stand. A responder's has the conditions that were accepted last, the last Cancel and the last Renew.
+-- Returns the lines of the message numbers that the record keeps of the other side. A requester's has the
+-- conditions that it holds. A responder's has the last accepted conditions, the last Cancel and the last
+-- Renew.
 abbrev pub taken_lines : Side → List ℕ
 taken_lines (Requester x) = optional_number_line (codes "held") x.held
 taken_lines (Responder y) =
@@ -64,26 +65,27 @@ taken_lines (Responder y) =
     ++ (optional_number_line (codes "last-cancel") y.last_cancel
     ++ optional_number_line (codes "last-renew") y.last_renew)
 
--- Returns the lines of a side, before those of its messages.
+-- Returns the lines of a side, without its messages.
 abbrev pub side_lines : Side → ℕ → List ℕ
 side_lines side released =
     status_lines side released
     ++ (turn_lines side ++ (request_lines (request_of side) ++ taken_lines side))
 
--- Returns the lines of a message: an empty one, its own, and one that says yes or no.
+-- Returns the lines of a message: an empty line, the lines of its fields, and `label` with yes or no.
 abbrev pub marked_lines : List ℕ → Bool → Apdu → List ℕ
 marked_lines label is_so apdu = codes "\n" ++ (shown_lines apdu ++ line label (reply_word is_so))
 
--- Returns the lines of a message that was issued, with one that tells if it may leave.
+-- Returns the lines of an issued message. The last says yes if the message may be sent.
 abbrev pub message_lines : ℕ → Apdu → List ℕ
 message_lines released apdu = marked_lines (codes "leaves") (nat_le apdu.number released) apdu
 
--- Returns the lines of a side, and of all messages that it has issued, in order.
+-- Returns the lines of a side, and of all messages that it has issued, in their order.
 unfoldable pub loan_lines : Side → ℕ → List ℕ
 loan_lines side released =
     side_lines side released ++ flat_map (message_lines released) (issued_of side)
 
--- The command: the lines of the side, if one is held.
+-- The command: if the side is held, its lines were written. If it is not, the fault is `NoSuchTransaction`,
+-- and nothing was written.
 abbrev pub RunsLoan : Option DeskEntry → Option (List ℕ) → Option (List ℕ) → Result (Unit {0}) ToolFault → Type 0
 RunsLoan None before after result = (result ≡ Err (Desk NoSuchTransaction)) × Appends before after []
 RunsLoan (Some held) before after result =

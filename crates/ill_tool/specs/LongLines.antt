@@ -5,7 +5,7 @@ use Rattle.ill_values.specs.declared.apdu.Apdu.{Apdu}
 use Rattle.ill_values.specs.Types.{type_name}
 use Rattle.ill_tool.specs.Lines.{shown_fields}
 
--- Returns a word, and a space.
+-- Returns `text` and a space.
 abbrev pub word : List ℕ → List ℕ
 word text = text ++ 32 ∷ []
 
@@ -13,17 +13,17 @@ word text = text ++ 32 ∷ []
 abbrev pub heading : Apdu → List ℕ
 heading a = word a.txn.group ++ (word a.txn.transaction ++ (word (type_name a.body) ++ word (decimal a.number)))
 
--- Returns the text before a byte: two spaces, if it begins a line.
+-- Returns two spaces if the next byte begins a line, else nothing.
 abbrev pub indent : Bool → List ℕ
 indent true = 32 ∷ 32 ∷ []
 indent false = []
 
--- Returns a text with two spaces before each line. The flag tells if its first byte begins a line.
+-- Returns `text` with two spaces before each line. `begins` is true if the first byte begins a line.
 unfoldable pub indented_on : Bool → List ℕ → List ℕ
 indented_on begins [] = []
 indented_on begins (byte ∷ text) = indent begins ++ byte ∷ indented_on (byte == 10) text
 
--- Returns a text with two spaces before each line.
+-- Returns `text` with two spaces before each line.
 abbrev pub indented : List ℕ → List ℕ
 indented text = indented_on true text
 

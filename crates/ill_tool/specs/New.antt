@@ -1,4 +1,4 @@
--- The command `new`: one side of a transaction begins, or the many of a library.
+-- The command `new`: it begins a desk of one side, or a desk that holds none yet.
 use Rattle.std.specs.Prelude.{◌≡◌, ◌⊎◌, ℕ, true, List, [], take, Option, None, Some, option_map, codes, Result, Ok, Err}
 use Rattle.std.specs.Io.KnownBytes.{Appends}
 use Rattle.ill_saved.specs.declared.fault.DeskFault.TheVariants.{Exists, Store}
@@ -12,17 +12,19 @@ use Rattle.ill_saved.specs.Store.{Allows, LandsAtFailure, StoreState, spent}
 use Rattle.ill_tool.specs.declared.fault.ToolFault.{ToolFault}
 use Rattle.ill_tool.specs.declared.fault.ToolFault.TheVariants.{Desk, Write, OutOfMemory}
 
--- Returns the line of a beginning that was saved: that of the side, or the outcome alone if no side begins.
+-- Returns the line of a desk that was begun and saved: the line of its first side, or `done` alone if it has
+-- no side.
 abbrev pub line_of_first : Option DeskEntry → List ℕ
 line_of_first (Some held) = done_line held
 line_of_first None = codes "done\n"
 
--- Returns the line of the beginning of `live`.
+-- Returns the line of a desk that was begun with the sides `live`.
 abbrev pub first_line : {L K : Type 0} → Effects L K → L → List ℕ
 first_line effects live = line_of_first (option_map (λ key. effects.side_for key live) effects.first_key)
 
--- The output of a beginning with this line. It has the line, once the record is saved, or a prefix if the
--- writer failed. It has nothing if a record is there, the store failed or memory ran out.
+-- The output grew from `before` to `after` by `line`, once the record was saved. After the fault `Write` it
+-- grew by a prefix of `line`. If the store has a record, or the store failed, or memory ran out, it did not
+-- grow.
 abbrev pub RunsNew : List ℕ → Option (List ℕ) → Option (List ℕ) → Result (Unit {0}) ToolFault → Type 0
 RunsNew line before after (Ok done) = Appends before after line
 RunsNew line before after (Err Write) = (size : ℕ) × Appends before after (take size line)
@@ -31,8 +33,8 @@ RunsNew line before after (Err (Desk (Store fault))) = Appends before after []
 RunsNew line before after (Err OutOfMemory) = Appends before after []
 RunsNew line before after (Err other) = ⊥
 
--- The content of an honest store after the first save of `bytes`, by its plan and its old content. It is
--- `bytes`, but for a fault of the store, or without memory to save them.
+-- The first save of `bytes` leads an honest store with this plan from the content `old` to `new`. The new
+-- content is `bytes`, unless the store failed or memory ran out before the save.
 abbrev pub LandsFirst : Option NextCall → List ℕ → Result (Unit {0}) ToolFault → Option (List ℕ) →
     Option (List ℕ) → Type 0
 LandsFirst plan bytes (Ok done) old new = new ≡ Some bytes
@@ -42,13 +44,13 @@ LandsFirst plan bytes (Err (Desk (Store Failed))) old new =
 LandsFirst plan bytes (Err OutOfMemory) old new = (new ≡ old) ⊎ (new ≡ Some bytes)
 LandsFirst plan bytes (Err other) old new = ⊥
 
--- Nothing has landed, or the first record `bytes`.
+-- The store has no content, or the first record `bytes`.
 abbrev pub MayHaveLanded : List ℕ → Option (List ℕ) → Type 0
 MayHaveLanded bytes landed = (landed ≡ None) ⊎ (landed ≡ Some bytes)
 
--- The answer over an honest store, by its plan and its old content, and its content then. If a record is
--- there, it stays, and the answer is `Exists`, unless the store failed or memory ran out. If there is none,
--- this first one has landed, or it may have, with such a fault.
+-- The beginning of a desk leads an honest store with this plan from its content to `new`, with this answer.
+-- If the store has a record, that stays, and the answer is `Exists` or a fault of the store or of memory. If
+-- it has none, `bytes` have landed; after a fault they may have landed.
 abbrev pub BeginsOver : List ℕ → Option NextCall → Option (List ℕ) → Result (Unit {0}) ToolFault →
     Option (List ℕ) → Type 0
 BeginsOver bytes plan None (Ok done) new = (new ≡ Some bytes) × Allows {X = Unit {0}} plan (Ok tt)
@@ -65,7 +67,8 @@ BeginsOver bytes plan landed answer new = ⊥
 
 -- ---- the store of a beginning
 
--- What the save of this first record leaves in its store. Memory may be wanted before the store is called.
+-- The save of the first record `bytes` leads from the store `old` to `new`, with this answer. Memory may run
+-- out before the store is called.
 pub record SavesFirst (bytes : List ℕ) (old : StoreState) (answer : Result (Unit {0}) ToolFault) (new : StoreState)
     : Type 0 where
   pub landed : old.is_honest ≡ true → LandsFirst old.plan bytes answer old.landed new.landed
@@ -73,7 +76,8 @@ pub record SavesFirst (bytes : List ℕ) (old : StoreState) (answer : Result (Un
   pub honest : new.is_honest ≡ old.is_honest
   pub plan : (new.plan ≡ old.plan) ⊎ (new.plan ≡ spent old.plan)
 
--- What the beginning with this first record leaves in its store.
+-- The beginning of a desk with the first record `bytes` leads from the store `old` to `new`, with this
+-- answer.
 pub record BeginsIn (bytes : List ℕ) (old : StoreState) (answer : Result (Unit {0}) ToolFault) (new : StoreState)
     : Type 0 where
   pub landed : old.is_honest ≡ true → BeginsOver bytes old.plan old.landed answer new.landed

@@ -1,4 +1,4 @@
--- The objects that the commands write with `--json`: their fields, in order.
+-- The objects that the commands write with `--json`: their fields, in the order of the output.
 use Rattle.std.specs.Prelude.{ℕ, nat_le, Bool, List, [], ◌∷◌, ◌++◌, map, length, codes, Option, None, Some, is_some}
 use Rattle.std.specs.List.{flat_map}
 use Rattle.std.specs.Fmt.{decimal}
@@ -27,32 +27,32 @@ use Rattle.ill_tool.specs.Status.{status_lines, role_name, marks_of}
 use Rattle.ill_tool.specs.Loan.{turn_word, request_of}
 use Rattle.ill_tool.specs.List.{item_asked}
 
--- Returns an object on a line of its own.
+-- Returns an object with these fields, and a line feed.
 abbrev pub object_line : List Field → List ℕ
 object_line fields = object fields ++ codes "\n"
 
 -- ---- messages
 
--- Returns the fields that each APDU has: its type, its transaction and its number.
+-- Returns the fields of each APDU: its type, its transaction and its number.
 abbrev pub head_fields : Apdu → List Field
 head_fields a =
     (codes "apdu", quoted (type_name a.body)) ∷ (codes "group", quoted a.txn.group)
     ∷ (codes "transaction", quoted a.txn.transaction) ∷ (codes "number", decimal a.number) ∷ []
 
--- Returns the field of a date.
+-- Returns the field `date` of a day.
 abbrev pub date_field : Date → Field
 date_field d = (codes "date", day d)
 
--- Returns the fields of a reply: the number of the message that it answers, and the answer.
+-- Returns the fields of a reply: the number of the answered message, and yes or no.
 abbrev pub reply_fields : ℕ → Bool → List Field
 reply_fields answers is_yes = (codes "answers", decimal answers) ∷ (codes "reply", flag is_yes) ∷ []
 
--- Returns the field of a date, if there is one.
+-- Returns the field `date`, if there is a day.
 abbrev pub optional_date_fields : Option Date → List Field
 optional_date_fields None = []
 optional_date_fields (Some d) = date_field d ∷ []
 
--- Returns the further fields of an APDU.
+-- Returns the fields that an APDU of this type has beside those of each APDU.
 abbrev pub body_fields : Body → List Field
 body_fields (IllRequest expiry item) = optional_date_fields expiry ++ (codes "item", quoted item) ∷ []
 body_fields (IllAnswer result) = (codes "result", quoted (result_name result)) ∷ []
@@ -80,7 +80,7 @@ apdu_text Json a = object_line (apdu_fields a)
 
 -- ---- sides
 
--- Returns the fields of how a side stands, with `marks`.
+-- Returns the fields of `status` for a side, with the marks `marks`.
 abbrev pub standing_fields : Side → ℕ → List (List ℕ) → List Field
 standing_fields side released marks =
     (codes "role", quoted (role_name (role_of side))) ∷ (codes "group", quoted (txn_of side).group)
@@ -89,7 +89,7 @@ standing_fields side released marks =
     ∷ (codes "released", decimal released) ∷ (codes "issued", decimal (length (issued_of side)))
     ∷ (codes "marks", array quoted marks) ∷ []
 
--- Returns the fields of how a side stands, with its marks.
+-- Returns the fields of `status` for a side.
 abbrev pub status_fields : Side → ℕ → List Field
 status_fields side released = standing_fields side released (marks_of side)
 
@@ -98,53 +98,55 @@ abbrev pub status_text : Form → Side → ℕ → List ℕ
 status_text Lines = status_lines
 status_text Json = λ side released. object_line (status_fields side released)
 
--- Returns the text of a side that is held.
+-- Returns the text of `status` for a side.
 abbrev pub held_text : Form → DeskEntry → List ℕ
 held_text form held = status_text form held.side held.released
 
--- Returns the text of a side that is held, if there is one.
+-- Returns the text of `status` for a side, if there is one.
 abbrev pub text_of_one : Form → Option DeskEntry → List ℕ
 text_of_one form (Some held) = held_text form held
 text_of_one form None = []
 
--- Returns the text of each side that is held, in their order.
+-- Returns the texts of `status` for all sides, in their order.
 abbrev pub status_of_desk : Form → List DeskEntry → List ℕ
 status_of_desk form held = flat_map (held_text form) held
 
 -- ---- loans
 
--- Returns the names of the actions that the side may take now.
+-- Returns the names of the actions that the side may do now.
 abbrev pub names_of : Side → List (List ℕ)
 names_of side = map verb_name (verbs_of side)
 
--- Returns the fields of the library that acts next, of the actions `names`, of the item and its expiry day.
+-- Returns the fields of the library that acts next, the actions `names`, the item and the expiry date of the
+-- request.
 abbrev pub turn_fields : Side → List (List ℕ) → List Field
 turn_fields side names =
     (codes "next", quoted (turn_word (turn_of side))) ∷ (codes "now", array quoted names)
     ∷ (codes "item", optional quoted (item_asked (request_of side)))
     ∷ (codes "expiry", optional day (expiry_of (request_of side))) ∷ []
 
--- Returns the fields of the messages that a side has taken, as far as its record has their numbers.
+-- Returns the fields of the message numbers that the record keeps of the other side.
 abbrev pub taken_fields : Side → List Field
 taken_fields (Requester x) = (codes "held", optional decimal x.held) ∷ []
 taken_fields (Responder y) =
     (codes "accepted", optional decimal y.accepted) ∷ (codes "last-cancel", optional decimal y.last_cancel)
     ∷ (codes "last-renew", optional decimal y.last_renew) ∷ []
 
--- Returns the field that tells if a message may leave, if the number of released ones is known.
+-- Returns the field `leaves`, which is true if the message may be sent. Without a number of released messages
+-- there is no such field.
 abbrev pub leaves_fields : Option ℕ → Apdu → List Field
 leaves_fields None a = []
 leaves_fields (Some released) a = (codes "leaves", flag (nat_le a.number released)) ∷ []
 
--- Returns the object of a message.
+-- Returns the object of a message, with the field `leaves` if there is a number of released messages.
 abbrev pub message_object : Option ℕ → Apdu → List ℕ
 message_object released a = object (apdu_fields a ++ leaves_fields released a)
 
--- Returns the field `label` of messages, in order.
+-- Returns the field `label` with an array of messages, in their order.
 abbrev pub messages_fields : List ℕ → Option ℕ → List Apdu → List Field
 messages_fields label released apdus = (label, array (message_object released) apdus) ∷ []
 
--- Returns the field of the messages that were issued.
+-- Returns the field of the issued messages.
 abbrev pub sent_fields : ℕ → List Apdu → List Field
 sent_fields released apdus = messages_fields (codes "messages") (Some released) apdus
 
@@ -152,7 +154,7 @@ sent_fields released apdus = messages_fields (codes "messages") (Some released) 
 abbrev pub came_fields : List Apdu → List Field
 came_fields apdus = messages_fields (codes "came") None apdus
 
--- Returns the fields of all that is known of a side.
+-- Returns the fields of `loan` for a side, without the messages that came.
 abbrev pub loan_fields : Side → ℕ → List Field
 loan_fields side released =
     status_fields side released ++ turn_fields side (names_of side) ++ taken_fields side
@@ -160,12 +162,12 @@ loan_fields side released =
 
 -- ---- lists
 
--- Returns the field of the path of a desk, if it is told.
+-- Returns the field of the path of a desk, if there is a path.
 abbrev pub file_fields : Option (List ℕ) → List Field
 file_fields None = []
 file_fields (Some path) = (codes "file", quoted path) ∷ []
 
--- Returns the fields of a loan of this turn, with the actions `names`.
+-- Returns the fields of a listed loan of this turn, with the actions `names`.
 abbrev pub row_fields : Turn → Side → List (List ℕ) → List Field
 row_fields turn side names =
     (codes "next", quoted (turn_word turn)) ∷ (codes "state", quoted (state_name (state_of side)))
@@ -173,7 +175,7 @@ row_fields turn side names =
     ∷ (codes "transaction", quoted (txn_of side).transaction) ∷ (codes "now", array quoted names)
     ∷ (codes "item", optional quoted (item_asked (request_of side))) ∷ []
 
--- Returns the object of a loan of this turn.
+-- Returns the object of a listed loan of this turn.
 abbrev pub row_object : Option (List ℕ) → Turn → Side → List ℕ
 row_object file turn side = object_line (row_fields turn side (names_of side) ++ file_fields file)
 

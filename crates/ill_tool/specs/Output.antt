@@ -1,17 +1,19 @@
--- The writing of a text to its end.
+-- The bytes that a command has written to its output.
 use Rattle.std.specs.Prelude.{◌≡◌, ℕ, List, [], take, Option, Result, Ok, Err}
 use Rattle.std.specs.Io.KnownBytes.{Appends}
 use Rattle.ill_tool.specs.declared.fault.ToolFault.{ToolFault}
 use Rattle.ill_tool.specs.declared.fault.ToolFault.TheVariants.{Write, OutOfMemory}
 
--- All bytes were written, or a prefix of them if the writer failed.
+-- The output grew from `before` to `after` by all of `bytes`. After the fault `Write` it grew by a prefix of
+-- `bytes`. No other fault is possible.
 abbrev pub WritesPrefix : Option (List ℕ) → Option (List ℕ) → List ℕ →
     Result (Unit {0}) ToolFault → Type 0
 WritesPrefix before after bytes (Ok done) = Appends before after bytes
 WritesPrefix before after bytes (Err fault) =
     (fault ≡ Write) × ((size : ℕ) × Appends before after (take size bytes))
 
--- A text was written, or a prefix of it if the writer failed, or nothing without memory for it.
+-- The output grew from `before` to `after` by `text`. After the fault `Write` it grew by a prefix of `text`,
+-- and after `OutOfMemory` by nothing. No other fault is possible.
 abbrev pub WritesText : Option (List ℕ) → Option (List ℕ) → List ℕ →
     Result (Unit {0}) ToolFault → Type 0
 WritesText before after text (Ok done) = Appends before after text

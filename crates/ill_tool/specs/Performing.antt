@@ -1,5 +1,5 @@
--- The outcome of an action or a message, or of many, for any desk of sides: the visible outcome, and the
--- saved record (this profile's own).
+-- The effect of an action, of a message, or of many of them, on any desk: the outcome and the saved record
+-- (this profile's own).
 use Rattle.std.specs.Prelude.{◌≡◌, ◌⊎◌, ℕ, nat_lt, ◌≤◌, Bool, true, false, if◌then◌else◌, List, length, take, Option, None, Some}
 use Rattle.std.specs.Prelude.{option_map, Result, Ok, Err}
 use Rattle.std.specs.Io.KnownBytes.{Appends}
@@ -20,12 +20,12 @@ use Rattle.ill_saved.specs.Holdings.{Effects}
 
 -- ---- the known state
 
--- The sides that are held, and the content of the store, if it is known.
+-- The sides that a desk holds, and the content of its store, if it is known.
 pub record HeldAndLanded (L : Type 0) : Type 0 where
   pub live : L
   pub landed : Option (Option (List ℕ))
 
--- what has landed is known of an honest store
+-- Returns `landed` if the Bool is true: the content is known of an honest store alone.
 abbrev pub known_if : Bool → Option (List ℕ) → Option (Option (List ℕ))
 known_if true landed = Some landed
 known_if false landed = None
@@ -33,45 +33,46 @@ known_if false landed = None
 abbrev pub known : StoreState → Option (Option (List ℕ))
 known store = known_if store.is_honest store.landed
 
--- Returns the sides that a desk holds, and the content of its store, if it is known.
+-- Returns the sides that `desk` holds, and the content of its store, if it is known.
 abbrev pub view_of : {L S : Type 0} → (S → StoreState) → DeskOf L S → HeldAndLanded L
 view_of state desk = record { live = desk.live; landed = known (state desk.store) }
 
--- Returns the state in which `live` is held, and not saved yet.
+-- Returns the state in which the desk holds `live`, which is not saved yet.
 abbrev pub becomes : {L : Type 0} → HeldAndLanded L → L → HeldAndLanded L
 becomes old live = record old { live = live }
 
--- Returns the state in which all is saved.
+-- Returns the state after a save of the sides that the desk holds.
 abbrev pub saved : {L K : Type 0} → Effects L K → HeldAndLanded L → HeldAndLanded L
 saved effects old = record {
   live = effects.saves old.live;
   landed = option_map (λ _. Some (effects.spelling old.live)) old.landed;
 }
 
--- A save has failed: the sides that are held stay, and the old record has landed or the new one.
+-- A failed save leads from `old` to `new`. The desk holds its sides, and its store has the old record or the
+-- new one.
 abbrev pub IsFaulted : {L K : Type 0} → Effects L K → HeldAndLanded L → HeldAndLanded L → Type 0
 IsFaulted effects old new = (new ≡ old) ⊎ (new ≡ record old { landed = (saved effects old).landed })
 
 -- ---- the visible outcome
 
--- Returns the fault of a command whose desk has failed.
+-- Returns the fault of a command whose desk had `fault`.
 abbrev pub desk_fault : DeskFault → ToolFault
 desk_fault desks.OutOfMemory = OutOfMemory
 desk_fault other = Desk other
 
--- Returns the visible outcome of a refusal. Other faults are none.
+-- Returns the visible outcome of a refusal. Any other fault of a desk is a fault of the command.
 abbrev pub refused : DeskFault → Result DeskOutcome ToolFault
 refused (desks.Core refusal) = Ok (Plain (outcomes.Refused refusal))
 refused desks.NoSuchTransaction = Ok NoSuchTransaction
 refused desks.DeskFull = Ok DeskFull
 refused fault = Err (desk_fault fault)
 
--- Returns the outcome of an action and the sides after it: it was done, or refused.
+-- Returns the outcome of an action, and the sides after it. After a refusal these are the old ones.
 abbrev pub acted : {L : Type 0} → L → Result L DeskFault → Result DeskOutcome ToolFault × L
 acted old (Ok new) = (Ok (Plain outcomes.Done), new)
 acted old (Err fault) = (refused fault, old)
 
--- Returns the visible outcome of a message.
+-- Returns the outcome of a message, by the answer of its side.
 abbrev pub answered : Result Taking DeskFault → Result DeskOutcome ToolFault
 answered (Ok taking) = Ok (Plain (outcomes.Answered taking))
 answered (Err fault) = refused fault
@@ -82,19 +83,20 @@ handed effects live a = (answered (effects.takes live a).0, (effects.takes live 
 
 -- ---- the change
 
--- Returns true for a change, which is to be saved: an action was done, or a message was taken.
+-- Returns true if the outcome is a change, which must be saved: an action was done, or a message was taken.
 abbrev pub is_change : DeskOutcome → Bool
 is_change (Plain outcomes.Done) = true
 is_change (Plain (outcomes.Answered Taken)) = true
 is_change outcome = false
 
--- The result is a change.
+-- The result is the outcome of a change.
 abbrev pub IsChange : Result DeskOutcome ToolFault → Type 0
 IsChange (Ok outcome) = is_change outcome ≡ true
 IsChange (Err fault) = ⊥
 
--- The result of an event with this outcome and these sides. It happened, and was saved if it was a change. Or
--- it was one, and the save failed. Or memory ran out for it, if it needs memory, or for the save.
+-- An event with this outcome and these sides leads from `old` to `new`, with this result. It happened, and
+-- was saved if it is a change. Or it is a change, and the save failed. Or memory ran out for the event, if it
+-- needs memory, or for the save.
 abbrev pub Performs : {L K : Type 0} → Effects L K → Type 0 → HeldAndLanded L → Result DeskOutcome ToolFault × L →
     Result DeskOutcome ToolFault → HeldAndLanded L → Type 0
 Performs effects WantsMemory old event (Ok outcome) new =
@@ -108,11 +110,12 @@ Performs effects WantsMemory old event (Err other) new = ⊥
 
 -- ---- many changes, and one save
 
--- Returns true if there is at least one.
+-- Returns true if the list is not empty.
 abbrev pub has_any : {X : Type 0} → List X → Bool
 has_any items = nat_lt 0 (length items)
 
--- The changes are saved at once, if there are any; or that failed, or memory ran out for it.
+-- One save of all changes leads from `old` to `new`. Without a change nothing is saved. If the save failed,
+-- the store has the old record or the new one. If memory ran out, nothing changed.
 abbrev pub SavesOnce : {L K X : Type 0} → Effects L K → List X → HeldAndLanded L → Result (Unit {0}) ToolFault
     → HeldAndLanded L → Type 0
 SavesOnce effects changes old (Ok done) new = new ≡ (if has_any changes then saved effects old else old)
@@ -121,21 +124,22 @@ SavesOnce effects changes old (Err (Desk (desks.Store Failed))) new =
 SavesOnce effects changes old (Err OutOfMemory) new = new ≡ old
 SavesOnce effects changes old (Err other) new = ⊥
 
--- A run of changes: the sides after them, a flag that there are any, the lines of them, and the answer.
+-- The effect of many events: the sides after them, a flag that any is a change, their lines, and the answer.
 pub record Run (L A : Type 0) : Type 0 where
   pub live : L
   pub has_changed : Bool
   pub told : List ℕ
   pub answer : A
 
--- Returns the state after a run: all is saved, if anything has changed.
+-- Returns the state after a run and its one save. Without a change nothing is saved.
 abbrev pub after_run : {L K A : Type 0} → Effects L K → HeldAndLanded L → Run L A → HeldAndLanded L
 after_run effects old run =
     if run.has_changed then saved effects (becomes old run.live) else becomes old run.live
 
--- The end of a run. If all is well its lines are written. If the writer fails all is saved too. If the one
--- save fails, the old record has landed or that of all changes, and nothing is written. If memory runs out,
--- nothing more has landed.
+-- The end of a run leads from `old` to `new`, with this answer. Without a fault all changes are saved and the
+-- lines written. After the fault `Write` all is saved, and a prefix of the lines written. If the save failed,
+-- the store has the old record or the new one, and nothing is written. If memory ran out, the store has the
+-- old record, and nothing is written.
 abbrev pub EndsRun : {L K A : Type 0} → Effects L K → Run L A → Option (List ℕ) → Option (List ℕ) → HeldAndLanded L →
     Result A ToolFault → HeldAndLanded L → Type 0
 EndsRun effects run before after old (Ok answer) new =
@@ -149,12 +153,12 @@ EndsRun effects run before after old (Err other) new = ⊥
 
 -- ---- failures of the store
 
--- If the answer is a failure of the store, their count has risen, or can rise no more.
+-- If the answer is a failure of the store, their count has risen, or is at its maximum.
 abbrev pub ToolFailsCounted : {X : Type 0} → Result X ToolFault → ℕ → ℕ → Type 0
 ToolFailsCounted (Err (Desk (desks.Store Failed))) old new = HasRisen old new
 ToolFailsCounted answer old new = Unit {0}
 
--- The count of the store's failures never falls. A command returns a failure only if it has risen, or can
--- rise no more.
+-- The count of the store's failures never falls. If the answer is a failure of the store, the count has
+-- risen, or is at its maximum.
 abbrev pub CountsToolFailure : {X : Type 0} → Result X ToolFault → ℕ → ℕ → Type 0
 CountsToolFailure answer old new = (old ≤ new) × ToolFailsCounted answer old new

@@ -23,21 +23,21 @@ use Rattle.ill_tool.specs.Kept.{is_among, kept_text}
 
 -- ---- texts
 
--- Returns true if a chart may have `byte` as it is. It is a letter or digit of ASCII, a space, a comma, a
--- hyphen, a full stop, or beyond ASCII.
+-- Returns true if a chart may have `byte` unescaped. It may have a letter or digit of ASCII, a space, a
+-- comma, a hyphen, a full stop, and any byte beyond ASCII.
 abbrev pub is_plain : ℕ → Bool
 is_plain byte =
     is_within 97 122 byte || (is_within 65 90 byte || (is_within 48 57 byte || (byte == 32
     || (is_within 44 46 byte || nat_le 128 byte))))
 
--- Returns the text of a byte. A line feed begins a further line of the text of an arrow. Any other byte that
--- is not plain is spelled by its number.
+-- Returns the text of `byte` in a chart. A line feed becomes `<br/>`, a line break in the text of an arrow.
+-- Any other byte that is not plain becomes an escape with its number.
 abbrev pub drawn_byte : ℕ → List ℕ
 drawn_byte byte =
     if byte == 10 then codes "<br/>"
     else (if is_plain byte then byte ∷ [] else codes "#" ++ decimal byte ++ codes ";")
 
--- Returns a text so that Mermaid takes no byte of it for its own.
+-- Returns `text` with escapes, so that Mermaid takes no byte of it for syntax.
 abbrev pub drawn : List ℕ → List ℕ
 drawn text = flat_map drawn_byte text
 
@@ -65,14 +65,15 @@ arrows apdus = flat_map arrow apdus
 
 -- ---- the order of the messages
 
--- Returns true if a message answers the number `asked`.
+-- Returns true if a message with this body answers the message `asked` of the other side.
 abbrev pub answers : Body → ℕ → Bool
 answers (ConditionalReply number is_yes) asked = number == asked
 answers (CancelReply number is_yes) asked = number == asked
 answers (RenewAnswer number granted) asked = number == asked
 answers other asked = false
 
--- Returns true if a message of the other side is there before one of the type of `own` is issued.
+-- Returns true if `their`, a message of the other side, must have come before one with the body `own` is
+-- issued.
 abbrev pub comes_before : Body → Body → Bool
 comes_before (IllRequest expiry item) own = true
 comes_before (Shipped due) Received = true
@@ -81,42 +82,45 @@ comes_before (Shipped due) Returned = true
 comes_before Returned CheckedIn = true
 comes_before their own = false
 
--- Returns true if one of theirs stands before an own message, or answers it.
+-- Returns true if `own` and `their` have this link. `Before`: `own` needs `their`, or answers it. `After`:
+-- `their` answers `own`.
 abbrev pub is_linked : Link → Apdu → Apdu → Bool
 is_linked Before own their = comes_before their.body own.body || answers own.body their.number
 is_linked After own their = answers their.body own.number
 
--- The number of messages of theirs that were passed, and the number up to the last that is linked.
+-- A place in the messages of the other side: the number of messages passed, and the number up to the last
+-- linked one.
 pub record Reached : Type 0 where
   pub place : ℕ
   pub last : ℕ
 
--- Returns the numbers after one more message of theirs.
+-- Returns the place after one more message of the other side.
 abbrev pub reach : Link → Apdu → Reached → Apdu → Reached
 reach link own far their = record {
   place = far.place + 1;
   last = if is_linked link own their then far.place + 1 else far.last;
 }
 
--- Returns the number of messages of theirs up to the last that is linked.
+-- Returns the number of messages in `theirs` up to the last one that is linked to `own`. It is 0 if none is
+-- linked.
 abbrev pub through : Link → Apdu → List Apdu → ℕ
 through link own theirs = (fold (reach link own) (record { place = 0; last = 0 }) theirs).last
 
--- The arrows so far, and the messages of theirs that are left.
+-- The arrows drawn so far, and the messages of the other side that are not drawn yet.
 pub record Drawing : Type 0 where
   pub lines : List ℕ
   pub left : List Apdu
 
--- Returns the messages of theirs up to the last that is linked.
+-- Returns the messages of `theirs` up to the last one that is linked to `own`.
 abbrev pub linked : Link → Apdu → List Apdu → List Apdu
 linked link own theirs = take (through link own theirs) theirs
 
--- Returns the messages of theirs after the last that is linked.
+-- Returns the messages of `theirs` after the last one that is linked to `own`.
 abbrev pub not_linked : Link → Apdu → List Apdu → List Apdu
 not_linked link own theirs = drop (through link own theirs) theirs
 
--- Returns the drawing after an own message. The messages of theirs that stand before it come first, and those
--- that answer it come after it.
+-- Returns the drawing after one more message of this side. Messages of the other side that must stand before
+-- `own` are drawn first, and those that answer it directly after it.
 abbrev pub with_own : Drawing → Apdu → Drawing
 with_own so_far own =
     let left = not_linked Before own so_far.left in
@@ -127,33 +131,34 @@ with_own so_far own =
 
 -- ---- the picture
 
--- Returns the messages that came, with the request before them, if it is not among them.
+-- Returns the messages `kept`, with the request before them, if they lack it.
 abbrev pub with_request : Option Apdu → List Apdu → List Apdu
 with_request None kept = kept
 with_request (Some request) kept = if is_among kept request then kept else request ∷ kept
 
--- Returns the messages that came, and of a responder its request too, which the record has.
+-- Returns the messages `kept` that came to a side. Before them stands the request in a responder's record, if
+-- they lack it.
 abbrev pub theirs_of : Side → List Apdu → List Apdu
 theirs_of (Requester x) kept = kept
 theirs_of (Responder y) kept = with_request y.request kept
 
--- Returns the first lines of a picture.
+-- Returns the first lines of a picture: the kind of chart and its two participants.
 abbrev pub opening : List ℕ
 opening = codes "sequenceDiagram\n  participant requester\n  participant responder\n"
 
--- Returns the arrows so far, and those of the messages of theirs that are left.
+-- Returns the arrows drawn so far, and after them those of the messages that are not drawn yet.
 abbrev pub all_drawn : Drawing → List ℕ
 all_drawn drawing = drawing.lines ++ arrows drawing.left
 
--- Returns the picture of the messages `own` and `theirs`.
+-- Returns the picture of the messages `own` of this side and `theirs` of the other.
 abbrev pub picture_of : List Apdu → List Apdu → List ℕ
 picture_of own theirs = all_drawn (fold with_own (record { lines = opening; left = theirs }) own)
 
--- Returns the picture of a side and the messages that came to it.
+-- Returns the picture of a side and of the messages `kept` that came to it.
 abbrev pub picture : DeskEntry → List Apdu → List ℕ
 picture held kept = picture_of (issued_of held.side) (theirs_of held.side kept)
 
--- Returns the text of a loan: an object, its picture, or its lines.
+-- Returns the text of a loan: an object of JSON, its picture, or its lines.
 abbrev pub drawn_or_shown : Form → Bool → DeskEntry → List Apdu → List ℕ
 drawn_or_shown Json is_picture = kept_text Json
 drawn_or_shown Lines true = picture

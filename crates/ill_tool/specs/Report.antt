@@ -1,4 +1,4 @@
--- The command `report`: a page of HTML of the loans of desks. The texts of persons stand in it by
+-- The command `report`: a page of HTML of the loans of desks. Texts that people wrote go into it by
 -- `html_text`: the file, the item and both qualifiers. All else is a constant of this program, a name, a
 -- number or a date.
 use Rattle.std.specs.Prelude.{ℕ, ◌+◌, ◌*◌, Bool, true, false, ◌≡◌, List, [], ◌∷◌, ◌++◌, length, filter, count_by, codes, Option}
@@ -38,17 +38,17 @@ abbrev pub day_text : Option Date → List ℕ
 day_text None = codes "-"
 day_text (Some day) = iso_text day
 
--- Returns the words of a reply to a Renew. It grants by a date, and refuses without one.
+-- Returns the words of a Renew-Answer: yes and its new due date, or no if it has none.
 abbrev pub grant_words : Option Date → List ℕ
 grant_words None = codes " no"
 grant_words (Some day) = codes " yes " ++ iso_text day
 
--- Returns a date that may be wished, with a space before it.
+-- Returns the date that a Renew wishes, with a space before it, or nothing if it wishes none.
 abbrev pub wish_words : Option Date → List ℕ
 wish_words None = []
 wish_words (Some day) = codes " " ++ iso_text day
 
--- Returns the answer or the day that a message has, with a space before each.
+-- Returns the answer or the day in a message, with a space before each.
 abbrev pub detail_text : Body → List ℕ
 detail_text (IllAnswer result) = codes " " ++ result_name result
 detail_text (ConditionalReply answers is_yes) = codes " " ++ reply_word is_yes
@@ -59,12 +59,12 @@ detail_text (Renew wished) = wish_words wished
 detail_text (RenewAnswer answers granted) = grant_words granted
 detail_text other = []
 
--- Returns the name of a message, with the answer or the day that it has.
+-- Returns the type of a message, with its answer or its day.
 abbrev pub message_name : Body → List ℕ
 message_name body = type_name body ++ detail_text body
 
--- Returns a message as an arrow of a chart, in the row of its number. Or it returns its name, for those to
--- whom the chart is read out.
+-- Returns a message as an arrow of a chart, in the row of its number. If the Bool is false, it returns the
+-- name of the message, for a screen reader.
 abbrev pub message_text : Bool → Apdu → List ℕ
 message_text true apdu =
     ROW.now ++ (decimal (28 * apdu.number + 24) ++ (NAME.now ++ (message_name apdu.body ++ ARROW.now)))
@@ -99,7 +99,8 @@ verb_meaning verbs.Expire = codes "end the request, if its expiry day is past"
 abbrev pub action_text : Verb → List ℕ
 action_text verb = codes "<li><b>" ++ verb_name verb ++ codes "</b>: " ++ verb_meaning verb ++ codes "</li>"
 
--- Returns the value of a field of a loan on the day `today`. The messages are those that its side has issued.
+-- Returns the value of a field of a loan on the day `today`. The messages are the ones that its side has
+-- issued.
 abbrev pub value_text : Date → Side → Field → List ℕ
 value_text today side fields.Title = html_escaped (title_text (item_asked (request_of side)))
 value_text today side fields.Group = html_text (txn_of side).group
@@ -113,7 +114,7 @@ value_text today side fields.Height = decimal (28 * length (issued_of side) + 36
 value_text today side fields.Names = flat_map (message_text false) (issued_of side)
 value_text today side fields.Arrows = flat_map (message_text true) (issued_of side)
 
--- Returns the text before a field.
+-- Returns the text of the page before a field.
 abbrev pub before : Field → List ℕ
 before fields.Title = codes "<article>\n<h4 dir=\"auto\">"
 before fields.Group = codes "<div><dt>Group</dt><dd>"
@@ -127,7 +128,7 @@ before fields.Height = codes "</dl>\n<svg role=\"img\" viewBox=\"0 0 320 "
 before fields.Names = codes "<title>Messages that we have issued: "
 before fields.Arrows = LIFELINES.now
 
--- Returns the text after a field.
+-- Returns the text of the page after a field.
 abbrev pub after : Field → List ℕ
 after fields.Title = codes "</h4>\n<dl>"
 after fields.Actions = codes "</ul>\n</article>\n"
@@ -136,37 +137,39 @@ after fields.Names = codes "</title>\n"
 after fields.Arrows = codes "</svg>\n</article>\n"
 after other = codes "</dd></div>"
 
--- Returns a field of a loan, between its texts.
+-- Returns a field of a loan, between the texts before and after it.
 abbrev pub field_text : Date → Side → Field → List ℕ
 field_text today side field = before field ++ (value_text today side field ++ after field)
 
--- Returns all fields of a loan.
+-- Returns the given fields of a loan, one after another.
 abbrev pub loan_text : Date → List Field → Side → List ℕ
 loan_text today fields side = flat_map (field_text today side) fields
 
 -- ---- a page
 
--- Returns true if a loan has one of `turns` on the day `today`.
+-- Returns true if the loan has one of `turns` on the day `today`.
 abbrev pub is_on : Date → List Turn → Side → Bool
 is_on today turns side = list_any (is_turn (turn_on (Some today) side)) turns
 
--- Returns the loans that have one of `turns`.
+-- Returns the texts of the loans that have one of `turns` on the day `today`.
 abbrev pub loans_text : Date → List Turn → List Field → List Side → List ℕ
 loans_text today turns fields sides = flat_map (loan_text today fields) (filter (is_on today turns) sides)
 
--- Returns those loans after their count, with a text before it and one after it.
+-- Returns a section of a page: `heading`, the number of loans with one of `turns`, `opening`, and these
+-- loans.
 abbrev pub section_text : Date → List Side → List ℕ → List Turn → List ℕ → List Field → List ℕ
 section_text today sides heading turns opening fields =
     heading ++ (decimal (count_by (is_on today turns) sides) ++ (opening ++ loans_text today turns fields sides))
 
--- Returns the loans that wait for this library, all that are open, and those that are over.
+-- Returns the three sections of a desk: the loans that wait for this library, all open loans, and all that
+-- are over.
 unfoldable pub sections_text : Date → List Side → List ℕ
 sections_text today sides =
     section_text today sides WAITING.now (Mine ∷ []) OPENING.now TASK
     ++ (section_text today sides OPEN.now (Mine ∷ Theirs ∷ []) OPENING.now LOAN
     ++ section_text today sides OVER.now (Over ∷ []) FOLDED.now LOAN)
 
--- Returns the part of a desk: its file, and its loans, the most urgent first.
+-- Returns the part of a page about a desk: its file, and its loans, the most urgent first.
 unfoldable pub desk_text : Date → List ℕ × List Side → List ℕ
 desk_text today (file, sides) =
     DESK.now ++ (html_text file ++ (LOANS.now
@@ -176,11 +179,11 @@ desk_text today (file, sides) =
 unfoldable pub page_head : Date → List ℕ
 page_head today = PAGE.now ++ (iso_text today ++ DESKS.now)
 
--- Returns the page of desks, each with its file.
+-- Returns the page of `desks`, each with its file.
 abbrev pub report_page : Date → List (List ℕ × List Side) → List ℕ
 report_page today desks = page_head today ++ flat_map (desk_text today) desks ++ END.now
 
--- The page `after` is `before` with the parts of some desks after it.
+-- The page `after` is `before`, and then the parts of some desks.
 abbrev pub AddsDesks : Date → List ℕ → List ℕ → Type 0
 AddsDesks today before after =
     (desks : List (List ℕ × List Side)) × (after ≡ before ++ flat_map (desk_text today) desks)

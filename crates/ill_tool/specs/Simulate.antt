@@ -1,4 +1,4 @@
--- The commands that perform a script.
+-- The commands `simulate` and `simulate-desks`, which perform a script.
 use Rattle.std.specs.Prelude.{◌≡◌, ℕ, List, [], Option, Result, Ok, Err}
 use Rattle.std.specs.Io.KnownBytes.{Consumes, Appends}
 use Rattle.ill_values.specs.declared.fault.TextFault.{TextFault}
@@ -10,37 +10,39 @@ use Rattle.ill_world.specs.DeskSimulation.{SimulatesDesks}
 use Rattle.ill_tool.specs.declared.fault.ToolFault.{ToolFault}
 use Rattle.ill_tool.specs.declared.fault.ToolFault.TheVariants.{Arguments, Script, Read, Write, OutOfMemory}
 
--- Returns the fault of a command whose simulation stopped with this fault.
+-- Returns the fault of the command for a fault of its simulation.
 abbrev pub sim_fault : SimFault → ToolFault
 sim_fault (simulation.Script line) = Script line
 sim_fault simulation.Read = Read
 sim_fault simulation.Write = Write
 sim_fault simulation.OutOfMemory = OutOfMemory
 
--- Returns the answer of a command whose simulation has this answer.
+-- Returns the answer of the command for an answer of its simulation.
 abbrev pub tool_answer : Result ℕ SimFault → Result ℕ ToolFault
 tool_answer (Ok count) = Ok count
 tool_answer (Err fault) = Err (sim_fault fault)
 
--- A command gives the answer of its simulation, which was one of `Simulated`.
+-- `result` is the answer of the command for an answer that satisfies `Simulated`.
 abbrev pub TellsOf : (Result ℕ SimFault → Type 0) → Result ℕ ToolFault → Type 0
 TellsOf Simulated result =
     (simulated : Result ℕ SimFault) × Simulated simulated × (result ≡ tool_answer simulated)
 
--- The command, from the input `old` to `new`, and from the output `before` to `after`. It is a simulation of
--- the transaction. If there is no such transaction, it is the fault of the arguments alone.
+-- The command `simulate`: a simulation of the transaction. It reads the input from `old` to `new`, and the
+-- output grows from `before` to `after`. If the arguments are no transaction id, the fault is `Arguments`,
+-- and nothing is read or written.
 abbrev pub Performs : Result Qualifiers TextFault → Option (List ℕ) → Option (List ℕ) →
     Option (List ℕ) → Option (List ℕ) → Result ℕ ToolFault → Type 0
 Performs (Ok txn) old new before after result = TellsOf (Simulates txn old new before after) result
 Performs (Err fault) old new before after result =
     (result ≡ Err Arguments) × Consumes old new [] × Appends before after []
 
--- The command on a script of two desks, which takes no arguments.
+-- The command `simulate-desks`: a simulation of two desks.
 abbrev pub PerformsDesks : Option (List ℕ) → Option (List ℕ) → Option (List ℕ) → Option (List ℕ) →
     Result ℕ ToolFault → Type 0
 PerformsDesks old new before after result = TellsOf (SimulatesDesks old new before after) result
 
--- The transaction id of the arguments, or that they are none, unless memory ran out.
+-- The second result is the transaction id of the first. If memory ran out, it is that fault. If there is no
+-- id, it is the fault `Arguments`.
 abbrev pub GivesId : Result Qualifiers TextFault → Result Qualifiers ToolFault → Type 0
 GivesId (Ok txn) (Ok made) = made ≡ txn
 GivesId (Ok txn) (Err fault) = fault ≡ OutOfMemory

@@ -19,12 +19,12 @@ abbrev pub role_name : Role → List ℕ
 role_name roles.Requester = codes "requester"
 role_name roles.Responder = codes "responder"
 
--- Returns a mark, if it holds.
+-- Returns the mark `word` if the Bool is true, else nothing.
 abbrev pub mark : Bool → List ℕ → List (List ℕ)
 mark true word = word ∷ []
 mark false word = []
 
--- Returns the marks of a side that hold.
+-- Returns the marks that the side has.
 abbrev pub marks_of : Side → List (List ℕ)
 marks_of (Requester x) =
     mark (is_received_by x) (codes "received") ++ mark x.checked_in (codes "checked-in")
@@ -36,11 +36,11 @@ abbrev pub spaced_or_dash : List (List ℕ) → List ℕ
 spaced_or_dash [] = codes "-"
 spaced_or_dash (first ∷ more) = spaced first more
 
--- Returns the number of messages that may be sent, and that of all.
+-- Returns the numbers of released and of issued messages, as `RELEASED/ISSUED`.
 abbrev pub counts_text : Side → ℕ → List ℕ
 counts_text side released = decimal released ++ codes "/" ++ decimal (length (issued_of side))
 
--- Returns the lines of a side.
+-- Returns the seven lines of a side.
 unfoldable pub status_lines : Side → ℕ → List ℕ
 status_lines side released =
     line (codes "role") (role_name (role_of side)) ++ id_lines (txn_of side).group (txn_of side).transaction
@@ -48,10 +48,10 @@ status_lines side released =
     ++ line (codes "messages") (counts_text side released)
     ++ line (codes "marks") (spaced_or_dash (marks_of side))
 
--- Returns the lines of a side that is held.
+-- Returns the seven lines of a side with its released messages.
 abbrev pub held_lines : DeskEntry → List ℕ
 held_lines held = status_lines held.side held.released
 
--- Returns the lines of each side that is held, in their order.
+-- Returns the lines of all sides, in their order.
 abbrev pub desk_lines : List DeskEntry → List ℕ
 desk_lines held = flat_map held_lines held

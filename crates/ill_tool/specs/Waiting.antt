@@ -1,4 +1,4 @@
--- The loans that wait for a library, on a day or none, and their order by urgency (this profile's own).
+-- The loans that wait for this library, and their order by urgency (this profile's own).
 use Rattle.std.specs.Prelude.{Bool, true, false, ◌&&◌, nat_lt, if◌then◌else◌, List, [], ◌∷◌, length, Option, Some, None}
 use Rattle.std.specs.Option.{option_or}
 use Rattle.ill_values.specs.Day.{Date}
@@ -12,54 +12,55 @@ use Rattle.ill_tool.specs.Loan.{request_of}
 
 -- ---- turns
 
--- Returns true if two turns are one.
+-- Returns true if `turn` and `other` are equal.
 abbrev pub is_turn : Turn → Turn → Bool
 is_turn Mine Mine = true
 is_turn Theirs Theirs = true
 is_turn Over Over = true
 is_turn turn other = false
 
--- Returns the due date of a loan, or else the last day of its request.
+-- Returns the deadline of a loan: its due date, or else the expiry date of its request.
 abbrev pub deadline_of : Side → Option Date
 deadline_of side = option_or (due_date_of side) (expiry_of (request_of side))
 
 -- ---- deadlines
 
--- Returns true if a deadline comes before another one. Any comes before none.
+-- Returns true if the first deadline is before the second. Any deadline is before none.
 abbrev pub is_sooner : Option Date → Option Date → Bool
 is_sooner None other = false
 is_sooner (Some day) None = true
 is_sooner (Some day) (Some other) = is_before day other
 
--- Returns true if the deadline of a loan is past on the day, and this library can act. So the loan is not
--- over.
+-- Returns true if the deadline of a loan is before the day `today`, and this library can act in it. It cannot
+-- act in a loan that is over.
 abbrev pub is_pressing : Option Date → Side → Bool
 is_pressing None side = false
 is_pressing (Some today) side =
     is_sooner (deadline_of side) (Some today) && nat_lt 0 (length (verbs_of side))
 
--- Returns the turn of a loan. On a day, a loan whose deadline is past waits for this library.
+-- Returns the turn of a loan on the day `today`. If its deadline is past and this library can act, the turn
+-- is this library's. Without a day it is the turn by the record.
 abbrev pub turn_on : Option Date → Side → Turn
 turn_on today side = if is_pressing today side then Mine else turn_of side
 
--- Returns true if the deadline of a loan comes before that of another.
+-- Returns true if the deadline of `side` is before that of `other`.
 abbrev pub is_more_urgent : Side → Side → Bool
 is_more_urgent side other = is_sooner (deadline_of side) (deadline_of other)
 
 -- ---- in order
 
--- Returns the list with `item` in it, after the leading items that come before it.
+-- Returns the list with `item` in it, after the leading items that are before it.
 abbrev pub placed : {X : Type 0} → (X → X → Bool) → X → List X → List X
 placed is_before item [] = item ∷ []
 placed is_before item (first ∷ others) =
     if is_before first item then first ∷ placed is_before item others else item ∷ first ∷ others
 
--- Returns the items by an order. Items of one place in it keep their order.
+-- Returns the items in the order of `is_before`. Items that are equal in this order keep their places.
 abbrev pub ordered : {X : Type 0} → (X → X → Bool) → List X → List X
 ordered is_before [] = []
 ordered is_before (item ∷ items) = placed is_before item (ordered is_before items)
 
--- Returns loans by their deadlines, those without one last. Of loans with one deadline those begun first come
--- first.
+-- Returns the loans in the order of their deadlines, and loans without one last. Loans with equal deadlines
+-- stay in the order in which they were begun.
 abbrev pub most_urgent_first : List Side → List Side
 most_urgent_first sides = ordered is_more_urgent sides

@@ -5,6 +5,6 @@ use Rattle.ill_core.specs.State.{is_among}
 use Rattle.ill_saved.specs.declared.side.Side.{Side}
 use Rattle.ill_saved.specs.Side.{state_of}
 
--- Returns those of the sides that are SHIPPED, in their order.
+-- Returns the sides that are SHIPPED, in their order.
 abbrev pub shipped : List Side → List Side
 shipped sides = filter (λ side. is_among (Shipped ∷ []) (state_of side)) sides

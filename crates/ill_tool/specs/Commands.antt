@@ -1,5 +1,4 @@
--- The effect of each command, by its request. A desk is one that was loaded from a file: nothing is known of
--- the content of a file.
+-- The effect of each command. A desk here was loaded from a file, so nothing is known of its content.
 use Rattle.std.specs.Prelude.{◌≡◌, ◌⊎◌, ℕ, Bool, true, false, not, if◌then◌else◌, nat_lt, List, ◌++◌, length, map, codes, Option}
 use Rattle.std.specs.Prelude.{None, Some, is_some, Result, Ok, Err, IsErrAnd}
 use Rattle.std.specs.Io.KnownBytes.{Appends}
@@ -46,31 +45,32 @@ use Rattle.ill_tool.specs.Objects.{status_of_desk}
 use Rattle.ill_tool.specs.Asked.{Asked}
 use Rattle.ill_tool.specs.Asked as asks
 
--- Returns true, unless there was a fault.
+-- Returns true in place of the answer of a command, or its fault.
 abbrev pub all_well : {A : Type 0} → Result A ToolFault → Result Bool ToolFault
 all_well (Ok answer) = Ok true
 all_well (Err fault) = Err fault
 
--- All went well if an engine did, which gave one of `Answers`.
+-- The result is true in place of an answer that satisfies `Answers`, or the fault of that answer.
 abbrev pub GoesWell : {A : Type 0} → (Result A ToolFault → Type 0) → Result Bool ToolFault → Type 0
 GoesWell {A} Answers result = (answer : Result A ToolFault) × Answers answer × (result ≡ all_well answer)
 
--- One of the faults with which a file is not opened, or its lock is not taken.
+-- The fault is one with which a file is not opened, or its lock not taken.
 abbrev pub IsOpenFault : ToolFault → Type 0
 IsOpenFault (Desk fault) = Unit {0}
 IsOpenFault OutOfMemory = Unit {0}
 IsOpenFault other = ⊥
 
--- The file was not opened, or its lock was not taken, and nothing was written.
+-- A file could not be opened or locked, and nothing was written.
 abbrev pub IsShut : {A : Type 0} → Option (List ℕ) → Option (List ℕ) → Result A ToolFault → Type 0
 IsShut before after result = IsErrAnd result IsOpenFault × (after ≡ before)
 
--- A desk was begun; or a file was shut.
+-- A desk was begun. Or its file could not be opened.
 abbrev pub NewAtFile : Option (List ℕ) → Option (List ℕ) → Result Bool ToolFault → Type 0
 NewAtFile before after result =
     IsShut before after result ⊎ GoesWell (RunsNew (codes "done\n") before after) result
 
--- The action of `words` was performed in `txn` at a desk, on the day `today`; or its file was shut.
+-- The action of `words` was performed in `txn` at a desk, on the day `today`. Or its file could not be
+-- opened.
 abbrev pub ActsAtFile : Qualifiers → Option Date → List (List ℕ) → Option (List ℕ) → Option (List ℕ) →
     Result Bool ToolFault → Type 0
 ActsAtFile txn today words before after result =
@@ -78,8 +78,8 @@ ActsAtFile txn today words before after result =
     ⊎ ((old : HeldAndLanded DeskContents) × (new : HeldAndLanded DeskContents)
     × RunsAct many_sides txn (action_named old.live.role today words) old before after result new)
 
--- The APDUs of the input were taken at a desk. They were kept if `is_kept`, and told at length if `is_long`.
--- Or its file was shut.
+-- The APDUs of the input were taken at a desk. They were kept if `is_kept`, and their lines are long if
+-- `is_long`. Or its file could not be opened.
 abbrev pub TakesAtFile : Bool → Bool → Option (List ℕ) → Option (List ℕ) → Option (List ℕ) → Option (List ℕ) →
     Result Bool ToolFault → Type 0
 TakesAtFile is_kept is_long left rest before after result =
@@ -87,13 +87,13 @@ TakesAtFile is_kept is_long left rest before after result =
     ⊎ ((old : HeldAndLanded DeskContents) × (new : HeldAndLanded DeskContents)
     × RunsTaking is_kept (wording is_long) many_sides left rest None None before after old result new)
 
--- The mails of a night and their verdicts, and the number of further mails that wait.
+-- The mails of a run, their verdicts, and the number of further mails that wait.
 pub record Night : Type 0 where
   pub verdicts : List Verdict
   pub mails : List Mail
   pub waiting : ℕ
 
--- Returns the night that a run has taken.
+-- Returns the mails that a run of the code has taken.
 abbrev pub taken_of : Taken → Night
 taken_of taken = record {
   verdicts = taken.verdicts.items;
@@ -101,15 +101,15 @@ taken_of taken = record {
   waiting = taken.found.waiting;
 }
 
--- A run has ended with these verdicts, and the files of its mails were settled, or could not be. Or it has
--- its fault.
+-- A run over `mails` ended with this answer, and then the files of the mails were settled, or that failed. A
+-- fault of the run is the result.
 abbrev pub SettlesRun : List Mail → ℕ → Result (List Verdict) ToolFault → Result Night ToolFault → Type 0
 SettlesRun mails waiting (Ok verdicts) result =
     (result ≡ Ok (record { verdicts = verdicts; mails = mails; waiting = waiting })) ⊎ IsErrAnd result IsFileFault
 SettlesRun mails waiting (Err fault) result = result ≡ Err fault
 
--- The mails of a folder were taken at a desk, with a number of further ones, and their files settled. Or a
--- file was shut.
+-- The mails of a folder were taken at a desk, and their files settled. Further mails may wait. Or a file
+-- could not be opened, and the desk is unchanged.
 abbrev pub TakesMails : HeldAndLanded DeskContents → Option (List ℕ) → Option (List ℕ) →
     Result Night ToolFault → HeldAndLanded DeskContents → Type 0
 TakesMails old before after result new =
@@ -118,20 +118,20 @@ TakesMails old before after result new =
     × RunsInbox many_sides mails waiting None None before after old answer new
     × SettlesRun mails waiting answer result)
 
--- Returns the ending of a run.
+-- Returns the result of `inbox` after a run.
 abbrev pub ending_of : Result Night ToolFault → Result Bool ToolFault
 ending_of (Ok night) = ending (tally_of night.verdicts) night.waiting
 ending_of (Err fault) = Err fault
 
--- The mails of a folder were taken at a desk; or a file was shut.
+-- The command `inbox` took the mails of a folder at a desk. Or a file could not be opened.
 abbrev pub InboxAtFile : Option (List ℕ) → Option (List ℕ) → Result Bool ToolFault → Type 0
 InboxAtFile before after result =
     IsShut before after result
     ⊎ ((old new : HeldAndLanded DeskContents) × (taken : Result Night ToolFault)
     × TakesMails old before after taken new × (result ≡ ending_of taken))
 
--- The messages that want sending were put into a folder, of which nothing is known, and their number was
--- written. `bytes` are the messages that ask. Or a file was shut.
+-- The messages that want sending were put into a folder, and their number written. `bytes` has the messages
+-- that ask. The content of the folder is not known. Or a file could not be opened.
 abbrev pub SendsAsked : List ℕ → List DeskEntry → Option (List ℕ) → Option (List ℕ) → Result (Unit {0}) ToolFault →
     Type 0
 SendsAsked bytes held before after result =
@@ -139,50 +139,53 @@ SendsAsked bytes held before after result =
     ⊎ ((asking : List Apdu) × AreIn bytes asking
     × WritesText before after (sent_line (length (letters_of asking held))) result)
 
--- The messages that want sending were put into a folder, with some that ask, of which nothing is known. Or a
--- file was shut.
+-- The messages that want sending were put into a folder, and their number written. Some messages ask, in a
+-- file of unknown content. Or a file could not be opened.
 abbrev pub SendsTo : List DeskEntry → Option (List ℕ) → Option (List ℕ) → Result (Unit {0}) ToolFault → Type 0
 SendsTo held before after result =
     IsShut before after result ⊎ ((bytes : List ℕ) × SendsAsked bytes held before after result)
 
--- The messages that want sending were written, one after another; or a file was shut.
+-- The messages that want sending were written to the output, one after another. Or a file could not be
+-- opened.
 abbrev pub SendsOn : List DeskEntry → Option (List ℕ) → Option (List ℕ) → Result (Unit {0}) ToolFault → Type 0
 SendsOn held before after result =
     IsShut before after result ⊎ ((bytes : List ℕ) × StreamsOutbox bytes held before after result)
 
--- The messages of a desk left: into a folder if the flag is set, else to the output.
+-- The messages of a desk were put into a folder if the Bool is true, else written to the output.
 abbrev pub SendsFrom : Bool → List DeskEntry → Option (List ℕ) → Option (List ℕ) → Result (Unit {0}) ToolFault → Type 0
 SendsFrom true = SendsTo
 SendsFrom false = SendsOn
 
--- The messages of a desk left, and all went well, or its file is shut.
+-- The command `outbox` sent the messages of a desk. Or its file could not be opened.
 abbrev pub OutboxAtFile : Bool → Option (List ℕ) → Option (List ℕ) → Result Bool ToolFault → Type 0
 OutboxAtFile has_folder before after result =
     IsShut before after result ⊎ ((held : List DeskEntry) × GoesWell (SendsFrom has_folder held before after) result)
 
--- The deeds of the day were performed, and saved, if a day is there.
+-- If `dates` has a day, the deeds of that day were performed and saved. Else nothing changed.
 abbrev pub SaysDates : Option (Date × Dates) → Option (List ℕ) → Option (List ℕ) → HeldAndLanded DeskContents →
     Result (Unit {0}) ToolFault → HeldAndLanded DeskContents → Type 0
 SaysDates None before after old result new = (result ≡ Ok tt) × (after ≡ before) × (new ≡ old)
 SaysDates (Some (today, which)) before after old result new = RunsDates which today before after old result new
 
--- Returns the ending of a night: a fault if mails stay, false if something wants a person, else true.
+-- Returns the result of a night. It is a fault if mails wait, false if a mail wants a person, else true.
 abbrev pub night_ending : Role → Night → Result Bool ToolFault
 night_ending role night =
     if is_waiting (tally_of night.verdicts) night.waiting then Err Left
     else Ok (not (wants_person role (zip night.mails night.verdicts)))
 
--- The messages have left, and a night has this ending, or its sign of life failed. Or they have not left.
+-- If the messages were sent, the result is `ending`, or the fault of the file that marks the run. If they
+-- were not, it is the fault of the sending.
 abbrev pub Departs : Result Bool ToolFault → Result (Unit {0}) ToolFault → Result Bool ToolFault → Type 0
 Departs ending (Ok done) result = (result ≡ ending) ⊎ IsErrAnd result IsFileFault
 Departs ending (Err fault) result = result ≡ Err fault
 
--- Returns the messages of a night's mails that ask: each is of a loan that is over at the desk `live`.
+-- Returns the messages of a night that ask: they came for loans that are over at the desk `live`.
 abbrev pub night_asks : DeskContents → Night → List ℕ
 night_asks live night = asked_by live (zip night.mails night.verdicts)
 
--- A night after the deeds of its day: the desk `live` is copied, and then its messages leave. A loan that the
--- deeds have ended is asked too by a message of this night. If the copy fails, nothing leaves.
+-- The end of a night, after the deeds of its day: the desk `live` is copied, and then its messages are sent.
+-- A loan that a deed has ended is among them, if a message of it came in this night. If the copy fails,
+-- nothing is sent.
 abbrev pub SendsAll : Night → DeskContents → Option (List ℕ) → Option (List ℕ) → Result (Unit {0}) ToolFault →
     Result Bool ToolFault → Type 0
 SendsAll night live before after (Err fault) result = (result ≡ Err fault) × (after ≡ before)
@@ -191,8 +194,8 @@ SendsAll night live before after (Ok done) result =
     ⊎ ((sent : Result (Unit {0}) ToolFault) × SendsAsked (night_asks live night) live.held before after sent
     × Departs (night_ending live.role night) sent result)
 
--- A night after its mails were taken: the deeds of the day, and then the sending. If the mails could not be
--- taken, nothing else is done.
+-- The rest of a night, after its mails were taken: the deeds of the day, and then the sending. If the mails
+-- could not be taken, nothing more is done.
 abbrev pub GoesOn : Option (Date × Dates) → Result Night ToolFault → Option (List ℕ) → Option (List ℕ) →
     HeldAndLanded DeskContents → Result Bool ToolFault → HeldAndLanded DeskContents → Type 0
 GoesOn dates (Err fault) before after old result new = (result ≡ Err fault) × (after ≡ before) × (new ≡ old)
@@ -200,32 +203,34 @@ GoesOn dates (Ok night) before after old result new =
     (between : Option (List ℕ)) × (said : Result (Unit {0}) ToolFault) × SaysDates dates before between old said new
     × SendsAll night new.live between after said result
 
--- A night of a desk: its mails were taken, the deeds of the day were performed, and its messages left.
+-- A night of a desk leads from `old` to `new`: its mails were taken, the deeds of the day performed, and its
+-- messages sent.
 abbrev pub ExchangesAt : Option (Date × Dates) → HeldAndLanded DeskContents → Option (List ℕ) → Option (List ℕ) →
     Result Bool ToolFault → HeldAndLanded DeskContents → Type 0
 ExchangesAt dates old before after result new =
     (met : HeldAndLanded DeskContents) × (between : Option (List ℕ)) × (taken : Result Night ToolFault)
     × TakesMails old before between taken met × GoesOn dates taken between after met result new
 
--- A night of the desk in a file, or the file is shut.
+-- The command `exchange` performed a night of the desk in a file. Or the file could not be opened.
 abbrev pub ExchangesAtFile : Option (Date × Dates) → Option (List ℕ) → Option (List ℕ) → Result Bool ToolFault → Type 0
 ExchangesAtFile dates before after result =
     IsShut before after result
     ⊎ ((old : HeldAndLanded DeskContents) × (new : HeldAndLanded DeskContents) × ExchangesAt dates old before after result new)
 
--- The message `number` of `txn` at a desk was written; or a file was shut.
+-- The message `number` of `txn` at a desk was written. Or a file could not be opened.
 abbrev pub SendsAtFile : Qualifiers → ℕ → Option (List ℕ) → Option (List ℕ) → Result Bool ToolFault → Type 0
 SendsAtFile txn number before after result =
     IsShut before after result
     ⊎ ((held : List DeskEntry) × GoesWell (RunsSend (found_by txn_held txn held) number before after) result)
 
--- The sides of a desk were written in this form; or a file was shut.
+-- The sides of a desk were written in this form. Or a file could not be opened.
 abbrev pub ShowsFile : Form → Option (List ℕ) → Option (List ℕ) → Result Bool ToolFault → Type 0
 ShowsFile form before after result =
     IsShut before after result
     ⊎ ((held : List DeskEntry) × GoesWell (WritesText before after (status_of_desk form held)) result)
 
--- The wanted sides of a desk were listed. If `is_first`, no desk stands before it. Or its file was shut.
+-- The wanted sides of a desk were listed. If `is_first`, no desk is before it. If `is_headed`, the path is
+-- written first. Or its file could not be opened.
 abbrev pub ListsDesk : Form → Wanted → (is_first is_headed : Bool) → List ℕ → Option (List ℕ) → Option (List ℕ) →
     Result (Unit {0}) ToolFault → Type 0
 ListsDesk form wanted is_first is_headed path before after result =
@@ -233,11 +238,11 @@ ListsDesk form wanted is_first is_headed path before after result =
     ⊎ ((sides : List Side)
     × WritesText before after (between form is_first ++ listed_desk form is_headed wanted path sides) result)
 
--- Returns true if several desks are listed.
+-- Returns true if there are several desks to list.
 abbrev pub are_several : List (List ℕ) → Bool
 are_several files = nat_lt 1 (length files)
 
--- The desks in these files were listed, one after another; or some of them, and the next was not.
+-- The desks in `files` were listed, one after another. Or some were, and then one failed.
 abbrev pub ListsDesks : Form → Wanted → List (List ℕ) → Option (List ℕ) → Option (List ℕ) →
     Result (Unit {0}) ToolFault → Type 0
 ListsDesks form wanted files before after (Ok done) =
@@ -248,33 +253,34 @@ ListsDesks form wanted files before after (Err fault) =
     × (path : List ℕ) × Appends before middle (listed_desks form (are_several files) wanted desks)
     × ListsDesk form wanted is_first is_headed path middle after (Err fault)
 
--- The desks at paths were listed: those in some files; or a file was shut.
+-- All desks at the paths were listed. Or a file could not be opened.
 abbrev pub ListsPaths : Form → Wanted → Option (List ℕ) → Option (List ℕ) → Result Bool ToolFault → Type 0
 ListsPaths form wanted before after result =
     IsShut before after result
     ⊎ ((files : List (List ℕ)) × GoesWell (ListsDesks form wanted files before after) result)
 
--- The transaction `txn` at a desk was shown, or drawn, with the messages that came; or a file was shut.
+-- The transaction `txn` at a desk was shown or drawn, with the messages that came. Or a file could not be
+-- opened.
 abbrev pub LoanAtFile : Form → Bool → Qualifiers → Option (List ℕ) → Option (List ℕ) → Result Bool ToolFault → Type 0
 LoanAtFile form is_picture txn before after result =
     IsShut before after result
     ⊎ ((held : List DeskEntry) × (came : List ℕ)
     × GoesWell (RunsKeptLoan (drawn_or_shown form is_picture) (found_by txn_held txn held) came before after) result)
 
--- The lines of the record in a file were written, or the fault of its store returned; or the file was shut.
+-- The record in a file was verified. Or the file could not be opened.
 abbrev pub VerifiesFile : Option (List ℕ) → Option (List ℕ) → Result Bool ToolFault → Type 0
 VerifiesFile before after result =
     IsShut before after result
     ⊎ ((loaded : Result (Option (List ℕ)) StoreFault) × GoesWell (VerifiesLoaded loaded before after) result)
 
--- A page of the desks at paths was written; or a file was shut.
+-- A page of the desks at the paths was written. Or a file could not be opened.
 abbrev pub ReportsPaths : Date → Option (List ℕ) → Option (List ℕ) → Result Bool ToolFault → Type 0
 ReportsPaths today before after result =
     IsShut before after result
     ⊎ ((desks : List (List ℕ × List Side)) × GoesWell (WritesText before after (report_page today desks)) result)
 
--- A command, from the input `left` to `rest`, and from the output `before` to `after`. Only a shelf retires a
--- group.
+-- A command has this result. The input went from `left` to `rest`, and the output from `before` to `after`.
+-- Only a shelf retires a group.
 abbrev pub Runs : Asked → Option (List ℕ) → Option (List ℕ) → Option (List ℕ) → Option (List ℕ) →
     Result Bool ToolFault → Type 0
 Runs (asks.Show form) left rest before after result = GoesWell (RunsShow form left rest before after) result

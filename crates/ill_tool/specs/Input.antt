@@ -1,4 +1,4 @@
--- The reading of all APDUs of an input, and the handling of each.
+-- The reading of an input: its APDUs are decoded and handled one after another.
 use Rattle.std.specs.Prelude.{◌≡◌, ◌⊎◌, ℕ, ◌+◌, ◌<◌, ◌≤◌, List, [], ◌++◌, length, Option, Result, Ok, Err}
 use Rattle.std.specs.List.{flat_map, AllByRecursion}
 use Rattle.std.specs.Io.KnownBytes.{Consumes, IsAtEnd}
@@ -11,16 +11,17 @@ use Rattle.ill_der.specs.Handling.{Handles, Handled}
 use Rattle.ill_tool.specs.declared.fault.ToolFault.{ToolFault}
 use Rattle.ill_tool.specs.declared.fault.ToolFault.TheVariants.{Der, TooMany, Read}
 
--- Returns the bytes of APDUs, one after another.
+-- Returns the encodings of `apdus`, one after another.
 abbrev pub spellings : List Apdu → List ℕ
 spellings apdus = flat_map spelling apdus
 
--- Nothing is left of the input: nothing was read ahead, and the reader is at its end.
+-- The input is at its end, and no bytes of it are left unread or undecoded.
 abbrev pub IsOver : List ℕ → Option (List ℕ) → Type 0
 IsOver ahead left = (ahead ≡ []) × IsAtEnd left
 
--- The fault that stopped the reading. It holds of `count` APDUs, of `bytes` after them, of `ahead` after
--- those, and of the input `left`.
+-- The fault is a reason to stop reading after `count` APDUs. `bytes` come after these, `ahead` was read but
+-- not decoded, and `left` is unread. The bytes are faulty, or one APDU too many, or the reader failed before
+-- their end.
 abbrev pub StopsReading : ToolFault → ℕ → List ℕ → List ℕ → Option (List ℕ) → Type 0
 StopsReading (Der fault) count bytes ahead left =
     (apdu_at bytes ≡ Err fault) × IfShort fault (IsOver ahead left)
@@ -28,14 +29,14 @@ StopsReading TooMany count bytes ahead left = (count ≡ 100000) × SpellsOne by
 StopsReading Read count bytes ahead left = IsUnfinished bytes × (ahead ≡ [])
 StopsReading other count bytes ahead left = ⊥
 
--- The bytes are an APDU, one of those that an input may have, and the handling of it failed.
+-- `bytes` are an APDU, within the most that an input may have, and its handling failed.
 abbrev pub FailsInHand : {S : Type 0} → Handles S ToolFault → ToolFault → ℕ → List ℕ → S → S → Type 0
 FailsInHand handles fault count bytes before after =
     (apdu : Apdu) × IsApdu apdu × (bytes ≡ spelling apdu) × (count < 100000)
     × handles before apdu (Err fault) after
 
--- The end of an input. It ended with the number of APDUs. Or the reading was stopped, with no APDU in hand.
--- Or the handling of the one in hand failed.
+-- An input ended with this result. All APDUs were handled, and `count` of them is the answer. Or the reading
+-- stopped. Or the handling of an APDU failed.
 abbrev pub Ends : {S : Type 0} → Handles S ToolFault → Result ℕ ToolFault → ℕ → List ℕ → List ℕ →
     Option (List ℕ) → S → S → Type 0
 Ends handles (Ok n) count bytes ahead left before after =
@@ -44,9 +45,9 @@ Ends handles (Err fault) count bytes ahead left before after =
     (StopsReading fault count bytes ahead left × (after ≡ before))
     ⊎ FailsInHand handles fault count bytes before after
 
--- The bytes that were read are the encodings of `apdus`, which are not too many, then `bytes`, and `ahead`.
--- The end tells of `bytes`, and `ahead` was not decoded. These two are less than an APDU and a piece of 4,096
--- bytes. The APDUs were handled, one after another, up to the state `last` in which the input ended.
+-- The command read the encodings of `apdus`, then `bytes`, and then `ahead`. It handled `apdus` one after
+-- another, up to the state `last`. Its end is about `bytes`; it did not decode `ahead`. Both together are
+-- less than an APDU and a piece of 4,096 bytes.
 pub record ReadsApdus {S : Type 0} (handles : Handles S ToolFault) (old new : Option (List ℕ)) (before : S)
     (result : Result ℕ ToolFault) (after : S) (apdus : List Apdu) (bytes ahead : List ℕ) (last : S) : Type 0 where
   pub spelled : AllByRecursion IsApdu apdus
@@ -56,22 +57,23 @@ pub record ReadsApdus {S : Type 0} (handles : Handles S ToolFault) (old new : Op
   pub handled : Handled handles before apdus last
   pub ended : Ends handles result (length apdus) bytes ahead new last after
 
--- An input was read from `old` to `new`, and its APDUs were handled from the state `before` to `after`.
+-- The input was read from `old` to `new`, and its APDUs were handled from the state `before` to `after`, with
+-- this result.
 abbrev pub ReadsInput : {S : Type 0} → Handles S ToolFault → Option (List ℕ) → Option (List ℕ) → S →
     Result ℕ ToolFault → S → Type 0
 ReadsInput {S = S} handles old new before result after =
     (apdus : List Apdu) × (bytes : List ℕ) × (ahead : List ℕ) × (last : S)
     × ReadsApdus handles old new before result after apdus bytes ahead last
 
--- Returns the answer at the end of the input after `count` APDUs, by the answer of the feed.
+-- Returns the answer at the end of the input after `count` APDUs, by the answer of the decoder.
 abbrev pub answer_at_end : Result (Unit {0}) DerFault → ℕ → Result ℕ ToolFault
 answer_at_end (Ok done) count = Ok count
 answer_at_end (Err fault) count = Err (Der fault)
 
 -- ---- at most the APDUs that an input may have
 
--- An APDU was handled and counted; or it was one too many, and nothing was done; or the handling failed. A
--- state is the number of APDUs before, and the state of the handler.
+-- An APDU was handled and counted. Or it was one too many, and was not handled. Or its handling failed. The
+-- state is the number of APDUs so far, and the state of the handler.
 abbrev pub CountsOn : {S : Type 0} → Handles S ToolFault → Handles (ℕ × S) ToolFault
 CountsOn handles old apdu (Ok done) new =
     (old.0 < 100000) × (new.0 ≡ old.0 + 1) × handles old.1 apdu (Ok done) new.1

@@ -1,4 +1,4 @@
--- The lines that the commands write.
+-- The lines in the output of the commands.
 use Rattle.std.specs.Prelude.{ℕ, Bool, true, false, List, [], ◌∷◌, ◌++◌, Option, Some, None, codes}
 use Rattle.std.specs.Fmt.{decimal}
 use Rattle.ill_values.specs.declared.apdu.Apdu.{Apdu}
@@ -15,12 +15,12 @@ use Rattle.ill_tool.specs.Escape.{escaped}
 unfoldable pub line : List ℕ → List ℕ → List ℕ
 line label value = label ++ 32 ∷ value ++ 10 ∷ []
 
--- Returns the word of a reply.
+-- Returns the word of a reply: yes or no.
 abbrev pub reply_word : Bool → List ℕ
 reply_word true = codes "yes"
 reply_word false = codes "no"
 
--- Returns the line of a number.
+-- Returns the line of a number, with this label.
 abbrev pub number_line : List ℕ → ℕ → List ℕ
 number_line label n = line label (decimal n)
 
@@ -33,17 +33,17 @@ abbrev pub optional_date_line : Option Date → List ℕ
 optional_date_line None = []
 optional_date_line (Some d) = date_line d
 
--- Returns the lines of a reply: the number of the message that it answers, and yes or no.
+-- Returns the lines of a reply: the number of the answered message, and yes or no.
 abbrev pub reply_lines : ℕ → Bool → List ℕ
 reply_lines answers is_yes =
     number_line (codes "answers") answers ++ line (codes "reply") (reply_word is_yes)
 
--- Returns the lines of a reply to a Renew. It grants by a date, and refuses without one.
+-- Returns the lines of a Renew-Answer: yes and its new due date, or no if it has none.
 abbrev pub grant_lines : ℕ → Option Date → List ℕ
 grant_lines answers None = reply_lines answers false
 grant_lines answers (Some d) = reply_lines answers true ++ date_line d
 
--- Returns the lines of the further fields of a message.
+-- Returns the lines of the fields that an APDU of this type has beside those of each APDU.
 abbrev pub field_lines : Body → List ℕ
 field_lines (IllRequest expiry item) = optional_date_line expiry ++ line (codes "item") item
 field_lines (IllAnswer result) = line (codes "result") (result_name result)
@@ -64,7 +64,7 @@ field_lines Expired = []
 abbrev pub id_lines : List ℕ → List ℕ → List ℕ
 id_lines group transaction = line (codes "group") group ++ line (codes "transaction") transaction
 
--- Returns the lines that each APDU has: its type, its transaction and its number.
+-- Returns the lines of each APDU: its type, its transaction and its number.
 abbrev pub head_lines : Apdu → List ℕ
 head_lines apdu =
     line (codes "apdu") (type_name apdu.body)
@@ -74,12 +74,12 @@ head_lines apdu =
 unfoldable pub lines_of : Apdu → List ℕ
 lines_of apdu = head_lines apdu ++ field_lines apdu.body
 
--- Returns the lines of the further fields for a screen, with the item escaped.
+-- Returns the lines of `field_lines`, with the item escaped for a screen.
 abbrev pub shown_fields : Body → List ℕ
 shown_fields (IllRequest expiry item) = optional_date_line expiry ++ line (codes "item") (escaped item)
 shown_fields other = field_lines other
 
--- Returns the lines of an APDU for a screen, with its item escaped.
+-- Returns the lines of an APDU, with the item escaped for a screen.
 unfoldable pub shown_lines : Apdu → List ℕ
 shown_lines apdu = head_lines apdu ++ shown_fields apdu.body
 

@@ -1,4 +1,5 @@
--- The command `outbox`: the messages that leave a desk in a night, and the names of their mails.
+-- The command `outbox`: the messages that leave a desk in a night, and the names of their mails. A message
+-- asks if it came for a loan that is over here; a responder then sends its messages of this loan again.
 use Rattle.std.specs.Prelude.{◌≡◌, ◌⊎◌, ℕ, ◌+◌, ◌/◌, ◌%◌, Bool, false, if◌then◌else◌, List, [], ◌∷◌, ◌++◌, length, take, fold}
 use Rattle.std.specs.Prelude.{map, codes, Option, None, Some, option_map, Result, Ok, Err}
 use Rattle.std.specs.List.{flat_map, list_any}
@@ -33,7 +34,7 @@ use Rattle.ill_tool.specs.Status.{role_name}
 
 -- ---- the messages that ask
 
--- Returns true if one of `asking` is of the transaction `txn`.
+-- Returns true if a message of `asking` is of the transaction `txn`.
 abbrev pub is_asked : List Apdu → Qualifiers → Bool
 is_asked asking txn = list_any (λ a. is_same_txn a.txn txn) asking
 
@@ -44,7 +45,7 @@ pub record Issue : Type 0 where
   pub side : Side
   pub apdu : Apdu
 
--- Returns the saved messages of a side.
+-- Returns the released messages of a side.
 abbrev pub released_of : DeskEntry → List Apdu
 released_of held = take held.released (issued_of held.side)
 
@@ -52,42 +53,43 @@ released_of held = take held.released (issued_of held.side)
 abbrev pub issues_of : Side → List Apdu → List Issue
 issues_of side apdus = map (λ a. record { side = side; apdu = a }) apdus
 
--- Returns the saved messages of a side, in their order, if it wants sending.
+-- Returns the released messages of a side, in their order, if it wants sending. A side of a loan that is over
+-- wants it only if it is a responder's, and `asking` has a message of the loan.
 abbrev pub leaving_side : List Apdu → DeskEntry → List Issue
 leaving_side asking held =
     if wants_sending (is_asked asking (txn_of held.side)) held.side
     then issues_of held.side (released_of held) else []
 
--- Returns those of all sides, in the order in which these were begun.
+-- Returns the leaving messages of all sides, in the order in which the sides were begun.
 abbrev pub leaving_desk : List Apdu → List DeskEntry → List Issue
 leaving_desk asking held = flat_map (leaving_side asking) held
 
 -- ---- the mails
 
--- A mail that leaves: its name, and its bytes.
+-- A mail that leaves: its name and its bytes.
 pub record Letter : Type 0 where
   pub name : List ℕ
   pub bytes : List ℕ
 
--- Returns a text and the end of its line.
+-- Returns `text` and a line feed.
 abbrev pub line_of : List ℕ → List ℕ
 line_of text = text ++ codes "\n"
 
--- Returns a text that tells the loan of a side from all others.
+-- Returns a text that differs from the text of any other loan or role.
 abbrev pub loan_text : Side → List ℕ
 loan_text side =
     line_of (role_name (role_of side)) ++ (line_of (txn_of side).group ++ line_of (txn_of side).transaction)
 
--- Returns the first half of the digest of that text, in hexadecimal.
+-- Returns the first half of the digest of `loan_text`, in hexadecimal.
 abbrev pub loan_stem : Side → List ℕ
 loan_stem side = take 32 (encode_lower (sha256 (loan_text side)))
 
--- Returns a number below 1,000 in three digits.
+-- Returns `n`, a number below 1,000, in three digits.
 abbrev pub three_digits : ℕ → List ℕ
 three_digits n = (48 + n / 100) ∷ (48 + n / 10 % 10) ∷ (48 + n % 10) ∷ []
 
--- Returns the name of the mail of a message, which does not change from run to run. In the order of their
--- names the mails of a loan stand together, by their numbers.
+-- Returns the name of the mail of a message. It does not change from run to run. Sorted by name, the mails of
+-- a loan are next to each other, in the order of their numbers.
 abbrev pub mail_name : Side → ℕ → List ℕ
 mail_name side number = loan_stem side ++ (codes "-" ++ three_digits number)
 
@@ -95,13 +97,13 @@ mail_name side number = loan_stem side ++ (codes "-" ++ three_digits number)
 abbrev pub letter_of : Issue → Letter
 letter_of issue = record { name = mail_name issue.side issue.apdu.number; bytes = spelling issue.apdu }
 
--- Returns the mails that leave a desk.
+-- Returns the mails that leave a desk, given the messages that ask.
 abbrev pub letters_of : List Apdu → List DeskEntry → List Letter
 letters_of asking held = map letter_of (leaving_desk asking held)
 
--- the values of the program
+-- ---- the values of the code
 
--- Returns the model of a side that the program holds.
+-- Returns the model of a side that the code holds.
 abbrev pub held_of : HeldSide → DeskEntry
 held_of held = record { side = held.side.now; released = held.released }
 
@@ -111,26 +113,26 @@ issue_of leaving = record { side = leaving.side.now; apdu = leaving.apdu.now }
 
 -- ---- the outlets
 
--- A folder or a stream failed, or memory ran out for it.
+-- The fault is a failure of a folder or a stream, or a lack of memory.
 abbrev pub IsFileFault : ToolFault → Type 0
 IsFileFault fault = (fault ≡ Desk (Store Failed)) ⊎ (fault ≡ OutOfMemory)
 
--- Returns the content of an outlet after one more mail, if it is known.
+-- Returns the content of an outlet after one more mail, if the content is known.
 abbrev pub after_one : {M : Type 0} → (M → Letter → M) → Option M → Letter → Option M
 after_one after there letter = option_map (λ there. after there letter) there
 
--- A mail was put into an outlet, or failed and was not.
+-- The mail was put into the outlet. Or that failed, and the outlet is unchanged.
 abbrev pub PutsOne : {M : Type 0} → (M → Letter → M) → Letter → Option M → Option M → Result (Unit {0}) ToolFault →
     Type 0
 PutsOne after letter old new (Ok done) = new ≡ after_one after old letter
 PutsOne after letter old new (Err fault) = IsFileFault fault × (new ≡ old)
 
--- Returns the content of an outlet after mails, one after another, if it is known.
+-- Returns the content of an outlet after `letters`, one after another, if the content is known.
 abbrev pub after_all : {M : Type 0} → (M → Letter → M) → List Letter → Option M → Option M
 after_all after letters there = fold (after_one after) there letters
 
--- All mails were put there, and are counted; or the first of them were, and the next failed, or memory ran
--- out.
+-- All mails were put into the outlet, and the answer is their number. Or a prefix of them was, and the next
+-- one failed.
 abbrev pub PutsAll : {M : Type 0} → (M → Letter → M) → List Letter → Option M → Option M → Result ℕ ToolFault → Type 0
 PutsAll after letters old new (Ok count) = (count ≡ length letters) × (new ≡ after_all after letters old)
 PutsAll after letters old new (Err fault) =
@@ -138,8 +140,8 @@ PutsAll after letters old new (Err fault) =
 
 -- ---- the command
 
--- The messages of these sides that want sending were put there, with `bytes` of the messages that ask. Or
--- memory ran out to read those, and nothing was put there.
+-- The command: the messages of `held` that want sending were put into the outlet. `bytes` has the messages
+-- that ask. If memory ran out to read these, the outlet is unchanged.
 abbrev pub RunsOutbox : {M : Type 0} → (M → Letter → M) → List ℕ → List DeskEntry → Option M → Option M →
     Result ℕ ToolFault → Type 0
 RunsOutbox after bytes held old new (Ok count) =
@@ -148,7 +150,7 @@ RunsOutbox after bytes held old new (Err fault) =
     ((fault ≡ OutOfMemory) × (new ≡ old))
     ⊎ ((asking : List Apdu) × AreIn bytes asking × PutsAll after (letters_of asking held) old new (Err fault))
 
--- Returns the line of the number of mails that left.
+-- Returns the line with the number of mails that left.
 abbrev pub sent_line : ℕ → List ℕ
 sent_line count = codes "sent " ++ decimal count ++ codes "\n"
 
@@ -156,8 +158,8 @@ sent_line count = codes "sent " ++ decimal count ++ codes "\n"
 abbrev pub stream_of : List Letter → List ℕ
 stream_of letters = flat_map (λ letter. letter.bytes) letters
 
--- The messages of these sides that want sending were written, or a prefix of them; or memory ran out for
--- them.
+-- The output grew from `before` to `after` by the messages of `held` that want sending. If the writer failed,
+-- it grew by a prefix of them. If memory ran out, it did not grow.
 abbrev pub StreamsOutbox : List ℕ → List DeskEntry → Option (List ℕ) → Option (List ℕ) → Result (Unit {0}) ToolFault →
     Type 0
 StreamsOutbox bytes held before after (Err OutOfMemory) = Appends before after []
@@ -166,31 +168,33 @@ StreamsOutbox bytes held before after result =
 
 -- ---- the messages that ask, by an inbox
 
--- Returns true if a loan is held, and is over.
+-- Returns true if there is a side, and its loan is over.
 abbrev pub is_held_over : Option Side → Bool
 is_held_over None = false
 is_held_over (Some side) = is_over side
 
--- Returns the bytes of a mail, if its message is of a loan at this desk that is over.
+-- Returns the bytes of a mail if its message asks: its loan is held at this desk and is over. Else it returns
+-- nothing.
 abbrev pub asks : DeskContents → List ℕ → Result Apdu Unfit → List ℕ
 asks live bytes (Ok a) = if is_held_over (side_with a.txn (sides_held live).sides) then bytes else []
 asks live bytes (Err unfit) = []
 
--- Returns the bytes of a mail that could be read, if they ask.
+-- Returns the bytes of a mail that could be read, if its message asks.
 abbrev pub asks_in : DeskContents → Option (List ℕ) → List ℕ
 asks_in live None = []
 asks_in live (Some bytes) = asks live bytes (message_in bytes)
 
--- Returns the bytes of a mail that ask. It asks only if the desk has done with it.
+-- Returns the bytes of a mail with this verdict, if its message asks. A mail that is put aside or waits does
+-- not ask.
 abbrev pub asks_of : DeskContents → Mail → Verdict → List ℕ
 asks_of live mail (Done outcome) = asks_in live (option_map (λ bytes. bytes.items) mail.bytes)
 asks_of live mail verdict = []
 
--- Returns the bytes that ask, if there are a mail and a verdict.
+-- Returns the bytes of a mail, if there are a mail and a verdict, and its message asks.
 abbrev pub asks_at : DeskContents → Option Mail → Option Verdict → List ℕ
 asks_at live (Some mail) (Some verdict) = asks_of live mail verdict
 asks_at live mail verdict = []
 
--- Returns the bytes of all mails that ask, by their verdicts.
+-- Returns the bytes of all messages that ask, by the verdicts of their mails.
 abbrev pub asked_by : DeskContents → List (Mail × Verdict) → List ℕ
 asked_by live mails = flat_map (λ mail. asks_of live mail.0 mail.1) mails

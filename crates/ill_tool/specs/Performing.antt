@@ -30,6 +30,7 @@ abbrev pub known_if : Bool → Option (List ℕ) → Option (Option (List ℕ))
 known_if true landed = Some landed
 known_if false landed = None
 
+-- Returns the content of a store, if it is known.
 abbrev pub known : StoreState → Option (Option (List ℕ))
 known store = known_if store.is_honest store.landed
 

@@ -1,4 +1,4 @@
--- The command `send`: the bytes of one message.
+-- The command `send`: it writes the bytes of one message.
 use Rattle.std.specs.Prelude.{◌≡◌, ℕ, nat_le, Bool, true, false, List, [], Option, None, Some, Result, Err}
 use Rattle.std.specs.Io.KnownBytes.{Appends}
 use Rattle.ill_values.specs.declared.apdu.Apdu.{Apdu}
@@ -11,7 +11,8 @@ use Rattle.ill_tool.specs.declared.fault.ToolFault.{ToolFault}
 use Rattle.ill_tool.specs.declared.fault.ToolFault.TheVariants.{Desk}
 use Rattle.ill_tool.specs.Output.{WritesText}
 
--- The message with the number is written, if there is one, and it may be sent.
+-- The message was written, if there is one and it is released. Else the fault is `NoSuchMessage` or
+-- `NotSaved`, and nothing was written.
 abbrev pub WritesMessage : Option Apdu → Bool → Option (List ℕ) → Option (List ℕ) →
     Result (Unit {0}) ToolFault → Type 0
 WritesMessage None is_released before after result =
@@ -19,7 +20,7 @@ WritesMessage None is_released before after result =
 WritesMessage (Some a) false before after result = (result ≡ Err (Desk NotSaved)) × Appends before after []
 WritesMessage (Some a) true before after result = WritesText before after (spelling a) result
 
--- The command: the message `number` of the side, if one is held.
+-- The command: the message `number` of the side was written, if the side is held.
 abbrev pub RunsSend : Option DeskEntry → ℕ → Option (List ℕ) → Option (List ℕ) → Result (Unit {0}) ToolFault →
     Type 0
 RunsSend None number before after result =

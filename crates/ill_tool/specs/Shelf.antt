@@ -1,5 +1,5 @@
--- A shelf: a folder of desks of one role, one for each group. The group of a transaction names its desk (this
--- profile's own).
+-- A shelf: a folder of desks of one role, one for each group of transactions. The group of a transaction
+-- gives the name of its desk (this profile's own).
 use Rattle.std.specs.Prelude.{◌≡◌, ◌⊎◌, All, ℕ, Bool, true, false, ◌&&◌, List, [], ◌∷◌, ◌++◌, map, fold, codes, Option, Some}
 use Rattle.std.specs.Prelude.{is_some, Result, Ok, Err}
 use Rattle.std.specs.List.{list_all}
@@ -39,16 +39,16 @@ use Rattle.ill_tool.specs.Status.{role_name}
 abbrev pub desk_name : Role → List ℕ → List ℕ
 desk_name role group = percent_encode ESCAPED group ++ (codes "." ++ role_name role)
 
--- Returns the path of that desk, on the shelf in `folder`.
+-- Returns the path of the desk of `group`, on the shelf in `folder`.
 abbrev pub desk_path : List ℕ → Role → List ℕ → List ℕ
 desk_path folder role group = folder ++ (codes "/" ++ desk_name role group)
 
 -- ---- mail
 
--- Returns the way of a mail's message. It depends on the role of the shelf, on the home of its group, on
--- `is_request`, and on `has_room`: further desks may be made in this run. Mail makes a desk only of a group
--- without a home, and only by an ILL-Request at a responder's shelf. No mail makes the desk of a retired
--- group, or one that is lost.
+-- Returns the way of a mail's message, by the role of the shelf and the home of the message's group.
+-- `has_room` is true if this run may make further desks. A mail makes a desk only if it is an ILL-Request to
+-- a responder's shelf, and its group is new. No mail makes the desk of a retired group, or of a group whose
+-- desk is lost.
 abbrev pub route_of : Role → Home → (is_request has_room : Bool) → Route
 route_of role homes.Desk is_request has_room = routes.Home
 route_of role homes.Retired is_request has_room = routes.Gone
@@ -59,8 +59,8 @@ route_of role homes.Nothing is_request has_room = routes.Stray
 
 -- ---- one desk after another
 
--- Returns the graver of two answers: a fault before mails that are left, these before something that wants a
--- person.
+-- Returns the graver of two answers. A fault is the gravest, then mails that wait, and then something that
+-- wants a person.
 abbrev pub graver : Result Bool ToolFault → Result Bool ToolFault → Result Bool ToolFault
 graver (Err Left) (Err fault) = Err fault
 graver (Err fault) other = Err fault
@@ -74,7 +74,8 @@ pub record Stop : Type 0 where
   pub after : Option (List ℕ)
   pub answer : Result Bool ToolFault
 
--- The visits follow each other, from the output `before` to `after`.
+-- Each of the visits begins with the output of the one before it. The first begins with `before`, and the
+-- last ends with `after`.
 unfoldable pub Follow : Option (List ℕ) → List Stop → Option (List ℕ) → Type 0
 Follow before [] after = after ≡ before
 Follow before (stop ∷ stops) after = (stop.before ≡ before) × Follow stop.after stops after
@@ -83,37 +84,38 @@ Follow before (stop ∷ stops) after = (stop.before ≡ before) × Follow stop.a
 abbrev pub gravest : List Stop → Result Bool ToolFault
 gravest stops = fold graver (Ok true) (map (λ stop. stop.answer) stops)
 
--- A desk was visited after the line of its path; or that line could not be written.
+-- If the line of the path was written, the command ran at the desk. If it was not, its fault is the answer.
 abbrev pub RunsAfter : (Option (List ℕ) → Option (List ℕ) → Result Bool ToolFault → Type 0) → Result (Unit {0}) ToolFault →
     Option (List ℕ) → Option (List ℕ) → Result Bool ToolFault → Type 0
 RunsAfter Runs (Ok done) between after answer = Runs between after answer
 RunsAfter Runs (Err fault) between after answer = (answer ≡ Err fault) × (after ≡ between)
 
--- The line of its path was written if `is_headed`, and then a desk was visited.
+-- If `is_headed`, the line of the path was written first. Then the command ran at the desk.
 abbrev pub Headed : Bool → (Option (List ℕ) → Option (List ℕ) → Result Bool ToolFault → Type 0) → Stop → Type 0
 Headed is_headed Runs stop =
     (between : Option (List ℕ)) × (told : Result (Unit {0}) ToolFault)
     × WritesText stop.before between (heading is_headed stop.path) told × RunsAfter Runs told between stop.after stop.answer
 
--- Returns true for the form in which a line of its path stands before each desk.
+-- Returns true if the form is that of lines.
 abbrev pub is_lines : Form → Bool
 is_lines Lines = true
 is_lines form = false
 
--- Returns true if a line of the path stands before each desk: unless bytes or objects are written.
+-- Returns true if the line of its path is written before each desk. It is not if messages or objects of JSON
+-- go to the output.
 abbrev pub is_headed : Visit → Bool
 is_headed (visits.Status form) = is_lines form
 is_headed (visits.Outbox folder) = is_some folder
 is_headed visit = true
 
--- A visit has the effect of the command for one desk.
+-- A visit has the effect of its command at one desk.
 abbrev pub RunsVisit : Visit → Option (List ℕ) → Option (List ℕ) → Result Bool ToolFault → Type 0
 RunsVisit (visits.Status form) = ShowsFile form
 RunsVisit (visits.Inbox folder) = InboxAtFile
 RunsVisit (visits.Outbox folder) = OutboxAtFile (is_some folder)
 RunsVisit (visits.Exchange night) = ExchangesAtFile night.dates
 
--- The desks at `paths` were visited, one after another, and this is the gravest of their answers.
+-- The desks at `paths` were visited one after another, and `answer` is the gravest of their answers.
 abbrev pub VisitsAll : Bool → (Option (List ℕ) → Option (List ℕ) → Result Bool ToolFault → Type 0) → List (List ℕ) →
     Option (List ℕ) → Option (List ℕ) → Result Bool ToolFault → Type 0
 VisitsAll is_headed Runs paths before after answer =
@@ -126,8 +128,8 @@ IsFurther (Ok is_well) = is_well ≡ true
 IsFurther (Err Left) = Unit {0}
 IsFurther (Err fault) = IsFileFault fault
 
--- The desks of a shelf were visited. The answer is graver yet if mails wait that have no desk, or a file
--- failed. Or the shelf was shut.
+-- The desks of a shelf were visited. The result is graver than their answers if mails wait that have no desk,
+-- or a file failed. Or the shelf could not be opened.
 abbrev pub VisitsShelf : Bool → (Option (List ℕ) → Option (List ℕ) → Result Bool ToolFault → Type 0) → Option (List ℕ) →
     Option (List ℕ) → Result Bool ToolFault → Type 0
 VisitsShelf is_headed Runs before after result =
@@ -145,26 +147,26 @@ are_all_over sides = list_all is_over sides
 abbrev pub retired_mark : List ℕ
 retired_mark = codes "retired\n"
 
--- If all loans of a desk are over, its group is marked in a store with the known content `old`. If memory ran
--- out before that was known, nothing is marked.
+-- A group is retired: if all loans of its desk are over, the content of its mark goes from `old` to `new`, if
+-- it is known. If a loan is not over, or memory ran out, the mark is unchanged.
 abbrev pub Retires : List Side → Option (Option (List ℕ)) → Result Bool ToolFault → Option (Option (List ℕ)) → Type 0
 Retires sides old (Ok true) new = (are_all_over sides ≡ true) × Copies retired_mark old (Ok tt) new
 Retires sides old (Ok false) new = (are_all_over sides ≡ false) × (new ≡ old)
 Retires sides old (Err OutOfMemory) new = new ≡ old
 Retires sides old (Err fault) new = (are_all_over sides ≡ true) × Copies retired_mark old (Err fault) new
 
--- Returns the line of a group that is retired, or of one with a loan that is not over.
+-- Returns the line of the command: `done` if the group is retired, `not-now` if a loan is not over.
 abbrev pub retired_line : Bool → List ℕ
 retired_line true = codes "done\n"
 retired_line false = codes "not-now\n"
 
--- Returns the answer of a command that has written its line, or could not.
+-- Returns the answer of a command that has written its line, or the fault if it could not.
 abbrev pub told_with : Bool → Result (Unit {0}) ToolFault → Result Bool ToolFault
 told_with is_well (Ok done) = Ok is_well
 told_with is_well (Err fault) = Err fault
 
--- A group was retired at a desk's file, or was before, or is not, and its line was written. Or a file was
--- shut.
+-- The group of the desk in a file is retired, or is not, and the command wrote its line. Or a file could not
+-- be opened.
 abbrev pub RetiresAtFile : Option (List ℕ) → Option (List ℕ) → Result Bool ToolFault → Type 0
 RetiresAtFile before after result =
     IsShut before after result
@@ -173,15 +175,15 @@ RetiresAtFile before after result =
 
 -- ---- an input
 
--- The state of an input: flags that messages are kept, that they are told at length, and that all went well,
--- and the output.
+-- The state of `take` on a shelf: flags that taken messages are kept, that their lines are long, and that all
+-- went well so far, and the output.
 pub record ShelfTaking : Type 0 where
   pub is_kept : Bool
   pub is_long : Bool
   pub all_fine : Bool
   pub written : Option (List ℕ)
 
--- An APDU alone was taken as the input of the command for one desk.
+-- The APDU `a` was taken as by `take` at one desk, with `a` alone as the input.
 abbrev pub takes_home : Handles ShelfTaking ToolFault
 takes_home old a (Ok done) new =
     (is_well : Bool) × (rest : Option (List ℕ))
@@ -195,7 +197,7 @@ takes_home old a (Err fault) new =
 abbrev pub shelf_taking : (is_kept is_long : Bool) → Option (List ℕ) → ShelfTaking
 shelf_taking is_kept is_long before = record { is_kept = is_kept; is_long = is_long; all_fine = true; written = before }
 
--- The APDUs of an input were taken, each at a desk; or the shelf was shut.
+-- The APDUs of the input were taken, each at a desk. Or the shelf could not be opened.
 abbrev pub TakesAtShelf : (is_kept is_long : Bool) → Option (List ℕ) → Option (List ℕ) → Option (List ℕ) →
     Option (List ℕ) → Result Bool ToolFault → Type 0
 TakesAtShelf is_kept is_long left rest before after result =
@@ -206,8 +208,8 @@ TakesAtShelf is_kept is_long left rest before after result =
 
 -- ---- the commands
 
--- A command on a shelf, from the input `left` to `rest`, and from the output `before` to `after`. In a
--- transaction it has the effect of the command for one desk at the desk of its group.
+-- A command on a shelf. In a transaction it has the effect of the command for one desk, at the desk of the
+-- transaction's group. The input goes from `left` to `rest`, and the output from `before` to `after`.
 abbrev pub RunsShelf : Asked → Option (List ℕ) → Option (List ℕ) → Option (List ℕ) → Option (List ℕ) →
     Result Bool ToolFault → Type 0
 RunsShelf (asks.New folder role) left rest before after result = (rest ≡ left) × NewAtFile before after result

@@ -1,4 +1,4 @@
--- The command `show`: it shows all APDUs of an input.
+-- The command `show`: it writes the text of each APDU of an input.
 use Rattle.std.specs.Prelude.{ℕ, Bool, true, false, List, Option, Result}
 use Rattle.ill_der.specs.Handling.{Handles}
 use Rattle.ill_tool.specs.declared.fault.ToolFault.{ToolFault}
@@ -8,16 +8,17 @@ use Rattle.ill_tool.specs.declared.form.Form.{Form}
 use Rattle.ill_tool.specs.declared.form.Form.TheVariants.{Lines, Json}
 use Rattle.ill_tool.specs.Objects.{apdu_text}
 
--- Returns the form of objects, or of lines.
+-- Returns the form of objects if the Bool is true, else the form of lines.
 abbrev pub form_of : Bool → Form
 form_of true = Json
 form_of false = Lines
 
--- An APDU is shown: its text is written. A state is the output.
+-- The text of an APDU was written. The states are the output before and after it.
 abbrev pub shows : Form → Handles (Option (List ℕ)) ToolFault
 shows form before apdu result after = WritesText before after (apdu_text form apdu) result
 
--- The command, from the input `old` to `new`, and from the output `before` to `after`.
+-- The command: the text of each APDU of the input was written. The input went from `old` to `new`, and the
+-- output from `before` to `after`.
 abbrev pub RunsShow : Form → Option (List ℕ) → Option (List ℕ) → Option (List ℕ) → Option (List ℕ) →
     Result ℕ ToolFault → Type 0
 RunsShow form old new before after result = ReadsInput (shows form) old new before result after

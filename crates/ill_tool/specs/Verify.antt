@@ -1,4 +1,4 @@
--- The command `verify`: what the record of a desk has, or why it is none.
+-- The command `verify`: it writes the parts of a desk's record, or finds its fault.
 use Rattle.std.specs.Prelude.{◌≡◌, ℕ, ◌-◌, true, if◌then◌else◌, List, [], ◌++◌, length, sum_by, codes, Option, None, Some, Result}
 use Rattle.std.specs.Prelude.{Ok, Err, IfOk}
 use Rattle.std.specs.Io.KnownBytes.{Appends}
@@ -18,32 +18,32 @@ use Rattle.ill_tool.specs.Status.{role_name}
 use Rattle.ill_tool.specs.Performing.{desk_fault}
 use Rattle.ill_tool.specs.Output.{WritesText}
 
--- Returns the version of a record that was read.
+-- Returns the version of the format of a record.
 abbrev pub version_of : List ℕ → List ℕ
 version_of bytes = if is_version_1 bytes then codes "1" else codes "2"
 
--- Returns the number of messages that all sides have issued together.
+-- Returns the number of messages that all of `sides` have issued together.
 abbrev pub issued_by_all : List Side → ℕ
 issued_by_all sides = sum_by (λ side. length (issued_of side)) sides
 
--- Returns the lines of a record with these bytes and these sides. They are its version, its role, the number
--- of its sides, and that of their messages. The last has the number of further sides for which there is room.
+-- Returns the five lines of a record: its version, its role, its number of loans, its number of issued
+-- messages, and the number of loans for which there is still room.
 unfoldable pub verify_lines : List ℕ → SidesOf → List ℕ
 verify_lines bytes all =
     line (codes "version") (version_of bytes) ++ (line (codes "role") (role_name all.role)
     ++ (number_line (codes "loans") (length all.sides) ++ (number_line (codes "messages") (issued_by_all all.sides)
     ++ number_line (codes "room") (most_sides - length all.sides))))
 
--- The lines of bytes with these sides are written. For other bytes their fault is returned, and nothing is
--- written.
+-- If `bytes` are a record, its lines were written. If they are none, the result is their fault, and nothing
+-- was written.
 abbrev pub Verifies : List ℕ → Result SidesOf RecordFault → Option (List ℕ) → Option (List ℕ) →
     Result (Unit {0}) ToolFault → Type 0
 Verifies bytes (Ok all) before after result = WritesText before after (verify_lines bytes all) result
 Verifies bytes (Err fault) before after (Err OutOfMemory) = Appends before after []
 Verifies bytes (Err fault) before after result = (result ≡ Err (Desk (Saved fault))) × Appends before after []
 
--- The lines of the load of a store are written, if it gave bytes. If it gave nothing, or a fault, nothing is
--- written.
+-- If the load of the store gave bytes, they were verified. If it gave none or a fault, the result is a fault,
+-- and nothing was written.
 abbrev pub VerifiesLoaded : Result (Option (List ℕ)) StoreFault → Option (List ℕ) → Option (List ℕ) →
     Result (Unit {0}) ToolFault → Type 0
 VerifiesLoaded (Ok (Some bytes)) before after result = Verifies bytes (records_at bytes) before after result
@@ -51,7 +51,7 @@ VerifiesLoaded (Ok None) before after result = (result ≡ Err (Desk NoRecord)) 
 VerifiesLoaded (Err fault) before after result =
     (result ≡ Err (desk_fault (of_store fault))) × Appends before after []
 
--- The command: it verifies what the store gives, which is what has landed, if the store is honest.
+-- The command: it loads the content of the store, and verifies it. An honest store gives the landed bytes.
 abbrev pub RunsVerify : StoreState → Option (List ℕ) → Option (List ℕ) → Result (Unit {0}) ToolFault → Type 0
 RunsVerify store before after result =
     (loaded : Result (Option (List ℕ)) StoreFault)

@@ -1,4 +1,5 @@
--- Answers the contract of `shipped` (`src/main.rt`).
+-- Proves the loop invariant of `shipped` (`src/main.rt`): each turn of the loop appends the side at `place`
+-- if it is SHIPPED.
 use Rattle.std.proofs.Common.{◌≡◌, ℕ, zero, suc, ◌+◌, ◌++◌, List, [], ◌∷◌, map, drop, Bor, refl, ap, sym, ◌∙◌, append_assoc}
 use Rattle.std.proofs.Common.{add-one}
 use Rattle.std.specs.Prelude.{slice_get}
@@ -8,7 +9,7 @@ use Rattle.ill_saved.specs.declared.side.Side.{Side}
 use Rattle.due_dates.specs.Shipped.{shipped}
 use Rattle.due_dates.proofs.shipped.Goals as goal
 
--- The items from `place` on are the one there and those after it.
+-- The items from `place` on are the item at `place` and the items after it.
 one_item : {X : Type 0} (items : List X) (place : ℕ)
     → option_to_list (slice_get items place) ++ drop (suc place) items ≡ drop place items
 one_item [] zero = refl

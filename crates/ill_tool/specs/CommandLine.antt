@@ -30,7 +30,7 @@ word_of Check = codes "check"
 word_of Simulate = codes "simulate"
 word_of SimulateDesks = codes "simulate-desks"
 
--- Returns the command that `word` stands for.
+-- Returns the command that has the word `word`.
 abbrev pub name_read : List ℕ → Option Name
 name_read word = find (λ name. bytes_eq (word_of name) word)
     (New ∷ Act ∷ names.List ∷ Loan ∷ Status ∷ Report ∷ Take ∷ Send ∷ Inbox ∷ Outbox ∷ Exchange ∷ Verify ∷ Show ∷ Check

@@ -183,8 +183,8 @@ Departs ending (Err fault) result = result ≡ Err fault
 abbrev pub night_asks : DeskContents → Night → List ℕ
 night_asks live night = asked_by live (zip night.mails night.verdicts)
 
--- The end of a night, after the deeds of its day: the desk `live` is copied, and then its messages are sent.
--- A loan that a deed has ended is among them, if a message of it came in this night. If the copy fails,
+-- The end of a night, after the deeds of its day: a copy of the desk `live`, and then the sending. A loan
+-- that a deed has ended is among the senders, if a message of it came in this night. If the copy fails,
 -- nothing is sent.
 abbrev pub SendsAll : Night → DeskContents → Option (List ℕ) → Option (List ℕ) → Result (Unit {0}) ToolFault →
     Result Bool ToolFault → Type 0
@@ -203,7 +203,7 @@ GoesOn dates (Ok night) before after old result new =
     (between : Option (List ℕ)) × (said : Result (Unit {0}) ToolFault) × SaysDates dates before between old said new
     × SendsAll night new.live between after said result
 
--- A night of a desk leads from `old` to `new`: its mails were taken, the deeds of the day performed, and its
+-- A night of a desk leads from `old` to `new`. Its mails were taken, the deeds of the day performed, and its
 -- messages sent.
 abbrev pub ExchangesAt : Option (Date × Dates) → HeldAndLanded DeskContents → Option (List ℕ) → Option (List ℕ) →
     Result Bool ToolFault → HeldAndLanded DeskContents → Type 0

@@ -1,5 +1,5 @@
--- The deeds that a date makes due for a responder: Overdue in an overdue loan, and Expire of a request whose
--- last day is past (this profile's own).
+-- The deeds that a date makes due for a responder (this profile's own). They are Overdue in an overdue loan,
+-- and Expire of a request whose last day is past.
 use Rattle.std.specs.Prelude.{ℕ, Bool, true, ◌&&◌, if◌then◌else◌, List, [], ◌∷◌, ◌++◌, fold, Option, None, Some, option_map}
 use Rattle.std.specs.Prelude.{Result, Ok, Err}
 use Rattle.std.specs.List.{filter_map, flat_map}
@@ -125,8 +125,7 @@ abbrev pub RunsDeeds : {L : Type 0} → Effects L Qualifiers → Date → List D
 RunsDeeds effects today dues before after old result new =
     EndsRun effects (deeds_run effects (after_deeds effects today old.live dues)) before after old result new
 
--- All deeds that are due on the day `today` were attempted at a desk, saved at once, and the lines of the
--- done ones written.
+-- All deeds that are due on the day `today` were attempted at a desk, as `RunsDeeds` says.
 abbrev pub RunsDates : Dates → Date → Option (List ℕ) → Option (List ℕ) → HeldAndLanded DeskContents →
     Result (Unit {0}) ToolFault → HeldAndLanded DeskContents → Type 0
 RunsDates which today before after old result new =

@@ -10,8 +10,8 @@ use Rattle.ill_tool.specs.declared.escape.Escaping.TheVariants.{Screen, Json}
 abbrev pub is_within : ℕ → ℕ → ℕ → Bool
 is_within first last number = nat_le first number && nat_le number last
 
--- Returns true if a terminal may act on the character `number`: on a control from U+0080 to U+009F, or a mark
--- that changes the direction of a text.
+-- Returns true if a terminal may act on the character `number`. It may on a control from U+0080 to U+009F,
+-- and on a mark that changes the direction of a text.
 abbrev pub is_acting : ℕ → Bool
 is_acting number =
     is_within 0x80 0x9F number || (number == 0x61C || (is_within 0x200E 0x200F number

@@ -3,8 +3,8 @@ use Rattle.std.specs.Prelude.{ℕ, Bool, not, ◌||◌, ◌==◌, if◌then◌el
 use Rattle.std.specs.List.{flat_map}
 use Rattle.ill_tool.specs.Escape.{escaped}
 
--- Returns `byte`, or the HTML entity that replaces it if it could begin or end an element, an attribute or an
--- entity.
+-- Returns `byte`, or the HTML entity for it. It has one if it could begin or end an element, an attribute or
+-- an entity.
 abbrev pub html_byte : ℕ → List ℕ
 html_byte byte =
     if byte == 0x26 then codes "&amp;"
@@ -23,6 +23,6 @@ html_escaped text = flat_map html_byte text
 abbrev pub html_text : List ℕ → List ℕ
 html_text text = html_escaped (escaped text)
 
--- Returns true if `byte` can begin or end neither an element nor an attribute: it is no `<`, `>` or quote.
+-- Returns true if `byte` begins or ends no element and no attribute: it is no `<`, `>` or quote.
 abbrev pub is_inert : ℕ → Bool
 is_inert byte = not (byte == 0x3C || (byte == 0x3E || (byte == 0x22 || byte == 0x27)))

@@ -1,5 +1,4 @@
--- The command `inbox`: it takes the mails of a folder one after another, and saves the desk once (this
--- profile's own).
+-- The command `inbox`: it takes the mails of a folder in order, and saves the desk once (this profile's own).
 use Rattle.std.specs.Prelude.{◌≡◌, ℕ, nat_lt, Bool, true, false, not, ◌||◌, if◌then◌else◌, List, [], ◌∷◌, ◌++◌, length, fold}
 use Rattle.std.specs.Prelude.{count_by, codes, Option, None, Some, option_map, Result, Ok, Err}
 use Rattle.std.specs.Fmt.{decimal}
@@ -101,8 +100,7 @@ verdict_line name (Left delay) = stays_line name (codes " left ") (delay_text de
 
 -- ---- one mail after another
 
--- The state after some mails: the sides, the verdicts, the lines of the mails, and the bytes of the taken
--- messages.
+-- The state after some mails: the sides, the verdicts, the lines, and the bytes of the taken messages.
 pub record Sorting (L : Type 0) : Type 0 where
   pub live : L
   pub verdicts : List Verdict
@@ -236,7 +234,7 @@ abbrev pub HandsOver : {L K : Type 0} → Effects L K → L → Apdu → Result 
 HandsOver effects old a (Ok outcome) new = handed effects old a ≡ (Ok outcome, new)
 HandsOver effects old a (Err fault) new = new ≡ old
 
--- Returns all lines of a run: those of the mails, and that of the counts.
+-- Returns the lines of all mails, and the line of the counts.
 abbrev pub inbox_text : {L : Type 0} → Sorting L → ℕ → List ℕ
 inbox_text end waiting = end.told ++ tally_line (tally_of end.verdicts) waiting
 

@@ -57,8 +57,8 @@ pub record ReadsApdus {S : Type 0} (handles : Handles S ToolFault) (old new : Op
   pub handled : Handled handles before apdus last
   pub ended : Ends handles result (length apdus) bytes ahead new last after
 
--- The input was read from `old` to `new`, and its APDUs were handled from the state `before` to `after`, with
--- this result.
+-- The input was read from `old` to `new`, with this result. Its APDUs were handled from the state `before` to
+-- `after`.
 abbrev pub ReadsInput : {S : Type 0} → Handles S ToolFault → Option (List ℕ) → Option (List ℕ) → S →
     Result ℕ ToolFault → S → Type 0
 ReadsInput {S = S} handles old new before result after =

@@ -61,8 +61,8 @@ WritesKept text txn bytes before after (Err OutOfMemory) = Appends before after 
 WritesKept text txn bytes before after result =
     (came : List Apdu) × AreIn bytes came × WritesText before after (text (kept_of txn came)) result
 
--- The command: if the side is held, it writes the text of the side and of the messages of its transaction in
--- `bytes`. If it is not held, the fault is `NoSuchTransaction`, and nothing is written.
+-- The command: it writes the text of the side and of the messages of its transaction in `bytes`. If the side
+-- is not held, the fault is `NoSuchTransaction`, and nothing is written.
 abbrev pub RunsKeptLoan : (DeskEntry → List Apdu → List ℕ) → Option DeskEntry → List ℕ → Option (List ℕ) →
     Option (List ℕ) → Result (Unit {0}) ToolFault → Type 0
 RunsKeptLoan text None bytes before after result =

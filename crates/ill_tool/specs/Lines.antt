@@ -43,7 +43,7 @@ abbrev pub grant_lines : ℕ → Option Date → List ℕ
 grant_lines answers None = reply_lines answers false
 grant_lines answers (Some d) = reply_lines answers true ++ date_line d
 
--- Returns the lines of the fields that an APDU of this type has beside those of each APDU.
+-- Returns the lines of the fields that only APDUs of this type have.
 abbrev pub field_lines : Body → List ℕ
 field_lines (IllRequest expiry item) = optional_date_line expiry ++ line (codes "item") item
 field_lines (IllAnswer result) = line (codes "result") (result_name result)

@@ -113,7 +113,7 @@ row columns turn side =
 
 -- ---- the loans that have a line
 
--- Returns true if the loan has the turn `turn` on the day `today`, or by its record if there is no day.
+-- Returns true if the loan has the turn `turn` on the day `today`. Without a day its turn is by the record.
 abbrev pub has_turn : Option Date → Turn → Side → Bool
 has_turn today turn side = is_turn turn (turn_on today side)
 
@@ -127,8 +127,8 @@ is_listed wanted turn side = has_turn wanted.today turn side && is_wanted wanted
 abbrev pub count_of : Option Date → Turn → List Side → ℕ
 count_of today turn sides = count_by (has_turn today turn) sides
 
--- Returns the counts of a desk: all loans, open ones, those that wait for this library, and the loans for
--- which there is still room.
+-- Returns the counts of a desk: all loans, open loans, and loans that wait for this library. The last count
+-- is the room for further loans.
 abbrev pub counts_of : Option Date → List Side → Counts
 counts_of today sides = record {
   loans = length sides;

@@ -34,7 +34,7 @@ turn_lines side =
     line (codes "next") (turn_word (turn_of side))
     ++ line (codes "now") (spaced_or_dash (map verb_name (verbs_of side)))
 
--- Returns the request of a loan: the first message of a requester, or the one in the record of a responder.
+-- Returns the request of a loan: a requester's first message, or the request in a responder's record.
 abbrev pub request_of : Side → Option Apdu
 request_of (Requester x) = slice_get x.issued 0
 request_of (Responder y) = y.request

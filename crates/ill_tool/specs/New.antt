@@ -12,8 +12,8 @@ use Rattle.ill_saved.specs.Store.{Allows, LandsAtFailure, StoreState, spent}
 use Rattle.ill_tool.specs.declared.fault.ToolFault.{ToolFault}
 use Rattle.ill_tool.specs.declared.fault.ToolFault.TheVariants.{Desk, Write, OutOfMemory}
 
--- Returns the line of a desk that was begun and saved: the line of its first side, or `done` alone if it has
--- no side.
+-- Returns the line of a desk that was begun and saved. It is the line of the first side, or `done` alone
+-- without one.
 abbrev pub line_of_first : Option DeskEntry → List ℕ
 line_of_first (Some held) = done_line held
 line_of_first None = codes "done\n"
@@ -49,8 +49,8 @@ abbrev pub MayHaveLanded : List ℕ → Option (List ℕ) → Type 0
 MayHaveLanded bytes landed = (landed ≡ None) ⊎ (landed ≡ Some bytes)
 
 -- The beginning of a desk leads an honest store with this plan from its content to `new`, with this answer.
--- If the store has a record, that stays, and the answer is `Exists` or a fault of the store or of memory. If
--- it has none, `bytes` have landed; after a fault they may have landed.
+-- If the store has a record, that stays, and the answer is `Exists` or another fault. If it has none, `bytes`
+-- have landed; after a fault they may have landed.
 abbrev pub BeginsOver : List ℕ → Option NextCall → Option (List ℕ) → Result (Unit {0}) ToolFault →
     Option (List ℕ) → Type 0
 BeginsOver bytes plan None (Ok done) new = (new ≡ Some bytes) × Allows {X = Unit {0}} plan (Ok tt)

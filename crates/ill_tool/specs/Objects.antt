@@ -52,7 +52,7 @@ abbrev pub optional_date_fields : Option Date → List Field
 optional_date_fields None = []
 optional_date_fields (Some d) = date_field d ∷ []
 
--- Returns the fields that an APDU of this type has beside those of each APDU.
+-- Returns the fields that only APDUs of this type have.
 abbrev pub body_fields : Body → List Field
 body_fields (IllRequest expiry item) = optional_date_fields expiry ++ (codes "item", quoted item) ∷ []
 body_fields (IllAnswer result) = (codes "result", quoted (result_name result)) ∷ []
@@ -117,8 +117,7 @@ status_of_desk form held = flat_map (held_text form) held
 abbrev pub names_of : Side → List (List ℕ)
 names_of side = map verb_name (verbs_of side)
 
--- Returns the fields of the library that acts next, the actions `names`, the item and the expiry date of the
--- request.
+-- Returns the fields of the library that acts next, the actions `names`, the item and the expiry date.
 abbrev pub turn_fields : Side → List (List ℕ) → List Field
 turn_fields side names =
     (codes "next", quoted (turn_word (turn_of side))) ∷ (codes "now", array quoted names)

@@ -1,5 +1,6 @@
 -- The command `outbox`: the messages that leave a desk in a night, and the names of their mails. A message
--- asks if it came for a loan that is over here; a responder then sends its messages of this loan again.
+-- asks if it came for a loan that is over at this desk. A responder then sends its messages of the loan
+-- again.
 use Rattle.std.specs.Prelude.{◌≡◌, ◌⊎◌, ℕ, ◌+◌, ◌/◌, ◌%◌, Bool, false, if◌then◌else◌, List, [], ◌∷◌, ◌++◌, length, take, fold}
 use Rattle.std.specs.Prelude.{map, codes, Option, None, Some, option_map, Result, Ok, Err}
 use Rattle.std.specs.List.{flat_map, list_any}
@@ -53,8 +54,8 @@ released_of held = take held.released (issued_of held.side)
 abbrev pub issues_of : Side → List Apdu → List Issue
 issues_of side apdus = map (λ a. record { side = side; apdu = a }) apdus
 
--- Returns the released messages of a side, in their order, if it wants sending. A side of a loan that is over
--- wants it only if it is a responder's, and `asking` has a message of the loan.
+-- Returns the released messages of a side, in their order, if it wants sending. A responder's side wants it
+-- even if the loan is over, if `asking` has a message of the loan.
 abbrev pub leaving_side : List Apdu → DeskEntry → List Issue
 leaving_side asking held =
     if wants_sending (is_asked asking (txn_of held.side)) held.side

@@ -1,5 +1,4 @@
--- The effect of an action, of a message, or of many of them, on any desk: the outcome and the saved record
--- (this profile's own).
+-- The effect of actions and messages on any desk: the outcome and the saved record (this profile's own).
 use Rattle.std.specs.Prelude.{◌≡◌, ◌⊎◌, ℕ, nat_lt, ◌≤◌, Bool, true, false, if◌then◌else◌, List, length, take, Option, None, Some}
 use Rattle.std.specs.Prelude.{option_map, Result, Ok, Err}
 use Rattle.std.specs.Io.KnownBytes.{Appends}
@@ -84,7 +83,7 @@ handed effects live a = (answered (effects.takes live a).0, (effects.takes live 
 
 -- ---- the change
 
--- Returns true if the outcome is a change, which must be saved: an action was done, or a message was taken.
+-- Returns true for a change, which must be saved: an action was done, or a message was taken.
 abbrev pub is_change : DeskOutcome → Bool
 is_change (Plain outcomes.Done) = true
 is_change (Plain (outcomes.Answered Taken)) = true
@@ -125,7 +124,7 @@ SavesOnce effects changes old (Err (Desk (desks.Store Failed))) new =
 SavesOnce effects changes old (Err OutOfMemory) new = new ≡ old
 SavesOnce effects changes old (Err other) new = ⊥
 
--- The effect of many events: the sides after them, a flag that any is a change, their lines, and the answer.
+-- The effect of many events: the sides after them, true if any is a change, their lines, and the answer.
 pub record Run (L A : Type 0) : Type 0 where
   pub live : L
   pub has_changed : Bool

@@ -1,5 +1,5 @@
--- The mails of a night that want a person. They are put aside, wait for the next run, or have a conflict that
--- no loss, delay or repeat of mail explains.
+-- The mails of a night that want a person. Some are put aside or wait for the next run. Others have a
+-- conflict that no loss, delay or repeat of mail explains.
 use Rattle.std.specs.Prelude.{ℕ, Bool, true, false, List, Option, None, Some, is_some, option_map, Result, Ok, Err}
 use Rattle.std.specs.List.{list_any}
 use Rattle.ill_values.specs.declared.apdu.Apdu.{Apdu}
@@ -55,8 +55,7 @@ delay_matter delays.NotRead = matters.NotRead
 delay_matter delays.NoSuchTransaction = matters.NoSuchTransaction
 delay_matter delays.DeskFull = matters.DeskFull
 
--- Returns the matter for which a mail wants a person, if there is one, by its verdict at a side of the role
--- `role`.
+-- Returns the matter of a mail with this verdict, if it wants a person. `role` is the role of the desk.
 abbrev pub matter_of : Role → Mail → Verdict → Option Matter
 matter_of role mail (Aside unfit) = Some matters.Aside
 matter_of role mail (Left delay) = Some (delay_matter delay)

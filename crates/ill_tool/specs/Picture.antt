@@ -23,8 +23,8 @@ use Rattle.ill_tool.specs.Kept.{is_among, kept_text}
 
 -- ---- texts
 
--- Returns true if a chart may have `byte` unescaped. It may have a letter or digit of ASCII, a space, a
--- comma, a hyphen, a full stop, and any byte beyond ASCII.
+-- Returns true if a chart may have `byte` unescaped: an ASCII letter or digit, a space, a comma, a hyphen, a
+-- full stop, or a byte beyond ASCII.
 abbrev pub is_plain : ℕ → Bool
 is_plain byte =
     is_within 97 122 byte || (is_within 65 90 byte || (is_within 48 57 byte || (byte == 32
@@ -72,8 +72,7 @@ answers (CancelReply number is_yes) asked = number == asked
 answers (RenewAnswer number granted) asked = number == asked
 answers other asked = false
 
--- Returns true if `their`, a message of the other side, must have come before one with the body `own` is
--- issued.
+-- Returns true if a message with the body `own` needs `their`: it is issued only after `their` has come.
 abbrev pub comes_before : Body → Body → Bool
 comes_before (IllRequest expiry item) own = true
 comes_before (Shipped due) Received = true
@@ -88,8 +87,7 @@ abbrev pub is_linked : Link → Apdu → Apdu → Bool
 is_linked Before own their = comes_before their.body own.body || answers own.body their.number
 is_linked After own their = answers their.body own.number
 
--- A place in the messages of the other side: the number of messages passed, and the number up to the last
--- linked one.
+-- A place in the messages of the other side: the number of messages up to it, and up to the last linked one.
 pub record Reached : Type 0 where
   pub place : ℕ
   pub last : ℕ
@@ -119,8 +117,8 @@ linked link own theirs = take (through link own theirs) theirs
 abbrev pub not_linked : Link → Apdu → List Apdu → List Apdu
 not_linked link own theirs = drop (through link own theirs) theirs
 
--- Returns the drawing after one more message of this side. Messages of the other side that must stand before
--- `own` are drawn first, and those that answer it directly after it.
+-- Returns the drawing after one more message of this side. Before `own` it draws the messages that `own`
+-- needs or answers. Directly after `own` it draws the answers to it.
 abbrev pub with_own : Drawing → Apdu → Drawing
 with_own so_far own =
     let left = not_linked Before own so_far.left in
@@ -136,8 +134,8 @@ abbrev pub with_request : Option Apdu → List Apdu → List Apdu
 with_request None kept = kept
 with_request (Some request) kept = if is_among kept request then kept else request ∷ kept
 
--- Returns the messages `kept` that came to a side. Before them stands the request in a responder's record, if
--- they lack it.
+-- Returns the messages `kept` that came to a side. If they lack the request in a responder's record, it comes
+-- first.
 abbrev pub theirs_of : Side → List Apdu → List Apdu
 theirs_of (Requester x) kept = kept
 theirs_of (Responder y) kept = with_request y.request kept
@@ -146,7 +144,7 @@ theirs_of (Responder y) kept = with_request y.request kept
 abbrev pub opening : List ℕ
 opening = codes "sequenceDiagram\n  participant requester\n  participant responder\n"
 
--- Returns the arrows drawn so far, and after them those of the messages that are not drawn yet.
+-- Returns the arrows drawn so far, and then the arrows of all messages that are left.
 abbrev pub all_drawn : Drawing → List ℕ
 all_drawn drawing = drawing.lines ++ arrows drawing.left
 

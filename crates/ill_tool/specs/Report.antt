@@ -161,8 +161,8 @@ abbrev pub section_text : Date → List Side → List ℕ → List Turn → List
 section_text today sides heading turns opening fields =
     heading ++ (decimal (count_by (is_on today turns) sides) ++ (opening ++ loans_text today turns fields sides))
 
--- Returns the three sections of a desk: the loans that wait for this library, all open loans, and all that
--- are over.
+-- Returns the three sections of a desk: loans that wait for this library, open loans, and loans that are
+-- over.
 unfoldable pub sections_text : Date → List Side → List ℕ
 sections_text today sides =
     section_text today sides WAITING.now (Mine ∷ []) OPENING.now TASK

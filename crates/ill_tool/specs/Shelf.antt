@@ -147,8 +147,8 @@ are_all_over sides = list_all is_over sides
 abbrev pub retired_mark : List ℕ
 retired_mark = codes "retired\n"
 
--- A group is retired: if all loans of its desk are over, the content of its mark goes from `old` to `new`, if
--- it is known. If a loan is not over, or memory ran out, the mark is unchanged.
+-- A group is retired. If all loans of its desk are over, its mark is written to a store whose known content
+-- goes from `old` to `new`. If a loan is not over, or memory ran out, the store is unchanged.
 abbrev pub Retires : List Side → Option (Option (List ℕ)) → Result Bool ToolFault → Option (Option (List ℕ)) → Type 0
 Retires sides old (Ok true) new = (are_all_over sides ≡ true) × Copies retired_mark old (Ok tt) new
 Retires sides old (Ok false) new = (are_all_over sides ≡ false) × (new ≡ old)
@@ -175,8 +175,8 @@ RetiresAtFile before after result =
 
 -- ---- an input
 
--- The state of `take` on a shelf: flags that taken messages are kept, that their lines are long, and that all
--- went well so far, and the output.
+-- The state of `take` on a shelf, with its flags and its output. `is_kept` is true if taken messages are
+-- kept, and `is_long` if their lines are long. `all_fine` is true if all went well so far.
 pub record ShelfTaking : Type 0 where
   pub is_kept : Bool
   pub is_long : Bool

@@ -66,14 +66,14 @@ SavesTaken effects old (Err (Desk (desks.Store Failed))) new = IsFaulted effects
 SavesTaken effects old (Err OutOfMemory) new = new ≡ old
 SavesTaken effects old (Err other) new = ⊥
 
--- The count of the store's failures never falls. If nothing is kept and a failure of the store is returned,
--- the count has risen, or is at its maximum.
+-- The count of the store's failures never falls. If the answer is a failure and nothing is kept, the count
+-- has risen, or is at its maximum.
 abbrev pub CountsTaking : {X : Type 0} → Bool → Result X ToolFault → ℕ → ℕ → Type 0
 CountsTaking is_kept answer old new = (old ≤ new) × (is_kept ≡ false → ToolFailsCounted answer old new)
 
 -- ---- the command
 
--- The state of the command: the desk, the kept bytes, the output, and a flag that all went well so far.
+-- The state of the command: the desk, the kept bytes, the output, and true if all went well so far.
 pub record Progress (L : Type 0) : Type 0 where
   pub view : HeldAndLanded L
   pub came : Option (List ℕ)
@@ -105,8 +105,8 @@ abbrev pub answer_of : Result ℕ ToolFault → Bool → Result Bool ToolFault
 answer_of (Ok count) fine = Ok fine
 answer_of (Err fault) fine = Err fault
 
--- The command `take`, with texts by `told`. The input went from `old` to `new`, the kept bytes from
--- `kept_before` to `kept_after`, the output from `before` to `after`, and the desk from `from` to `to`. If
+-- The command `take`, with texts by `told`. The input went from `old` to `new`, and the desk from `from` to
+-- `to`. The kept bytes went from `kept_before` to `kept_after`, and the output from `before` to `after`. If
 -- the input was read to its end, the answer is true if all went well.
 abbrev pub RunsTaking : {L K : Type 0} → Bool → Wording → Effects L K → Option (List ℕ) → Option (List ℕ) →
     Option (List ℕ) → Option (List ℕ) → Option (List ℕ) → Option (List ℕ) → HeldAndLanded L → Result Bool ToolFault →

@@ -1,5 +1,4 @@
--- The texts of an outcome and of the side after it, and the answer of a command that writes them (this
--- profile's own).
+-- The texts of an outcome and of the side after it, and the answer with them (this profile's own).
 use Rattle.std.specs.Prelude.{◌≡◌, ℕ, Bool, true, false, List, [], ◌++◌, take, Option, codes, Result, Ok, Err}
 use Rattle.std.specs.Io.KnownBytes.{Appends}
 use Rattle.ill_values.specs.declared.apdu.Apdu.{Apdu}
@@ -21,8 +20,7 @@ is_fine NoSuchTransaction = false
 is_fine DeskFull = false
 is_fine (Plain outcome) = true
 
--- Returns the side to be shown: `now`, or, if the Bool is true, the side once all of its messages are
--- released.
+-- Returns the side that a line shows. If the Bool is true, it has all of its messages released.
 abbrev pub as_told : Bool → DeskEntry → DeskEntry
 as_told true now = whole now.side
 as_told false now = now
@@ -75,9 +73,8 @@ Reports words (Ok outcome) now text (Err OutOfMemory) = text ≡ []
 Reports words (Ok outcome) now text (Err other) = ⊥
 Reports words (Err fault) now text result = (result ≡ Err fault) × (text ≡ [])
 
--- The output grew from `before` to `after` by the words of `outcome`, and the command returned true if all
--- went well. If the writer failed, it grew by a prefix of the words. If memory ran out for the words, it did
--- not grow.
+-- The output grew from `before` to `after` by the words of `outcome`. The result is true if all went well. If
+-- the writer failed, it grew by a prefix of the words. If memory ran out for the words, it did not grow.
 abbrev pub WritesOutcome : Words → Option (List ℕ) → Option (List ℕ) → DeskOutcome → DeskEntry → Result Bool ToolFault → Type 0
 WritesOutcome words before after outcome now result =
     (text : List ℕ) × Appends before after text × Reports words (Ok outcome) now text result

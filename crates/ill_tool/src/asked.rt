@@ -80,7 +80,7 @@ fn push_asking_bytes<S: Store>(
     Ok(())
 }
 
-/// Tells if `sides` hold the loan of `txn`, and it is over.
+/// Returns true if `sides` hold the loan of `txn`, and it is over.
 fn is_held_over(sides: &Sides, txn: &TxnId) -> bool
     ensures { result ≡ is_held_over (side_with txn.now sides.now.sides) }
 {

@@ -29,7 +29,7 @@ pub struct CameFile<F> {
 }
 
 impl<F> CameFile<F> {
-    /// Tells if a write or a flush of the file has failed.
+    /// Returns true if a write or a flush of the file has failed.
     pub(crate) fn has_failed(&self) -> bool {
         self.has_failed
     }

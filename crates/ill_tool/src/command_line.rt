@@ -219,7 +219,7 @@ impl Name {
         }
     }
 
-    /// Tells if a command is about shelves alone.
+    /// Returns true if a command is about shelves alone.
     fn is_of_shelves(self) -> bool {
         matches!(self, Name::Retire)
     }

@@ -120,14 +120,14 @@ fn deed_at(which: Dates, today: Day, state: State, due: Option<Day>) -> Option<D
     None
 }
 
-/// Tells if the item is out, and its due date is before the day `today`.
+/// Returns true if the item is out, and its due date is before the day `today`.
 fn is_overdue(today: Day, state: State, due: Option<Day>) -> bool
     ensures { result ≡ is_overdue today state due }
 {
     matches!(state, State::Shipped | State::RenewPending) && is_sooner(due, Some(today))
 }
 
-/// Tells if a request in `state` may still expire.
+/// Returns true if a request in `state` may still expire.
 fn may_expire(state: State) -> bool
     ensures { result ≡ may_expire state }
 {

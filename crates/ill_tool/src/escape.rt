@@ -132,28 +132,28 @@ fn push_escape(text: &mut Vec<u8>, escaping: Escaping, number: u32) -> Result<()
     Ok(())
 }
 
-/// Tells if a backslash stands before a byte in a string of JSON.
+/// Returns true if a backslash stands before a byte in a string of JSON.
 fn is_marked(byte: u8) -> bool
     ensures { result ≡ is_marked byte }
 {
     matches!(byte, b'"' | b'\\')
 }
 
-/// Tells if a byte is a control character of ASCII.
+/// Returns true if a byte is a control character of ASCII.
 fn is_control(byte: u8) -> bool
     ensures { result ≡ is_control byte }
 {
     matches!(byte, 0..0x20 | 0x7F)
 }
 
-/// Tells if two bytes are a character that a terminal may act on.
+/// Returns true if two bytes are a character that a terminal may act on.
 fn two_act(first: u8, second: u8) -> bool
     ensures { result ≡ two_act first second }
 {
     matches!(first, 0xC0..=0xDF) && goes_on(second) && is_acting(number_of_two(first, second))
 }
 
-/// Tells if three bytes are a character that a terminal may act on.
+/// Returns true if three bytes are a character that a terminal may act on.
 fn three_act(first: u8, second: u8, third: u8) -> bool
     ensures { result ≡ three_act first second third }
 {
@@ -163,7 +163,7 @@ fn three_act(first: u8, second: u8, third: u8) -> bool
         && is_acting(number_of_three(first, second, third))
 }
 
-/// Tells if a byte may follow the first byte of a character.
+/// Returns true if a byte may follow the first byte of a character.
 fn goes_on(byte: u8) -> bool
     ensures { result ≡ goes_on byte }
 {
@@ -185,7 +185,7 @@ fn number_of_three(first: u8, second: u8, third: u8) -> u32
         + (u32::from(second.saturating_sub(0x80)) * 64 + u32::from(third.saturating_sub(0x80)))
 }
 
-/// Tells if a terminal may act on the character of this number.
+/// Returns true if a terminal may act on the character of this number.
 fn is_acting(number: u32) -> bool
     ensures { result ≡ is_acting number }
 {

@@ -27,7 +27,7 @@ use std::io::Write;
 /// The option, which stands before the command.
 const OPTION: &str = "--explain";
 
-/// Tells if `words` ask for explanations. The first word is the name of the program.
+/// Returns true if `words` ask for explanations. The first word is the name of the program.
 pub fn is_asked(words: &[&str]) -> bool {
     words
         .iter()

@@ -82,7 +82,7 @@ pub(crate) fn raw_names<T: Files>(rt: &T, alloc: Global, folder: &str) -> io::Re
     Ok(names)
 }
 
-/// Tells if a file named `name` in a folder of desks is one.
+/// Returns true if a file named `name` in a folder of desks is one.
 fn is_desk_name(name: &str) -> bool {
     !name.starts_with('.') && !BESIDE.iter().any(|ending| name.ends_with(*ending))
 }

@@ -297,7 +297,7 @@ fn hand<H: Holdings, S: Store>(
     }
 }
 
-/// Tells if a message was taken.
+/// Returns true if a message was taken.
 fn is_change(outcome: DeskOutcome) -> bool
     ensures { result ≡ is_change outcome }
 {

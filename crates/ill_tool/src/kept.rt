@@ -118,7 +118,7 @@ fn push_new(kept: &mut Vec<Apdu>, txn: &TxnId, apdu: &Apdu) -> Result<(), OutOfM
     Ok(())
 }
 
-/// Tells if a message of `kept` has the bytes of `apdu`.
+/// Returns true if a message of `kept` has the bytes of `apdu`.
 pub(crate) fn is_among(alloc: Global, kept: &[Apdu], apdu: &Apdu) -> Result<bool, OutOfMemory>
     ensures { IfOk result (λ is. is ≡ is_among kept.now apdu.now) }
 {

@@ -53,7 +53,7 @@ impl Which {
         }
     }
 
-    /// Tells if a column has the verbs.
+    /// Returns true if a column has the verbs.
     fn has_verbs(self) -> bool
         ensures { result ≡ has_verbs self }
     {
@@ -214,14 +214,14 @@ fn push_row_as(
     }
 }
 
-/// Tells if the loan of `side` is listed when the loans of its turn are.
+/// Returns true if the loan of `side` is listed when the loans of its turn are.
 fn is_wanted(wanted: &Wanted, side: &Side) -> bool
     ensures { result ≡ is_wanted wanted.now side.now }
 {
     is_due_before(wanted.due_before, side.due()) && is_in(wanted.state, side.state())
 }
 
-/// Tells if a loan is due before `day`. Without a day each loan is wanted.
+/// Returns true if a loan is due before `day`. Without a day each loan is wanted.
 fn is_due_before(day: Option<Day>, due: Option<Day>) -> bool
     ensures { result ≡ is_due_before day due }
 {
@@ -231,7 +231,7 @@ fn is_due_before(day: Option<Day>, due: Option<Day>) -> bool
     }
 }
 
-/// Tells if a loan is in the state `wanted`. Without a wanted state each loan is.
+/// Returns true if a loan is in the state `wanted`. Without a wanted state each loan is.
 fn is_in(wanted: Option<State>, state: State) -> bool
     ensures { result ≡ is_in wanted state }
 {
@@ -241,7 +241,7 @@ fn is_in(wanted: Option<State>, state: State) -> bool
     }
 }
 
-/// Tells if the loan of `side` has the turn `turn` on the day of `wanted`, or on no day.
+/// Returns true if the loan of `side` has the turn `turn` on the day of `wanted`, or on no day.
 fn has_turn(wanted: &Wanted, turn: Turn, side: &Side) -> bool
     ensures { result ≡ has_turn wanted.now.today turn side.now }
 {

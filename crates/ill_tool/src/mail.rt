@@ -45,7 +45,7 @@ pub struct Mails {
 }
 
 impl Mails {
-    /// Tells if a run has no room for a further mail.
+    /// Returns true if a run has no room for a further mail.
     fn is_full(&self) -> bool {
         self.mails.len() >= MAILS
     }
@@ -220,8 +220,8 @@ struct Claiming<'a> {
     looks_first: bool,
 }
 
-/// Tells if `folder` may have folders. Where a system counts the links of a folder, its own two are the only ones if it
-/// has none.
+/// Returns true if `folder` may have folders. Where a system counts the links of a folder, its own two are the only
+/// ones if it has none.
 fn may_have_folders<T: Files>(rt: &T, folder: &str) -> io::Result<bool> {
     Ok(fs::metadata(rt, folder)?.nlink() != 2)
 }
@@ -275,7 +275,7 @@ fn add_run<T: Files>(
     Ok(())
 }
 
-/// Tells if a folder stands at `path`.
+/// Returns true if a folder stands at `path`.
 fn is_folder<T: Files>(rt: &T, path: &str) -> bool {
     match fs::symlink_metadata(rt, path) {
         Ok(found) => found.is_dir(),

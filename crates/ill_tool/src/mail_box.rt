@@ -38,7 +38,7 @@ impl MailBox {
         self.claimed.as_str()
     }
 
-    /// Tells if `path` leads to this folder, into it, or to the folder of the desk's file. No mail stands there.
+    /// Returns true if `path` leads to this folder, into it, or to the folder of the desk's file. No mail stands there.
     pub fn is_at<T: Files>(&self, rt: &T, alloc: Global, path: &str) -> io::Result<bool> {
         let above = fs::metadata(rt, self.above())?;
         Ok(
@@ -134,7 +134,7 @@ pub(crate) fn make_folder<T: Files>(rt: &T, path: &str) -> io::Result<()> {
     }
 }
 
-/// Tells if two paths led to one folder.
+/// Returns true if two paths led to one folder.
 pub(crate) fn is_same(one: &Metadata, other: &Metadata) -> bool {
     (one.dev(), one.ino()) == (other.dev(), other.ino())
 }
@@ -143,7 +143,7 @@ pub(crate) fn is_same(one: &Metadata, other: &Metadata) -> bool {
 /// between a claimed mail and the folder of its desk's file.
 const DEPTH: usize = 3;
 
-/// Tells if `path` leads to `folder`, or to a folder at most three levels below it.
+/// Returns true if `path` leads to `folder`, or to a folder at most three levels below it.
 pub(crate) fn is_within<T: Files>(
     rt: &T,
     alloc: Global,

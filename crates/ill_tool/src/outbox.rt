@@ -142,7 +142,7 @@ fn released<'a>(held: HeldSide<'a>) -> &'a [Apdu]
     &issued[..count]
 }
 
-/// Tells if a message of `asking` is of the transaction `txn`.
+/// Returns true if a message of `asking` is of the transaction `txn`.
 fn is_asked(asking: &[Apdu], txn: &TxnId) -> bool
     ensures { result ≡ is_asked asking.now txn.now }
 {

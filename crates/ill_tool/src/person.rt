@@ -93,7 +93,7 @@ impl Matter {
     }
 }
 
-/// Tells if the conflict of a message is never routine at a side of the role `role`.
+/// Returns true if the conflict of a message is never routine at a side of the role `role`.
 fn is_never_in_conflict(role: Role, body: &BodyView<'_>) -> bool
     ensures { result ≡ is_never_in_conflict role (body_in body.now) }
 {
@@ -110,7 +110,7 @@ fn is_never_in_conflict(role: Role, body: &BodyView<'_>) -> bool
     }
 }
 
-/// Tells if one of `mails` wants a person, by their verdicts at sides of the role `role`.
+/// Returns true if one of `mails` wants a person, by their verdicts at sides of the role `role`.
 pub(crate) fn wants_person(role: Role, mails: &[Mail], verdicts: &[Verdict]) -> bool
     ensures { result ≡ wants_person role (zip mails.now verdicts.now) }
 {

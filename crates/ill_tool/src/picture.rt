@@ -137,7 +137,7 @@ fn through(link: Link, own: &Apdu, theirs: &[Apdu]) -> usize
     last
 }
 
-/// Tells if the message `their` has the relation `link` to `own`.
+/// Returns true if the message `their` has the relation `link` to `own`.
 fn is_linked(link: Link, own: &Apdu, their: &Apdu) -> bool
     ensures { result ≡ is_linked link own.now their.now }
 {
@@ -147,7 +147,7 @@ fn is_linked(link: Link, own: &Apdu, their: &Apdu) -> bool
     }
 }
 
-/// Tells if a message `their` of the other side is there before one of the type of `own` is issued.
+/// Returns true if a message `their` of the other side is there before one of the type of `own` is issued.
 fn comes_before(their: &Body, own: &Body) -> bool
     ensures { result ≡ comes_before their.now own.now }
 {
@@ -159,7 +159,7 @@ fn comes_before(their: &Body, own: &Body) -> bool
     }
 }
 
-/// Tells if a message `body` answers the number `asked`.
+/// Returns true if a message `body` answers the number `asked`.
 fn answers(body: &Body, asked: Number) -> bool
     ensures { result ≡ answers body.now asked }
 {

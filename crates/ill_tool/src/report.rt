@@ -138,7 +138,7 @@ fn count(today: Day, sides: &[&Side], turns: &[Turn]) -> usize
         .count()
 }
 
-/// Tells if the loan of `side` has one of `turns`.
+/// Returns true if the loan of `side` has one of `turns`.
 fn is_on(today: Day, turns: &[Turn], side: &Side) -> bool
     ensures { result ≡ is_on today turns.now side.now }
 {

@@ -574,7 +574,7 @@ fn form(matches: &ArgMatches<'_>) -> Form
     }
 }
 
-/// Tells if a flag is set. Its text is `true` if it stands in the words.
+/// Returns true if a flag is set. Its text is `true` if it stands in the words.
 fn is_set(matches: &ArgMatches<'_>, flag: Argument) -> bool
     ensures { result ≡ is_set flag (rows_of (found_of matches.now)) }
 {

@@ -37,7 +37,7 @@ pub fn run_desk_retire<S: Store, C: Store>(
     }
 }
 
-/// Tells if all loans of `sides` are over.
+/// Returns true if all loans of `sides` are over.
 fn are_over(alloc: Global, sides: &Sides) -> Result<bool, OutOfMemory>
     ensures { IfOk result (λ are_over. are_over ≡ are_all_over sides.now.sides) }
 {
@@ -45,7 +45,7 @@ fn are_over(alloc: Global, sides: &Sides) -> Result<bool, OutOfMemory>
     Ok(are_each_over(&all))
 }
 
-/// Tells if each of `sides` is over.
+/// Returns true if each of `sides` is over.
 fn are_each_over(sides: &[&Side]) -> bool
     ensures { result ≡ list_all (λ side. is_over side.now) sides.now }
 {

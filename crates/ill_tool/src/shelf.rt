@@ -148,7 +148,7 @@ pub(crate) fn names_of_desks<T: Files>(
     Ok(desks)
 }
 
-/// Tells if `name` is that of the desk of a group.
+/// Returns true if `name` is that of the desk of a group.
 fn is_desk_name(alloc: Global, role: Role, name: &str) -> Result<bool, OutOfMemory> {
     let Some((stem, _)) = name.rsplit_once('.') else {
         return Ok(false);
@@ -158,8 +158,8 @@ fn is_desk_name(alloc: Global, role: Role, name: &str) -> Result<bool, OutOfMemo
     Ok(TxnId::is_qualifier(&group) && desk_name(alloc, role, &group)?.as_str() == name)
 }
 
-/// Tells if `bytes` are for the desk in `file` of a shelf: no message, or one of its group. For the shelf's own desk
-/// they may be any message that begins no loan there.
+/// Returns true if `bytes` are for the desk in `file` of a shelf: no message, or one of its group. For the shelf's own
+/// desk they may be any message that begins no loan there.
 pub(crate) fn is_for_desk(
     alloc: Global,
     file: &str,
@@ -177,7 +177,7 @@ pub(crate) fn is_for_desk(
     Ok(desk_name(alloc, role, message.group())?.as_str() == name)
 }
 
-/// Tells if the group of the desk in `file` is retired.
+/// Returns true if the group of the desk in `file` is retired.
 pub(crate) fn is_retired<T: Files>(rt: &T, alloc: Global, file: &str) -> io::Result<bool> {
     let mark = retired_path(alloc, file)?;
     is_there(rt, mark.as_str())
@@ -188,7 +188,7 @@ pub(crate) fn retired_path(alloc: Global, file: &str) -> Result<String, OutOfMem
     Ok(format!(in alloc; "{file}{RETIRED}")?)
 }
 
-/// Tells if anything stands at `path`.
+/// Returns true if anything stands at `path`.
 pub(crate) fn is_there<T: Files>(rt: &T, path: &str) -> io::Result<bool> {
     match fs::symlink_metadata(rt, path) {
         Ok(_) => Ok(true),

@@ -141,7 +141,7 @@ fn push_side_as<H: Holdings, S: Store, const SAVED: bool>(
     push_shown(line, if SAVED { shown.once_saved() } else { shown })
 }
 
-/// Tells if all went well: nothing was refused, and no message was in conflict.
+/// Returns true if all went well: nothing was refused, and no message was in conflict.
 fn is_fine(outcome: DeskOutcome) -> bool
     ensures { result ≡ is_fine outcome }
 {

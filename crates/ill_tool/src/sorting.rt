@@ -403,7 +403,7 @@ pub(crate) fn home_at<T: Files>(rt: &T, alloc: Global, desk: &str) -> io::Result
     }
 }
 
-/// Tells if a file that may outlive `desk` is there beside it. Then its group was begun before.
+/// Returns true if a file that may outlive `desk` is there beside it. Then its group was begun before.
 fn is_lost<T: Files>(rt: &T, alloc: Global, desk: &str) -> io::Result<bool> {
     let came = format!(in alloc; "{desk}{CAME}")?;
     let mail = format!(in alloc; "{desk}{MAIL}")?;

@@ -68,7 +68,7 @@ impl Heap {
         }
     }
 
-    /// Tells if a mail is on this heap.
+    /// Returns true if a mail is on this heap.
     fn has(self, verdict: Verdict) -> bool
         ensures { result ≡ is_heap self (heap_of verdict) }
     {
@@ -112,7 +112,7 @@ impl Tally {
         Ok(!(self.conflict > 0 || self.aside > 0))
     }
 
-    /// Tells if mails wait for the next run: on the heap of those that stay, or further ones.
+    /// Returns true if mails wait for the next run: on the heap of those that stay, or further ones.
     pub(crate) fn is_waiting(&self, waiting: usize) -> bool
         ensures { result ≡ is_waiting self.now waiting }
     {

@@ -106,7 +106,7 @@ fn head<W: Write>(
     write_whole(writer, &line)
 }
 
-/// Tells if a line of its path stands before each desk.
+/// Returns true if a line of its path stands before each desk.
 fn is_headed(visit: &Visit<'_>) -> bool
     ensures { result ≡ is_headed visit.now }
 {
@@ -117,7 +117,7 @@ fn is_headed(visit: &Visit<'_>) -> bool
     }
 }
 
-/// Tells if a form is that of lines.
+/// Returns true if a form is that of lines.
 fn is_lines(form: Form) -> bool
     ensures { result ≡ is_lines form }
 {

@@ -42,7 +42,8 @@ pub(crate) fn turn_on(today: Option<Day>, side: &Side) -> Turn
     side.turn()
 }
 
-/// Tells if the deadline of a loan is past on the day, and this library can act. In a loan that is over it cannot.
+/// Returns true if the deadline of a loan is past on the day, and this library can act. In a loan that is over it
+/// cannot.
 fn is_pressing(today: Option<Day>, side: &Side) -> bool
     ensures { result ≡ is_pressing today side.now }
 {
@@ -52,7 +53,7 @@ fn is_pressing(today: Option<Day>, side: &Side) -> bool
     }
 }
 
-/// Tells if the deadline `day` comes before `other`. Any deadline comes before none.
+/// Returns true if the deadline `day` comes before `other`. Any deadline comes before none.
 pub(crate) fn is_sooner(day: Option<Day>, other: Option<Day>) -> bool
     ensures { result ≡ is_sooner day other }
 {

@@ -1,5 +1,5 @@
--- Proves the loop invariant of `shipped` (`src/main.rt`): each turn of the loop appends the side at `place`
--- if it is SHIPPED.
+-- Proves the loop invariant of `shipped` (`src/main.rt`): each turn appends the side at `place` if it is
+-- SHIPPED.
 use Rattle.std.proofs.Common.{◌≡◌, ℕ, zero, suc, ◌+◌, ◌++◌, List, [], ◌∷◌, map, drop, Bor, refl, ap, sym, ◌∙◌, append_assoc}
 use Rattle.std.proofs.Common.{add-one}
 use Rattle.std.specs.Prelude.{slice_get}

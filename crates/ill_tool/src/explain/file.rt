@@ -85,12 +85,12 @@ pub fn tell_fault_at<T: LockFiles>(
     }
 }
 
-/// Tells if a command has a folder of mails. Such a command itself names a folder that fails.
+/// Returns true if a command has a folder of mails. Such a command itself names a folder that fails.
 fn has_mails(matches: &ArgMatches<'_>) -> bool {
     matches.get_str(Argument::Folder.id()).is_some() || matches.get_str(Argument::In.id()).is_some()
 }
 
-/// Tells if another command is at work on the file at `path`.
+/// Returns true if another command is at work on the file at `path`.
 fn is_at_work<T: LockFiles>(rt: &T, alloc: Global, path: &str) -> bool {
     match format!(in alloc; "{path}{LOCK}") {
         Ok(lock) => is_held(rt, lock.as_str()),
@@ -98,7 +98,7 @@ fn is_at_work<T: LockFiles>(rt: &T, alloc: Global, path: &str) -> bool {
     }
 }
 
-/// Tells if the desk in the file at `path` can be opened.
+/// Returns true if the desk in the file at `path` can be opened.
 fn is_open<T: LockFiles>(rt: &T, alloc: Global, path: &str) -> bool {
     open(rt, alloc, path).is_ok()
 }
@@ -310,7 +310,7 @@ fn tell_came<T: LockFiles>(
     )
 }
 
-/// Tells if another command holds the lock at the path `lock`.
+/// Returns true if another command holds the lock at the path `lock`.
 fn is_held<T: LockFiles>(rt: &T, lock: &str) -> bool {
     if !is_file(rt, lock) {
         return false;
@@ -321,7 +321,7 @@ fn is_held<T: LockFiles>(rt: &T, lock: &str) -> bool {
     }
 }
 
-/// Tells if a regular file stands at `path`: to open a pipe would be to wait on it.
+/// Returns true if a regular file stands at `path`: to open a pipe would be to wait on it.
 fn is_file<T: LockFiles>(rt: &T, path: &str) -> bool {
     match fs::symlink_metadata(rt, path) {
         Ok(found) => found.is_file(),

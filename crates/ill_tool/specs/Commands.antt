@@ -183,9 +183,8 @@ Departs ending (Err fault) result = result ≡ Err fault
 abbrev pub night_asks : DeskContents → Night → List ℕ
 night_asks live night = asked_by live (zip night.mails night.verdicts)
 
--- The end of a night, after the deeds of its day: a copy of the desk `live`, and then the sending. A loan
--- that a deed has ended is among the senders, if a message of it came in this night. If the copy fails,
--- nothing is sent.
+-- The end of a night, after its deeds: a copy of the desk `live`, and then the sending. A loan that a deed
+-- has ended is among the senders, if a message of it came in this night. If the copy fails, nothing is sent.
 abbrev pub SendsAll : Night → DeskContents → Option (List ℕ) → Option (List ℕ) → Result (Unit {0}) ToolFault →
     Result Bool ToolFault → Type 0
 SendsAll night live before after (Err fault) result = (result ≡ Err fault) × (after ≡ before)

@@ -23,8 +23,8 @@ use Rattle.ill_tool.specs.Kept.{is_among, kept_text}
 
 -- ---- texts
 
--- Returns true if a chart may have `byte` unescaped: an ASCII letter or digit, a space, a comma, a hyphen, a
--- full stop, or a byte beyond ASCII.
+-- Returns true if a chart may have `byte` unescaped. It may have ASCII letters and digits, spaces, commas,
+-- hyphens and full stops. It may have any byte beyond ASCII.
 abbrev pub is_plain : ℕ → Bool
 is_plain byte =
     is_within 97 122 byte || (is_within 65 90 byte || (is_within 48 57 byte || (byte == 32
@@ -87,7 +87,8 @@ abbrev pub is_linked : Link → Apdu → Apdu → Bool
 is_linked Before own their = comes_before their.body own.body || answers own.body their.number
 is_linked After own their = answers their.body own.number
 
--- A place in the messages of the other side: the number of messages up to it, and up to the last linked one.
+-- A place in the messages of the other side. `place` is the number of messages passed, and `last` the number
+-- up to the last linked one.
 pub record Reached : Type 0 where
   pub place : ℕ
   pub last : ℕ

@@ -26,8 +26,8 @@ version_of bytes = if is_version_1 bytes then codes "1" else codes "2"
 abbrev pub issued_by_all : List Side → ℕ
 issued_by_all sides = sum_by (λ side. length (issued_of side)) sides
 
--- Returns the five lines of a record: its version, its role, and the numbers of its loans, of issued
--- messages, and of further loans for which there is room.
+-- Returns the five lines of a record: its version, its role, and three numbers. These are of its loans, of
+-- their issued messages, and of further loans for which there is room.
 unfoldable pub verify_lines : List ℕ → SidesOf → List ℕ
 verify_lines bytes all =
     line (codes "version") (version_of bytes) ++ (line (codes "role") (role_name all.role)

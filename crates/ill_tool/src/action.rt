@@ -32,7 +32,7 @@ pub fn action(
     }
 }
 
-/// Returns the action that `words` name for `role`, if a script may have them too.
+/// Returns the action that `words` name for `role`, if a script could have these words.
 fn action_for(
     alloc: Global,
     role: Role,
@@ -56,14 +56,14 @@ fn slices<'a>(alloc: Global, words: &[&'a str]) -> Result<Vec<&'a [u8]>, OutOfMe
     words.iter().map(|word| word.as_bytes()).collect(alloc)
 }
 
-/// Returns true if a script may have all of `words`.
+/// Returns true if a script could have all of `words`.
 fn are_words(words: &[&str]) -> bool
     ensures { result ≡ list_all (λ word. is_word word.now) words.now }
 {
     words.iter().all(|word| is_word(word.as_bytes()))
 }
 
-/// Returns true if a script may have `word`: it is not empty, and has no space.
+/// Returns true if `word` could be a word of a script: it is not empty, and has no space.
 fn is_word(word: &[u8]) -> bool
     ensures { result ≡ is_word word.now }
 {

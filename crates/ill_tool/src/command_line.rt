@@ -32,8 +32,8 @@ pub enum Name {
 /// The word before the commands on a shelf.
 pub const SHELF: &str = "shelf";
 
-/// All commands, in the order of the help. First come those for staff, then those for the exchange with other
-/// libraries. The last are those for anybody who looks inside, and one for shelves alone. clap has these and no others.
+/// All commands, in the order of the help. First come the commands for staff, then the commands for the exchange with
+/// other libraries. The last are for looking inside, and one is for shelves alone. `clap` has these and no others.
 const NAMES: [Name; 17] = [
     Name::New,
     Name::Act,
@@ -69,7 +69,7 @@ const SHELF_NAMES: [Name; 10] = [
 ];
 
 impl Name {
-    /// Returns the word that stands for the command.
+    /// Returns the word of the command.
     pub fn word<'a>(self) -> &'a str
         ensures { result.now ≡ word_of self }
     {
@@ -94,7 +94,7 @@ impl Name {
         }
     }
 
-    /// Returns the line that tells its purpose.
+    /// Returns the line of its purpose.
     fn about<'a>(self) -> &'a str {
         match self {
             Name::New => "Begin a desk of one role, in a file",
@@ -219,12 +219,12 @@ impl Name {
         }
     }
 
-    /// Returns true if a command is about shelves alone.
+    /// Returns true if the command is only for shelves.
     fn is_of_shelves(self) -> bool {
         matches!(self, Name::Retire)
     }
 
-    /// Returns the line that tells its purpose on a shelf.
+    /// Returns the line of its purpose on a shelf.
     fn about_shelf<'a>(self) -> &'a str {
         match self {
             Name::New => "Begin a shelf of one role, in a folder",
@@ -254,7 +254,7 @@ impl Name {
         }
     }
 
-    /// Returns the command that `word` stands for.
+    /// Returns the command that has the word `word`.
     pub fn read(word: &str) -> Option<Name>
         ensures { result ≡ name_read word.now }
     {
@@ -273,7 +273,7 @@ pub enum Argument {
     Folder,
     /// A folder into which mails are put, which may be left out.
     OutFolder,
-    /// Set if messages are written to the output in place of a folder.
+    /// Set if messages are written to the output instead of a folder.
     Stream,
     /// The folder of the mails that have come.
     In,
@@ -281,13 +281,13 @@ pub enum Argument {
     Out,
     /// The day of an exchange.
     NightDay,
-    /// Set if a responder tells of the loans that are overdue.
+    /// Set if a responder says of each overdue loan that it is overdue.
     Overdue,
-    /// Set if a responder ends the requests whose last day is past.
+    /// Set if a responder ends each request whose expiry date is past.
     Expire,
     /// The file of a copy.
     Copy,
-    /// The file that is made anew in the end.
+    /// The file that is written anew at the end of a run, as a sign of life.
     Beat,
     Role,
     Group,
@@ -298,7 +298,7 @@ pub enum Argument {
     Words,
     /// The number of a message.
     Number,
-    /// Set if `take` tells each message at length, with its fields.
+    /// Set if `take` writes the fields of each message too.
     Long,
     /// Set if `take` keeps each message that was taken.
     Keep,
@@ -314,18 +314,18 @@ pub enum Argument {
     Paths,
     /// The day on which loans past their deadlines wait for this library.
     OnDay,
-    /// The day before which the loans are due that are listed.
+    /// The day before which the listed loans are due.
     DueBefore,
-    /// The state of the loans that are listed.
+    /// The state of the listed loans.
     InState,
     /// The day of a report.
     ReportDay,
-    /// Set if a shelf may begin the group of a loan.
+    /// Set if a shelf may begin a desk for the group of a loan.
     NewGroup,
 }
 
 impl Argument {
-    /// Returns the name that clap has for it.
+    /// Returns its name for `clap`.
     pub fn id<'a>(self) -> &'a str
         ensures { result.now ≡ id_of self }
     {
@@ -358,7 +358,7 @@ impl Argument {
         }
     }
 
-    /// Returns the line of the help on it.
+    /// Returns its line in the help.
     fn help<'a>(self) -> &'a str {
         match self {
             Argument::NewFile => "The file of the desk, which must not be there yet",
@@ -393,7 +393,7 @@ impl Argument {
         }
     }
 
-    /// Returns the argument for clap. All but the options and the flags have to be there.
+    /// Returns the argument for `clap`. All but the options and the flags are required.
     fn arg<'a>(self, alloc: Global) -> Arg<'a> {
         let arg = Arg::new(alloc, self.id()).help(self.help());
         match self {
@@ -428,7 +428,7 @@ impl Argument {
 }
 
 impl Argument {
-    /// Returns the argument for clap in a command on a shelf.
+    /// Returns the argument for `clap` in a command on a shelf.
     fn arg_on_shelf<'a>(self, alloc: Global) -> Arg<'a> {
         match self {
             Argument::NewFile => Arg::new(alloc, self.id())
@@ -467,7 +467,7 @@ pub fn command<'a>(alloc: Global) -> Result<Command<'a>, Error> {
     Ok(command.subcommand(shelf(alloc)?)?)
 }
 
-/// Returns the option that asks for more lines on a fault. It stands before the command.
+/// Returns the option `--explain`, which asks for more lines on a fault. It is typed before the command.
 fn explain<'a>(alloc: Global) -> Arg<'a> {
     Arg::new(alloc, "explain")
         .long("explain")
@@ -500,7 +500,7 @@ fn shelf<'a>(alloc: Global) -> Result<Command<'a>, Error> {
     Ok(command)
 }
 
-/// Returns the command line of the command `name` on a shelf. The folder of the shelf stands in place of the file of a
+/// Returns the command line of the command `name` on a shelf. It takes the folder of the shelf instead of the file of a
 /// desk.
 fn shelf_subcommand<'a>(alloc: Global, name: Name) -> Result<Command<'a>, Error> {
     let mut command = Command::new(alloc, name.word())

@@ -14,7 +14,7 @@ use crate::fault::ToolFault;
 use ill_saved::{Desk, DeskFault, RecordFault, Store, StoreFault, decode_record2, encode_record2};
 use std::alloc::Global;
 
-/// The end of a copy.
+/// The result of a copy.
 #[derive(Clone, Copy, Debug, PartialEq, Eq, Hash)]
 pub(crate) enum Copied {
     /// The store has the record of the desk.
@@ -23,8 +23,8 @@ pub(crate) enum Copied {
     Kept(usize),
 }
 
-/// Copies `desk` as `run_desk_copy` does, unless `copy` has more loans. Then the desk is not the one that was copied
-/// there, or an older state of it, and `copy` stays. A record that cannot be read has no loans.
+/// Copies `desk` as `run_desk_copy` does, unless `copy` has more loans. If it has, the desk is another one, or an older
+/// state of it, and `copy` is unchanged. A record that cannot be read counts as one without loans.
 pub(crate) fn run_desk_copy_over<S: Store, C: Store>(
     alloc: Global,
     desk: &Desk<S>,
@@ -62,7 +62,7 @@ fn loans_in_copy<C: Store>(alloc: Global, copy: &mut C) -> Result<usize, ToolFau
     }
 }
 
-/// Returns the number of loans of the record `bytes`, or 0 if they are none.
+/// Returns the number of loans of the record `bytes`, or 0 if they are no record.
 fn loans_of(alloc: Global, bytes: &[u8]) -> Result<usize, ToolFault>
     ensures loans { IfOk result (λ count. count ≡ sides_read (records_at bytes.now)) }
     ensures fault { IfErr result (λ fault. fault ≡ OutOfMemory) }
@@ -76,8 +76,8 @@ fn loans_of(alloc: Global, bytes: &[u8]) -> Result<usize, ToolFault>
 
 /// Saves the record of all that `desk` holds to the store `copy`. Nothing changes at the desk.
 ///
-/// `Desk::save` would write this record: changes that are not saved yet are in it too. A desk that starts from the copy
-/// holds these loans again.
+/// It is the record that `Desk::save` would write, with changes that are not saved yet. A desk that starts from the
+/// copy holds these loans again.
 pub fn run_desk_copy<S: Store, C: Store>(
     alloc: Global,
     desk: &Desk<S>,

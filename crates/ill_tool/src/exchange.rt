@@ -50,14 +50,14 @@ pub fn inbox<T: LockFiles, W: Write, E: Write>(
     release(end(taken), desk, lock)
 }
 
-/// The mails that a run has taken, and the verdict of each.
+/// The mails that a run has taken, with the verdict of each.
 #[derive(Drop)]
 struct Taken {
     found: Mails,
     verdicts: Vec<Verdict>,
 }
 
-/// Returns the ending of a run by the mails that it has `taken`.
+/// Returns the result of `inbox` by the mails that a run has `taken`.
 fn end(taken: Result<Taken, ToolFault>) -> Result<bool, ToolFault>
     ensures { result ≡ ending_of (answered_with taken_of taken) }
 {
@@ -67,7 +67,7 @@ fn end(taken: Result<Taken, ToolFault>) -> Result<bool, ToolFault>
     }
 }
 
-/// Takes the mails of `incoming` at `desk`. The files of mails go only after the desk is saved.
+/// Takes the mails of `incoming` at `desk`. The files of mails are removed only after the desk is saved.
 fn take_mails<T: Files, S: Store, W: Write, E: Write>(
     rt: &T,
     alloc: Global,
@@ -103,7 +103,7 @@ fn take_mails<T: Files, S: Store, W: Write, E: Write>(
     }
 }
 
-/// Reads the mails of a desk: those of a folder, or those that a shelf has sorted to it.
+/// Reads the mails of a desk, from a folder or from the mails that a shelf has sorted to it.
 fn find_mails<T: Files, E: Write>(
     rt: &T,
     alloc: Global,
@@ -156,8 +156,8 @@ pub(crate) fn open_box<T: Files>(rt: &T, alloc: Global, file: &str) -> Result<Ma
     }
 }
 
-/// Settles the files of the mails of a run. Before that it keeps the messages that ask. If `place` asks for it, it
-/// first warns of each mail that wants a person.
+/// Settles the files of the mails of a run, after it has kept the messages that ask. If `place` wants it, it first
+/// warns of each mail that wants a person.
 fn conclude<T: Files, S: Store, E: Write>(
     rt: &T,
     alloc: Global,
@@ -285,7 +285,7 @@ fn send_asked<T: Files, S: Store, W: Write, E: Write>(
     write_and_flush(writer, line.as_bytes())
 }
 
-/// Puts the messages of the loans that want sending into `folder`, as `send_to` does, if it is there.
+/// Puts the messages of the loans that want sending into `folder`, if it exists, as `send_to` does.
 fn send_into<T: Files, S: Store, W: Write, E: Write>(
     rt: &T,
     alloc: Global,
@@ -301,7 +301,7 @@ fn send_into<T: Files, S: Store, W: Write, E: Write>(
     send_to(rt, alloc, file, desk, folder, writer, errors)
 }
 
-/// Returns `sent`. If a mail could not be put into its folder, a line to `errors` names its path.
+/// Returns `sent`. If a mail could not be put into its folder, it writes a line with the path of the mail to `errors`.
 fn blame_mail<T: Files, E: Write>(
     alloc: Global,
     sent: Result<usize, ToolFault>,
@@ -329,22 +329,23 @@ fn asking<T: Files>(rt: &T, alloc: Global, file: &str) -> Result<Vec<u8>, ToolFa
 /// The arguments of a run of `ill exchange`.
 #[derive(Clone, Copy)]
 pub struct Night<'a> {
-    /// The folder of the mail that has come.
+    /// The folder of the mails that have come.
     pub incoming: &'a str,
-    /// The folder of the mail that is to go.
+    /// The folder of the mails to send.
     pub outgoing: &'a str,
-    /// The day of the run, and the deeds that it may ask of a responder.
+    /// The day of the run, and the deeds that it makes a responder do.
     pub dates: Option<(Day, Dates)>,
-    /// The path of the file of the copy. On a shelf it is that of a folder, in which each copy has the name of its
+    /// The path of the file of the copy. On a shelf it is the path of a folder, in which each copy has the name of its
     /// desk.
     pub copy: Option<&'a str>,
-    /// The path of the file that is made anew in the end.
+    /// The path of the file that is written anew at the end, as a sign of life.
     pub beat: Option<&'a str>,
-    /// Set if the desk stands on a shelf, which has sorted the mail.
+    /// Set if the desk is on a shelf, which has sorted the mails.
     pub is_on_shelf: bool,
 }
 
-/// `ill exchange`: takes the mail that has come, does the deeds of the day, copies the desk, and sends.
+/// `ill exchange`: takes the mails that have come, performs the deeds of the day, copies the desk, and sends its
+/// messages.
 pub fn exchange<T: LockFiles, W: Write, E: Write>(
     rt: &T,
     alloc: Global,
@@ -395,7 +396,7 @@ fn exchange_at<T: Files, S: Store, W: Write, E: Write>(
     }
 }
 
-/// Does the deeds of the day, copies the desk, and sends, once the mails of a night were taken.
+/// Performs the deeds of the day, copies the desk, and sends its messages, after the mails of a night were taken.
 fn go_on<T: Files, S: Store, W: Write, E: Write>(
     rt: &T,
     alloc: Global,
@@ -415,7 +416,7 @@ fn go_on<T: Files, S: Store, W: Write, E: Write>(
     }
 }
 
-/// Returns `answer`. If it is a fault of a file or a folder, a line to `errors` has `path` and `text`.
+/// Returns `answer`. If it is a fault of a file or a folder, it writes a line of `path` and `text` to `errors`.
 pub(crate) fn blame<X: Drop, E: Write>(
     alloc: Global,
     answer: Result<X, ToolFault>,
@@ -431,7 +432,7 @@ pub(crate) fn blame<X: Drop, E: Write>(
     answer
 }
 
-/// Does the deeds of the day, if `dates` has one.
+/// Performs the deeds that are due on the day of `dates`, if it has a day.
 fn say_dates<S: Store, W: Write>(
     alloc: Global,
     desk: &mut Desk<S>,
@@ -447,8 +448,8 @@ fn say_dates<S: Store, W: Write>(
     }
 }
 
-/// Copies the desk, and then sends the messages that want sending. A responder's loan that the deeds of the day have
-/// ended is among them, if a message of it came in this run. If the copy fails, nothing is sent.
+/// Copies the desk, and then sends the messages of the loans that want sending. If a deed of the day has ended a loan,
+/// its messages are sent too if a message of it came in this run. If the copy fails, nothing is sent.
 fn send_all<T: Files, S: Store, W: Write, E: Write>(
     rt: &T,
     alloc: Global,
@@ -472,7 +473,7 @@ fn send_all<T: Files, S: Store, W: Write, E: Write>(
     }
 }
 
-/// Copies `desk` to the file at `path`, if there is a path. A copy that has more loans stays, which is a failure.
+/// Copies `desk` to the file at `path`, if there is a path. A copy with more loans is not replaced, which is a failure.
 fn copy_to<T: Files, S: Store, E: Write>(
     rt: &T,
     alloc: Global,
@@ -496,7 +497,7 @@ fn copy_to<T: Files, S: Store, E: Write>(
     }
 }
 
-/// Writes a line to `errors` of a copy that has more loans than its desk. If memory runs out, no line is written.
+/// Writes a line to `errors` about a copy that has more loans than its desk. If memory runs out, it writes none.
 fn tell_kept<E: Write>(alloc: Global, path: &str, count: usize, own: usize, errors: &mut E) {
     if let Ok(text) = format!(in alloc; " has {count} loans, and the desk {own}{KEPT}") {
         warn(alloc, path.as_bytes(), text.as_str(), errors);
@@ -533,7 +534,7 @@ pub(crate) fn beat<T: Files, E: Write>(
     }
 }
 
-/// Makes a file at `path` that has the end of a line alone. It replaces a regular file of at most one byte, and no
+/// Writes a file at `path` that has only the end of a line. It replaces a regular file of at most one byte, and no
 /// other.
 fn make_anew<T: Files>(rt: &T, path: &str) -> io::Result<()> {
     match fs::symlink_metadata(rt, path) {
@@ -548,7 +549,8 @@ fn make_anew<T: Files>(rt: &T, path: &str) -> io::Result<()> {
     options.open(rt, path)?.write_all(b"\n")
 }
 
-/// Makes the file at `path` anew, if there is a path, and returns the ending of the run. Its messages have left.
+/// Writes the file at `path` anew, if there is a path, and returns the ending of the run. All messages were sent
+/// before.
 fn finish<T: Files, S: Store, E: Write>(
     rt: &T,
     alloc: Global,
@@ -565,7 +567,7 @@ fn finish<T: Files, S: Store, E: Write>(
     }
 }
 
-/// Returns the ending of a night: a fault if mails stay, false if something wants a person, else true.
+/// Returns the result of a night: a fault if mails wait, false if a mail wants a person, else true.
 fn ending<S: Store>(desk: &Desk<S>, taken: &Taken) -> Result<bool, ToolFault>
     ensures { result ≡ night_ending desk.now.live.role (taken_of taken.now) }
 {

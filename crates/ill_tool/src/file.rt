@@ -1,5 +1,5 @@
-//! The commands that keep a desk in a file. Their arguments were read before, but for the words of an action. A command
-//! that may change the file holds its lock from before the load to its end.
+//! The commands that keep a desk in a file. Their arguments are values that were read before, except the words of an
+//! action. A command that may change the file holds its lock from before the load to its end.
 
 ghost use Rattle.std.specs.Prelude.{◌≡◌, ◌++◌, Ok, true, false, map, string_bytes, IfErr, OnOk};
 ghost use Rattle.ill_saved.specs.Desk.{answer_of};
@@ -96,7 +96,7 @@ pub fn take<T: LockFiles, R: Read, W: Write>(
     release(taken, desk, lock)
 }
 
-/// `ill take --keep`: takes the APDUs of the input, and keeps each that was taken in the file beside that of the desk.
+/// `ill take --keep`: takes the APDUs of the input. It keeps each taken one in a file beside the desk's file.
 fn take_kept<T: LockFiles, R: Read, W: Write>(
     rt: &T,
     alloc: Global,
@@ -113,8 +113,7 @@ fn take_kept<T: LockFiles, R: Read, W: Write>(
     release(taken, desk, lock)
 }
 
-/// Takes the APDUs of the input at `desk`. It keeps each that was taken in the file beside `file`, if that can be
-/// opened.
+/// Takes the APDUs of the input at `desk`. It keeps each taken one in the file beside `file`, if that can be opened.
 fn take_and_keep<T: Files, S: Store, R: Read, W: Write>(
     rt: &T,
     alloc: Global,
@@ -131,7 +130,7 @@ fn take_and_keep<T: Files, S: Store, R: Read, W: Write>(
     run_desk_kept_take(alloc, desk, is_long, &mut came, reader, writer)
 }
 
-/// Takes the APDUs of the input at `desk`, and writes long lines or short ones.
+/// Takes the APDUs of the input at `desk`, and writes a line for each, with its fields or without.
 fn take_told<S: Store, R: Read, W: Write>(
     alloc: Global,
     desk: &mut Desk<S>,
@@ -167,7 +166,7 @@ pub fn send<T: Files, W: Write>(
     all_well(sent)
 }
 
-/// `ill list`: lists the loans of the desks at `paths` that are wanted.
+/// `ill list`: lists the wanted loans of the desks at `paths`.
 pub fn list<T: Files, W: Write, E: Write>(
     rt: &T,
     alloc: Global,
@@ -212,7 +211,7 @@ fn list_files<T: Files, W: Write, E: Write>(
     Ok(())
 }
 
-/// Lists the desk in a file, and warns if little room is left.
+/// Lists the desk in a file, and warns if it has little room left.
 fn list_file<T: Files, W: Write, E: Write>(
     rt: &T,
     alloc: Global,
@@ -267,10 +266,10 @@ fn list_lines<S: Store, W: Write>(
     run_desk_list(alloc, desk, &heading, wanted, writer)
 }
 
-/// The number of loans from which on a warning tells how much room a desk has left.
+/// The number of loans from which on `list` warns of the room left.
 const MANY: usize = 900;
 
-/// Writes to `errors` how much room a desk has, if it has many loans.
+/// Writes a warning of the room left at a desk to `errors`, if the desk has many loans.
 fn warn<E: Write>(alloc: Global, file: &str, loans: usize, errors: &mut E) {
     if loans < MANY {
         return;
@@ -403,7 +402,7 @@ fn push_file<T: Files>(
     }
 }
 
-/// Returns true, unless `answer` is a fault.
+/// Returns true in place of the answer, or the fault.
 pub fn all_well<A: Drop>(answer: Result<A, ToolFault>) -> Result<bool, ToolFault>
     ensures { result ≡ all_well answer }
 {
@@ -413,7 +412,7 @@ pub fn all_well<A: Drop>(answer: Result<A, ToolFault>) -> Result<bool, ToolFault
     }
 }
 
-/// Drops the desk or the store of `begun`, and returns true, unless there was a fault.
+/// Drops the desk or the store of `begun`, and returns true, or its fault.
 fn end<D: Drop, S: Drop>(begun: Result<D, (ToolFault, S)>) -> Result<bool, ToolFault>
     ensures { result ≡ all_well (answer_of begun) }
 {

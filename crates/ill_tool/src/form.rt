@@ -1,10 +1,10 @@
-//! The forms in which a command writes.
+//! The form of a command's output.
 
-/// The form in which a command writes.
+/// The form of a command's output.
 #[derive(Clone, Copy, Debug, PartialEq, Eq, Hash)]
 pub enum Form {
-    /// In lines, of a label and a value each.
+    /// Lines, of a label and a value each.
     Lines,
-    /// In objects of JSON, one on a line.
+    /// Objects of JSON, one on each line.
     Json,
 }

@@ -1,4 +1,4 @@
-//! The messages of a loan that came and were kept, as `loan` shows them.
+//! The messages that came in a loan and were kept, as `loan` shows them.
 
 ghost use Rattle.std.specs.Prelude.{◌≡◌, ◌++◌, true, codes, IfOk, OnOk};
 ghost use Rattle.std.specs.List.{flat_map};
@@ -18,8 +18,8 @@ use ill_values::{Apdu, OutOfMemory, TxnId};
 use std::alloc::Global;
 use std::io::Write;
 
-/// Writes all that `run_desk_loan` does, and after it each message of the transaction in `came`, once. It writes lines,
-/// or one object. `came` has the bytes that `take --keep` has kept. A part that is no message, and all after it, is
+/// Writes all that `run_desk_loan` does, and then each message of the transaction in `came`, once. It writes lines, or
+/// one object. `came` has the bytes that `take --keep` has kept. A part that is no message, and all bytes after it, are
 /// ignored.
 pub fn run_desk_kept_loan<S: Store, W: Write>(
     alloc: Global,
@@ -38,7 +38,7 @@ pub fn run_desk_kept_loan<S: Store, W: Write>(
     }
 }
 
-/// Writes all that is known of `side`, and the messages in `came` that came to it.
+/// Writes all that is known of `side`, and its messages in `came`.
 fn write_kept<W: Write>(
     alloc: Global,
     form: Form,
@@ -88,7 +88,7 @@ fn push_kept_lines(
     push_kept(lines, kept)
 }
 
-/// Returns the messages in `bytes`, up to the first part that is none.
+/// Returns the messages in `bytes`, up to the first part that is no message.
 pub(crate) fn apdus_in(alloc: Global, bytes: &[u8]) -> Result<Vec<Apdu>, OutOfMemory>
     ensures { IfOk result (λ came. AreIn bytes.now came.items) }
 {
@@ -96,7 +96,7 @@ pub(crate) fn apdus_in(alloc: Global, bytes: &[u8]) -> Result<Vec<Apdu>, OutOfMe
     Ok(feed.push(bytes)?.apdus)
 }
 
-/// Returns the messages of `came` that are of the transaction `txn`, each once.
+/// Returns the messages of the transaction `txn` in `came`, each once.
 pub(crate) fn kept_of(alloc: Global, txn: &TxnId, came: &[Apdu]) -> Result<Vec<Apdu>, OutOfMemory>
     ensures { IfOk result (λ kept. kept.items ≡ kept_of txn.now came.now) }
 {
@@ -107,7 +107,7 @@ pub(crate) fn kept_of(alloc: Global, txn: &TxnId, came: &[Apdu]) -> Result<Vec<A
     Ok(kept)
 }
 
-/// Appends `apdu` to `kept`, if it is of the transaction `txn` and not among them yet.
+/// Appends `apdu` to `kept`, if it is of the transaction `txn` and `kept` lacks it.
 fn push_new(kept: &mut Vec<Apdu>, txn: &TxnId, apdu: &Apdu) -> Result<(), OutOfMemory>
     ensures { OnOk result (kept.new.items ≡ with_new txn.now kept.old.items apdu.now) }
 {
@@ -131,7 +131,7 @@ pub(crate) fn is_among(alloc: Global, kept: &[Apdu], apdu: &Apdu) -> Result<bool
     Ok(false)
 }
 
-/// Appends the lines of `kept`, messages that came.
+/// Appends the lines of the messages `kept`.
 fn push_kept(lines: &mut Vec<u8>, kept: &[Apdu]) -> Result<(), OutOfMemory>
     ensures { OnOk result (lines.new.items ≡ lines.old.items
         ++ flat_map (marked_lines (codes "came") true) kept.now) }

@@ -42,7 +42,7 @@ pub fn push_shown(lines: &mut Vec<u8>, apdu: &Apdu) -> Result<(), OutOfMemory>
     push_shown_fields(lines, &body)
 }
 
-/// Appends the lines that each APDU has.
+/// Appends the lines that all APDUs have: the type, the transaction and the number.
 fn push_head(
     lines: &mut Vec<u8>,
     body: &BodyView<'_>,
@@ -66,7 +66,7 @@ pub fn push_id(lines: &mut Vec<u8>, group: &[u8], transaction: &[u8]) -> Result<
     push_line(lines, "transaction", transaction)
 }
 
-/// Appends the lines of the further fields of `body`, with an item escaped.
+/// Appends the lines of `push_fields`, with an item escaped for a screen.
 pub fn push_shown_fields(lines: &mut Vec<u8>, body: &BodyView<'_>) -> Result<(), OutOfMemory>
     ensures { OnOk result (lines.new.items ≡ lines.old.items ++ shown_fields (body_in body.now)) }
 {
@@ -98,7 +98,7 @@ pub fn push_item(lines: &mut Vec<u8>, item: &[u8]) -> Result<(), OutOfMemory>
     push_line(lines, "item", &shown)
 }
 
-/// Appends the lines of the further fields of `body`.
+/// Appends the lines of the fields that only APDUs of this type have.
 pub fn push_fields(lines: &mut Vec<u8>, body: &BodyView<'_>) -> Result<(), OutOfMemory>
     ensures { OnOk result (lines.new.items ≡ lines.old.items ++ field_lines (body_in body.now)) }
 {
@@ -123,7 +123,7 @@ pub fn push_fields(lines: &mut Vec<u8>, body: &BodyView<'_>) -> Result<(), OutOf
     }
 }
 
-/// Appends the lines of a reply to a Renew: its number and `yes` or `no`, and the new due day if it is granted.
+/// Appends the lines of a Renew-Answer: the number of the Renew, `yes` or `no`, and the new due date after `yes`.
 fn push_grant(lines: &mut Vec<u8>, answers: Number, granted: Option<Day>) -> Result<(), OutOfMemory>
     ensures { OnOk result (lines.new.items ≡ lines.old.items ++ grant_lines answers granted) }
 {

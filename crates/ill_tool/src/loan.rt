@@ -17,9 +17,9 @@ use ill_values::{Apdu, Body, Number, OutOfMemory, TxnId};
 use std::alloc::Global;
 use std::io::Write;
 
-/// Writes all that the record of `desk` knows. The first lines are the seven of `status`. Then come the library that
-/// acts next, the actions that this side may take now, and the request. The last are the messages that were taken, and
-/// each that it has issued.
+/// Writes all that the record of `desk` has. The first lines are the seven of `status`. Then come the library that acts
+/// next, the actions that this side may do now, and the request. The last are the numbers of messages that were taken,
+/// and each message that the side has issued.
 pub fn run_loan<S: Store, W: Write>(
     alloc: Global,
     desk: &Desk1<S>,
@@ -71,7 +71,7 @@ pub(crate) fn push_loan(lines: &mut Vec<u8>, side: &Side, released: u8) -> Resul
     push_messages(lines, side.all_issued(), released)
 }
 
-/// Appends the lines of `side` that stand before those of its messages.
+/// Appends the lines of `side`, without its messages.
 fn push_side(lines: &mut Vec<u8>, side: &Side, released: u8) -> Result<(), OutOfMemory>
     ensures { OnOk result (lines.new.items ≡ lines.old.items ++ side_lines side.now released) }
 {
@@ -81,7 +81,7 @@ fn push_side(lines: &mut Vec<u8>, side: &Side, released: u8) -> Result<(), OutOf
     push_taken(lines, side)
 }
 
-/// Appends the line of the library that acts next, and that of the actions that the side may take.
+/// Appends the line of the library that acts next, and the line of the actions that the side may do now.
 fn push_turn(lines: &mut Vec<u8>, side: &Side) -> Result<(), OutOfMemory>
     ensures { OnOk result (lines.new.items ≡ lines.old.items ++ turn_lines side.now) }
 {
@@ -90,7 +90,7 @@ fn push_turn(lines: &mut Vec<u8>, side: &Side) -> Result<(), OutOfMemory>
     push_words(lines, "now", &names)
 }
 
-/// Returns the word of `turn`.
+/// Returns the word for the library that acts next.
 pub(crate) fn turn_word(turn: Turn) -> &'static str
     ensures { result.now ≡ turn_word turn }
 {
@@ -146,7 +146,7 @@ fn push_wanted(lines: &mut Vec<u8>, body: &Body) -> Result<(), OutOfMemory>
     }
 }
 
-/// Appends the lines of the messages that the side has taken, as far as its record has their numbers.
+/// Appends the lines of the message numbers that the record keeps of the other side.
 fn push_taken(lines: &mut Vec<u8>, side: &Side) -> Result<(), OutOfMemory>
     ensures { OnOk result (lines.new.items ≡ lines.old.items ++ taken_lines side.now) }
 {
@@ -160,7 +160,7 @@ fn push_taken(lines: &mut Vec<u8>, side: &Side) -> Result<(), OutOfMemory>
     }
 }
 
-/// Appends the line of the number of a message: a dash, if there is none.
+/// Appends the line of the number of a message, or of a dash if there is none.
 fn push_optional_number(
     lines: &mut Vec<u8>,
     label: &str,
@@ -186,7 +186,7 @@ fn push_messages(lines: &mut Vec<u8>, apdus: &[Apdu], released: u8) -> Result<()
     Ok(())
 }
 
-/// Appends an empty line, the lines of `apdu`, and a line that tells if it may leave.
+/// Appends an empty line, the lines of `apdu`, and a line that says `yes` if it may be sent.
 fn push_message(lines: &mut Vec<u8>, apdu: &Apdu, released: u8) -> Result<(), OutOfMemory>
     ensures { OnOk result (lines.new.items ≡ lines.old.items ++ message_lines released apdu.now) }
 {

@@ -1,5 +1,5 @@
-//! The folder of a desk's mail, beside its file. Nobody but the user of the desk may write there, so a file there stays
-//! as it is.
+//! The folder of a desk's mail, beside its file. Only the user of the desk may write there, so nobody else changes a
+//! file there.
 
 use ill_saved::{FileStore, RECORD_LIMIT, Store, StoreFault};
 use std::alloc::Global;
@@ -13,7 +13,7 @@ use std::{fs, io};
 /// The ending of the name of the folder, after the name of the desk's file.
 pub(crate) const MAIL: &str = ".mail";
 
-/// The ending of the name of the file that tells why a mail was put aside.
+/// The ending of the name of the file with the reason why a mail was put aside.
 const WHY: &str = ".why";
 
 /// The folder of a desk's mail.
@@ -24,7 +24,8 @@ pub struct MailBox {
 }
 
 impl MailBox {
-    /// Opens the folder of the mail of the desk in the file `desk`. If it is not there, it is made for its owner alone.
+    /// Opens the folder of the mail of the desk in the file `desk`. If it does not exist, it is made for its owner
+    /// alone.
     pub fn open<T: Files>(rt: &T, alloc: Global, desk: &str) -> io::Result<MailBox> {
         let path = format!(in alloc; "{desk}{MAIL}")?;
         make_own_folder(rt, path.as_str())?;
@@ -38,7 +39,7 @@ impl MailBox {
         self.claimed.as_str()
     }
 
-    /// Returns true if `path` leads to this folder, into it, or to the folder of the desk's file. No mail stands there.
+    /// Returns true if `path` leads to this folder, into it, or to the folder of the desk's file. No mail may be there.
     pub fn is_at<T: Files>(&self, rt: &T, alloc: Global, path: &str) -> io::Result<bool> {
         let above = fs::metadata(rt, self.above())?;
         Ok(
@@ -47,7 +48,7 @@ impl MailBox {
         )
     }
 
-    /// Returns the path of the folder in which this one stands.
+    /// Returns the path of the folder that has this one.
     fn above(&self) -> &str {
         match Path::new(self.path.as_str()).parent() {
             Some(folder) if !folder.as_str().is_empty() => folder.as_str(),
@@ -80,7 +81,7 @@ impl MailBox {
         }
     }
 
-    /// Keeps `asked`, the messages that ask, in place of those of the night before.
+    /// Keeps `asked`, the messages that ask. They replace the ones of the night before.
     pub fn keep_asked<T: Files>(&self, rt: &T, alloc: Global, asked: &[u8]) -> io::Result<()> {
         let path = self.asked(alloc)?;
         if asked.is_empty() {
@@ -99,7 +100,8 @@ fn asked_at(alloc: Global, path: &str) -> io::Result<String> {
     Ok(format!(in alloc; "{path}/asked")?)
 }
 
-/// Returns the messages that ask at the desk in the file `desk`, one after another: none if there is no file of them.
+/// Returns the messages that ask at the desk in the file `desk`, one after another. There are none without a file of
+/// them.
 pub fn asked_bytes<T: Files>(rt: &T, alloc: Global, desk: &str) -> io::Result<Vec<u8>> {
     let path = format!(in alloc; "{desk}{MAIL}")?;
     let asked = asked_at(alloc, path.as_str())?;
@@ -111,7 +113,7 @@ pub fn asked_bytes<T: Files>(rt: &T, alloc: Global, desk: &str) -> io::Result<Ve
     }
 }
 
-/// Makes a folder that its owner alone may enter, if none is there. A folder that others may enter is a fault.
+/// Makes a folder that only its owner may enter, if it does not exist. A folder that others may enter is a fault.
 fn make_own_folder<T: Files>(rt: &T, path: &str) -> io::Result<()> {
     make_folder(rt, path)?;
     let found = fs::symlink_metadata(rt, path)?;
@@ -122,7 +124,7 @@ fn make_own_folder<T: Files>(rt: &T, path: &str) -> io::Result<()> {
     }
 }
 
-/// Makes a folder for its owner alone, if none is there. A link to a folder is a fault.
+/// Makes a folder for its owner alone, if it does not exist. A link to a folder is a fault.
 pub(crate) fn make_folder<T: Files>(rt: &T, path: &str) -> io::Result<()> {
     match fs::symlink_metadata(rt, path) {
         Ok(found) if found.is_dir() => Ok(()),
@@ -134,13 +136,13 @@ pub(crate) fn make_folder<T: Files>(rt: &T, path: &str) -> io::Result<()> {
     }
 }
 
-/// Returns true if two paths led to one folder.
+/// Returns true if two paths led to one file or folder.
 pub(crate) fn is_same(one: &Metadata, other: &Metadata) -> bool {
     (one.dev(), one.ino()) == (other.dev(), other.ino())
 }
 
-/// The most levels by which a folder may lie below a folder of mails in which it is found. That many folders stand
-/// between a claimed mail and the folder of its desk's file.
+/// The greatest depth of a folder below a folder of mails at which `is_within` finds it. The folder of a claimed mail
+/// is at this depth below the folder of its desk's file.
 const DEPTH: usize = 3;
 
 /// Returns true if `path` leads to `folder`, or to a folder at most three levels below it.
@@ -161,7 +163,7 @@ pub(crate) fn is_within<T: Files>(
     Ok(false)
 }
 
-/// Removes the file at `path`, if it is there.
+/// Removes the file at `path`, if it exists.
 pub(crate) fn remove_if_there<T: Files>(rt: &T, path: &str) -> io::Result<()> {
     match fs::remove_file(rt, path) {
         Err(error) if error.kind() != ErrorKind::NotFound => Err(error),
@@ -169,7 +171,7 @@ pub(crate) fn remove_if_there<T: Files>(rt: &T, path: &str) -> io::Result<()> {
     }
 }
 
-/// Writes `line` to the file at `path`, in place of one that is there.
+/// Writes `line` to the file at `path`, and replaces a file there.
 fn write_anew<T: Files>(rt: &T, path: &str, line: &[u8]) -> io::Result<()> {
     remove_if_there(rt, path)?;
     let mut options = OpenOptions::new();

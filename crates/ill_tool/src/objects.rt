@@ -48,7 +48,7 @@ fn push_apdu(
     push_body(text, body)
 }
 
-/// Appends the fields that each APDU has.
+/// Appends the fields that all APDUs have: the type, the transaction and the number.
 #[tactic(auto, unfolding(crate::specs::Json::joined))]
 fn push_head<'a>(
     text: &mut Vec<u8>,
@@ -72,7 +72,7 @@ fn push_head<'a>(
     )
 }
 
-/// Appends the further fields of an APDU.
+/// Appends the fields that only APDUs of this type have.
 #[tactic(auto, unfolding(crate::specs::Json::joined))]
 fn push_body(text: &mut Vec<u8>, body: &BodyView<'_>) -> Result<(), OutOfMemory>
     ensures { OnOk result (text.new.items ≡ text.old.items
@@ -146,7 +146,7 @@ fn push_date(text: &mut Vec<u8>, day: Option<Day>) -> Result<(), OutOfMemory>
     }
 }
 
-/// Appends, on a line, the object of how `side` stands.
+/// Appends the object of `status` for `side`, on a line.
 pub(crate) fn push_status_object(
     text: &mut Vec<u8>,
     side: &Side,
@@ -160,7 +160,7 @@ pub(crate) fn push_status_object(
     push_plain(text, "}\n")
 }
 
-/// Appends the fields of how `side` stands.
+/// Appends the fields of `status` for `side`.
 fn push_status(text: &mut Vec<u8>, side: &Side, released: u8) -> Result<(), OutOfMemory>
     ensures { OnOk result (text.new.items ≡ text.old.items
         ++ joined member [] (status_fields side.now released)) }
@@ -169,7 +169,7 @@ fn push_status(text: &mut Vec<u8>, side: &Side, released: u8) -> Result<(), OutO
     push_standing(text, side, released, &marks)
 }
 
-/// Appends the fields of how `side` stands, with `marks`.
+/// Appends the fields of `status` for `side`, with the marks `marks`.
 #[tactic(auto, unfolding(crate::specs::Json::joined))]
 fn push_standing<'a>(
     text: &mut Vec<u8>,
@@ -196,7 +196,7 @@ fn push_standing<'a>(
     )
 }
 
-/// Appends the fields of all that is known of `side`.
+/// Appends the fields of `loan` for `side`, without the messages that came.
 fn push_loan(text: &mut Vec<u8>, side: &Side, released: u8) -> Result<(), OutOfMemory>
     ensures { OnOk result (text.new.items ≡ text.old.items
         ++ joined member [] (loan_fields side.now released)) }
@@ -207,7 +207,7 @@ fn push_loan(text: &mut Vec<u8>, side: &Side, released: u8) -> Result<(), OutOfM
     push_messages(text, "messages", side.all_issued(), Some(released))
 }
 
-/// Appends the object of all that is known of `side` and of the messages `came`, on a line.
+/// Appends the object of `loan` for `side` and the messages `came`, on a line.
 pub(crate) fn push_kept_object(
     text: &mut Vec<u8>,
     side: &Side,
@@ -222,7 +222,7 @@ pub(crate) fn push_kept_object(
     push_plain(text, "}\n")
 }
 
-/// Appends the fields of all that is known of `side`, and of the messages `came`.
+/// Appends the fields of `loan` for `side`, and the messages `came`.
 fn push_loan_and_came(
     text: &mut Vec<u8>,
     side: &Side,
@@ -236,7 +236,7 @@ fn push_loan_and_came(
     push_messages(text, "came", came, None)
 }
 
-/// Appends the fields of the library that acts next, the actions that the side may take now, and the request.
+/// Appends the fields of the library that acts next, the actions that the side may do now, and the request.
 fn push_turn(text: &mut Vec<u8>, side: &Side) -> Result<(), OutOfMemory>
     ensures { OnOk result (text.new.items ≡ text.old.items
         ++ joined member (codes ",") (turn_fields side.now (names_of side.now))) }
@@ -263,7 +263,7 @@ fn push_now<'a>(text: &mut Vec<u8>, side: &'a Side, names: &'a [&'a str]) -> Res
     )
 }
 
-/// Appends the fields of the messages that the side has taken, as far as its record has their numbers.
+/// Appends the fields of the message numbers that the record keeps of the other side.
 #[tactic(auto, unfolding(crate::specs::Json::joined))]
 fn push_taken(text: &mut Vec<u8>, side: &Side) -> Result<(), OutOfMemory>
     ensures { OnOk result (text.new.items ≡ text.old.items
@@ -285,7 +285,8 @@ fn push_taken(text: &mut Vec<u8>, side: &Side) -> Result<(), OutOfMemory>
     }
 }
 
-/// Appends the field `label` of the messages `apdus`. If there is a number `released`, each tells if it may leave.
+/// Appends the field `label` of the messages `apdus`. With a number `released`, each has a field that is true if it may
+/// be sent.
 #[tactic(auto, unfolding(crate::specs::Json::joined))]
 fn push_messages(
     text: &mut Vec<u8>,
@@ -336,7 +337,7 @@ fn push_issued(text: &mut Vec<u8>, apdu: &Apdu) -> Result<(), OutOfMemory>
     push_apdu(text, &view(&apdu.body), group, transaction, apdu.number)
 }
 
-/// Appends the field that tells if `apdu` may leave, if there is a number `released`.
+/// Appends the field that is true if `apdu` may be sent, if there is a number `released`.
 #[tactic(auto, unfolding(crate::specs::Json::joined))]
 fn push_leaves(text: &mut Vec<u8>, apdu: &Apdu, released: Option<u8>) -> Result<(), OutOfMemory>
     ensures { OnOk result (text.new.items ≡ text.old.items
@@ -351,7 +352,7 @@ fn push_leaves(text: &mut Vec<u8>, apdu: &Apdu, released: Option<u8>) -> Result<
     }
 }
 
-/// Returns the item of `side`, if its request is there.
+/// Returns the item of `side`, if it has a request.
 pub(crate) fn title<'a>(side: &'a Side) -> Value<'a>
     ensures { value_text result ≡ optional quoted (item_asked (request_of side.now)) }
 {

@@ -207,7 +207,7 @@ pub fn inbox_of_shelf<T: LockFiles, W: Write, E: Write>(
     graver(answer, waiting(is_waiting))
 }
 
-/// Returns the paths of the desks of `shelf`, and after them that of its own desk.
+/// Returns the paths of the desks of `shelf`, and then the path of the shelf's own desk.
 fn desks_and_own<T: Files>(
     rt: &T,
     alloc: Global,
@@ -220,7 +220,7 @@ fn desks_and_own<T: Files>(
     Ok(desks)
 }
 
-/// Returns the fault that mails wait, if they do; else true.
+/// Returns the fault `Left` if mails wait, else true.
 fn waiting(is_waiting: bool) -> Result<bool, ToolFault>
     ensures { IsFurther result }
 {
@@ -253,7 +253,7 @@ pub fn exchange_of_shelf<T: LockFiles, W: Write, E: Write>(
     graver(answer, further)
 }
 
-/// Returns the night of each desk of a shelf. The sign of life is given once, in the end.
+/// Returns the night of each desk of a shelf. It has no sign of life, which is given once, at the end.
 fn at_each<'a>(night: &Night<'a>) -> Night<'a>
     ensures { result.dates ≡ night.now.dates }
 {
@@ -267,8 +267,8 @@ fn at_each<'a>(night: &Night<'a>) -> Night<'a>
     }
 }
 
-/// Keeps the marks of retired groups with the copies. Unless a desk has failed, it then gives the sign of life of a
-/// night. It returns the fault that mails wait, if they do.
+/// Copies the marks of retired groups to the folder of copies. Then it gives the sign of life of the night, unless a
+/// desk has failed. It returns the fault `Left` if mails wait.
 fn end_night<T: Files, E: Write>(
     rt: &T,
     alloc: Global,
@@ -296,7 +296,7 @@ fn end_night<T: Files, E: Write>(
 /// The text that follows the path of a folder of copies.
 const NO_MARKS: &str = " does not have the marks of all retired groups";
 
-/// Puts the mark of each retired group into `folder`, which has copies, and removes the copy of its desk there.
+/// Writes the mark of each retired group into `folder`, which has the copies, and removes the copy of its desk there.
 fn copy_marks<T: Files>(rt: &T, alloc: Global, shelf: &Shelf<'_>, folder: &str) -> io::Result<()> {
     for name in names_of_desks(rt, alloc, shelf.folder, shelf.role, RETIRED)? {
         let copy = format!(in alloc; "{folder}/{name}")?;
@@ -308,13 +308,13 @@ fn copy_marks<T: Files>(rt: &T, alloc: Global, shelf: &Shelf<'_>, folder: &str) 
     Ok(())
 }
 
-/// Saves the mark that the group of `desk` is retired, and all changes of its folder with it.
+/// Saves the mark that the group of `desk` is retired, and makes it durable with its folder.
 fn save_mark<T: Files>(rt: &T, alloc: Global, desk: &str) -> io::Result<()> {
     let path = retired_path(alloc, desk)?;
     save_file(rt, alloc, path.as_str(), MARK)
 }
 
-/// Saves `bytes` in the file at `path`, and all changes of its folder with it.
+/// Saves `bytes` in the file at `path`, and makes it durable with its folder.
 fn save_file<T: Files>(rt: &T, alloc: Global, path: &str, bytes: &[u8]) -> io::Result<()> {
     let mut store = FileStore::at(rt, alloc, path, RECORD_LIMIT)?;
     match store.save(alloc, bytes) {
@@ -333,7 +333,8 @@ fn file_fault(error: &io::Error) -> ToolFault
     }
 }
 
-/// `ill shelf retire`: replaces a desk by a mark of its group, if all its loans are over. No mail is sorted meanwhile.
+/// `ill shelf retire`: replaces a desk by the mark of its group, if all its loans are over. No mail is sorted in that
+/// time.
 pub fn retire<T: LockFiles, W: Write>(
     rt: &T,
     alloc: Global,
@@ -355,14 +356,14 @@ pub fn retire<T: LockFiles, W: Write>(
     tell_with(is_marked, told)
 }
 
-/// Returns the line of a group that is retired, or of one with a loan that is not over.
+/// Returns the line of the command: `done` if the group is retired, `not-now` if a loan is not over.
 fn retired_line(is_retired: bool) -> &'static [u8]
     ensures { result.now ≡ retired_line is_retired }
 {
     if is_retired { b"done\n" } else { b"not-now\n" }
 }
 
-/// Returns the answer of a command that has written its line, or could not.
+/// Returns the answer of a command that has written its line, or the fault if it could not.
 fn tell_with(is_well: bool, told: Result<(), ToolFault>) -> Result<bool, ToolFault>
     ensures { result ≡ told_with is_well told }
 {
@@ -372,7 +373,7 @@ fn tell_with(is_well: bool, told: Result<(), ToolFault>) -> Result<bool, ToolFau
     }
 }
 
-/// Marks the group of the desk in `file` as retired, if all loans of the desk are over. Then it removes the desk. It
+/// Marks the group of the desk in `file` as retired, if all loans of the desk are over, and then removes the desk. It
 /// returns true if the group is marked.
 fn mark_and_clear<T: Files>(rt: &T, alloc: Global, file: &str) -> Result<bool, ToolFault>
     ensures { IfErr result IsOpenFault }
@@ -399,7 +400,8 @@ fn mark_retired<T: Files>(rt: &T, alloc: Global, file: &str) -> Result<bool, Too
     run_desk_retire(alloc, &desk, &mut mark)
 }
 
-/// Removes the file of a desk and the files beside it, and saves that. A mail that was put aside stays, and its folder.
+/// Removes the file of a desk and the files beside it, and makes that durable. Mails that were put aside stay in their
+/// folder.
 fn clear<T: Files>(rt: &T, alloc: Global, file: &str) -> io::Result<()> {
     let came = format!(in alloc; "{file}{CAME}")?;
     let mail = format!(in alloc; "{file}{MAIL}")?;
@@ -409,8 +411,8 @@ fn clear<T: Files>(rt: &T, alloc: Global, file: &str) -> io::Result<()> {
     save_mark(rt, alloc, file)
 }
 
-/// Removes the mails that were claimed for a desk, the messages that ask, and their folder. If mails were put aside
-/// there, the folder stays. Then it saves that no message asks, and all changes of the folder with it.
+/// Removes the mails that were claimed for a desk, the messages that ask, and their folder. If mails were put aside,
+/// the folder stays, and an empty file of the messages that ask is made durable.
 fn clear_mail<T: Files>(rt: &T, alloc: Global, mail: &str) -> io::Result<()> {
     let claimed = format!(in alloc; "{mail}/in")?;
     let asked = format!(in alloc; "{mail}/asked")?;

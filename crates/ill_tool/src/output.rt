@@ -1,4 +1,4 @@
-//! The part of all commands that writes.
+//! Writes the output of all commands.
 
 ghost use Rattle.ill_tool.specs.Output.{WritesPrefix};
 
@@ -16,7 +16,7 @@ pub fn write_whole<W: Write>(writer: &mut W, bytes: &[u8]) -> Result<(), ToolFau
     }
 }
 
-/// Writes all of `bytes` and flushes the writer, so that they do not wait in it.
+/// Writes all of `bytes` and flushes the writer, so that none of them wait in it.
 pub fn write_and_flush<W: Write>(writer: &mut W, bytes: &[u8]) -> Result<(), ToolFault>
     ensures { WritesPrefix (W.contents writer.old) (W.contents writer.new) bytes.now result }
 {

@@ -17,12 +17,12 @@ use itoa::Buffer;
 use std::alloc::Global;
 use std::io::Write;
 
-/// Writes a sequence chart of the messages of `txn`, in the language of Mermaid. It has those that its side has issued,
-/// the request that a responder has taken, and those in `came`.
+/// Writes a sequence chart of the messages of `txn`, in the language of Mermaid. The messages are the issued ones of
+/// its side, the request in a responder's record, and the ones in `came`.
 ///
-/// Nobody knows how the messages of the two sides lay in time. The order of each side holds. A message of the other
-/// side stands as late as possible, but before one that needs it. It stands directly after one that it answers by its
-/// number.
+/// Nobody knows the order of one side's messages and the other's in time. The picture keeps the order of each side. It
+/// draws a message of the other side as late as possible, but before a message that needs it. If it answers a message
+/// by its number, it is drawn directly after that one.
 pub fn run_desk_picture<S: Store, W: Write>(
     alloc: Global,
     desk: &Desk<S>,
@@ -42,7 +42,7 @@ pub fn run_desk_picture<S: Store, W: Write>(
 /// The first lines of a picture.
 const OPENING: &str = "sequenceDiagram\n  participant requester\n  participant responder\n";
 
-/// Writes the picture of `side`, with the messages in `came` that came to it.
+/// Writes the picture of `side`, with the messages in `came`.
 fn write_picture<W: Write>(
     alloc: Global,
     side: &Side,
@@ -59,7 +59,7 @@ fn write_picture<W: Write>(
     write_whole(writer, &lines)
 }
 
-/// Returns the messages `kept` that came, and of a responder its request too.
+/// Returns the messages `kept` that came. If they lack the request in a responder's record, it comes first.
 fn theirs_of(alloc: Global, side: &Side, kept: Vec<Apdu>) -> Result<Vec<Apdu>, OutOfMemory>
     ensures { IfOk result (λ theirs. theirs.items ≡ theirs_of side.now kept.items) }
 {
@@ -72,7 +72,7 @@ fn theirs_of(alloc: Global, side: &Side, kept: Vec<Apdu>) -> Result<Vec<Apdu>, O
     }
 }
 
-/// Returns the messages `kept` that came, with `request` before them, if it is not among them.
+/// Returns the messages `kept` that came. If they lack `request`, it comes first.
 fn with_request(alloc: Global, request: &Apdu, kept: Vec<Apdu>) -> Result<Vec<Apdu>, OutOfMemory>
     ensures { IfOk result (λ theirs. theirs.items ≡ with_request (Some request.now) kept.items) }
 {
@@ -96,7 +96,8 @@ fn draw(alloc: Global, own: &[Apdu], theirs: &[Apdu]) -> Result<Vec<u8>, OutOfMe
     Ok(lines)
 }
 
-/// Appends the message `own`, and those of `theirs` that stand before it or answer it. It returns the others.
+/// Appends the message `own`, and the messages of `theirs` that it needs or answers, or that answer it. It returns the
+/// other messages.
 fn push_own<'a>(
     lines: &mut Vec<u8>,
     own: &Apdu,
@@ -113,17 +114,17 @@ fn push_own<'a>(
     Ok(left)
 }
 
-/// The relation of a message of theirs to an own one.
+/// The relation of a message of the other side to one of this side.
 #[derive(Clone, Copy)]
 enum Link {
-    /// It stands before it.
+    /// This side's message needs it or answers it.
     Before,
-    /// It answers it.
+    /// It answers this side's message.
     After,
 }
 
-/// Returns the number of messages in `theirs` up to the last that has the relation `link` to `own`. Without one it is
-/// 0.
+/// Returns the number of messages in `theirs` up to the last that has the relation `link` to `own`. If none has it, the
+/// number is 0.
 fn through(link: Link, own: &Apdu, theirs: &[Apdu]) -> usize
     ensures reached { result ≡ through link own.now theirs.now }
     ensures within { result ≤ length theirs.now }
@@ -147,7 +148,7 @@ fn is_linked(link: Link, own: &Apdu, their: &Apdu) -> bool
     }
 }
 
-/// Returns true if a message `their` of the other side is there before one of the type of `own` is issued.
+/// Returns true if a message with the body `own` needs `their`: it is issued only after `their` has come.
 fn comes_before(their: &Body, own: &Body) -> bool
     ensures { result ≡ comes_before their.now own.now }
 {
@@ -159,7 +160,7 @@ fn comes_before(their: &Body, own: &Body) -> bool
     }
 }
 
-/// Returns true if a message `body` answers the number `asked`.
+/// Returns true if a message with this body answers the message `asked` of the other side.
 fn answers(body: &Body, asked: Number) -> bool
     ensures { result ≡ answers body.now asked }
 {
@@ -218,7 +219,7 @@ fn push_label(label: &mut Vec<u8>, apdu: &Apdu) -> Result<(), OutOfMemory>
     push_shown_fields(label, &body)
 }
 
-/// Appends `text` so that Mermaid takes no byte of it for its own.
+/// Appends `text` with escapes, so that Mermaid takes no byte of it for syntax.
 fn push_drawn(lines: &mut Vec<u8>, text: &[u8]) -> Result<(), OutOfMemory>
     ensures { OnOk result (lines.new.items ≡ lines.old.items ++ drawn text.now) }
 {
@@ -228,7 +229,7 @@ fn push_drawn(lines: &mut Vec<u8>, text: &[u8]) -> Result<(), OutOfMemory>
     Ok(())
 }
 
-/// Appends `byte` as it is, as the end of a line, or by its number.
+/// Appends `byte` as it is, as a line break, or as an escape with its number.
 fn push_byte(lines: &mut Vec<u8>, byte: u8) -> Result<(), OutOfMemory>
     ensures { OnOk result (lines.new.items ≡ lines.old.items ++ drawn_byte byte) }
 {
@@ -246,7 +247,7 @@ fn push_byte(lines: &mut Vec<u8>, byte: u8) -> Result<(), OutOfMemory>
     Ok(())
 }
 
-/// Returns true if a chart may have `byte` as it is.
+/// Returns true if a chart may have `byte` unescaped.
 fn is_plain(byte: u8) -> bool
     ensures { result ≡ is_plain byte }
 {

@@ -34,9 +34,9 @@ pub enum Request<'a> {
     Check,
     /// Perform a script of both sides of a transaction: `ill simulate`.
     Simulate {
-        /// The group qualifier that is wished for.
+        /// The group qualifier, not validated yet.
         group: &'a str,
-        /// The transaction qualifier that is wished for.
+        /// The transaction qualifier, not validated yet.
         transaction: &'a str,
     },
     /// Perform a script of two desks: `ill simulate-desks`.
@@ -54,9 +54,9 @@ pub enum Request<'a> {
         file: &'a str,
         /// The transaction.
         txn: TxnId,
-        /// The day on which it is done, if one is said.
+        /// The day of the action, if it is given.
         today: Option<Day>,
-        /// Set if a shelf may begin the group of the transaction.
+        /// Set if a shelf may begin a desk for the group of the transaction.
         is_new_group: bool,
         /// The words of the action.
         words: Vec<&'a str>,
@@ -65,9 +65,9 @@ pub enum Request<'a> {
     Take {
         /// The path of the file.
         file: &'a str,
-        /// Set if each message is told at length, with its fields.
+        /// Set if the fields of each message are written too.
         is_long: bool,
-        /// Set if each message that is taken is kept.
+        /// Set if each taken message is kept.
         is_kept: bool,
     },
     /// Take the mails of a folder: `ill inbox`.
@@ -77,11 +77,11 @@ pub enum Request<'a> {
         /// The path of the folder.
         folder: &'a str,
     },
-    /// Send the messages of the loans that want it: `ill outbox`.
+    /// Send the messages of the loans that want sending: `ill outbox`.
     Outbox {
         /// The path of the file.
         file: &'a str,
-        /// The path of the folder, or none if they are written to the output.
+        /// The path of the folder, or none for the output.
         folder: Option<&'a str>,
     },
     /// Exchange the mail of a desk: `ill exchange`.
@@ -124,7 +124,7 @@ pub enum Request<'a> {
         txn: TxnId,
         /// The form of the loan that is shown.
         form: Form,
-        /// Set if its messages are drawn instead.
+        /// Set if a picture of its messages is drawn instead.
         is_picture: bool,
     },
     /// Retire a group of a shelf: `ill shelf retire`.
@@ -148,12 +148,12 @@ pub enum Request<'a> {
     },
 }
 
-/// The reason that words are no request.
+/// The reason why words are no request.
 #[derive(Drop)]
 pub enum Refusal {
-    /// They are no command, or ask for help: `clap` has the text.
+    /// The words are no command, or ask for help. `clap` has the text.
     Usage(Error),
-    /// An argument is not what it has to be, or memory ran out.
+    /// An argument is invalid, or memory ran out.
     Fault(ToolFault),
 }
 
@@ -184,9 +184,9 @@ impl From<AllocError> for Refusal {
 /// The request of a command line, for one desk or for a shelf.
 #[derive(Drop)]
 pub enum Call<'a> {
-    /// Of one desk, or of none.
+    /// A request to one desk, or to none.
     Desk(Request<'a>),
-    /// Of a shelf: `ill shelf`.
+    /// A request to a shelf: `ill shelf`.
     Shelf(Request<'a>),
 }
 
@@ -209,7 +209,7 @@ fn found<'a>(alloc: Global, matches: &ArgMatches<'a>) -> Result<Request<'a>, Ref
     }
 }
 
-/// Returns the request of the command that `word` stands for, by the matches of the words after it.
+/// Returns the request of the command with the word `word`, by the matches of the words after it.
 fn named<'a>(alloc: Global, word: &str, matches: &ArgMatches<'a>) -> Result<Request<'a>, Refusal>
     ensures { ReadsValue asked (asked_by word.now (rows_of (found_of matches.now))) result }
 {
@@ -309,7 +309,8 @@ fn outbox_request<'a>(alloc: Global, matches: &ArgMatches<'a>) -> Result<Request
     Ok(Request::Outbox { file, folder })
 }
 
-/// Returns the folder into which an outbox sends, or none if it writes to the output. The words must name one of both.
+/// Returns the folder into which an outbox sends, or none for the output. Exactly one of the flag and the folder must
+/// be given.
 fn outlet<'a>(matches: &ArgMatches<'a>) -> Result<Option<&'a str>, Refusal>
     ensures { ReadsValue (λ folder. option_map (λ text. text.now) folder) (outlet_of (rows_of (found_of matches.now))) result }
 {
@@ -321,7 +322,7 @@ fn outlet<'a>(matches: &ArgMatches<'a>) -> Result<Option<&'a str>, Refusal>
     }
 }
 
-/// Returns the text of an argument that may be left out.
+/// Returns the text of an optional argument.
 fn said<'a>(matches: &ArgMatches<'a>, argument: Argument) -> Option<&'a str>
     ensures { option_map (λ text. text.now) result ≡ text_of argument (rows_of (found_of matches.now)) }
 {
@@ -354,7 +355,7 @@ fn exchange_request<'a>(alloc: Global, matches: &ArgMatches<'a>) -> Result<Reque
     })
 }
 
-/// Returns the day of a night and the deeds that it asks for, if it asks for any. Then the words must have the day.
+/// Returns the day of a night and the wanted deeds, if any deed is wanted. Then the day must be given.
 fn dates(matches: &ArgMatches<'_>) -> Result<Option<(Day, Dates)>, Refusal>
     ensures { ReadsValue (λ dates. dates) (dates_of (rows_of (found_of matches.now))) result }
 {
@@ -430,7 +431,7 @@ fn retire_request<'a>(alloc: Global, matches: &ArgMatches<'a>) -> Result<Request
     Ok(Request::Retire { file, group })
 }
 
-/// Returns the group of an argument.
+/// Returns the group in the arguments.
 fn group<'a>(alloc: Global, matches: &ArgMatches<'a>) -> Result<&'a str, Refusal>
     ensures { ReadsValue (λ group. group.now) (group_of (rows_of (found_of matches.now))) result }
 {
@@ -468,7 +469,7 @@ fn simulate_request<'a>(alloc: Global, matches: &ArgMatches<'a>) -> Result<Reque
     Ok(Request::Simulate { group, transaction })
 }
 
-/// Returns the role of a desk.
+/// Returns the role in the arguments.
 fn role(alloc: Global, matches: &ArgMatches<'_>) -> Result<Who, Refusal>
     ensures { ReadsValue (λ role. role) (role_of (rows_of (found_of matches.now))) result }
 {
@@ -479,7 +480,7 @@ fn role(alloc: Global, matches: &ArgMatches<'_>) -> Result<Who, Refusal>
     }
 }
 
-/// Returns the transaction of a loan.
+/// Returns the transaction in the arguments.
 fn loan(alloc: Global, matches: &ArgMatches<'_>) -> Result<TxnId, Refusal>
     ensures { ReadsValue (λ txn. txn) (loan_of (rows_of (found_of matches.now))) result }
 {
@@ -491,7 +492,7 @@ fn loan(alloc: Global, matches: &ArgMatches<'_>) -> Result<TxnId, Refusal>
     }
 }
 
-/// Returns the conditions on the loans that are listed.
+/// Returns the conditions on the loans to list.
 fn wanted(matches: &ArgMatches<'_>) -> Result<Wanted, Refusal>
     ensures { ReadsValue (λ wanted. wanted) (wanted_of (rows_of (found_of matches.now))) result }
 {
@@ -513,7 +514,7 @@ fn wanted(matches: &ArgMatches<'_>) -> Result<Wanted, Refusal>
     })
 }
 
-/// Returns the state of an option, if one is said.
+/// Returns the state of the option `--state`, if it is given.
 fn state(matches: &ArgMatches<'_>) -> Result<Option<State>, Refusal>
     ensures { ReadsValue (λ state. state) (state_in (rows_of (found_of matches.now))) result }
 {
@@ -526,7 +527,7 @@ fn state(matches: &ArgMatches<'_>) -> Result<Option<State>, Refusal>
     }
 }
 
-/// Returns the day of an option, if one is said.
+/// Returns the day of an option, if it is given.
 fn day(matches: &ArgMatches<'_>, argument: Argument) -> Result<Option<Day>, Refusal>
     ensures { ReadsValue (λ day. day) (day_in argument (rows_of (found_of matches.now))) result }
 {
@@ -550,7 +551,7 @@ fn report_day(alloc: Global, matches: &ArgMatches<'_>) -> Result<Day, Refusal>
     }
 }
 
-/// Returns the turns of the loans that are listed.
+/// Returns the turns of the loans to list.
 fn which(matches: &ArgMatches<'_>) -> Which
     ensures { result ≡ which_of (rows_of (found_of matches.now)) }
 {
@@ -563,7 +564,7 @@ fn which(matches: &ArgMatches<'_>) -> Which
     Which::All
 }
 
-/// Returns the form in which a command writes.
+/// Returns the form of the output.
 fn form(matches: &ArgMatches<'_>) -> Form
     ensures { result ≡ form_of (rows_of (found_of matches.now)) }
 {
@@ -574,7 +575,7 @@ fn form(matches: &ArgMatches<'_>) -> Form
     }
 }
 
-/// Returns true if a flag is set. Its text is `true` if it stands in the words.
+/// Returns true if `flag` is in the command line. `clap` then gives it the text `true`.
 fn is_set(matches: &ArgMatches<'_>, flag: Argument) -> bool
     ensures { result ≡ is_set flag (rows_of (found_of matches.now)) }
 {
@@ -595,7 +596,7 @@ fn message_number(alloc: Global, matches: &ArgMatches<'_>) -> Result<Number, Ref
     }
 }
 
-/// Returns the texts of an argument that has one or more.
+/// Returns the texts of an argument that may have several.
 fn texts<'a>(
     alloc: Global,
     matches: &ArgMatches<'a>,
@@ -613,7 +614,7 @@ fn texts<'a>(
     }
 }
 
-/// Returns the text of an argument that a command has to have.
+/// Returns the text of a required argument.
 fn text<'a>(alloc: Global, matches: &ArgMatches<'a>, argument: Argument) -> Result<&'a str, Refusal>
     ensures { ReadsValue (λ text. text.now) (text_of argument (rows_of (found_of matches.now))) result }
 {
@@ -623,7 +624,7 @@ fn text<'a>(alloc: Global, matches: &ArgMatches<'a>, argument: Argument) -> Resu
     }
 }
 
-/// Returns the refusal of matches that lack an argument of `command`. `clap` lets no such matches through.
+/// Returns the refusal of matches that lack a required argument. `clap` lets no such matches through.
 fn unknown(alloc: Global) -> Refusal
     ensures { IsRefusal true result }
 {

@@ -1,4 +1,4 @@
-//! The command `retire`: a mark of its group replaces a desk whose loans are all over.
+//! The command `retire`: it replaces a desk whose loans are all over by a mark of its group.
 
 ghost use Rattle.std.specs.Prelude.{◌≡◌, IfOk};
 ghost use Rattle.std.specs.List.{list_all};
@@ -17,8 +17,8 @@ use std::alloc::Global;
 /// The bytes of the file that marks a retired group.
 pub(crate) const MARK: &[u8] = b"retired\n";
 
-/// Marks in the store `mark` that the group of `desk` is retired, if all loans of the desk are over. Returns true if
-/// they are.
+/// Marks the group of `desk` as retired in the store `mark`, if all loans of the desk are over. It returns true if they
+/// are.
 pub fn run_desk_retire<S: Store, C: Store>(
     alloc: Global,
     desk: &Desk<S>,

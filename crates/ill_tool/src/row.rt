@@ -14,7 +14,7 @@ use ill_saved::Side;
 use ill_values::{Body, Item, OutOfMemory};
 use std::alloc::Global;
 
-/// The columns of a list: the widths of those that have none of their own, and if verbs are listed.
+/// The columns of a list: the widths that depend on the loans, and true if there is a column of verbs.
 #[derive(Clone, Copy)]
 pub struct Columns {
     pub group: usize,
@@ -68,7 +68,7 @@ pub fn push_row(
     Ok(())
 }
 
-/// Appends the turn, the state, and the due day: a dash, if there is none.
+/// Appends the turn, the state, and the due date, or a dash for it.
 fn push_standing(lines: &mut Vec<u8>, turn: Turn, side: &Side) -> Result<(), OutOfMemory>
     ensures { OnOk result (lines.new.items ≡ lines.old.items
         ++ (cell 6 (turn_word turn) ++ cell 20 (state_name (state_of side.now))
@@ -82,7 +82,7 @@ fn push_standing(lines: &mut Vec<u8>, turn: Turn, side: &Side) -> Result<(), Out
     }
 }
 
-/// Appends the actions that `act` takes now, with a comma between two, if they are listed.
+/// Appends the actions that the side may do now, with a comma between two, if the list has this column.
 fn push_verbs(lines: &mut Vec<u8>, has_verbs: bool, side: &Side) -> Result<(), OutOfMemory>
     ensures { OnOk result (lines.new.items ≡ lines.old.items ++ verbs_cell has_verbs side.now) }
 {
@@ -93,14 +93,14 @@ fn push_verbs(lines: &mut Vec<u8>, has_verbs: bool, side: &Side) -> Result<(), O
     push_cell(lines, VERBS, verbs.as_bytes())
 }
 
-/// Returns the actions that `act` takes now, with a comma between two.
+/// Returns the actions that the side may do now, with a comma between two.
 fn verbs_text(alloc: Global, side: &Side) -> Result<String, OutOfMemory>
     ensures { IfOk result (λ text. string_bytes text ≡ verbs_text side.now) }
 {
     Ok(names(alloc, side.verbs())?.join(alloc, ",")?)
 }
 
-/// Appends the title of the loan of `side`: the item that is asked for, or a dash if there is none.
+/// Appends the item of the loan of `side`, or a dash if there is none.
 pub(crate) fn push_title(lines: &mut Vec<u8>, side: &Side) -> Result<(), OutOfMemory>
     ensures { OnOk result (lines.new.items ≡ lines.old.items
         ++ title_text (item_asked (request_of side.now))) }
@@ -114,7 +114,7 @@ pub(crate) fn push_title(lines: &mut Vec<u8>, side: &Side) -> Result<(), OutOfMe
     }
 }
 
-/// Appends `text`, spaces up to `width`, and two more.
+/// Appends `text`, spaces up to `width`, and two further ones.
 fn push_cell(lines: &mut Vec<u8>, width: usize, text: &[u8]) -> Result<(), OutOfMemory>
     ensures { OnOk result (lines.new.items ≡ lines.old.items ++ cell width text.now) }
 {
@@ -134,7 +134,7 @@ fn push_padded(lines: &mut Vec<u8>, width: usize, text: &[u8]) -> Result<(), Out
     Ok(())
 }
 
-/// Returns the item of a loan: that of its request.
+/// Returns the item in the request of a loan.
 pub(crate) fn item_asked(side: &Side) -> Option<&Item>
     ensures { option_map (λ item. item.now) result ≡ item_asked (request_of side.now) }
 {

@@ -13,7 +13,7 @@ use std::io::Write;
 
 /// Writes the bytes of the message `number`, and nothing else.
 ///
-/// It must have been issued (else `NoSuchMessage`) and saved (else `NotSaved`).
+/// The message must be issued (else `NoSuchMessage`) and released (else `NotSaved`).
 pub fn run_send<S: Store, W: Write>(
     alloc: Global,
     desk: &Desk1<S>,

@@ -23,8 +23,8 @@ use std::path::Path;
 use std::rt::Files;
 use std::{fs, io};
 
-/// The name of the shelf's own desk, which has no loans. Its role is that of the shelf, and it takes the mail of no
-/// group.
+/// The name of the shelf's own desk, which has no loans. Its role is the role of the shelf. It takes mails that no desk
+/// of a group can take.
 const OWN: &str = ".shelf";
 
 /// The name, before `.mail`, of the folder of mails that are not sorted yet.
@@ -33,7 +33,7 @@ const UNSORTED: &str = ".unsorted";
 /// The ending of the name of the file that marks a retired group, after the name of its desk.
 pub(crate) const RETIRED: &str = ".retired";
 
-/// The bytes that an escape replaces in the name of a desk: all but letters, digits, the hyphen and the low line.
+/// The bytes that become an escape in the name of a desk: all except letters, digits, the hyphen and the underscore.
 pub(crate) const ESCAPED: AsciiSet = ascii_set!(NON_ALPHANUMERIC.remove(b'-').remove(b'_'));
 
 /// Returns the name of the file of the desk of `group`.
@@ -91,7 +91,7 @@ impl<'a> Shelf<'a> {
         own_path(alloc, self.folder)
     }
 
-    /// Returns a path at which no desk stands. Beside it stand the mails that are not sorted yet.
+    /// Returns a path without a desk. The folder of mails that are not sorted yet is beside it.
     pub(crate) fn unsorted(&self, alloc: Global) -> Result<String, OutOfMemory> {
         Ok(format!(in alloc; "{}/{UNSORTED}", self.folder)?)
     }
@@ -112,8 +112,8 @@ pub(crate) fn own_path(alloc: Global, folder: &str) -> Result<String, OutOfMemor
     Ok(format!(in alloc; "{folder}/{OWN}")?)
 }
 
-/// Returns the paths of the desks of `role` in `folder`, in the order of their names. Those of retired groups are left
-/// out.
+/// Returns the paths of the desks of `role` in `folder`, in the order of their names, without the desks of retired
+/// groups.
 fn desks_in<T: Files>(rt: &T, alloc: Global, folder: &str, role: Role) -> io::Result<Vec<String>> {
     let mut desks = Vec::new(alloc);
     for name in names_of_desks(rt, alloc, folder, role, "")? {
@@ -125,8 +125,7 @@ fn desks_in<T: Files>(rt: &T, alloc: Global, folder: &str, role: Role) -> io::Re
     Ok(desks)
 }
 
-/// Returns the names of desks of `role`, in their order. For each, `folder` has a file with that name and then
-/// `ending`.
+/// Returns the names of desks of `role` for which `folder` has a file with this name and `ending`, in their order.
 pub(crate) fn names_of_desks<T: Files>(
     rt: &T,
     alloc: Global,
@@ -148,7 +147,7 @@ pub(crate) fn names_of_desks<T: Files>(
     Ok(desks)
 }
 
-/// Returns true if `name` is that of the desk of a group.
+/// Returns true if `name` is the name of the desk of a group.
 fn is_desk_name(alloc: Global, role: Role, name: &str) -> Result<bool, OutOfMemory> {
     let Some((stem, _)) = name.rsplit_once('.') else {
         return Ok(false);
@@ -158,8 +157,8 @@ fn is_desk_name(alloc: Global, role: Role, name: &str) -> Result<bool, OutOfMemo
     Ok(TxnId::is_qualifier(&group) && desk_name(alloc, role, &group)?.as_str() == name)
 }
 
-/// Returns true if `bytes` are for the desk in `file` of a shelf: no message, or one of its group. For the shelf's own
-/// desk they may be any message that begins no loan there.
+/// Returns true if the desk in `file` of a shelf may take `bytes`: they are no message, or a message of its group. The
+/// shelf's own desk may take any message that begins no loan there.
 pub(crate) fn is_for_desk(
     alloc: Global,
     file: &str,
@@ -183,12 +182,12 @@ pub(crate) fn is_retired<T: Files>(rt: &T, alloc: Global, file: &str) -> io::Res
     is_there(rt, mark.as_str())
 }
 
-/// Returns the path of the file that marks that the group of a desk is retired.
+/// Returns the path of the file that marks the group of a desk as retired.
 pub(crate) fn retired_path(alloc: Global, file: &str) -> Result<String, OutOfMemory> {
     Ok(format!(in alloc; "{file}{RETIRED}")?)
 }
 
-/// Returns true if anything stands at `path`.
+/// Returns true if there is a file or folder at `path`.
 pub(crate) fn is_there<T: Files>(rt: &T, path: &str) -> io::Result<bool> {
     match fs::symlink_metadata(rt, path) {
         Ok(_) => Ok(true),
@@ -197,7 +196,7 @@ pub(crate) fn is_there<T: Files>(rt: &T, path: &str) -> io::Result<bool> {
     }
 }
 
-/// Refuses a retired group, like one whose loans no desk has.
+/// Returns the refusal of a retired group: no desk has its loans.
 pub(crate) fn refuse_retired<T: Files>(rt: &T, alloc: Global, file: &str) -> Result<(), ToolFault>
     ensures { IfErr result IsOpenFault }
 {

@@ -18,8 +18,8 @@ use std::io::{Read, Write};
 
 /// Shows each APDU of the input, up to its end, and returns their number.
 ///
-/// If an APDU is faulty or one too many, or the reader fails, the lines of those before are written. If memory runs
-/// out, it has written those of some of the first APDUs. If the writer fails, it has a prefix of that text.
+/// If an APDU is faulty or one too many, or the reader fails, the lines of all APDUs before it are written. If memory
+/// runs out, the lines of some of the first APDUs are written. If the writer fails, a prefix of this text is written.
 pub fn run_show<R: Read, W: Write>(
     alloc: Global,
     reader: &mut R,
@@ -61,7 +61,7 @@ fn show<R: Read, W: Write, const JSON: bool>(
     handle_input(alloc, reader, writer, &mut shown)
 }
 
-/// Writes the text of each APDU, by way of a buffer.
+/// A handler that writes the text of each APDU, through a buffer.
 #[derive(Drop)]
 struct Showing<const JSON: bool> {
     lines: Vec<u8>,

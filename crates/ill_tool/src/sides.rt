@@ -32,14 +32,14 @@ fn push_at<'a>(all: &mut Vec<&'a Side>, sides: &'a Sides, place: usize) -> Resul
     Ok(())
 }
 
-/// A side of a desk, with the number of its saved messages.
+/// A side of a desk, with the number of its released messages.
 #[derive(Clone, Copy)]
 pub(crate) struct HeldSide<'a> {
     pub(crate) side: &'a Side,
     pub(crate) released: u8,
 }
 
-/// Returns all sides of `desk`, in the order in which they were begun, with the numbers of their saved messages.
+/// Returns all sides of `desk` with the numbers of their released messages, in the order in which they were begun.
 pub(crate) fn all_held<'a, S: Store>(
     alloc: Global,
     desk: &'a Desk<S>,

@@ -17,10 +17,10 @@ use ill_values::OutOfMemory;
 use std::alloc::Global;
 use std::io::Write;
 
-/// Writes five lines of the record in `store`. They have its version, its role, and the number of its loans. Then come
-/// the number of messages that these have issued, and that of further loans for which there is room.
+/// Writes five lines of the record in `store`. They have its version, its role, and three numbers. These are of its
+/// loans, of the messages that they have issued, and of further loans for which there is room.
 ///
-/// Nothing is saved. A store without a record is `NoRecord`, and bytes that are none are `Saved`.
+/// Nothing is saved. The fault is `NoRecord` if the store has no record, and `Saved` if its bytes are no record.
 pub fn run_desk_verify<S: Store, W: Write>(
     alloc: Global,
     store: &mut S,
@@ -37,7 +37,7 @@ pub fn run_desk_verify<S: Store, W: Write>(
     }
 }
 
-/// Writes the lines of the record that `bytes` are.
+/// Writes the lines of the record `bytes`.
 fn verify_bytes<W: Write>(alloc: Global, bytes: &[u8], writer: &mut W) -> Result<(), ToolFault>
     ensures { Verifies bytes.now (records_at bytes.now)
         (W.contents writer.old) (W.contents writer.new) result }
@@ -77,7 +77,7 @@ fn push_found(lines: &mut Vec<u8>, bytes: &[u8], sides: &Sides) -> Result<(), Ou
     push_decimal(lines, "room", SIDES_LIMIT.saturating_sub(loans))
 }
 
-/// Returns the version of a record that was read.
+/// Returns the version of the format of a record.
 fn version(bytes: &[u8]) -> &'static [u8]
     ensures { result.now ≡ version_of bytes.now }
 {

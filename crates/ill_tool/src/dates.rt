@@ -1,4 +1,5 @@
-//! The deeds that a day asks a responder for: it tells of overdue loans, and ends requests whose last day is past.
+//! The deeds that a date makes due for a responder: Overdue in an overdue loan, and Expire of a request whose expiry
+//! date is past.
 
 ghost use Rattle.std.specs.Prelude.{◌≡◌, ◌++◌, map, slice_get, IfErr, IfOk, OnOk};
 ghost use Rattle.std.specs.Option.{option_to_list};
@@ -17,28 +18,28 @@ use ill_values::{Day, OutOfMemory as NoMemory, TxnId};
 use std::alloc::Global;
 use std::io::Write;
 
-/// The deeds that a day may ask for: each is set if it is wanted.
+/// The kinds of deeds that a day may make due: each is set if it is wanted.
 #[derive(Clone, Copy, Debug, PartialEq, Eq, Hash)]
 pub struct Dates {
-    /// A responder tells of the loans that are overdue.
+    /// An Overdue for each overdue loan.
     pub overdue: bool,
-    /// A responder ends the requests whose last day is past.
+    /// An Expire for each request whose expiry date is past.
     pub expire: bool,
 }
 
-/// A deed that a day asks for, and the transaction of its loan.
+/// A deed that is due on a day, and the transaction of its loan.
 #[derive(Drop)]
 pub(crate) struct Due {
     pub txn: TxnId,
     pub deed: Deed,
 }
 
-/// Performs the deeds that the day `today` asks for at `desk`, in the order in which the loans were begun. If any was
-/// done, it then saves the desk once. For each that was done it writes a line, and it flushes them: `GROUP TRANSACTION
-/// VERB done STATE DUE RELEASED/ISSUED`. A refused deed changes nothing, and has no line. At the desk of a requester
-/// nothing is done.
+/// Performs the deeds that are due on the day `today` at `desk`, in the order in which the loans were begun. If any was
+/// done, it then saves the desk once. For each done deed it writes a line, and then it flushes these lines: `GROUP
+/// TRANSACTION VERB done STATE DUE RELEASED/ISSUED`. A refused deed changes nothing, and has no line. At the desk of a
+/// requester nothing is done.
 ///
-/// At every fault the store has its old record, or the one with all deeds. Unless the writer failed, nothing was
+/// After every fault the store has its old record, or the one with all deeds. Unless the fault is `Write`, nothing was
 /// written.
 pub fn run_desk_dates<S: Store, W: Write>(
     alloc: Global,
@@ -57,7 +58,7 @@ pub fn run_desk_dates<S: Store, W: Write>(
     }
 }
 
-/// Returns the deeds that the day `today` asks for in all loans of `sides`, in their order.
+/// Returns the deeds that are due on the day `today` in all loans of `sides`, in their order.
 fn all_due(alloc: Global, sides: &Sides, today: Day, which: Dates) -> Result<Vec<Due>, NoMemory>
     ensures { IfOk result (λ dues. dues.items ≡ all_due which today sides.now.sides) }
 {
@@ -68,7 +69,7 @@ fn all_due(alloc: Global, sides: &Sides, today: Day, which: Dates) -> Result<Vec
     Ok(dues)
 }
 
-/// Appends to `dues` the deed that the day asks for in the loan at `place`, if there is one.
+/// Appends to `dues` the deed that is due in the loan at `place`, if there is one.
 fn push_due_at(
     dues: &mut Vec<Due>,
     sides: &Sides,
@@ -85,7 +86,7 @@ fn push_due_at(
     }
 }
 
-/// Appends to `dues` the deed that the day asks for in the loan of `side`, if there is one.
+/// Appends to `dues` the deed that is due in the loan of `side`, if there is one.
 fn push_due(dues: &mut Vec<Due>, side: &Side, today: Day, which: Dates) -> Result<(), NoMemory>
     ensures { OnOk result (dues.new.items ≡ dues.old.items
         ++ option_to_list (due_in which today side.now)) }
@@ -97,7 +98,7 @@ fn push_due(dues: &mut Vec<Due>, side: &Side, today: Day, which: Dates) -> Resul
     Ok(())
 }
 
-/// Returns the deed that the day asks for in the loan of `side`, if there is one. A requester has no deeds.
+/// Returns the deed that is due in the loan of `side`, if there is one. A requester has no deeds.
 fn deed_by_date(which: Dates, today: Day, side: &Side) -> Option<Deed>
     ensures { result ≡ deed_by_date which today side.now }
 {
@@ -107,7 +108,7 @@ fn deed_by_date(which: Dates, today: Day, side: &Side) -> Option<Deed>
     }
 }
 
-/// Returns the deed, if any, that the day asks for in a responder's loan in `state`, due on `due`.
+/// Returns the deed that is due in a responder's loan in `state`, due on `due`, if there is one.
 fn deed_at(which: Dates, today: Day, state: State, due: Option<Day>) -> Option<Deed>
     ensures { result ≡ deed_at which today state due }
 {
@@ -134,7 +135,7 @@ fn may_expire(state: State) -> bool
     matches!(state, State::InProcess | State::Conditional)
 }
 
-/// Performs `dues` on the day `today`, in their order, saves once, and writes the lines of those that were done.
+/// Performs `dues` on the day `today`, in their order, saves once, and writes the lines of the done ones.
 fn run_deeds<H: Holdings<Key = TxnId>, S: Store, W: Write>(
     alloc: Global,
     desk: &mut AnyDesk<H, S>,
@@ -165,7 +166,7 @@ fn run_deeds<H: Holdings<Key = TxnId>, S: Store, W: Write>(
     }
 }
 
-/// Performs `dues` on the day `today`, in their order, and returns those that were done.
+/// Performs `dues` on the day `today`, in their order, and returns the ones that were done.
 fn perform<'a, H: Holdings<Key = TxnId>, S: Store>(
     alloc: Global,
     desk: &mut AnyDesk<H, S>,
@@ -227,7 +228,7 @@ fn save_any<H: Holdings, S: Store>(
     }
 }
 
-/// Returns the lines of the deeds of `done`, with how each loan stands once all is saved.
+/// Returns the lines of the deeds of `done`, with the state of each loan once all is saved.
 fn deed_lines<H: Holdings<Key = TxnId>, S: Store>(
     alloc: Global,
     desk: &AnyDesk<H, S>,

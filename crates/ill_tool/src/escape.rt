@@ -6,24 +6,25 @@ ghost use Rattle.ill_tool.specs.declared.escape.Escaping.TheVariants as escaping
 
 use ill_values::OutOfMemory;
 
-/// The place for which a text is written.
+/// The kind of text in which characters are escaped.
 #[derive(Clone, Copy)]
 pub(crate) enum Escaping {
-    /// For a screen.
+    /// A text for a screen.
     Screen,
-    /// For a string of JSON.
+    /// A string of JSON.
     Json,
 }
 
-/// Appends `item`, a text of UTF-8, for a screen. An escape such as `\u{202e}` replaces each character that a terminal
-/// may act on. These are the controls up to U+001F and from U+007F to U+009F, and the marks that turn a text.
+/// Appends `item`, a text of UTF-8, for a screen. An escape such as `\u{202e}` replaces each character on which a
+/// terminal may act. These are the controls up to U+001F and from U+007F to U+009F, and the marks that change the
+/// direction of a text.
 pub(crate) fn push_escaped(text: &mut Vec<u8>, item: &[u8]) -> Result<(), OutOfMemory>
     ensures { OnOk result (text.new.items ≡ text.old.items ++ escaped item.now) }
 {
     push_written(text, Escaping::Screen, item)
 }
 
-/// Appends `item`, a text of UTF-8, with an escape for each character that a terminal may act on.
+/// Appends `item`, a text of UTF-8, with an escape for each character on which a terminal may act.
 pub(crate) fn push_written(
     text: &mut Vec<u8>,
     escaping: Escaping,
@@ -38,7 +39,7 @@ pub(crate) fn push_written(
     Ok(())
 }
 
-/// Appends the first character, or its first byte, and returns the bytes after it.
+/// Appends the first character if it is escaped, else its first byte, and returns the bytes after it.
 fn push_heading<'a>(
     text: &mut Vec<u8>,
     escaping: Escaping,
@@ -81,7 +82,7 @@ fn acting_prefix(_escaping: Escaping, first: u8, after: &[u8]) -> Option<(u32, &
     None
 }
 
-/// Appends a byte that is none of a character that a terminal may act on.
+/// Appends a byte of a character on which no terminal acts.
 fn push_byte(text: &mut Vec<u8>, escaping: Escaping, byte: u8) -> Result<(), OutOfMemory>
     ensures { OnOk result (text.new.items ≡ text.old.items ++ byte_text escaping byte) }
 {
@@ -115,7 +116,7 @@ fn push_json_byte(text: &mut Vec<u8>, byte: u8) -> Result<(), OutOfMemory>
     Ok(())
 }
 
-/// Appends the escape of a character, by its number.
+/// Appends the escape of the character `number`.
 fn push_escape(text: &mut Vec<u8>, escaping: Escaping, number: u32) -> Result<(), OutOfMemory>
     ensures { OnOk result (text.new.items ≡ text.old.items ++ escape escaping number) }
 {
@@ -132,28 +133,28 @@ fn push_escape(text: &mut Vec<u8>, escaping: Escaping, number: u32) -> Result<()
     Ok(())
 }
 
-/// Returns true if a backslash stands before a byte in a string of JSON.
+/// Returns true if `byte` has a backslash before it in a string of JSON.
 fn is_marked(byte: u8) -> bool
     ensures { result ≡ is_marked byte }
 {
     matches!(byte, b'"' | b'\\')
 }
 
-/// Returns true if a byte is a control character of ASCII.
+/// Returns true if `byte` is a control character of ASCII.
 fn is_control(byte: u8) -> bool
     ensures { result ≡ is_control byte }
 {
     matches!(byte, 0..0x20 | 0x7F)
 }
 
-/// Returns true if two bytes are a character that a terminal may act on.
+/// Returns true if the two bytes encode a character on which a terminal may act.
 fn two_act(first: u8, second: u8) -> bool
     ensures { result ≡ two_act first second }
 {
     matches!(first, 0xC0..=0xDF) && goes_on(second) && is_acting(number_of_two(first, second))
 }
 
-/// Returns true if three bytes are a character that a terminal may act on.
+/// Returns true if the three bytes encode a character on which a terminal may act.
 fn three_act(first: u8, second: u8, third: u8) -> bool
     ensures { result ≡ three_act first second third }
 {
@@ -163,21 +164,21 @@ fn three_act(first: u8, second: u8, third: u8) -> bool
         && is_acting(number_of_three(first, second, third))
 }
 
-/// Returns true if a byte may follow the first byte of a character.
+/// Returns true if `byte` can follow the first byte of a character.
 fn goes_on(byte: u8) -> bool
     ensures { result ≡ goes_on byte }
 {
     matches!(byte, 0x80..=0xBF)
 }
 
-/// Returns the number of a character of two bytes.
+/// Returns the number of the character that two bytes encode.
 fn number_of_two(first: u8, second: u8) -> u32
     ensures { result ≡ number_of_two first second }
 {
     u32::from(first.saturating_sub(0xC0)) * 64 + u32::from(second.saturating_sub(0x80))
 }
 
-/// Returns the number of a character of three bytes.
+/// Returns the number of the character that three bytes encode.
 fn number_of_three(first: u8, second: u8, third: u8) -> u32
     ensures { result ≡ number_of_three first second third }
 {
@@ -185,7 +186,7 @@ fn number_of_three(first: u8, second: u8, third: u8) -> u32
         + (u32::from(second.saturating_sub(0x80)) * 64 + u32::from(third.saturating_sub(0x80)))
 }
 
-/// Returns true if a terminal may act on the character of this number.
+/// Returns true if a terminal may act on the character `number`.
 fn is_acting(number: u32) -> bool
     ensures { result ≡ is_acting number }
 {

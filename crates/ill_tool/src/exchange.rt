@@ -516,7 +516,7 @@ fn copy_path(alloc: Global, file: &str, night: &Night<'_>) -> Result<Option<Stri
     Ok(Some(format!(in alloc; "{copy}/{name}")?))
 }
 
-/// Makes the file at `path` anew, if there is a path. So its time is that of the run.
+/// Writes the file at `path` anew, if there is a path, so that its time is the time of the run.
 pub(crate) fn beat<T: Files, E: Write>(
     rt: &T,
     alloc: Global,

@@ -12,15 +12,15 @@ use std::io::{BufRead, BufReader, ErrorKind};
 use std::rt::Files;
 use std::{fs, io};
 
-/// The endings of the names of files that stand beside a desk's.
+/// The endings of the names of files that lie beside the file of a desk.
 const BESIDE: [&str; 4] = [".new", ".lck", CAME, RETIRED];
 
-/// The number of bytes of the names of a folder that are read at once. Any name has room there.
+/// The number of bytes of names that are read from a folder at once. Any name fits.
 const NAMES: usize = 4096;
 
-/// Returns the paths of the files of the desks at `paths`, in their order. The desks in a folder stand in its place, in
-/// the order of their names. They are its regular files, without those that a desk has beside it. Names that begin with
-/// a dot are left out too.
+/// Returns the paths of the files of the desks at `paths`, in their order. A folder is replaced by its desks, in the
+/// order of their names. Its desks are its regular files, without the files beside a desk. Names that begin with a dot
+/// are left out too.
 pub fn desk_paths<T: Files>(rt: &T, alloc: Global, paths: &[&str]) -> Result<Vec<String>, ToolFault>
     ensures { IfErr result IsOpenFault }
 {
@@ -33,7 +33,7 @@ pub fn desk_paths<T: Files>(rt: &T, alloc: Global, paths: &[&str]) -> Result<Vec
     Ok(files)
 }
 
-/// Appends `path` to `files`, or the paths of the desks in the folder there.
+/// Appends `path` to `files`, or the paths of the desks in a folder at `path`.
 fn push_path<T: Files>(rt: &T, files: &mut Vec<String>, path: &str) -> io::Result<()> {
     match fs::metadata(rt, path) {
         Ok(found) if found.is_dir() => push_folder(rt, files, path),
@@ -59,7 +59,7 @@ fn push_folder<T: Files>(rt: &T, files: &mut Vec<String>, folder: &str) -> io::R
     Ok(())
 }
 
-/// Returns the names in `folder`. A name that is no text is a fault, since no path can have it.
+/// Returns the names in `folder`. A name that is no text is a fault, since it has no path.
 fn names<T: Files>(rt: &T, alloc: Global, folder: &str) -> io::Result<Vec<String>> {
     let mut names = Vec::new(alloc);
     for name in raw_names(rt, alloc, folder)? {
@@ -82,7 +82,7 @@ pub(crate) fn raw_names<T: Files>(rt: &T, alloc: Global, folder: &str) -> io::Re
     Ok(names)
 }
 
-/// Returns true if a file named `name` in a folder of desks is one.
+/// Returns true if a file named `name` in a folder of desks is a desk.
 fn is_desk_name(name: &str) -> bool {
     !name.starts_with('.') && !BESIDE.iter().any(|ending| name.ends_with(*ending))
 }

@@ -1,4 +1,4 @@
-//! The part of all commands that read each APDU of an input.
+//! Reads the APDUs of an input, for all commands that do so.
 
 ghost use Rattle.std.specs.Prelude.{◌≡◌};
 ghost use Rattle.ill_der.specs.Feed.{end_of};
@@ -12,10 +12,10 @@ use std::io::Read;
 /// The most APDUs of one input.
 const MAX_APDUS: u32 = 100_000;
 
-/// The most bytes that are read at a time.
+/// The most bytes in one read.
 const PIECE: usize = 4_096;
 
-/// A handler that takes at most the APDUs that an input may have, and their count.
+/// A handler that counts APDUs, and takes no more than an input may have.
 #[derive(Drop)]
 pub struct Counted<H> {
     /// The handler of the APDUs.
@@ -24,7 +24,7 @@ pub struct Counted<H> {
 }
 
 impl<H> Counted<H> {
-    /// Returns the handler, with a count of none.
+    /// Returns the handler, with a count of 0.
     pub fn new(handler: H) -> Counted<H>
         ensures handler { result.handler ≡ handler }
         ensures none { result.count ≡ 0 }
@@ -62,7 +62,7 @@ impl<C, H: Handler<C, Fault = ToolFault>> Handler<C> for Counted<H> {
 /// most 4,096 bytes at a time, and allocates nothing.
 ///
 /// It returns the first fault: of bytes, too many APDUs, a failing reader, or the handler's own. The APDUs before it
-/// were handled. The bytes after it that were read, less than a piece, were not decoded.
+/// were handled. Bytes that were read after it, fewer than a piece, were not decoded.
 pub fn handle_input<R: Read, C, H: Handler<C, Fault = ToolFault>>(
     alloc: Global,
     reader: &mut R,

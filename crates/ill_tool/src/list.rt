@@ -17,7 +17,7 @@ use ill_values::{Day, OutOfMemory};
 use std::alloc::Global;
 use std::io::Write;
 
-/// The loans that are listed, by their turns.
+/// The turns of the loans to list.
 #[derive(Clone, Copy, Debug, PartialEq, Eq, Hash)]
 pub enum Which {
     /// All loans.
@@ -28,16 +28,16 @@ pub enum Which {
     Mine,
 }
 
-/// The conditions on the loans that are listed. Each loan meets all of them.
+/// The conditions on the loans to list. A listed loan meets all of them.
 #[derive(Clone, Copy, Debug, PartialEq, Eq, Hash)]
 pub struct Wanted {
     /// The turns of the loans.
     pub which: Which,
-    /// The day, if one is said, on which a loan past its deadline waits for this library.
+    /// The day, if it is given, on which a loan past its deadline waits for this library.
     pub today: Option<Day>,
-    /// The day, if one is said, before which the loans are due.
+    /// The day, if it is given, before which the loans are due.
     pub due_before: Option<Day>,
-    /// The state, if one is said, of the loans.
+    /// The state of the loans, if it is given.
     pub state: Option<State>,
 }
 
@@ -53,7 +53,7 @@ impl Which {
         }
     }
 
-    /// Returns true if a column has the verbs.
+    /// Returns true if the list has a column of verbs.
     fn has_verbs(self) -> bool
         ensures { result ≡ has_verbs self }
     {
@@ -61,7 +61,7 @@ impl Which {
     }
 }
 
-/// The numbers of loans at a desk.
+/// The counts of the loans at a desk.
 #[derive(Clone, Copy, Debug, PartialEq, Eq, Hash)]
 pub(crate) struct Counts {
     /// All loans.
@@ -70,7 +70,7 @@ pub(crate) struct Counts {
     pub open_loans: usize,
     /// The loans that wait for this library.
     pub mine: usize,
-    /// The further loans for which there is room.
+    /// The number of further loans for which there is room.
     pub room: usize,
 }
 
@@ -79,12 +79,12 @@ pub(crate) struct Counts {
 pub(crate) enum Rows<'a> {
     /// A line for each loan, of these columns.
     Lines(Columns),
-    /// An object for each, with the path of its desk, if one is told.
+    /// An object for each loan, with the path of its desk, if it is given.
     Objects(Option<&'a str>),
 }
 
 /// Writes `heading`, a line for each wanted loan of `desk`, and a line that counts all of its loans. The loans that
-/// wait for this library come first. Of loans with one turn the most urgent come first.
+/// wait for this library come first. Within a turn the most urgent loans come first.
 pub fn run_desk_list<S: Store, W: Write>(
     alloc: Global,
     desk: &Desk<S>,
@@ -100,8 +100,8 @@ pub fn run_desk_list<S: Store, W: Write>(
     write_whole(writer, &lines)
 }
 
-/// Writes an object of JSON for each loan of `desk` that is wanted, in the order of the lines. Then it writes one of
-/// the counts. Each has `file`, the path of the desk, if one is told.
+/// Writes an object of JSON for each wanted loan of `desk`, in the order of `run_desk_list`, and then one of the
+/// counts. Each object has the path `file` of the desk, if it is given.
 pub fn run_desk_list_objects<S: Store, W: Write>(
     alloc: Global,
     desk: &Desk<S>,
@@ -125,7 +125,7 @@ fn push_list(lines: &mut Vec<u8>, sides: &Sides, wanted: &Wanted) -> Result<(), 
     push_ordered(lines, &sides, wanted)
 }
 
-/// Appends all lines of a list of `sides`, which are in order.
+/// Appends all lines of a list of `sides`, which are in the order of urgency.
 fn push_ordered(lines: &mut Vec<u8>, sides: &[&Side], wanted: &Wanted) -> Result<(), OutOfMemory>
     ensures { OnOk result (lines.new.items ≡ lines.old.items
         ++ ordered_lines wanted.now (map (λ side. side.now) sides.now)) }
@@ -148,7 +148,7 @@ fn push_list_objects(
     push_listed(text, &Rows::Objects(file), wanted, &sides)
 }
 
-/// Appends the loans of `sides` that are listed, and the counts of all.
+/// Appends the listed loans of `sides`, and the counts of all loans.
 fn push_listed(
     text: &mut Vec<u8>,
     rows: &Rows<'_>,
@@ -199,7 +199,7 @@ fn push_row_at(
     Ok(())
 }
 
-/// Appends the loan of `side`, of the turn `turn`, as a line or as an object.
+/// Appends the loan of `side`, which has the turn `turn`, as a line or as an object.
 fn push_row_as(
     text: &mut Vec<u8>,
     rows: &Rows<'_>,
@@ -214,14 +214,14 @@ fn push_row_as(
     }
 }
 
-/// Returns true if the loan of `side` is listed when the loans of its turn are.
+/// Returns true if the loan of `side` meets the conditions on its due date and its state.
 fn is_wanted(wanted: &Wanted, side: &Side) -> bool
     ensures { result ≡ is_wanted wanted.now side.now }
 {
     is_due_before(wanted.due_before, side.due()) && is_in(wanted.state, side.state())
 }
 
-/// Returns true if a loan is due before `day`. Without a day each loan is wanted.
+/// Returns true if a loan is due before `day`, or if there is no such day.
 fn is_due_before(day: Option<Day>, due: Option<Day>) -> bool
     ensures { result ≡ is_due_before day due }
 {
@@ -231,7 +231,7 @@ fn is_due_before(day: Option<Day>, due: Option<Day>) -> bool
     }
 }
 
-/// Returns true if a loan is in the state `wanted`. Without a wanted state each loan is.
+/// Returns true if `state` is the wanted state, or if no state is wanted.
 fn is_in(wanted: Option<State>, state: State) -> bool
     ensures { result ≡ is_in wanted state }
 {
@@ -241,7 +241,7 @@ fn is_in(wanted: Option<State>, state: State) -> bool
     }
 }
 
-/// Returns true if the loan of `side` has the turn `turn` on the day of `wanted`, or on no day.
+/// Returns true if the loan of `side` has the turn `turn`, on the day of `wanted` if it has one.
 fn has_turn(wanted: &Wanted, turn: Turn, side: &Side) -> bool
     ensures { result ≡ has_turn wanted.now.today turn side.now }
 {

@@ -1,4 +1,4 @@
-//! A desk among those that are listed, with the text before its loans.
+//! One of the desks that are listed, and the text before its loans.
 
 ghost use Rattle.std.specs.Prelude.{◌≡◌, ◌++◌, option_map, IfOk};
 ghost use Rattle.ill_tool.specs.Listing.{file_told, gap, heading, room_line};
@@ -7,19 +7,19 @@ use crate::escape::push_escaped;
 use ill_values::OutOfMemory;
 use std::alloc::Global;
 
-/// A desk among those that are listed.
+/// One of the desks that are listed.
 #[derive(Clone, Copy)]
 pub(crate) struct Listed<'a> {
     /// The path of its file.
     pub path: &'a str,
-    /// Set if the path is told, since several are listed.
+    /// Set if the path is written, since several desks are listed.
     pub is_headed: bool,
     /// Set if no desk is listed before it.
     pub is_first: bool,
 }
 
 impl<'a> Listed<'a> {
-    /// Returns the path, if it is told.
+    /// Returns the path, if it is written.
     pub(crate) fn told(&self) -> Option<&'a str>
         ensures { option_map (λ path. path.now) result ≡ file_told self.now.is_headed self.now.path.now }
     {
@@ -31,7 +31,8 @@ impl<'a> Listed<'a> {
     }
 }
 
-/// Returns the heading of a desk in lines: an empty line after another desk, and a line of its path, if it is told.
+/// Returns the heading of a desk in lines. It is an empty line, if another desk is before it, and a line of its path,
+/// if it is written.
 pub(crate) fn heading(alloc: Global, listed: &Listed<'_>) -> Result<Vec<u8>, OutOfMemory>
     ensures { IfOk result (λ text. text.items
         ≡ gap listed.now.is_first ++ heading listed.now.is_headed listed.now.path.now) }
@@ -47,7 +48,7 @@ pub(crate) fn heading(alloc: Global, listed: &Listed<'_>) -> Result<Vec<u8>, Out
     Ok(text)
 }
 
-/// Returns the line that warns how much room a desk has left.
+/// Returns the line that warns of the room left at a desk.
 pub(crate) fn warning(alloc: Global, path: &str, room: usize) -> Result<Vec<u8>, OutOfMemory>
     ensures { IfOk result (λ line. line.items ≡ room_line path.now room) }
 {

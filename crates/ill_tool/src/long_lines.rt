@@ -1,4 +1,4 @@
-//! The words of `take --long` that name a message, and the lines of its fields.
+//! The heading of a message in `take --long`, and the lines of its fields.
 
 ghost use Rattle.std.specs.Prelude.{◌≡◌, ◌++◌, OnOk};
 ghost use Rattle.ill_tool.specs.LongLines.{heading, indent, indented, said, word};
@@ -27,7 +27,8 @@ pub(crate) fn push_word(lines: &mut Vec<u8>, text: &[u8]) -> Result<(), OutOfMem
     Ok(())
 }
 
-/// Appends the lines of the further fields of `apdu`, with two spaces before each. No byte of them acts on a terminal.
+/// Appends the lines of the fields that only APDUs of this type have, with two spaces before each. No terminal acts on
+/// a byte of them.
 pub(crate) fn push_said(lines: &mut Vec<u8>, apdu: &ApduView<'_>) -> Result<(), OutOfMemory>
     ensures { OnOk result (lines.new.items ≡ lines.old.items ++ said apdu.now) }
 {
@@ -50,7 +51,7 @@ fn push_indented(lines: &mut Vec<u8>, text: &[u8]) -> Result<(), OutOfMemory>
     Ok(())
 }
 
-/// Returns the text before a byte: two spaces, if it begins a line.
+/// Returns two spaces if the next byte begins a line, else nothing.
 fn indent(begins: bool) -> &'static [u8]
     ensures { result.now ≡ indent begins }
 {

@@ -12,7 +12,7 @@ use std::io::Write;
 use std::rt::Files;
 use std::{fs, io};
 
-/// Takes messages that leave, each with the name of its mail.
+/// An outlet: it takes messages that leave a desk, each with the name of its mail.
 pub trait Outgoing {
     /// The model of the mails in an outlet.
     ghost Mails: { Type 0 };
@@ -23,12 +23,12 @@ pub trait Outgoing {
     /// The mails in an outlet after one more was put there.
     ghost after: { Self.Mails → Letter → Self.Mails };
 
-    /// Puts a message there, whole or not at all.
+    /// Puts a message into the outlet, whole or not at all.
     fn put(&mut self, name: &[u8], bytes: &[u8]) -> Result<(), ToolFault>
         ensures { PutsOne after (record { name = name.now; bytes = bytes.now }) (mails self.old) (mails self.new) result };
 }
 
-/// A stream of the messages that leave, one after another. It ignores their names.
+/// A stream of messages, one after another. It ignores the names of their mails.
 #[derive(Drop)]
 pub(crate) struct Stream {
     pub(crate) bytes: Vec<u8>,
@@ -47,7 +47,7 @@ impl Outgoing for Stream {
     }
 }
 
-/// A folder of mails, with one message in a file. Anybody who moves the mail may put anything there at any moment.
+/// A folder of mails, with one message in each file. Whoever moves the mails may put anything there at any moment.
 #[derive(Drop)]
 pub(crate) struct MailFolder<'a, R: Files> {
     rt: &'a R,
@@ -78,8 +78,9 @@ impl<'a, R: Files> MailFolder<'a, R> {
         Ok(Some(format!(in self.alloc; "{folder}/{name}")?))
     }
 
-    /// Writes a message to a new file, and then renames that: the mail `name` is there whole, or as it was. It follows
-    /// no link. The new file is made at a path without a file, and the rename replaces a link at `name`.
+    /// Writes a message to a new file, and then renames the file to `name`. So the mail `name` is there whole, or
+    /// unchanged. It follows no link: the new file is made at a path without a file, and the rename replaces a link at
+    /// `name`.
     fn write(&self, name: &[u8], bytes: &[u8]) -> io::Result<()> {
         let folder = self.path;
         let name = str::from_utf8(name).unwrap_or_default();
@@ -98,7 +99,7 @@ impl<'a, R: Files> MailFolder<'a, R> {
     }
 }
 
-/// Writes `bytes` to a file that was not there.
+/// Writes `bytes` to a file that did not exist.
 fn write_new<R: Files>(rt: &R, path: &str, bytes: &[u8]) -> io::Result<()> {
     let mut options = OpenOptions::new();
     options.write(true);

@@ -18,7 +18,7 @@ use ill_world::{DeskOutcome, Outcome};
 use std::alloc::Global;
 use std::io::Write;
 
-/// The reason that a mail wants a person.
+/// The reason why a mail wants a person.
 #[derive(Clone, Copy, Debug, PartialEq, Eq, Hash)]
 pub(crate) enum Matter {
     /// It was put aside.
@@ -34,7 +34,7 @@ pub(crate) enum Matter {
 }
 
 impl Matter {
-    /// Returns the matter of `mail`, by its verdict at a side of the role `role`, if it has one.
+    /// Returns the matter of `mail`, by its verdict at the role `role`, if it wants a person.
     fn of(role: Role, mail: &Mail, verdict: Verdict) -> Option<Matter>
         ensures { result ≡ matter_of role mail.now verdict }
     {
@@ -48,7 +48,7 @@ impl Matter {
         }
     }
 
-    /// Returns the matter of a mail that stays.
+    /// Returns the matter of a mail that waits.
     fn of_delay(delay: Delay) -> Matter
         ensures { result ≡ delay_matter delay }
     {
@@ -59,7 +59,7 @@ impl Matter {
         }
     }
 
-    /// Returns the matter of a mail whose message was in conflict, if that is never routine.
+    /// Returns the matter of a mail whose message was in conflict, if it should never be in conflict.
     fn of_conflict(role: Role, mail: &Mail) -> Option<Matter>
         ensures { result ≡ conflict_in role (option_map (λ bytes. bytes.items) mail.now.bytes) }
     {
@@ -69,7 +69,7 @@ impl Matter {
         }
     }
 
-    /// Returns the matter of a mail with these bytes, whose message was in conflict, if that is never routine.
+    /// Returns the matter of a mail with these bytes, whose message was in conflict, if it should never be in conflict.
     fn of_conflicting(role: Role, bytes: &[u8]) -> Option<Matter>
         ensures { result ≡ conflict_of role (message_in bytes.now) }
     {
@@ -93,7 +93,7 @@ impl Matter {
     }
 }
 
-/// Returns true if the conflict of a message is never routine at a side of the role `role`.
+/// Returns true for a message that only a fault brings into conflict at a side of the role `role`.
 fn is_never_in_conflict(role: Role, body: &BodyView<'_>) -> bool
     ensures { result ≡ is_never_in_conflict role (body_in body.now) }
 {
@@ -110,14 +110,14 @@ fn is_never_in_conflict(role: Role, body: &BodyView<'_>) -> bool
     }
 }
 
-/// Returns true if one of `mails` wants a person, by their verdicts at sides of the role `role`.
+/// Returns true if one of `mails` wants a person, by its verdict at the role `role`.
 pub(crate) fn wants_person(role: Role, mails: &[Mail], verdicts: &[Verdict]) -> bool
     ensures { result ≡ wants_person role (zip mails.now verdicts.now) }
 {
     mails.iter().zip(verdicts).any(|(mail, verdict)| Matter::of(role, mail, *verdict).is_some())
 }
 
-/// Writes a line to `errors` for each of `mails` that wants a person. It names the mail and what the person may do.
+/// Writes a line to `errors` for each of `mails` that wants a person. It has the mail, and the choices of the person.
 pub(crate) fn tell_person<E: Write>(
     alloc: Global,
     role: Role,
@@ -153,7 +153,7 @@ fn push_matter(
     Ok(())
 }
 
-/// Appends the heading of the message of a mail, if it has one.
+/// Appends the heading of the message of a mail, if it has a message.
 fn push_what(line: &mut Vec<u8>, mail: &Mail) -> Result<(), OutOfMemory> {
     let Some(bytes) = &mail.bytes else {
         return Ok(());
@@ -164,7 +164,7 @@ fn push_what(line: &mut Vec<u8>, mail: &Mail) -> Result<(), OutOfMemory> {
     }
 }
 
-/// Appends the digest under which a mail is put aside, and the reason.
+/// Appends the digest that names a mail that was put aside, and the reason.
 fn push_place(line: &mut Vec<u8>, mail: &Mail, unfit: Unfit) -> Result<(), OutOfMemory> {
     let digest = mail.digest(*line.allocator())?;
     line.extend_from_slice(b" as ")?;

@@ -27,7 +27,7 @@ use itoa::Buffer;
 use std::alloc::Global;
 use std::io::Write;
 
-/// Writes a page of the loans of `desk` on the day `today`, under the name of its file.
+/// Writes a page of the loans of `desk` on the day `today`, with the name of its file.
 pub fn run_desk_report<S: Store, W: Write>(
     alloc: Global,
     desk: &Desk<S>,
@@ -54,7 +54,7 @@ pub(crate) fn push_head(page: &mut Vec<u8>, today: Day) -> Result<(), OutOfMemor
     Ok(())
 }
 
-/// Ends `page`, which has all its desks, and writes it.
+/// Appends the end of `page`, which has all its desks, and writes the page.
 pub(crate) fn end_page<W: Write>(mut page: Vec<u8>, writer: &mut W) -> Result<(), ToolFault>
     ensures { WritesText (W.contents writer.old) (W.contents writer.new) (page.items ++ END.now) result }
 {
@@ -82,7 +82,7 @@ pub(crate) fn push_desk(
     Ok(())
 }
 
-/// Appends the loans of a desk: those that wait for this library, all that are open, and those that are over.
+/// Appends the loans of a desk: loans that wait for this library, open loans, and loans that are over.
 #[tactic(auto, unfolding(crate::specs::Report::sections_text))]
 fn push_sections(page: &mut Vec<u8>, today: Day, sides: &[&Side]) -> Result<(), OutOfMemory>
     ensures { OnOk result (page.new.items ≡ page.old.items
@@ -111,7 +111,7 @@ fn push_sections(page: &mut Vec<u8>, today: Day, sides: &[&Side]) -> Result<(), 
     push_section(page, today, sides, &over)
 }
 
-/// Appends the loans of `section`, after their count.
+/// Appends the number of loans of `section`, and then the loans.
 fn push_section(
     page: &mut Vec<u8>,
     today: Day,
@@ -138,7 +138,7 @@ fn count(today: Day, sides: &[&Side], turns: &[Turn]) -> usize
         .count()
 }
 
-/// Returns true if the loan of `side` has one of `turns`.
+/// Returns true if the loan of `side` has one of `turns` on the day `today`.
 fn is_on(today: Day, turns: &[Turn], side: &Side) -> bool
     ensures { result ≡ is_on today turns.now side.now }
 {
@@ -178,7 +178,7 @@ fn push_loan_on(
     Ok(())
 }
 
-/// Appends the part of the loan of `side`, of these fields.
+/// Appends the given fields of the loan of `side`.
 fn push_loan(
     page: &mut Vec<u8>,
     today: Day,
@@ -193,7 +193,7 @@ fn push_loan(
     Ok(())
 }
 
-/// Appends `field` of the loan of `side`, between its texts.
+/// Appends `field` of the loan of `side`, between the texts before and after it.
 fn push_field(page: &mut Vec<u8>, today: Day, side: &Side, field: Field) -> Result<(), OutOfMemory>
     ensures { OnOk result (page.new.items ≡ page.old.items ++ field_text today side.now field) }
 {
@@ -328,7 +328,7 @@ fn push_message(page: &mut Vec<u8>, apdu: &Apdu, is_drawn: bool) -> Result<(), O
     page.extend_from_slice(ARROW.as_bytes())
 }
 
-/// Appends the name of a message, with the answer or the day that it has.
+/// Appends the type of a message, with its answer or its day.
 fn push_name(page: &mut Vec<u8>, body: &Body) -> Result<(), OutOfMemory>
     ensures { OnOk result (page.new.items ≡ page.old.items
         ++ (type_name body.now ++ detail_text body.now)) }
@@ -337,7 +337,7 @@ fn push_name(page: &mut Vec<u8>, body: &Body) -> Result<(), OutOfMemory>
     push_detail(page, body)
 }
 
-/// Appends the answer or the day that a message has, with a space before each.
+/// Appends the answer or the day in a message, with a space before each.
 fn push_detail(page: &mut Vec<u8>, body: &Body) -> Result<(), OutOfMemory>
     ensures { OnOk result (page.new.items ≡ page.old.items ++ detail_text body.now) }
 {

@@ -44,7 +44,7 @@ pub fn take_on_shelf<T: LockFiles, R: Read, W: Write>(
     }
 }
 
-/// Takes each APDU at the desk of its group, and remembers if all went well.
+/// A handler that takes each APDU at the desk of its group, and records if all went well.
 #[derive(Drop)]
 struct TakesHome<'a, T: LockFiles> {
     rt: &'a T,
@@ -104,9 +104,9 @@ fn spelled(alloc: Global, apdu: &ApduView<'_>) -> Result<Vec<u8>, OutOfMemory>
     encode(alloc, &apdu)
 }
 
-/// Returns the path of the desk for `apdu`. The desk of a new group is made for an ILL-Request at a responder's shelf.
-/// A retired group has none, and neither has one whose desk is lost. The APDUs of other groups are for the shelf's own
-/// desk.
+/// Returns the path of the desk for `apdu`. An ILL-Request to a responder's shelf makes the desk of a new group. A
+/// retired group has no desk, and neither has one whose desk is lost. The APDUs of any other group go to the shelf's
+/// own desk.
 fn desk_for<T: LockFiles>(
     rt: &T,
     alloc: Global,

@@ -12,22 +12,22 @@ use ill_core::Taking;
 use ill_values::OutOfMemory;
 use ill_world::{DeskOutcome, Outcome};
 
-/// The heaps on which mails are counted.
+/// The heaps on which mails are counted, by their verdicts.
 #[derive(Clone, Copy, Debug, PartialEq, Eq, Hash)]
 pub(crate) enum Heap {
-    /// Those whose message was taken.
+    /// Mails whose message was taken.
     Taken,
-    /// Those whose message was known already.
+    /// Mails whose message was a repeat.
     Repeat,
-    /// Those whose message came too late.
+    /// Mails whose message was stale.
     Stale,
-    /// Those whose message has no place in the state of its loan.
+    /// Mails whose message was in conflict with the state of its loan.
     Conflict,
-    /// Those whose message is of a loan that the desk does not know.
+    /// Mails whose message is of a loan that the desk does not have.
     Unknown,
-    /// Those that are put aside.
+    /// Mails that are put aside.
     Aside,
-    /// Those that stay in their folder.
+    /// Mails that wait in their folder.
     Left,
 }
 
@@ -68,14 +68,14 @@ impl Heap {
         }
     }
 
-    /// Returns true if a mail is on this heap.
+    /// Returns true if a mail with this verdict is on this heap.
     fn has(self, verdict: Verdict) -> bool
         ensures { result ≡ is_heap self (heap_of verdict) }
     {
         self == Heap::of(verdict)
     }
 
-    /// Returns the number of mails that are on this heap.
+    /// Returns the number of mails on this heap.
     fn count(self, verdicts: &[Verdict]) -> usize
         ensures { result ≡ count_on self verdicts.now }
     {
@@ -102,7 +102,7 @@ impl Tally {
         }
     }
 
-    /// Returns the fault that mails wait for the next run, if they do; else true if nothing wants a person.
+    /// Returns the fault `Left` if mails wait for the next run. Else it returns true if no mail wants a person.
     pub(crate) fn ending(&self, waiting: usize) -> Result<bool, ToolFault>
         ensures { result ≡ ending self.now waiting }
     {
@@ -112,7 +112,7 @@ impl Tally {
         Ok(!(self.conflict > 0 || self.aside > 0))
     }
 
-    /// Returns true if mails wait for the next run: on the heap of those that stay, or further ones.
+    /// Returns true if mails wait for the next run: on the heap `Left`, or `waiting` further ones.
     pub(crate) fn is_waiting(&self, waiting: usize) -> bool
         ensures { result ≡ is_waiting self.now waiting }
     {
@@ -132,7 +132,7 @@ pub(crate) fn push_tally(
     push_staying(lines, tally, waiting)
 }
 
-/// Appends the counts of the mails that are done.
+/// Appends the counts of done mails.
 #[tactic(auto, unfolding(crate::specs::Inbox::done_text))]
 fn push_done(lines: &mut Vec<u8>, tally: &Tally) -> Result<(), OutOfMemory>
     ensures { OnOk result (lines.new.items ≡ lines.old.items ++ done_text tally.now) }
@@ -152,7 +152,7 @@ fn push_done(lines: &mut Vec<u8>, tally: &Tally) -> Result<(), OutOfMemory>
     Ok(())
 }
 
-/// Appends the counts of the mails that stay, and of those that wait.
+/// Appends the counts of mails that are put aside, that wait, and that had no room in this run.
 #[tactic(auto, unfolding(crate::specs::Inbox::staying_text))]
 fn push_staying(lines: &mut Vec<u8>, tally: &Tally, waiting: usize) -> Result<(), OutOfMemory>
     ensures { OnOk result (lines.new.items ≡ lines.old.items ++ staying_text tally.now waiting) }

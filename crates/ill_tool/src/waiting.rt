@@ -1,4 +1,4 @@
-//! The loans that wait for a library, on a day or on none, and their order by urgency.
+//! The loans that wait for this library, and their order by urgency.
 
 ghost use Rattle.std.specs.Prelude.{◌≡◌, map, is_none, IfOk};
 ghost use Rattle.ill_core.specs.ResponderActions.{expiry_of};
@@ -12,7 +12,7 @@ use ill_saved::{Side, Sides};
 use ill_values::{Body, Day, OutOfMemory};
 use std::alloc::Global;
 
-/// Returns the due date of a loan, or else the last day of its request.
+/// Returns the deadline of a loan: its due date, or else the expiry date of its request.
 pub(crate) fn deadline(side: &Side) -> Option<Day>
     ensures { result ≡ deadline_of side.now }
 {
@@ -22,7 +22,7 @@ pub(crate) fn deadline(side: &Side) -> Option<Day>
     }
 }
 
-/// Returns the last day of the request of a loan.
+/// Returns the expiry date of the request of a loan.
 pub(crate) fn expiry(side: &Side) -> Option<Day>
     ensures { result ≡ expiry_of (request_of side.now) }
 {
@@ -32,7 +32,8 @@ pub(crate) fn expiry(side: &Side) -> Option<Day>
     }
 }
 
-/// Returns the turn of a loan, on a day if one is said. A loan whose deadline is past then waits for this library.
+/// Returns the turn of a loan on the day `today`. If its deadline is past and this library can act, the turn is this
+/// library's. Without a day it is the turn by the record.
 pub(crate) fn turn_on(today: Option<Day>, side: &Side) -> Turn
     ensures { result ≡ turn_on today side.now }
 {
@@ -42,8 +43,8 @@ pub(crate) fn turn_on(today: Option<Day>, side: &Side) -> Turn
     side.turn()
 }
 
-/// Returns true if the deadline of a loan is past on the day, and this library can act. In a loan that is over it
-/// cannot.
+/// Returns true if the deadline of a loan is before the day `today`, and this library can act in it. It cannot act in a
+/// loan that is over.
 fn is_pressing(today: Option<Day>, side: &Side) -> bool
     ensures { result ≡ is_pressing today side.now }
 {
@@ -53,7 +54,7 @@ fn is_pressing(today: Option<Day>, side: &Side) -> bool
     }
 }
 
-/// Returns true if the deadline `day` comes before `other`. Any deadline comes before none.
+/// Returns true if the deadline `day` is before `other`. Any deadline is before none.
 pub(crate) fn is_sooner(day: Option<Day>, other: Option<Day>) -> bool
     ensures { result ≡ is_sooner day other }
 {
@@ -63,8 +64,8 @@ pub(crate) fn is_sooner(day: Option<Day>, other: Option<Day>) -> bool
     }
 }
 
-/// Returns all loans by their deadlines, those without one last. Of loans with one deadline those begun first come
-/// first.
+/// Returns all loans in the order of their deadlines, and loans without one last. Loans with equal deadlines stay in
+/// the order in which they were begun.
 pub(crate) fn most_urgent_first<'a>(
     alloc: Global,
     sides: &'a Sides,
@@ -77,7 +78,7 @@ pub(crate) fn most_urgent_first<'a>(
     Ok(ordered)
 }
 
-/// Returns the key by which loans are sorted: those without a deadline come after the others.
+/// Returns the key by which loans are sorted. Loans without a deadline come last.
 fn urgency(side: &Side) -> (bool, Option<Day>)
     ensures { result ≡ (is_none (deadline_of side.now), deadline_of side.now) }
 {

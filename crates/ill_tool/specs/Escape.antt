@@ -60,7 +60,7 @@ is_marked byte = (byte == 0x22) || (byte == 0x5C)
 abbrev pub is_control : ℕ → Bool
 is_control byte = nat_lt byte 0x20 || (byte == 0x7F)
 
--- Returns the text of a byte that begins no character on which a terminal may act. A control character of
+-- Returns the text of a byte that begins no acting character of two or three bytes. A control character of
 -- ASCII becomes an escape, since a path may have one.
 abbrev pub byte_text : Escaping → ℕ → List ℕ
 byte_text Screen byte = if is_control byte then escape Screen byte else byte ∷ []

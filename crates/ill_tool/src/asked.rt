@@ -1,4 +1,4 @@
-//! The messages of a night's mails that came for loans that are over.
+//! The messages of a night that ask: they came for loans that are over.
 
 ghost use Rattle.std.specs.Prelude.{◌≡◌, ◌++◌, Ok, slice_get, IfOk, OnOk};
 ghost use Rattle.std.specs.List.{zip};
@@ -13,8 +13,8 @@ use ill_values::{OutOfMemory, TxnId};
 use ill_world::is_over;
 use std::alloc::Global;
 
-/// Returns the bytes of the messages of `mails` that came for loans that are over. The desk has done with each of them.
-/// They stand one after another. A responder answers them in the next outbox.
+/// Returns the bytes of the messages that ask, one after another. They are in done mails of `mails`, and came for loans
+/// that are over. A responder answers them in the next outbox.
 pub fn asked_by<S: Store>(
     alloc: Global,
     desk: &Desk<S>,
@@ -30,7 +30,7 @@ pub fn asked_by<S: Store>(
     Ok(asked)
 }
 
-/// Appends to `asked` the message of the mail at `place`, if there is one and it asks.
+/// Appends to `asked` the message of the mail at `place`, if there is one and its message asks.
 fn push_asking_at<S: Store>(
     asked: &mut Vec<u8>,
     desk: &Desk<S>,

@@ -1,5 +1,5 @@
-//! The file that keeps the messages that came to a desk. It stands beside the desk's file, and is a row of APDUs. No
-//! command decides by it.
+//! The file that keeps the messages that came to a desk. It lies beside the desk's file, and has these APDUs one after
+//! another. No decision of a command depends on it.
 
 ghost use Rattle.std.specs.Prelude.{IfErr};
 ghost use Rattle.ill_tool.specs.Commands.{IsOpenFault};
@@ -21,7 +21,7 @@ pub(crate) const CAME: &str = ".came";
 /// The fault of a message that cannot be kept.
 pub(crate) const STORE_FAILED: ToolFault = ToolFault::Desk(DeskFault::Store(StoreFault::Failed));
 
-/// The open file. A write appends to it, and a flush waits until the disk has all of it.
+/// The open file. A write appends to it, and a flush makes it durable.
 #[derive(Drop)]
 pub struct CameFile<F> {
     file: F,
@@ -49,8 +49,8 @@ impl<F: Write + OpenFile> Write for CameFile<F> {
     }
 }
 
-/// Opens the file beside that of `desk`, and makes one if there is none. It cuts off the part of a message that a crash
-/// has left at the end. Other bytes that are no message are a failure, and stay.
+/// Opens the file beside the file of `desk`, and makes it if it does not exist. It cuts off the part of a message that
+/// a crash has left at the end. Other bytes that are no message are a failure, and are not cut off.
 pub fn open_came<T: Files>(
     rt: &T,
     alloc: Global,
@@ -74,7 +74,7 @@ pub fn open_came<T: Files>(
     }
 }
 
-/// Returns the bytes of the file beside that of `desk`: none, if there is no file.
+/// Returns the bytes of the file beside the file of `desk`. There are none without a file.
 pub fn came_bytes<T: Files>(rt: &T, alloc: Global, desk: &str) -> Result<Vec<u8>, ToolFault>
     ensures { IfErr result IsOpenFault }
 {
@@ -82,15 +82,14 @@ pub fn came_bytes<T: Files>(rt: &T, alloc: Global, desk: &str) -> Result<Vec<u8>
     Ok(load(rt, alloc, path.as_str())?.unwrap_or(Vec::new(alloc)))
 }
 
-/// Returns the path of the file beside that of `desk`.
+/// Returns the path of the file beside the file of `desk`.
 fn path(alloc: Global, desk: &str) -> Result<String, OutOfMemory> {
     let mut path = String::from_str(alloc, desk)?;
     path.push_str(CAME)?;
     Ok(path)
 }
 
-/// Loads the file at `path` as a desk loads its record. So the disk has its bytes and its name before they are
-/// returned.
+/// Loads the file at `path` as a desk loads its record, so that its bytes and its name are durable.
 fn load<T: Files>(rt: &T, alloc: Global, path: &str) -> Result<Option<Vec<u8>>, ToolFault>
     ensures { IfErr result IsOpenFault }
 {
@@ -101,8 +100,8 @@ fn load<T: Files>(rt: &T, alloc: Global, path: &str) -> Result<Option<Vec<u8>>, 
     }
 }
 
-/// Makes the file at `path`. It gets the group of the file `desk`, the permissions of it, and its owner if the system
-/// allows that. If the group cannot be set, only the owner of the new file may read or write it.
+/// Makes the file at `path`, with the group and the permissions of the file `desk`. It gets the owner of that file too,
+/// if the system allows that. If the group cannot be set, only the owner may read or write the new file.
 fn make<T: Files>(rt: &T, path: &str, desk: &str) -> io::Result<()> {
     let other = fs::symlink_metadata(rt, desk)?;
     let mut options = OpenOptions::new();
@@ -130,7 +129,7 @@ fn torn(alloc: Global, bytes: &[u8]) -> Result<usize, ToolFault>
     }
 }
 
-/// Opens the file at `path` to append to its first `size` bytes.
+/// Opens the file at `path` to append to its first `size` bytes, and cuts off the others.
 fn append<T: Files>(rt: &T, path: &str, size: usize) -> io::Result<T::File> {
     let size = size as u64;
     let mut options = OpenOptions::new();

@@ -82,7 +82,8 @@ fn acting_prefix(_escaping: Escaping, first: u8, after: &[u8]) -> Option<(u32, &
     None
 }
 
-/// Appends a byte of a character on which no terminal acts.
+/// Appends a byte that begins no acting character of two or three bytes. A control character of ASCII becomes an
+/// escape.
 fn push_byte(text: &mut Vec<u8>, escaping: Escaping, byte: u8) -> Result<(), OutOfMemory>
     ensures { OnOk result (text.new.items ≡ text.old.items ++ byte_text escaping byte) }
 {

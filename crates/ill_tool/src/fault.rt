@@ -12,12 +12,12 @@ use ill_world::{DeskOutcome, Outcome, SimFault};
 use std::alloc::{AllocError, AllocFailed};
 use thiserror::Error;
 
-/// The fault that stopped a command. Lines that were written before stay written.
+/// The fault that stopped a command. Lines that were written before it remain.
 #[derive(Clone, Copy, Debug, PartialEq, Eq, Hash, Error)]
 pub enum ToolFault {
-    /// A word is wrong: a role, a number or a day is none, or no id can have the group or the transaction. The words of
-    /// an action may name none of this side. One of them may be empty or hold a space, or their `+N` is beyond the
-    /// calendar. Or a responder's action has no day.
+    /// An argument is invalid: a role, a number, a day, a group or a transaction. Or the words of an action name no
+    /// action of this side. One of them may be empty or have a space, or a due day `+N` may be beyond the calendar. Or
+    /// a responder's action has no day.
     #[error("arguments")]
     Arguments,
     /// The input has bytes that are no APDU. This is never `DerFault::OutOfMemory`.
@@ -29,7 +29,7 @@ pub enum ToolFault {
     /// The line of the script with this number, from 1 on, is bad.
     #[error("script at line {0}")]
     Script(u32),
-    /// The side refused, its store failed, or its record is none. This is never `DeskFault::OutOfMemory`.
+    /// The side refused, its store failed, or its record is invalid. This is never `DeskFault::OutOfMemory`.
     #[error("{0}")]
     Desk(DeskFault),
     /// Mails of a folder wait for the next run. All else was done.
@@ -86,7 +86,7 @@ impl<T: Drop> From<AllocFailed<T>> for ToolFault {
     }
 }
 
-/// Gives the fault of a desk that did not start, without the store that it hands back.
+/// Returns the fault of a desk that did not start, and drops the store.
 impl<S: Drop> From<(DeskFault, S)> for ToolFault {
     ghost from_gives = { λ refused tool. tool ≡ desk_fault refused.0 };
 
@@ -95,7 +95,7 @@ impl<S: Drop> From<(DeskFault, S)> for ToolFault {
     }
 }
 
-/// Gives the fault of a desk that did not begin, without the store that it hands back.
+/// Returns the fault of a desk that did not begin, and drops the store.
 impl<S: Drop> From<(ToolFault, S)> for ToolFault {
     ghost from_gives = { λ refused tool. tool ≡ refused.0 };
 
@@ -104,7 +104,7 @@ impl<S: Drop> From<(ToolFault, S)> for ToolFault {
     }
 }
 
-/// Returns the outcome of a refusal of a desk. Its other faults end the command.
+/// Returns the outcome of a desk's refusal. Any other fault of a desk ends the command.
 pub(crate) fn refused(fault: DeskFault) -> Result<DeskOutcome, ToolFault>
     ensures value { result ≡ refused fault }
     ensures outcome { is_refusal fault ≡ true → is_ok result ≡ true }

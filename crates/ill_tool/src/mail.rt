@@ -1,9 +1,10 @@
-//! The mails of a run: those that it claims from a folder, and those that an earlier run has claimed and left. Anybody
-//! who brings mails may put anything into the folder at any moment.
+//! The mails of a run: it claims some from a folder, and earlier runs have left others. Whoever brings mails may put
+//! anything into the folder at any moment.
 //!
-//! A run claims a mail by a rename into the folder of the desk's mail, where nobody else may write. Only there it looks
-//! at the mail, and reads it once. It gives back what is no regular file. A folder of mails that may have folders is
-//! looked at before: no folder is moved unless it comes at that moment.
+//! A run claims a mail by a rename into the folder of the desk's mail, where nobody else may write. It looks at the
+//! mail only there, and reads it once. It gives back anything that is no regular file. If the folder of mails may have
+//! folders in it, the run looks at each entry before the claim. So it moves no folder, except one that was put there at
+//! that moment.
 
 ghost use Rattle.std.specs.Prelude.{IfErr};
 ghost use Rattle.ill_tool.specs.Commands.{IsOpenFault};
@@ -24,23 +25,23 @@ use std::os::unix::fs::{DirBuilderExt, MetadataExt};
 use std::rt::Files;
 use std::{fs, io};
 
-/// The most mails of one run. Further ones wait for the next.
+/// The greatest number of mails in one run. Further ones wait for the next run.
 const MAILS: usize = 10_000;
 
-/// The number of names for the folder of a run that are tried, if others take them meanwhile.
+/// The number of names for the folder of a run that are tried, if other runs take them at that moment.
 const TRIES: u32 = 100;
 
 /// The mails of a run.
 #[derive(Drop)]
 pub struct Mails {
-    /// The mails that are read: those that were claimed before, and then the others in the order of the bytes of their
-    /// names.
+    /// The mails that were read. The mails of earlier runs come first, and then the others in the order of the bytes of
+    /// their names.
     pub mails: Vec<Mail>,
     /// The path of the file of each, or none if it could not be claimed.
     pub files: Vec<Option<String>>,
     /// The number of further mails.
     pub waiting: usize,
-    /// The folders of runs that have claimed mails, this one's last.
+    /// The folders of the runs that have claimed mails. The folder of this run is the last.
     pub runs: Vec<String>,
 }
 
@@ -62,7 +63,7 @@ impl Mails {
         Ok(())
     }
 
-    /// Adds a mail that cannot be read, or counts it if the run has enough.
+    /// Adds a mail that cannot be read, or counts it if the run is full.
     fn add_or_count(&mut self, name: Vec<u8>) -> io::Result<()> {
         if self.is_full() {
             self.waiting = self.waiting.saturating_add(1);
@@ -71,7 +72,7 @@ impl Mails {
         self.add(name, None, None)
     }
 
-    /// Adds the mail in `file`, which was claimed. Gives it back to `folder` if it is no regular file.
+    /// Adds the claimed mail in `file`, or gives it back to `folder` if it is no regular file.
     fn add_claimed<T: Files>(
         &mut self,
         rt: &T,
@@ -94,7 +95,7 @@ impl Mails {
 pub struct Incoming<'a> {
     /// Its path.
     pub folder: &'a str,
-    /// Set if a shelf sorts the folder. Then the mails of the desk were claimed for it before.
+    /// Set if a shelf sorts the folder. The mails of the desk were then claimed for it before.
     pub is_sorted: bool,
 }
 
@@ -108,7 +109,8 @@ pub fn begin_run<T: Files>(rt: &T, alloc: Global, mail_box: &MailBox) -> Result<
     }
 }
 
-/// Reads the mails that were claimed before, and claims those of `folder` into the folder `run` and reads them.
+/// Reads the mails that earlier runs have claimed. Then it claims the mails of `folder` into the folder `run`, and
+/// reads these.
 pub fn claim_mails<T: Files>(
     rt: &T,
     alloc: Global,
@@ -124,8 +126,8 @@ pub fn claim_mails<T: Files>(
     }
 }
 
-/// Reads the mails that a shelf has sorted from `folder` to the desk in `file`. A carrier may still write to a mail
-/// that it opened before the claim. Then its message may be for another desk, and its bytes are hidden.
+/// Reads the mails that a shelf has sorted from `folder` to the desk in `file`. A carrier that opened a mail before the
+/// claim may still write to it. If its message is then for another desk, its bytes are hidden.
 pub fn sorted_mails<T: Files>(
     rt: &T,
     alloc: Global,
@@ -164,8 +166,8 @@ fn hide_others(
     Ok(())
 }
 
-/// Reads the mails of a desk, as many as one run takes: those that were claimed before, and those that it claims from
-/// `folder` into the folder `run`, if there is one.
+/// Reads the mails of a desk, as many as one run takes. First come the mails that earlier runs have claimed. Then it
+/// claims mails from `folder` into the folder `run`, if there is one.
 fn all_mails<T: Files>(
     rt: &T,
     alloc: Global,
@@ -188,7 +190,7 @@ fn all_mails<T: Files>(
     Ok(mails)
 }
 
-/// Claims the mails of `folder` into the folder `run`, as many as there is room for, and reads them.
+/// Claims the mails of `folder` into the folder `run`, up to the room of a run, and reads them.
 fn claim_from<T: Files>(
     rt: &T,
     alloc: Global,
@@ -220,14 +222,14 @@ struct Claiming<'a> {
     looks_first: bool,
 }
 
-/// Returns true if `folder` may have folders. Where a system counts the links of a folder, its own two are the only
-/// ones if it has none.
+/// Returns true if `folder` may have folders in it. If a system counts the links of a folder, one without folders has
+/// two.
 fn may_have_folders<T: Files>(rt: &T, folder: &str) -> io::Result<bool> {
     Ok(fs::metadata(rt, folder)?.nlink() != 2)
 }
 
-/// Makes the folder of a run among the mails that were claimed, and returns its path. Its number is greater than those
-/// of all that are there. The folder is new, so no other run has it.
+/// Makes the folder of a run among the claimed mails, and returns its path. Its number is greater than the number of
+/// each folder there. The folder is new, so no other run has it.
 pub(crate) fn new_run<T: Files>(rt: &T, alloc: Global, mail_box: &MailBox) -> io::Result<String> {
     let mut last = 0;
     for run in names_in(rt, alloc, mail_box.claimed())? {
@@ -244,7 +246,7 @@ pub(crate) fn new_run<T: Files>(rt: &T, alloc: Global, mail_box: &MailBox) -> io
     Err(ErrorKind::AlreadyExists.into())
 }
 
-/// Returns the names in `folder` that begin with no dot, in the order of their bytes.
+/// Returns the names in `folder` that do not begin with a dot, in the order of their bytes.
 pub(crate) fn names_in<T: Files>(rt: &T, alloc: Global, folder: &str) -> io::Result<Vec<Vec<u8>>> {
     let mut names = raw_names(rt, alloc, folder)?;
     names.retain(|name| !name.starts_with(b"."));
@@ -252,7 +254,7 @@ pub(crate) fn names_in<T: Files>(rt: &T, alloc: Global, folder: &str) -> io::Res
     Ok(names)
 }
 
-/// Adds the mails that an earlier run has claimed into its folder `run`. Anything else has no mails.
+/// Adds the mails that an earlier run has claimed into its folder `run`. If `run` is no folder, it adds none.
 fn add_run<T: Files>(
     rt: &T,
     claimed: &str,
@@ -275,7 +277,7 @@ fn add_run<T: Files>(
     Ok(())
 }
 
-/// Returns true if a folder stands at `path`.
+/// Returns true if there is a folder at `path`.
 fn is_folder<T: Files>(rt: &T, path: &str) -> bool {
     match fs::symlink_metadata(rt, path) {
         Ok(found) => found.is_dir(),
@@ -283,12 +285,12 @@ fn is_folder<T: Files>(rt: &T, path: &str) -> bool {
     }
 }
 
-/// Returns the number of a run, by the name of its folder.
+/// Returns the number of a run, which is the name of its folder.
 fn number_of(run: &[u8]) -> Option<u32> {
     str::from_utf8(run).ok()?.parse::<u32>().ok()
 }
 
-/// Adds a mail that was claimed before into the folder `run`, or counts it if the run has enough.
+/// Adds a mail in the folder `run` of an earlier run, or counts it if this run is full.
 fn add_again<T: Files>(
     rt: &T,
     folder: &str,
@@ -306,7 +308,7 @@ fn add_again<T: Files>(
     }
 }
 
-/// Claims the mail `name` and adds it, if it is one, or counts it if the run has enough.
+/// Claims the mail `name` and adds it, if it is a mail, or counts it if the run is full.
 fn add_mail<T: Files>(
     rt: &T,
     claiming: &Claiming<'_>,
@@ -346,7 +348,7 @@ fn add_claimed<T: Files>(
     }
 }
 
-/// Returns the text for a name that is none: each byte beyond ASCII is an escape, such as `\x9b`.
+/// Returns the text for a name that is not UTF-8. An escape such as `\x9b` replaces each byte beyond ASCII.
 fn as_text(alloc: Global, name: &[u8]) -> io::Result<Vec<u8>> {
     let mut text = String::new(alloc);
     for byte in name {
@@ -359,8 +361,8 @@ fn as_text(alloc: Global, name: &[u8]) -> io::Result<Vec<u8>> {
     Ok(text.into_bytes())
 }
 
-/// Renames the file at `path` into the folder `run`, and returns its path there. No other file has its name there,
-/// since names in a folder differ.
+/// Renames the file at `path` into the folder `run`, and returns its path there. It replaces no file, since names in
+/// one folder differ.
 fn claim<T: Files>(
     rt: &T,
     alloc: Global,
@@ -373,7 +375,7 @@ fn claim<T: Files>(
     Ok(file)
 }
 
-/// Returns the path of the file `name` in `folder`, if the name is a text. No path can have another name.
+/// Returns the path of the file `name` in `folder`, if the name is UTF-8. No path has another name.
 pub(crate) fn path_of(alloc: Global, folder: &str, name: &[u8]) -> io::Result<Option<String>> {
     match str::from_utf8(name) {
         Ok(name) => Ok(Some(joined(alloc, folder, name)?)),
@@ -381,7 +383,7 @@ pub(crate) fn path_of(alloc: Global, folder: &str, name: &[u8]) -> io::Result<Op
     }
 }
 
-/// Returns the path of `name` in `folder`. It has room for all of it at once.
+/// Returns the path of `name` in `folder`, with one allocation.
 fn joined(alloc: Global, folder: &str, name: &str) -> Result<String, OutOfMemory> {
     let size = folder.len().saturating_add(name.len()).saturating_add(1);
     let mut path = String::with_capacity(alloc, size)?;
@@ -391,7 +393,7 @@ fn joined(alloc: Global, folder: &str, name: &str) -> Result<String, OutOfMemory
     Ok(path)
 }
 
-/// Finds the regular file at `path`. Anything else, and a file that has gone, is no mail.
+/// Finds the regular file at `path`. Anything else is no mail, and neither is a file that was removed.
 fn lookup<T: Files>(rt: &T, path: &str) -> io::Result<Option<Metadata>> {
     match fs::symlink_metadata(rt, path) {
         Ok(found) if found.is_file() => Ok(Some(found)),
@@ -401,7 +403,7 @@ fn lookup<T: Files>(rt: &T, path: &str) -> io::Result<Option<Metadata>> {
     }
 }
 
-/// Returns the bytes of a claimed mail, or none if it could not be read. Only want of memory is a failure.
+/// Returns the bytes of a claimed mail, or none if it could not be read. Only a lack of memory is a failure.
 fn bytes_if_read(read: io::Result<Vec<u8>>) -> io::Result<Option<Vec<u8>>> {
     match read {
         Ok(bytes) => Ok(Some(bytes)),
@@ -410,8 +412,8 @@ fn bytes_if_read(read: io::Result<Vec<u8>>) -> io::Result<Option<Vec<u8>>> {
     }
 }
 
-/// Returns the failure of `done` if it is want of memory. Another one leaves a file among those that were claimed, for
-/// the next run.
+/// Returns the failure of `done` if it is a lack of memory. After another failure the file remains among the claimed
+/// mails, for the next run.
 fn no_failure(done: io::Result<()>) -> io::Result<()> {
     match done {
         Err(error) if error.kind() == ErrorKind::OutOfMemory => Err(error),
@@ -419,10 +421,11 @@ fn no_failure(done: io::Result<()>) -> io::Result<()> {
     }
 }
 
-/// The most bytes that are read of a mail: one more than a message has.
+/// The greatest number of bytes read from a mail: one more than a message has.
 const MOST: usize = APDU_LIMIT + 1;
 
-/// Returns the first bytes of the file at `path`, which had the size `size`. If it still has, one call reads them.
+/// Returns the first bytes of the file at `path`, whose size was `size`. If that is still its size, one call reads
+/// them.
 fn first_bytes<T: Files>(rt: &T, alloc: Global, path: &str, size: u64) -> io::Result<Vec<u8>> {
     let mut file = fs::open(rt, path)?;
     let mut first = [0; MOST];

@@ -85,7 +85,7 @@ fn begin<H: Holdings, S: Store, W: Write>(
     }
 }
 
-/// Saves a desk that was just created, and writes its line.
+/// Saves a desk that was just begun, and writes its line.
 fn save_first<H: Holdings, S: Store, W: Write>(
     alloc: Global,
     desk: &mut AnyDesk<H, S>,
@@ -103,7 +103,7 @@ fn save_first<H: Holdings, S: Store, W: Write>(
     }
 }
 
-/// Writes the line of the beginning that was saved.
+/// Writes the line of a desk that was begun and saved.
 fn write_beginning<H: Holdings, S: Store, W: Write>(
     alloc: Global,
     desk: &AnyDesk<H, S>,

@@ -1,4 +1,4 @@
-//! The command `outbox`: all messages leave that the other side may still need.
+//! The command `outbox`: it sends all messages that the other side may still need.
 
 ghost use Rattle.std.specs.Prelude.{◌≡◌, ◌++◌, map, take, length, IfOk, OnOk};
 ghost use Rattle.ill_saved.specs.Side.{issued_of, role_of, txn_of};
@@ -18,11 +18,11 @@ use sha2::{Digest, Sha256};
 use std::alloc::Global;
 use std::io::Write;
 
-/// Puts the saved messages of each loan that wants sending into `out`, and returns their number. A loan wants sending
-/// until it is over. After that a responder still answers: `asking` has the messages, one after another, that came for
-/// loans that are over.
+/// Puts the released messages of each loan that wants sending into `out`, and returns their number. A loan wants
+/// sending until it is over. After that it still does at a responder's desk, if `asking` has a message of it. `asking`
+/// has the messages that came for loans that are over, one after another.
 ///
-/// At a fault the first of them are there, and no part of another.
+/// After a fault, `out` has a prefix of these messages, and no part of another.
 pub fn run_desk_outbox<S: Store, O: Outgoing>(
     alloc: Global,
     desk: &Desk<S>,
@@ -94,7 +94,7 @@ fn leaving_sides<'a>(
     Ok(leaving)
 }
 
-/// Appends the messages of `held` that leave, if it wants sending.
+/// Appends the released messages of `held`, if it wants sending.
 fn push_leaving<'a>(
     leaving: &mut Vec<Leaving<'a>>,
     held: HeldSide<'a>,
@@ -110,7 +110,7 @@ fn push_leaving<'a>(
     }
 }
 
-/// Appends the saved messages of `held`.
+/// Appends the released messages of `held`.
 fn push_released<'a>(leaving: &mut Vec<Leaving<'a>>, held: HeldSide<'a>) -> Result<(), OutOfMemory>
     ensures { OnOk result (map issue_of leaving.new.items ≡ map issue_of leaving.old.items
         ++ issues_of held.entry.side.now (released_of (held_of held.entry))) }
@@ -133,7 +133,7 @@ fn push_issues<'a>(
     Ok(())
 }
 
-/// Returns the saved messages of `held`.
+/// Returns the released messages of `held`.
 fn released<'a>(held: HeldSide<'a>) -> &'a [Apdu]
     ensures { result.now ≡ released_of (held_of held.entry) }
 {
@@ -184,7 +184,7 @@ fn mail_name(alloc: Global, side: &Side, number: Number) -> Result<Vec<u8>, OutO
     Ok(name)
 }
 
-/// Returns the part that all names of the mails of a loan begin with.
+/// Returns the text with which the names of all mails of a loan begin.
 fn loan_stem(alloc: Global, side: &Side) -> Result<Vec<u8>, OutOfMemory>
     ensures { IfOk result (λ stem. stem.items ≡ loan_stem side.now) }
 {
@@ -198,7 +198,7 @@ fn loan_stem(alloc: Global, side: &Side) -> Result<Vec<u8>, OutOfMemory>
 /// The number of hexadecimal digits of the digest of a loan's text that begin the names of its mails.
 const STEM: usize = 32;
 
-/// Returns a text that tells the loan of `side` from all others.
+/// Returns a text that differs from the text of any other loan or role.
 fn loan_text(alloc: Global, side: &Side) -> Result<Vec<u8>, OutOfMemory>
     ensures { IfOk result (λ text. text.items ≡ loan_text side.now) }
 {
@@ -209,7 +209,7 @@ fn loan_text(alloc: Global, side: &Side) -> Result<Vec<u8>, OutOfMemory>
     Ok(text)
 }
 
-/// Appends `line` and its end.
+/// Appends `line` and a line feed.
 fn push_line(text: &mut Vec<u8>, line: &[u8]) -> Result<(), OutOfMemory>
     ensures { OnOk result (text.new.items ≡ text.old.items ++ line_of line.now) }
 {

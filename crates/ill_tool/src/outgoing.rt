@@ -20,7 +20,7 @@ pub trait Outgoing {
     /// The mails in an outlet, if they are known.
     ghost mails: { Self → Option Self.Mails };
 
-    /// The mails in an outlet after one more was put there.
+    /// The mails in an outlet after one more was put into it.
     ghost after: { Self.Mails → Letter → Self.Mails };
 
     /// Puts a message into the outlet, whole or not at all.

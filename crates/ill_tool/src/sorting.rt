@@ -1,8 +1,8 @@
-//! Mail that has come to a shelf: each message goes to the mail of the desk of its group.
+//! The sorting of the mails that have come to a shelf: each goes to the desk of its message's group.
 //!
 //! A mail is claimed into a folder of the shelf, and renamed from there into the mail of a desk. So the next run sorts
 //! a mail that a killed run has claimed. A message whose group has no desk goes to the shelf's own desk. That desk
-//! answers as one does that lacks the loan. No message goes there that would begin a loan.
+//! answers as a desk without the loan. It gets no message that would begin a loan.
 
 ghost use Rattle.std.specs.Prelude.{◌≡◌, IfErr};
 ghost use Rattle.ill_tool.specs.Commands.{IsOpenFault};
@@ -29,7 +29,7 @@ use std::path::Path;
 use std::rt::Files;
 use std::{fs, io};
 
-/// The most desks that the mail of one run makes: strangers must not fill a disk.
+/// The greatest number of desks that the mails of one run make, so that strangers cannot fill a disk.
 const NEW_DESKS: usize = 16;
 
 /// The home of a group on a shelf.
@@ -39,7 +39,7 @@ pub(crate) enum Home {
     Desk,
     /// The mark of a retired group.
     Retired,
-    /// Files beside a desk, and no desk: its file was lost.
+    /// No desk, but files that lie beside one: the file of the desk was lost.
     Lost,
     /// Nothing.
     Nothing,
@@ -52,9 +52,9 @@ pub(crate) enum Route {
     Home,
     /// To the desk of its group, which is made for it.
     New,
-    /// Back to its folder: it waits for the next run.
+    /// Back to its folder, where it waits for the next run.
     Back,
-    /// Nowhere: it is removed.
+    /// Nowhere: its file is removed.
     Gone,
     /// To the shelf's own desk.
     Stray,
@@ -75,8 +75,8 @@ pub(crate) fn route_of(role: Role, home: Home, is_request: bool, has_room: bool)
     }
 }
 
-/// Sorts the mails of `folder` to the desks of `shelf`. Returns true if any wait for the next run, or a desk is lost.
-/// It writes lines to `errors` of those, of new desks, and of mails of retired groups.
+/// Sorts the mails of `folder` to the desks of `shelf`. Returns true if a mail waits for the next run, or a desk is
+/// lost. It writes lines to `errors` about these, new desks, and mails of retired groups.
 pub(crate) fn sort_mails<T: LockFiles, E: Write>(
     rt: &T,
     alloc: Global,
@@ -93,7 +93,7 @@ pub(crate) fn sort_mails<T: LockFiles, E: Write>(
     sorted
 }
 
-/// Sorts the mails of `folder`, while no other command does.
+/// Sorts the mails of `folder`, under a lock against other commands.
 fn sort_under_lock<T: LockFiles, E: Write>(
     rt: &T,
     alloc: Global,
@@ -116,7 +116,7 @@ fn sort_under_lock<T: LockFiles, E: Write>(
     }
 }
 
-/// Claims the mails of `folder`, which may not lie within the shelf: files there belong to a desk.
+/// Claims the mails of `folder`, which may not lie within the shelf, since files there belong to a desk.
 fn claim_from_outside<T: Files>(
     rt: &T,
     alloc: Global,
@@ -134,8 +134,8 @@ fn claim_from_outside<T: Files>(
     }
 }
 
-/// Sorts the mails `found`, which were claimed, and tells of each desk that is lost. Returns true if there is one, or
-/// mails wait for the next run.
+/// Sorts the claimed mails `found`, and writes a line about each lost desk. Returns true if a desk is lost, or a mail
+/// waits for the next run.
 fn sort_found<T: LockFiles, E: Write>(
     rt: &T,
     alloc: Global,
@@ -179,12 +179,12 @@ const RETIRED_GROUP: &str = "removed: its group is retired";
 
 const NEW_GROUP: &str = " is made: mail begins its group";
 
-/// The mails of one run of the shelf for a desk.
+/// The mails that one run of the shelf sorts to a desk from one folder.
 #[derive(Drop)]
 struct SortedBox {
     /// The path of the desk's file.
     desk: String,
-    /// The folder in which they were claimed. Their names differ in it.
+    /// The folder in which they were claimed, where their names differ.
     from: String,
     /// The folder into which they are renamed.
     run: String,
@@ -201,14 +201,14 @@ struct Sorting<'a, T: LockFiles> {
     boxes: Vec<SortedBox>,
     /// The number of desks that were made.
     made: usize,
-    /// The paths of the lost desks that were told.
+    /// The paths of the lost desks about which a line was written.
     lost: Vec<String>,
-    /// Set if mails wait for the next run, or a desk is lost.
+    /// Set if a mail waits for the next run, or a desk is lost.
     is_waiting: bool,
 }
 
 impl<T: LockFiles> Sorting<'_, T> {
-    /// Tells of each desk that is lost: a file that it has beside it is there.
+    /// Writes a line about each lost desk: a file that lies beside a desk is there without it.
     fn tell_lost_desks<E: Write>(&mut self, errors: &mut E) -> io::Result<()> {
         let shelf = self.shelf;
         for ending in [CAME, MAIL] {
@@ -222,7 +222,7 @@ impl<T: LockFiles> Sorting<'_, T> {
         Ok(())
     }
 
-    /// Tells that `desk` is lost, once in a run.
+    /// Writes a line about the lost desk `desk`, once in a run.
     fn tell_lost<E: Write>(&mut self, desk: String, errors: &mut E) -> io::Result<()> {
         if !self.lost.contains(&desk) {
             self.leave(desk.as_bytes(), LOST, errors);
@@ -265,7 +265,7 @@ impl<T: LockFiles> Sorting<'_, T> {
         }
     }
 
-    /// Sorts a mail with this message.
+    /// Sorts a mail with the message `message`.
     fn sort_message<E: Write>(
         &mut self,
         mail: &Mail,
@@ -327,8 +327,8 @@ impl<T: LockFiles> Sorting<'_, T> {
         }
     }
 
-    /// Returns the place of the folder into which `file` is renamed for `desk`. It is made for the first file from one
-    /// folder.
+    /// Returns the place of the folder into which `file` is renamed for `desk`. Files of different folders get
+    /// different ones, and each is made for its first file.
     fn place_of(&mut self, file: &str, desk: String) -> io::Result<usize> {
         let from = Path::new(file)
             .parent()
@@ -363,7 +363,7 @@ impl<T: LockFiles> Sorting<'_, T> {
         new_run(self.rt, self.alloc, &mail_box)
     }
 
-    /// Writes the line that tells why a mail for `desk` is given back.
+    /// Writes the line with the reason why a mail for `desk` is given back.
     fn tell_back<E: Write>(
         &mut self,
         mail: &Mail,
@@ -381,7 +381,7 @@ impl<T: LockFiles> Sorting<'_, T> {
         }
     }
 
-    /// Leaves something for the next run, and writes a line of it.
+    /// Writes a line about a mail that waits for the next run.
     fn leave<E: Write>(&mut self, name: &[u8], text: &str, errors: &mut E) {
         self.is_waiting = true;
         warn(self.alloc, name, text, errors);
@@ -403,14 +403,14 @@ pub(crate) fn home_at<T: Files>(rt: &T, alloc: Global, desk: &str) -> io::Result
     }
 }
 
-/// Returns true if a file that may outlive `desk` is there beside it. Then its group was begun before.
+/// Returns true if a file that may outlive `desk` lies beside it, so that its group was begun before.
 fn is_lost<T: Files>(rt: &T, alloc: Global, desk: &str) -> io::Result<bool> {
     let came = format!(in alloc; "{desk}{CAME}")?;
     let mail = format!(in alloc; "{desk}{MAIL}")?;
     Ok(is_there(rt, came.as_str())? || is_there(rt, mail.as_str())?)
 }
 
-/// Refuses a group whose desk is lost, like one that has no record.
+/// Returns the refusal of a group whose desk is lost: it has no record.
 pub(crate) fn refuse_lost<T: Files>(rt: &T, alloc: Global, desk: &str) -> Result<(), ToolFault>
     ensures { IfErr result IsOpenFault }
 {
@@ -421,7 +421,7 @@ pub(crate) fn refuse_lost<T: Files>(rt: &T, alloc: Global, desk: &str) -> Result
     }
 }
 
-/// Makes the desk of a group at the path `desk`, unless the group is retired. It may be there already.
+/// Makes the desk of a group at the path `desk`, unless the group is retired or the desk exists.
 pub(crate) fn make_desk<T: LockFiles>(
     rt: &T,
     alloc: Global,
@@ -436,7 +436,7 @@ pub(crate) fn make_desk<T: LockFiles>(
     made
 }
 
-/// Makes the desk of a group at the path `desk`, while no other command does.
+/// Makes the desk of a group at the path `desk`, under a lock against other commands.
 fn make_under_lock<T: Files>(rt: &T, alloc: Global, role: Role, desk: &str) -> Result<(), ToolFault>
     ensures { IfErr result IsOpenFault }
 {

@@ -1,4 +1,4 @@
-//! The verdict of a mail, and the words of it.
+//! The verdict of a mail, and its line.
 
 ghost use Rattle.std.specs.Prelude.{◌≡◌, ◌++◌, codes, OnOk};
 ghost use Rattle.ill_tool.specs.declared.verdict.Unfit.TheVariants as unfits;
@@ -14,12 +14,12 @@ use itoa::Buffer;
 use sha2::{Digest, Sha256};
 use std::alloc::Global;
 
-/// A mail: a file of a folder, in which one message should be.
+/// A mail: a file in a folder, which should have one message.
 #[derive(Drop)]
 pub struct Mail {
     /// The name of the file.
     pub name: Vec<u8>,
-    /// Its bytes, or its first ones if they are more than a message has. None if it cannot be read.
+    /// Its bytes, or the first ones if it has more than a message. None if it cannot be read.
     pub bytes: Option<Vec<u8>>,
 }
 
@@ -34,20 +34,20 @@ impl Mail {
     }
 }
 
-/// The reason that no desk will ever take a mail.
+/// The reason why no desk will ever take a mail.
 #[derive(Clone, Copy, Debug, PartialEq, Eq, Hash)]
 pub enum Unfit {
     /// Its bytes are no message.
     NoMessage(DerFault),
     /// It has more bytes than a message.
     TooLong,
-    /// Further bytes stand after its message.
+    /// It has further bytes after its message.
     Trailing,
     /// The desk refuses its message for good.
     Refused(Refusal),
 }
 
-/// The reason that a mail waits for the next run.
+/// The reason why a mail waits for the next run.
 #[derive(Clone, Copy, Debug, PartialEq, Eq, Hash)]
 pub enum Delay {
     /// It cannot be read.
@@ -61,11 +61,11 @@ pub enum Delay {
 /// The verdict of a mail.
 #[derive(Clone, Copy, Debug, PartialEq, Eq, Hash)]
 pub enum Verdict {
-    /// The desk has done with it all that it will ever do. Its file may go.
+    /// The desk will do nothing more with it. Its file may be removed.
     Done(DeskOutcome),
     /// It is put aside, for a person.
     Aside(Unfit),
-    /// It stays in its folder.
+    /// It waits in its folder for the next run.
     Left(Delay),
 }
 
@@ -114,7 +114,7 @@ fn push_aside(lines: &mut Vec<u8>, name: &[u8], unfit: Unfit) -> Result<(), OutO
     Ok(())
 }
 
-/// Appends the line of the mail `name`, which stays in its folder.
+/// Appends the line of the mail `name`, which waits in its folder.
 fn push_left(lines: &mut Vec<u8>, name: &[u8], delay: Delay) -> Result<(), OutOfMemory>
     ensures { OnOk result (lines.new.items ≡ lines.old.items
         ++ stays_line name.now (codes " left ") (delay_text delay)) }
@@ -126,7 +126,7 @@ fn push_left(lines: &mut Vec<u8>, name: &[u8], delay: Delay) -> Result<(), OutOf
     Ok(())
 }
 
-/// Returns the word of the reason that a mail waits.
+/// Returns the word of the reason why a mail waits.
 fn delay_word(delay: Delay) -> &'static str
     ensures { result.now ≡ delay_text delay }
 {
@@ -137,7 +137,7 @@ fn delay_word(delay: Delay) -> &'static str
     }
 }
 
-/// Appends the reason that no desk will ever take a mail.
+/// Appends the reason why no desk will ever take a mail.
 pub(crate) fn push_unfit(text: &mut Vec<u8>, unfit: Unfit) -> Result<(), OutOfMemory>
     ensures { OnOk result (text.new.items ≡ text.old.items ++ unfit_text unfit) }
 {
@@ -159,7 +159,7 @@ fn push_word(text: &mut Vec<u8>, word: &str) -> Result<(), OutOfMemory>
     Ok(())
 }
 
-/// Appends a fault of bytes, with its place.
+/// Appends the word of a fault in the bytes of a mail, and its place.
 fn push_der_fault(text: &mut Vec<u8>, fault: DerFault) -> Result<(), OutOfMemory>
     ensures { OnOk result (text.new.items ≡ text.old.items ++ unfit_text (unfits.NoMessage fault)) }
 {
@@ -167,7 +167,7 @@ fn push_der_fault(text: &mut Vec<u8>, fault: DerFault) -> Result<(), OutOfMemory
     push_place(text, fault.at())
 }
 
-/// Returns the word of a fault of bytes.
+/// Returns the word of a fault in the bytes of a mail.
 fn der_word(fault: DerFault) -> &'static str
     ensures { result.now ≡ der_word fault }
 {
@@ -180,7 +180,7 @@ fn der_word(fault: DerFault) -> &'static str
     }
 }
 
-/// Appends the place of a fault of bytes, if it has one.
+/// Appends the place of a fault in the bytes, if it has one.
 fn push_place(text: &mut Vec<u8>, place: Option<u16>) -> Result<(), OutOfMemory>
     ensures { OnOk result (text.new.items ≡ text.old.items ++ place_text place) }
 {

@@ -1,5 +1,5 @@
-//! The visits of a command to the desks of a shelf, one after another. A failure at a desk keeps no other from its
-//! visit.
+//! The visits of a command to the desks of a shelf, one after another. After a failure at one desk, the others are
+//! still visited.
 
 ghost use Rattle.std.specs.Prelude.{◌≡◌, map, string_bytes};
 ghost use Rattle.ill_tool.specs.Listing.{heading};
@@ -23,7 +23,7 @@ use std::io::Write;
 pub(crate) enum Visit<'a> {
     /// Its loans are shown.
     Status(Form),
-    /// The mails that were sorted to it are taken. Those that stay are given back to this folder.
+    /// The mails that were sorted to it are taken. Mails that wait are given back to this folder.
     Inbox(&'a str),
     /// Its messages are put into this folder, or written to the output.
     Outbox(Option<&'a str>),
@@ -51,7 +51,7 @@ pub(crate) fn visit_all<T: LockFiles, W: Write, E: Write>(
     answer
 }
 
-/// Returns the graver of two answers.
+/// Returns the graver of two answers. A fault is the gravest, then mails that wait, then something that wants a person.
 pub(crate) fn graver(
     one: Result<bool, ToolFault>,
     other: Result<bool, ToolFault>,
@@ -66,7 +66,7 @@ pub(crate) fn graver(
     }
 }
 
-/// Visits a desk, after the line of its path.
+/// Visits a desk, after the line of its path if `visit` writes one.
 fn visit_desk<T: LockFiles, W: Write, E: Write>(
     rt: &T,
     alloc: Global,
@@ -88,7 +88,7 @@ fn visit_desk<T: LockFiles, W: Write, E: Write>(
     }
 }
 
-/// Writes the line of the path of a desk, if the desks are told apart.
+/// Writes the line of the path of a desk, if there is one.
 fn head<W: Write>(
     alloc: Global,
     path: &str,
@@ -106,7 +106,7 @@ fn head<W: Write>(
     write_whole(writer, &line)
 }
 
-/// Returns true if a line of its path stands before each desk.
+/// Returns true if the line of its path is written before each desk.
 fn is_headed(visit: &Visit<'_>) -> bool
     ensures { result ≡ is_headed visit.now }
 {
@@ -117,7 +117,7 @@ fn is_headed(visit: &Visit<'_>) -> bool
     }
 }
 
-/// Returns true if a form is that of lines.
+/// Returns true if `form` is that of lines.
 fn is_lines(form: Form) -> bool
     ensures { result ≡ is_lines form }
 {
@@ -127,7 +127,7 @@ fn is_lines(form: Form) -> bool
     }
 }
 
-/// Visits a desk, and writes a line to `errors` if that fails.
+/// Visits a desk, and writes a line to `errors` if the visit fails.
 fn visit_told<T: LockFiles, W: Write, E: Write>(
     rt: &T,
     alloc: Global,
@@ -167,7 +167,7 @@ fn run_visit<T: LockFiles, W: Write, E: Write>(
     }
 }
 
-/// Returns a folder that a shelf has sorted.
+/// Returns `folder` as a folder that a shelf has sorted.
 fn sorted_from(folder: &str) -> Incoming<'_> {
     Incoming {
         folder,

@@ -17,12 +17,12 @@ use ill_world::{DeskOutcome, Outcome};
 use std::alloc::Global;
 use std::io::Write;
 
-/// Performs the action that `words` name and saves it. Then it writes a line that tells the outcome and how the side
-/// stands. Returns true if the action was done. A refused action changes and saves nothing.
+/// Performs the action that `words` name and saves it. Then it writes a line of the outcome and of the side after it.
+/// Returns true if the action was done. A refused action changes and saves nothing.
 ///
 /// A responder acts on the day `today`; a requester needs none. If `words` name no action, the fault is `Arguments`. If
 /// the save fails, the action is done in memory, and its message may not be sent. If the writer fails, or memory runs
-/// out for the line, the saved record stays.
+/// out for the line, the saved record remains.
 pub fn run_act<S: Store, W: Write>(
     alloc: Global,
     desk: &mut Desk1<S>,
@@ -40,9 +40,9 @@ pub fn run_act<S: Store, W: Write>(
     act_on(alloc, desk, &(), today, words, writer)
 }
 
-/// Performs the action that `words` name on the side of `txn` at `desk`, as `run_act` does. If the desk does not hold
-/// it and the action does not begin it, it writes `no-such-transaction`. If the desk has no room for it, it writes
-/// `desk-full`. Both are refusals. It reads `words` before it looks for the transaction.
+/// Performs the action that `words` name on the side of `txn` at `desk`, as `run_act` does. If the desk lacks the
+/// transaction and the action does not begin it, the outcome is `no-such-transaction`. If the desk has no room for it,
+/// the outcome is `desk-full`. Both are refusals. `words` are read before the transaction is looked for.
 pub fn run_desk_act<S: Store, W: Write>(
     alloc: Global,
     desk: &mut Desk<S>,

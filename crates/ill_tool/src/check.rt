@@ -12,8 +12,8 @@ use std::io::{Read, Write};
 
 /// Checks the whole input, then writes the number of its APDUs, and returns that number.
 ///
-/// If an APDU is faulty, there are too many or the reader fails, nothing is written. Nothing is written either if
-/// memory runs out, which only the line needs. If the writer fails, it has a prefix of the line.
+/// If an APDU is faulty or one too many, or the reader fails, nothing is written. Nothing is written either if memory
+/// runs out, which only the line needs. If the writer fails, a prefix of the line is written.
 pub fn run_check<R: Read, W: Write>(
     alloc: Global,
     reader: &mut R,
@@ -38,7 +38,7 @@ fn write_count<W: Write>(alloc: Global, writer: &mut W, count: u32) -> Result<u3
     Ok(count)
 }
 
-/// Counts the APDUs of the input, up to its end. It keeps none of them.
+/// Counts the APDUs of the input, up to its end, and keeps none of them.
 fn count_apdus<R: Read>(alloc: Global, reader: &mut R) -> Result<u32, ToolFault>
     ensures { Counts (R.remaining reader.old) (R.remaining reader.new) result }
 {

@@ -1,7 +1,7 @@
 //! The lines that `--explain` adds after the line of a fault.
 //!
-//! They are found after the command, from the words of its line and from the file at the path. No program may rest on
-//! these texts. Their own faults are ignored.
+//! They are found after the command has ended, from the words of its line and from the file at the path. No program may
+//! depend on these texts. Faults in finding them are ignored.
 
 mod action;
 mod arguments;
@@ -24,7 +24,7 @@ use shelf::tell_shelf_fault;
 use std::alloc::Global;
 use std::io::Write;
 
-/// The option, which stands before the command.
+/// The option, which is typed before the command.
 const OPTION: &str = "--explain";
 
 /// Returns true if `words` ask for explanations. The first word is the name of the program.
@@ -36,7 +36,7 @@ pub fn is_asked(words: &[&str]) -> bool {
         .any(|word| *word == OPTION)
 }
 
-/// Writes the reason why a command line came to `fault`, if its words ask for that.
+/// Writes the reasons for `fault` of a command line, if its words ask for them.
 pub fn explain<T: LockFiles, E: Write>(
     rt: &T,
     alloc: Global,
@@ -52,8 +52,8 @@ pub fn explain<T: LockFiles, E: Write>(
     }
 }
 
-/// Appends to `text` the lines on a fault of the command line with these words. Returns none if they cannot be read
-/// again.
+/// Appends to `text` the lines about a fault of the command line with these words. Returns none if the words cannot be
+/// read again.
 fn tell<T: LockFiles>(
     rt: &T,
     alloc: Global,
@@ -76,7 +76,7 @@ fn tell<T: LockFiles>(
     }
 }
 
-/// Appends to `text` the lines on a fault of a command on a shelf with these arguments.
+/// Appends to `text` the lines about a fault of a command on a shelf with these arguments.
 fn tell_on_shelf<T: LockFiles>(
     rt: &T,
     alloc: Global,
@@ -92,7 +92,7 @@ fn tell_on_shelf<T: LockFiles>(
     }
 }
 
-/// Appends to `text` the lines on a fault of a command with these arguments.
+/// Appends to `text` the lines about a fault of a command with these arguments.
 fn tell_fault<T: LockFiles>(
     rt: &T,
     alloc: Global,

@@ -7,7 +7,7 @@ ghost use Rattle.ill_tool.specs.Html.{html_byte, html_escaped, html_text, is_ine
 use crate::escape::push_escaped;
 use ill_values::OutOfMemory;
 
-/// Appends `text`, of any bytes, so that a page shows it and a browser acts on none of it.
+/// Appends `text`, of any bytes, so that a browser shows it and interprets none of it.
 #[tactic(auto, using(crate::proofs::HtmlLemmas::text_inert))]
 pub(crate) fn push_text(page: &mut Vec<u8>, text: &[u8]) -> Result<(), OutOfMemory>
     ensures text { OnOk result (page.new.items ≡ page.old.items ++ html_text text.now) }
@@ -18,7 +18,7 @@ pub(crate) fn push_text(page: &mut Vec<u8>, text: &[u8]) -> Result<(), OutOfMemo
     push_html(page, &shown)
 }
 
-/// Appends `text` to `page`, with a name for each character that may begin or end an element or an attribute.
+/// Appends `text` to `page`, with an HTML entity for each character that may begin or end an element or an attribute.
 pub(crate) fn push_html(page: &mut Vec<u8>, text: &[u8]) -> Result<(), OutOfMemory>
     ensures { OnOk result (page.new.items ≡ page.old.items ++ html_escaped text.now) }
 {
@@ -28,7 +28,7 @@ pub(crate) fn push_html(page: &mut Vec<u8>, text: &[u8]) -> Result<(), OutOfMemo
     Ok(())
 }
 
-/// Appends `byte` to `page`, or the name of its character.
+/// Appends `byte` to `page`, or the HTML entity for it.
 fn push_byte(page: &mut Vec<u8>, byte: u8) -> Result<(), OutOfMemory>
     ensures { OnOk result (page.new.items ≡ page.old.items ++ html_byte byte) }
 {

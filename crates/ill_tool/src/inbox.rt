@@ -22,13 +22,12 @@ use ill_world::{DeskOutcome, Outcome};
 use std::alloc::Global;
 use std::io::Write;
 
-/// Takes the message of each mail of `mails` at `desk`, in their order. If any was taken, it then saves the desk once.
-/// Before that it writes each message that was taken to `came`, and flushes it. Then it writes the verdict of each
-/// mail, and their counts. The last of these is `waiting`, the number of further mails. It flushes these lines. It
-/// returns the verdict of each mail.
+/// Takes the message of each mail of `mails` at `desk`, in their order. It writes the taken messages to `came` and
+/// flushes them. If there are any, it then saves the desk once. Then it writes the verdict of each mail and the counts,
+/// and flushes these lines. The last count is `waiting`, the number of further mails. It returns the verdicts.
 ///
-/// Only at `Ok` may the file of a mail go. At every fault the store has its old record, or the one with all mails.
-/// Unless the writer failed, nothing was written to `writer`.
+/// Only after `Ok` may the file of a mail be removed. After every fault the store has its old record, or the one with
+/// all mails. Unless the fault is `Write`, nothing was written to `writer`.
 pub fn run_desk_inbox<S: Store, F: Write, W: Write>(
     alloc: Global,
     desk: &mut Desk<S>,
@@ -77,7 +76,7 @@ fn run_inbox<H: Holdings, S: Store, F: Write, W: Write>(
     }
 }
 
-/// The verdicts on the mails of a run so far, with their lines.
+/// The verdicts on the mails of a run so far, their lines, and the bytes of taken messages.
 #[derive(Drop)]
 pub(crate) struct Sorted {
     verdicts: Vec<Verdict>,
@@ -87,7 +86,7 @@ pub(crate) struct Sorted {
     kept: Vec<u8>,
 }
 
-/// Hands the messages of all mails to their sides, in their order. It adds their lines and that of their counts.
+/// Hands the messages of all mails to their sides, in their order. It adds their lines and the line of the counts.
 fn sort<H: Holdings, S: Store>(
     alloc: Global,
     desk: &mut AnyDesk<H, S>,
@@ -197,7 +196,7 @@ impl Sorted {
         }
     }
 
-    /// Adds the lines of a message and the verdict of its mail.
+    /// Adds the lines of a message, and the verdict of its mail.
     fn judge<H: Holdings, S: Store>(
         &mut self,
         desk: &AnyDesk<H, S>,
@@ -255,7 +254,7 @@ impl Sorted {
     }
 }
 
-/// Returns the message of a mail, or the reason that no desk will ever take its bytes.
+/// Returns the message of a mail, or the reason why no desk will ever take it.
 pub(crate) fn message_in(bytes: &[u8]) -> Result<ApduView<'_>, Unfit>
     ensures { result ≡ message_in bytes.now }
 {
@@ -265,7 +264,7 @@ pub(crate) fn message_in(bytes: &[u8]) -> Result<ApduView<'_>, Unfit>
     one_message(bytes)
 }
 
-/// Returns the message that `bytes` are, or the reason that they are none.
+/// Returns the only message in `bytes`, or the reason why there is none.
 fn one_message(bytes: &[u8]) -> Result<ApduView<'_>, Unfit>
     ensures { result ≡ one_message (apdu_at bytes.now) }
 {
@@ -307,7 +306,7 @@ fn is_change(outcome: DeskOutcome) -> bool
     )
 }
 
-/// Writes the bytes of the messages that were taken, and then saves once. If there are none, it does nothing.
+/// Writes the bytes of the taken messages, and then saves once. Without taken messages it does nothing.
 fn keep_and_save<H: Holdings, S: Store, F: Write>(
     alloc: Global,
     desk: &mut AnyDesk<H, S>,

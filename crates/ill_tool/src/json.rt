@@ -1,4 +1,4 @@
-//! JSON, of objects of few kinds of values.
+//! Objects of JSON, whose values are of few kinds.
 
 ghost use Rattle.std.specs.Prelude.{◌≡◌, [], ◌++◌, map, codes, OnOk};
 ghost use Rattle.std.specs.Fmt.{decimal};
@@ -20,7 +20,7 @@ pub(crate) enum Value<'a> {
 }
 
 impl<'a> Value<'a> {
-    /// Returns the value of `date`: missing, if there is none.
+    /// Returns the value of `date`, which is missing if there is none.
     pub(crate) fn day(date: Option<Day>) -> Value<'a>
         ensures { value_text result ≡ optional day date }
     {
@@ -30,7 +30,7 @@ impl<'a> Value<'a> {
         }
     }
 
-    /// Returns the value of the number of a message: missing, if there is none.
+    /// Returns the value of the number of a message, which is missing if there is none.
     pub(crate) fn number(number: Option<Number>) -> Value<'a>
         ensures { value_text result ≡ optional decimal number }
     {
@@ -41,7 +41,7 @@ impl<'a> Value<'a> {
     }
 }
 
-/// A label and a value.
+/// A field of an object: its label and its value.
 pub(crate) type Field<'a> = (&'a str, Value<'a>);
 
 /// Appends `fields` to `text`, with `before` ahead of the first and a comma between two.

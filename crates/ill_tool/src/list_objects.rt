@@ -12,7 +12,7 @@ use ill_core::Turn;
 use ill_saved::Side;
 use ill_values::OutOfMemory;
 
-/// Appends the object of the loan of `side` on a line. It has the path `file` of its desk, if one is told.
+/// Appends the object of the loan of `side`, on a line. It has the path `file` of the desk, if it is given.
 pub(crate) fn push_row_object(
     text: &mut Vec<u8>,
     file: Option<&str>,
@@ -27,7 +27,7 @@ pub(crate) fn push_row_object(
     push_plain(text, "}\n")
 }
 
-/// Appends the fields of the loan of `side`, and the path of its desk.
+/// Appends the fields of the loan of `side`, and the path of the desk.
 fn push_row_and_file(
     text: &mut Vec<u8>,
     file: Option<&str>,
@@ -50,7 +50,7 @@ fn push_row_fields(text: &mut Vec<u8>, turn: Turn, side: &Side) -> Result<(), Ou
     push_row_with(text, turn, side, &names)
 }
 
-/// Appends the fields of the loan of `side`, with `names` as the actions that it may take now.
+/// Appends the fields of the loan of `side`, with the actions `names`.
 #[tactic(auto, unfolding(crate::specs::Json::joined))]
 fn push_row_with<'a>(
     text: &mut Vec<u8>,
@@ -76,7 +76,7 @@ fn push_row_with<'a>(
     )
 }
 
-/// Appends the path of a desk, if one is told.
+/// Appends the path of a desk, if it is given.
 #[tactic(auto, unfolding(crate::specs::Json::joined))]
 fn push_file(text: &mut Vec<u8>, file: Option<&str>) -> Result<(), OutOfMemory>
     ensures { OnOk result (text.new.items ≡ text.old.items
@@ -88,7 +88,7 @@ fn push_file(text: &mut Vec<u8>, file: Option<&str>) -> Result<(), OutOfMemory>
     }
 }
 
-/// Appends the object of `counts` on a line, with the path `file` of the desk, if one is told.
+/// Appends the object of `counts`, on a line. It has the path `file` of the desk, if it is given.
 pub(crate) fn push_counts_object(
     text: &mut Vec<u8>,
     file: Option<&str>,

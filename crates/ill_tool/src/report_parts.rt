@@ -1,5 +1,5 @@
-//! The parts of the page of `ill report`: its constant texts, and the fields of a loan between them. No text of a
-//! person stands here.
+//! The parts of the page of `ill report`: its constant texts, and the fields of a loan between them. No text here is
+//! written by a user.
 
 ghost use Rattle.std.specs.Prelude.{◌≡◌};
 ghost use Rattle.ill_tool.specs.Report.{after, before};
@@ -17,17 +17,17 @@ pub(crate) enum Field {
     Transaction,
     /// The state.
     State,
-    /// The day on which the item is due.
+    /// The due date of the item.
     Due,
-    /// The day after which the request may expire.
+    /// The expiry date of the request.
     Expiry,
     /// The library that acts next.
     Next,
-    /// The actions that this library may take.
+    /// The actions that this library may do.
     Actions,
     /// The height of the chart of its messages.
     Height,
-    /// The names of its messages, for those to whom the chart is read out.
+    /// The names of its messages, for a screen reader.
     Names,
     /// Its messages, as arrows of the chart.
     Arrows,
@@ -93,12 +93,12 @@ impl Field {
     }
 }
 
-/// Loans of a desk that stand together.
+/// A section of the loans of a desk.
 #[derive(Clone, Copy)]
 pub(crate) struct Section<'a> {
     /// The text before their count.
     pub heading: &'a str,
-    /// The turns that they have.
+    /// The turns of its loans.
     pub turns: &'a [Turn],
     /// The text after their count.
     pub opening: &'a str,
@@ -162,16 +162,16 @@ pub(crate) const WAITING: &str = "<h3>Waits for us today: ";
 /// The text before the count of the loans that are open.
 pub(crate) const OPEN: &str = "<h3>Open loans: ";
 
-/// The text after a count, before the loans.
+/// The text after the count of a section, before its loans.
 pub(crate) const OPENING: &str = "</h3>\n";
 
 /// The text before the count of the loans that are over.
 pub(crate) const OVER: &str = "<details>\n<summary>Over: ";
 
-/// The text after that count, before these loans.
+/// The text after the count of the loans that are over, before these loans.
 pub(crate) const FOLDED: &str = "</summary>\n";
 
-/// The text in a chart before its messages: the two libraries, each with a line below it.
+/// The text of a chart before its messages: the two libraries, with a line below each.
 pub(crate) const LIFELINES: &str = "\
 <text x=\"30\" y=\"14\">We</text><text x=\"290\" y=\"14\">Partner</text><path d=\"M30 20V7999M290 20V7999\"/>
 ";

@@ -1,4 +1,4 @@
-//! The end of the files of mails, once a run has saved their messages.
+//! The settling of the files of mails, after a run has saved their messages.
 
 ghost use Rattle.std.specs.Prelude.{IfErr};
 ghost use Rattle.ill_tool.specs.Outbox.{IsFileFault};
@@ -14,9 +14,9 @@ use std::io::{ErrorKind, Write};
 use std::rt::Files;
 use std::{fs, io};
 
-/// Settles the file of each mail of `found`. It removes the file of a mail that is done, and puts one aside that no
-/// desk will ever take. It gives the others back to their folder. If that fails for a file, it stays, and a line to
-/// `errors` names its mail. Then the fault is one of the store. If memory runs out, the further ones stay.
+/// Settles the file of each mail of `found`. It removes the file of a done mail, and puts a mail aside that no desk
+/// will ever take. It gives the others back to their folder. If that fails for a file, the file remains, and a line to
+/// `errors` names its mail. The fault is then a failure of the store. If memory runs out, all further files remain.
 pub fn settle_mails<T: Files, E: Write>(
     rt: &T,
     alloc: Global,
@@ -47,24 +47,24 @@ pub fn settle_mails<T: Files, E: Write>(
 /// The text about a mail whose file could not be removed, put aside or given back.
 const STUCK: &str = " is not settled, and stays among the mails that were claimed";
 
-/// Removes the folders of runs in which no mail is left.
+/// Removes the folders of runs that have no mail left.
 pub(crate) fn remove_runs<T: Files>(rt: &T, found: &Mails) {
     for run in &found.runs {
         let _ = fs::remove_dir(rt, run.as_str());
     }
 }
 
-/// The file of a desk, the folder from which its mails come, and that of the desk's mail.
+/// The file of a desk, the folder from which its mails come, and the folder of its mail.
 #[derive(Clone, Copy)]
 pub struct MailPaths<'a> {
     pub file: &'a str,
     pub folder: &'a str,
     pub mail_box: &'a MailBox,
-    /// Set if a person is told of the mails that want one.
+    /// Set if a line is written about each mail that wants a person.
     pub is_telling: bool,
 }
 
-/// Settles the file of a mail by its verdict. A mail that could not be claimed stays in its folder.
+/// Settles the file of a mail by its verdict. A mail that could not be claimed remains in its folder.
 fn settle_mail<T: Files>(
     rt: &T,
     alloc: Global,
@@ -99,8 +99,8 @@ fn put_aside<T: Files>(
     mail_box.put_aside(rt, alloc, file, digest.as_str(), &why)
 }
 
-/// Gives the mail `name` back to the folder from which it was claimed. If another mail of its name has come there, it
-/// stays claimed, and the next run takes it first.
+/// Gives the mail `name` back to the folder from which it was claimed. If another mail with its name has come there, it
+/// remains claimed, and the next run takes it first.
 pub(crate) fn give_back<T: Files>(
     rt: &T,
     alloc: Global,
@@ -120,8 +120,8 @@ pub(crate) fn give_back<T: Files>(
     }
 }
 
-/// Gives back a file that can have no second name, such as a folder, if its name is free there. If a killed run has
-/// given it back already, it removes its second name.
+/// Gives back a file that cannot have a second name, such as a folder, if its name is free there. If a killed run has
+/// given it back already, its second name is removed.
 fn give_back_alone<T: Files>(rt: &T, file: &str, path: &str) {
     match (
         fs::symlink_metadata(rt, file),

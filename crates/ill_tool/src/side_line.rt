@@ -1,4 +1,4 @@
-//! The line of how a side stands, alone or with the heading and the fields of a message.
+//! The line of an outcome and of the side after it, alone or with the heading and the fields of a message.
 
 ghost use Rattle.std.specs.Prelude.{◌≡◌, ◌++◌, true, OnOk};
 ghost use Rattle.ill_tool.specs.Telling.{as_told, done_line, held_text, is_fine, long, side_line, wording, WritesOutcome};
@@ -14,8 +14,8 @@ use ill_world::{DeskOutcome, Outcome, push_shown};
 use std::alloc::Global;
 use std::io::Write;
 
-/// Writes the line of an outcome and of how the side stands after it: `OUTCOME STATE DUE RELEASED/ISSUED`. Returns true
-/// if all went well.
+/// Writes the line of an outcome and of the side after it: `OUTCOME STATE DUE RELEASED/ISSUED`. Returns true if all
+/// went well.
 pub(crate) fn report<H: Holdings, S: Store, W: Write>(
     alloc: Global,
     writer: &mut W,
@@ -32,8 +32,8 @@ pub(crate) fn report<H: Holdings, S: Store, W: Write>(
     Ok(is_fine(outcome))
 }
 
-/// Writes the line of the outcome of a message. With `LONG` the heading of the message stands before it, and the lines
-/// of its fields after it. Returns true if all went well.
+/// Writes the line of the outcome of a message. With `LONG` the heading of the message is before it, and the lines of
+/// its fields after it. Returns true if all went well.
 pub(crate) fn report_message<H: Holdings, S: Store, W: Write, const LONG: bool>(
     alloc: Global,
     writer: &mut W,
@@ -51,7 +51,7 @@ pub(crate) fn report_message<H: Holdings, S: Store, W: Write, const LONG: bool>(
     Ok(is_fine(outcome))
 }
 
-/// Appends the words of the outcome of a message.
+/// Appends the text of the outcome of a message.
 fn push_words<H: Holdings, S: Store, const LONG: bool>(
     lines: &mut Vec<u8>,
     apdu: &ApduView<'_>,
@@ -69,7 +69,7 @@ fn push_words<H: Holdings, S: Store, const LONG: bool>(
     }
 }
 
-/// Appends the words of the outcome of a message at length, with how its side stands once it is saved.
+/// Appends the long text of the outcome of a message, with its side as it is once saved.
 pub(crate) fn push_saved_message<H: Holdings, S: Store>(
     lines: &mut Vec<u8>,
     apdu: &ApduView<'_>,
@@ -83,7 +83,7 @@ pub(crate) fn push_saved_message<H: Holdings, S: Store>(
     push_long::<H, S, true>(lines, apdu, outcome, desk, key)
 }
 
-/// Appends the heading of a message, the line, and the lines of its fields.
+/// Appends the heading of a message, the line of its outcome, and the lines of its fields.
 fn push_long<H: Holdings, S: Store, const SAVED: bool>(
     lines: &mut Vec<u8>,
     apdu: &ApduView<'_>,
@@ -99,7 +99,7 @@ fn push_long<H: Holdings, S: Store, const SAVED: bool>(
     push_said(lines, apdu)
 }
 
-/// Appends the line of a side that has done something, with how it stands once that is saved.
+/// Appends the line of the outcome `done`, with the side as it is once saved.
 pub(crate) fn push_done_line<H: Holdings, S: Store>(
     line: &mut Vec<u8>,
     desk: &AnyDesk<H, S>,
@@ -111,7 +111,7 @@ pub(crate) fn push_done_line<H: Holdings, S: Store>(
     push_line::<H, S, true>(line, DeskOutcome::Plain(Outcome::Done), desk, key)
 }
 
-/// Appends the line of an outcome and of how the side stands after it, now or once it is saved.
+/// Appends the line of an outcome and of the side after it. With `SAVED` the side has all of its messages released.
 fn push_line<H: Holdings, S: Store, const SAVED: bool>(
     line: &mut Vec<u8>,
     outcome: DeskOutcome,
@@ -128,7 +128,7 @@ fn push_line<H: Holdings, S: Store, const SAVED: bool>(
     Ok(())
 }
 
-/// Appends how a side stands, now or once it is saved.
+/// Appends the text of a side: `STATE DUE RELEASED/ISSUED`. With `SAVED` it has all of its messages released.
 fn push_side_as<H: Holdings, S: Store, const SAVED: bool>(
     line: &mut Vec<u8>,
     desk: &AnyDesk<H, S>,
@@ -141,7 +141,7 @@ fn push_side_as<H: Holdings, S: Store, const SAVED: bool>(
     push_shown(line, if SAVED { shown.once_saved() } else { shown })
 }
 
-/// Returns true if all went well: nothing was refused, and no message was in conflict.
+/// Returns true if nothing was refused, and no message was in conflict.
 fn is_fine(outcome: DeskOutcome) -> bool
     ensures { result ≡ is_fine outcome }
 {

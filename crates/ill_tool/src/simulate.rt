@@ -12,9 +12,9 @@ use std::io::{Read, Write};
 /// Performs a script of both sides of the transaction with these qualifiers, and writes a line for each event. It
 /// returns the number of events.
 ///
-/// If there is no such transaction, nothing is read or written. If a line is bad or the reader fails, the lines of all
-/// events before are written. If memory runs out, those of some of the first events are. If the writer fails, it has a
-/// prefix of that text.
+/// If the qualifiers are invalid, nothing is read or written. If a line of the script is bad or the reader fails, the
+/// lines of all events before it are written. If memory runs out, the lines of some of the first events are written. If
+/// the writer fails, a prefix of this text is written.
 pub fn run_simulate<R: Read, W: Write>(
     alloc: Global,
     group: &str,
@@ -34,7 +34,7 @@ pub fn run_simulate<R: Read, W: Write>(
 }
 
 /// Performs a script of two desks, which names its transactions itself, and writes a line for each event. It returns
-/// the number of events. `run_simulate` tells which lines are written before a fault.
+/// the number of events. If there is a fault, it has written the lines that `run_simulate` would have.
 pub fn run_simulate_desks<R: Read, W: Write>(
     alloc: Global,
     reader: &mut R,

@@ -21,8 +21,8 @@ use ill_values::{Day, OutOfMemory};
 use std::alloc::Global;
 use std::io::Write;
 
-/// Writes seven lines that show the record: its role, group, transaction, state, due date, the numbers of its messages
-/// that are released and issued, and its marks.
+/// Writes the seven lines of a side. They have its role, group, transaction, state and due date. The last two have the
+/// numbers of its released and issued messages, and its marks.
 pub fn run_status<S: Store, W: Write>(
     alloc: Global,
     desk: &Desk1<S>,
@@ -48,7 +48,7 @@ pub fn run_desk_status<S: Store, W: Write>(
     run_desk_status_as(alloc, desk, Form::Lines, writer)
 }
 
-/// Writes the seven lines of each transaction, or in place of them an object, by `form`.
+/// Writes the seven lines of each transaction, or an object of JSON for it, by `form`.
 pub fn run_desk_status_as<S: Store, W: Write>(
     alloc: Global,
     desk: &Desk<S>,
@@ -117,7 +117,7 @@ pub(crate) fn push_status(lines: &mut Vec<u8>, side: &Side, released: u8) -> Res
     push_marks(lines, side)
 }
 
-/// Appends the lines of the state and the due date: a dash, if there is none.
+/// Appends the lines of the state and of the due date, or of a dash for it.
 fn push_state_and_due(lines: &mut Vec<u8>, side: &Side) -> Result<(), OutOfMemory>
     ensures { OnOk result (lines.new.items ≡ lines.old.items
         ++ (line (codes "state") (state_name (state_of side.now))
@@ -127,7 +127,7 @@ fn push_state_and_due(lines: &mut Vec<u8>, side: &Side) -> Result<(), OutOfMemor
     push_day_or_dash(lines, "due", side.due())
 }
 
-/// Appends the line of `day`: a dash, if there is none.
+/// Appends the line of `day`, or of a dash if there is none.
 pub(crate) fn push_day_or_dash(
     lines: &mut Vec<u8>,
     label: &str,
@@ -141,7 +141,7 @@ pub(crate) fn push_day_or_dash(
     }
 }
 
-/// Appends the line of the numbers of messages that are released and issued, as `1/2`.
+/// Appends the line of the numbers of released and issued messages, such as `1/2`.
 fn push_counts(lines: &mut Vec<u8>, side: &Side, released: u8) -> Result<(), OutOfMemory>
     ensures { OnOk result (lines.new.items ≡ lines.old.items
         ++ line (codes "messages") (counts_text side.now released)) }
@@ -151,7 +151,7 @@ fn push_counts(lines: &mut Vec<u8>, side: &Side, released: u8) -> Result<(), Out
     push_line(lines, "messages", counts.as_bytes())
 }
 
-/// Appends the line of the marks: a dash, if none holds.
+/// Appends the line of the marks, or of a dash if there are none.
 fn push_marks(lines: &mut Vec<u8>, side: &Side) -> Result<(), OutOfMemory>
     ensures { OnOk result (lines.new.items ≡ lines.old.items
         ++ line (codes "marks") (spaced_or_dash (marks_of side.now))) }
@@ -160,7 +160,7 @@ fn push_marks(lines: &mut Vec<u8>, side: &Side) -> Result<(), OutOfMemory>
     push_words(lines, "marks", &marks)
 }
 
-/// Appends the line of `words`: a dash, if there are none.
+/// Appends the line of `words`, or of a dash if there are none.
 pub(crate) fn push_words(
     lines: &mut Vec<u8>,
     label: &str,
@@ -186,7 +186,7 @@ pub(crate) fn role_name(role: Role) -> &'static str
     }
 }
 
-/// Returns the marks of `side` that hold.
+/// Returns the marks that `side` has.
 pub(crate) fn marks<'a>(alloc: Global, side: &Side) -> Result<Vec<&'a str>, OutOfMemory>
     ensures { IfOk result (λ marks. map (λ mark. mark.now) marks.items ≡ marks_of side.now) }
 {
@@ -204,7 +204,7 @@ pub(crate) fn marks<'a>(alloc: Global, side: &Side) -> Result<Vec<&'a str>, OutO
     Ok(marks)
 }
 
-/// Appends the mark `word`, if it holds.
+/// Appends the mark `word`, if `holds` is true.
 fn push_mark<'a>(marks: &mut Vec<&'a str>, holds: bool, word: &'a str) -> Result<(), OutOfMemory>
     ensures { OnOk result (map (λ mark. mark.now) marks.new.items
         ≡ map (λ mark. mark.now) marks.old.items ++ mark holds word.now) }

@@ -21,13 +21,12 @@ use ill_world::{DeskOutcome, Outcome};
 use std::alloc::Global;
 use std::io::{Read, Sink, Write, sink};
 
-/// Takes each APDU of the input, up to its end. For each it writes a line of its outcome and of how the side stands. An
-/// APDU that was taken is saved before its line is written; no other saves. Returns true if none was refused or in
-/// conflict.
+/// Takes each APDU of the input, up to its end. For each it writes a line of its outcome and of the side after it. Only
+/// a taken APDU is saved, before its line is written. Returns true if none was refused or in conflict.
 ///
-/// If an APDU is faulty or one too many, those before were taken and saved, and their lines written. So were they if
-/// the reader fails or memory runs out. If a save fails, its APDU is taken in memory. A message that it has issued may
-/// not be sent. If the writer fails, the saved record stays.
+/// If an APDU is faulty or one too many, the APDUs before it are taken and saved, and their lines written. So it is too
+/// if the reader fails or memory runs out. If a save fails, its APDU is taken in memory. A message that it has issued
+/// may not be sent. If the writer fails, the saved record remains.
 pub fn run_take<S: Store, R: Read, W: Write>(
     alloc: Global,
     desk: &mut Desk1<S>,
@@ -42,9 +41,9 @@ pub fn run_take<S: Store, R: Read, W: Write>(
     take_on::<OneSide, S, Sink, R, W, false, false>(alloc, desk, &mut sink(), reader, writer)
 }
 
-/// Takes each APDU of the input at `desk`, as `run_take` does. Each is for the side of its own transaction, whose line
-/// is written. If that is not held and the APDU does not begin it, it writes `no-such-transaction`. If the desk has no
-/// room for it, it writes `desk-full`. Both are refusals, after which it takes the next APDU.
+/// Takes each APDU of the input at `desk`, as `run_take` does. Each is taken by the side of its transaction, whose line
+/// is written. If the desk lacks the transaction and the APDU does not begin it, the outcome is `no-such-transaction`.
+/// If the desk has no room for it, the outcome is `desk-full`. After these refusals it takes the next APDU.
 pub fn run_desk_take<S: Store, R: Read, W: Write>(
     alloc: Global,
     desk: &mut Desk<S>,
@@ -60,7 +59,7 @@ pub fn run_desk_take<S: Store, R: Read, W: Write>(
 }
 
 /// Takes each APDU of the input as `run_take` does. Each line has the heading of the message: `GROUP TRANSACTION TYPE
-/// NUMBER OUTCOME STATE DUE RELEASED/ISSUED`. After it stand the lines of its further fields, each with two spaces
+/// NUMBER OUTCOME STATE DUE RELEASED/ISSUED`. After it come the lines of its further fields, each with two spaces
 /// before it.
 pub fn run_long_take<S: Store, R: Read, W: Write>(
     alloc: Global,
@@ -91,11 +90,11 @@ pub fn run_desk_long_take<S: Store, R: Read, W: Write>(
     take_on::<ManySides, S, Sink, R, W, true, false>(alloc, desk, &mut sink(), reader, writer)
 }
 
-/// Takes each APDU of the input as `run_desk_long_take` or `run_desk_take` does, and keeps each that was taken. Its
-/// bytes are written to `came`, and flushed there, before the desk is saved. A message that is kept but not saved is
-/// kept twice when it is taken again. No saved message is lost.
+/// Takes each APDU of the input as `run_desk_long_take` or `run_desk_take` does, and keeps each taken one. Its bytes
+/// are written to `came` and flushed before the desk is saved. So no saved message is lost. A message that is kept but
+/// not saved is kept twice if it is taken again.
 ///
-/// If a message cannot be kept, that is a failure of the store: it is taken in memory, and not saved.
+/// If a message cannot be kept, it is taken in memory and not saved. This is a failure of the store.
 pub fn run_desk_kept_take<S: Store, F: Write, R: Read, W: Write>(
     alloc: Global,
     desk: &mut Desk<S>,
@@ -116,7 +115,7 @@ pub fn run_desk_kept_take<S: Store, F: Write, R: Read, W: Write>(
     }
 }
 
-/// Takes each APDU of the input at `desk`. With `KEEP` it keeps each that was taken in `came`.
+/// Takes each APDU of the input at `desk`. With `KEEP` it keeps each taken one in `came`.
 fn take_on<H: Holdings, S: Store, F: Write, R: Read, W: Write, const LONG: bool, const KEEP: bool>(
     alloc: Global,
     desk: &mut AnyDesk<H, S>,
@@ -139,7 +138,7 @@ fn take_on<H: Holdings, S: Store, F: Write, R: Read, W: Write, const LONG: bool,
     take_input(alloc, &mut taken, reader, writer)
 }
 
-/// Takes each APDU of the input with `taken`, which has taken none yet.
+/// Takes each APDU of the input with `taken`, which has taken none before.
 fn take_input<
     H: Holdings,
     S: Store,
@@ -172,8 +171,8 @@ fn take_input<
     }
 }
 
-/// Takes each APDU at a desk, and keeps it if messages are kept. It writes long lines or short ones, and remembers if
-/// all went well.
+/// A handler that takes each APDU at a desk, and keeps it with `KEEP`. It writes the text of each, and records if all
+/// went well.
 #[derive(Drop)]
 struct TakesEach<'a, 'b, H: Holdings, S: Store, F: Write, const LONG: bool, const KEEP: bool> {
     desk: &'a mut AnyDesk<H, S>,
@@ -256,7 +255,7 @@ impl<H: Holdings, S: Store, F: Write, W: Write, const LONG: bool, const KEEP: bo
     }
 }
 
-/// Takes `apdu`. If it was taken, it keeps it if messages are kept, and then saves.
+/// Takes `apdu`. If it was taken, it is kept with `KEEP`, and then the desk is saved.
 fn take_and_save<H: Holdings, S: Store, F: Write, const KEEP: bool>(
     alloc: Global,
     desk: &mut AnyDesk<H, S>,
@@ -283,7 +282,7 @@ fn take_and_save<H: Holdings, S: Store, F: Write, const KEEP: bool>(
     }
 }
 
-/// Keeps `apdu`, which was taken, if messages are kept, and then saves.
+/// Keeps `apdu`, which was taken, with `KEEP`, and then saves.
 fn keep_and_save<H: Holdings, S: Store, F: Write, const KEEP: bool>(
     alloc: Global,
     desk: &mut AnyDesk<H, S>,

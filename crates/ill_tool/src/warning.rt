@@ -1,4 +1,4 @@
-//! Lines to a person, on standard error: each names a path, a mail or a desk, and the fault.
+//! Lines to a person, on standard error: each has a path, a mail or a desk, and its fault.
 
 use crate::escape::push_escaped;
 use crate::long_lines::push_heading;
@@ -53,7 +53,7 @@ fn push_told_message(
     Ok(())
 }
 
-/// Appends the beginning of each line to a person: the program, and `name`.
+/// Appends the beginning of each line to a person: the name of the program, and `name`.
 pub(crate) fn push_name(line: &mut Vec<u8>, name: &[u8]) -> Result<(), OutOfMemory> {
     line.extend_from_slice(b"ill: ")?;
     push_escaped(line, name)?;

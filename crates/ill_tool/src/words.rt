@@ -28,8 +28,8 @@ use std::io::{BufWriter, Cursor, Read, Write};
 
 /// Performs one command line, and returns the exit status. The first word is the name of the program.
 ///
-/// The line of a fault is written to `errors`, and with `--explain` further lines after it. Faults of `errors` are
-/// ignored. Bytes that were written to `writer` before a fault are flushed before that line.
+/// The line of a fault is written to `errors`, and with `--explain` further lines after it. Failures of `errors` are
+/// ignored. Bytes that went to `writer` before the fault are flushed before its line.
 pub fn run_words<T: LockFiles, R: Read, W: Write, E: Write>(
     rt: &T,
     alloc: Global,
@@ -54,8 +54,8 @@ pub fn run_words<T: LockFiles, R: Read, W: Write, E: Write>(
     }
 }
 
-/// Writes the line of a fault, if there is one. After it comes the reason, if the words ask for that. It returns the
-/// exit status.
+/// Writes the line of a fault, if there is one, and the reason after it, if the words ask for that. It returns the exit
+/// status.
 fn conclude<T: LockFiles, E: Write>(
     rt: &T,
     alloc: Global,
@@ -73,11 +73,11 @@ fn conclude<T: LockFiles, E: Write>(
     status
 }
 
-/// The number of bytes of the buffer between a command and its output.
+/// The number of bytes in the buffer between a command and its output.
 const BUFFER: usize = 65_536;
 
-/// Performs a command, with a buffer round the writer, and returns true if all went well. The commands read pieces
-/// themselves.
+/// Performs a command, with a buffer before the writer, and returns true if all went well. The commands themselves read
+/// in pieces.
 fn perform<T: LockFiles, R: Read, W: Write, E: Write>(
     rt: &T,
     alloc: Global,
@@ -96,8 +96,8 @@ fn perform<T: LockFiles, R: Read, W: Write, E: Write>(
     finish_writing(writer, done)
 }
 
-/// Writes the bytes that are left in the buffer, and returns `done`, or the fault that the writer fails. A writer that
-/// has failed is not tried again: bytes that are left then are dropped.
+/// Writes the rest of the buffer, and returns `done`, or the fault of the writer. A writer that has failed is not
+/// called again, and the rest of the buffer is dropped.
 fn finish_writing<W: Write>(
     mut writer: BufWriter<&mut W>,
     done: Result<bool, ToolFault>,
@@ -107,7 +107,7 @@ fn finish_writing<W: Write>(
     flushed
 }
 
-/// Flushes a writer that has not failed, and returns `done`, or the fault that the writer fails.
+/// Flushes a writer that has not failed, and returns `done`, or the fault of the writer.
 fn flush<W: Write>(writer: &mut W, done: Result<bool, ToolFault>) -> Result<bool, ToolFault>
     ensures { IsFlushed done result }
 {
@@ -120,7 +120,7 @@ fn flush<W: Write>(writer: &mut W, done: Result<bool, ToolFault>) -> Result<bool
     }
 }
 
-/// Runs the engine of a command. Lines that are no faults go to `errors`.
+/// Runs the engine of a command. Lines that are not about a fault of the command go to `errors`.
 fn run<T: LockFiles, R: Read, W: Write, E: Write>(
     rt: &T,
     alloc: Global,
@@ -176,7 +176,7 @@ fn run<T: LockFiles, R: Read, W: Write, E: Write>(
     }
 }
 
-/// Returns a folder that no shelf sorts.
+/// Returns `folder` as a folder that no shelf has sorted.
 fn unsorted(folder: &str) -> Incoming<'_> {
     Incoming {
         folder,
@@ -184,7 +184,7 @@ fn unsorted(folder: &str) -> Incoming<'_> {
     }
 }
 
-/// Runs the engine of a command on a shelf. No other command is about shelves.
+/// Runs the engine of a command on a shelf. Any command that a shelf lacks is refused.
 fn run_on_shelf<T: LockFiles, R: Read, W: Write, E: Write>(
     rt: &T,
     alloc: Global,
@@ -232,7 +232,8 @@ fn run_on_shelf<T: LockFiles, R: Read, W: Write, E: Write>(
     }
 }
 
-/// Writes clap's text, and returns the exit status: help that was asked for goes to `writer`, a refusal to `errors`.
+/// Writes the text of `clap`, and returns the exit status. Help that was asked for goes to `writer`, and a refusal to
+/// `errors`.
 fn tell<W: Write, E: Write>(error: &Error, writer: &mut W, errors: &mut E) -> u8
     ensures { result ≤ 3 }
 {
@@ -253,13 +254,13 @@ fn help<W: Write>(error: &Error, writer: &mut W) -> Result<bool, ToolFault> {
     Ok(true)
 }
 
-/// The exit status of a command that was refused, or of which a message was refused or in conflict.
+/// The exit status if the command was refused, or a message was refused or in conflict.
 const REFUSED: u8 = 1;
 
-/// The exit status after words, input or a record that are none.
+/// The exit status if the arguments, the input or the record are invalid.
 const BAD: u8 = 2;
 
-/// The exit status if the machine could not do the command.
+/// The exit status if a file, a stream or memory failed, or if mails are left.
 const FAILED: u8 = 3;
 
 /// Writes the line of a fault, if there is one, and returns the exit status.
@@ -277,11 +278,11 @@ fn finish<E: Write>(outcome: Result<bool, ToolFault>, errors: &mut E) -> u8
     }
 }
 
-/// The most bytes of the line of a fault.
+/// The greatest number of bytes in the line of a fault.
 const FAULT_LINE: usize = 64;
 
-/// Writes the line of a fault in one piece, so that no other program's line comes to stand within it. It allocates
-/// nothing, since there may be no memory.
+/// Writes the line of a fault in one piece, so that no line of another program comes between. It allocates nothing,
+/// since there may be no memory.
 fn write_fault<E: Write>(fault: ToolFault, errors: &mut E) {
     let mut line = Cursor::new([0; FAULT_LINE]);
     let _ = writeln!(line, "ill: {fault}");
@@ -289,7 +290,7 @@ fn write_fault<E: Write>(fault: ToolFault, errors: &mut E) {
     let _ = errors.write_all(line.get_ref().get(..size).unwrap_or_default());
 }
 
-/// Returns the exit status after `fault`.
+/// Returns the exit status for `fault`.
 fn status_after(fault: ToolFault) -> u8
     ensures status { result ≡ status_of fault }
     ensures most { result ≤ 3 }
@@ -301,7 +302,7 @@ fn status_after(fault: ToolFault) -> u8
     }
 }
 
-/// Returns the exit status after a fault of a side or its record.
+/// Returns the exit status for a fault of a desk.
 fn status_after_desk(fault: DeskFault) -> u8
     ensures status { result ≡ desk_status fault }
     ensures most { result ≤ 3 }

@@ -1,5 +1,5 @@
-//! An example to copy from: a bot answers each ILL-Request on standard input by a rule of its own.
-//! docs/BUILDING-ON.md goes through it.
+//! An example to copy from: a bot answers each ILL-Request on standard input by a rule of its own. docs/BUILDING-ON.md
+//! explains it.
 #![tactic(auto)]
 
 ghost use Rattle.std.specs.Prelude.{Ok, IfOk};
@@ -17,7 +17,7 @@ use std::env;
 /// The titles that this library lends.
 const SHELF: [&str; 2] = ["A History of Maps", "Birds of the Coast"];
 
-/// The number of days for which it lends one.
+/// The number of days for which the library lends an item.
 const DAYS: u32 = 28;
 
 fn main(rt: HostRuntime) -> Result<()> {
@@ -27,7 +27,7 @@ fn main(rt: HostRuntime) -> Result<()> {
     answer_all(&rt, path.as_str(), Day::read(today.as_bytes())?)
 }
 
-/// Answers all requests at the desk in the file at `path`, whose lock it holds.
+/// Answers all requests at the desk in the file at `path`, under the lock of the file.
 fn answer_all(rt: &HostRuntime, path: &str, today: Day) -> Result<()> {
     let lock = FileLock::take(rt, rt.alloc(), path)?;
     let mut desk = open(rt, path)?;
@@ -37,7 +37,7 @@ fn answer_all(rt: &HostRuntime, path: &str, today: Day) -> Result<()> {
     answered
 }
 
-/// Opens the desk in the file at `path`, or creates one if no file is there.
+/// Opens the desk in the file at `path`, or creates one if the file does not exist.
 fn open<'a>(
     rt: &'a HostRuntime,
     path: &str,
@@ -49,7 +49,7 @@ fn open<'a>(
     }
 }
 
-/// Reads message after message, and answers those that are requests.
+/// Reads one message after another, and answers each request.
 fn answer_each<S: Store>(rt: &HostRuntime, desk: &mut Desk<S>, today: Day) -> Result<()> {
     for _ in 0..u64::MAX {
         let Some(apdu) = read_apdu(rt.alloc(), &mut rt.stdin())? else {
@@ -82,7 +82,7 @@ fn take<S: Store>(alloc: Global, desk: &mut Desk<S>, today: Day, apdu: &Apdu) ->
     Ok(desk.save(alloc)?)
 }
 
-/// Decides on a request: an item on the shelf is shipped, due on `due`, and no other one is supplied.
+/// Returns the decision on a request. An item of `SHELF` is shipped, due on `due`, and any other is not supplied.
 fn decide(item: &Item, due: Day) -> Deed {
     if SHELF.iter().any(|title| title.as_bytes() == item.text()) {
         Deed::Ship { due }

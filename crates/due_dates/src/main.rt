@@ -1,5 +1,5 @@
-//! An example to copy from: prints a line for each loan of a desk that is SHIPPED, with its due date.
-//! docs/BUILDING-ON.md goes through it. `ill` has made the desk `data/lending`: two of its five loans are SHIPPED.
+//! An example to copy from: it prints a line for each SHIPPED loan of a desk, with its due date. docs/BUILDING-ON.md
+//! explains it. The desk `data/lending` was made by `ill`. Two of its five loans are SHIPPED.
 #![tactic(auto)]
 
 ghost use Rattle.std.specs.Prelude.{◌≡◌, ◌++◌, map, slice_get, IfOk, OnOk};
@@ -27,7 +27,7 @@ fn print_due_dates(rt: &HostRuntime, path: &str) -> Result<()> {
     printed
 }
 
-/// Prints a line for each of `sides` that is SHIPPED.
+/// Prints a line for each side of `sides` that is SHIPPED.
 fn print_shipped(rt: &HostRuntime, sides: &Sides) -> Result<()> {
     for side in &shipped(rt.alloc(), sides)? {
         print_line(rt, side)?;
@@ -35,7 +35,7 @@ fn print_shipped(rt: &HostRuntime, sides: &Sides) -> Result<()> {
     Ok(())
 }
 
-/// Returns those of `sides` that are SHIPPED, in their order.
+/// Returns the sides of `sides` that are SHIPPED, in their order.
 fn shipped<'a>(alloc: Global, sides: &'a Sides) -> Result<Vec<&'a Side>, OutOfMemory>
     ensures { IfOk result (λ found. map (λ side. side.now) found.items ≡ shipped sides.now.sides) }
 {

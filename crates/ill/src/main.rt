@@ -1,4 +1,4 @@
-//! The program `ill`: commands over interlibrary loan messages.
+//! The program `ill`, whose commands handle interlibrary loans.
 #![tactic(auto)]
 
 use ill_tool::run_words;
@@ -13,7 +13,7 @@ fn main(rt: HostRuntime) -> ExitCode {
     })
 }
 
-/// Performs the command line of this process, and answers the exit status.
+/// Performs the command line of this process, and returns the exit status.
 fn perform(rt: &HostRuntime) -> io::Result<u8> {
     let alloc = rt.alloc();
     let arguments: Vec<String> = env::args(rt)?.collect(alloc)?;
@@ -31,7 +31,7 @@ fn perform(rt: &HostRuntime) -> io::Result<u8> {
     ))
 }
 
-/// Writes the line of a command line that could not be collected, and answers the exit status.
+/// Writes a line about the error of a command line that could not be collected, and returns the exit status.
 fn refuse(rt: &HostRuntime, error: &io::Error) -> u8 {
     let (text, status) = if error.kind() == ErrorKind::OutOfMemory {
         ("memory", 3)

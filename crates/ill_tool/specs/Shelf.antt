@@ -147,8 +147,8 @@ are_all_over sides = list_all is_over sides
 abbrev pub retired_mark : List ℕ
 retired_mark = codes "retired\n"
 
--- A group is retired. If all loans of its desk are over, its mark is saved in a store, which goes from `old`
--- to `new`. If a loan is not over, or memory ran out, the store is unchanged.
+-- A group is retired. If all loans of its desk are over, its mark is saved, and the store goes from `old` to
+-- `new`. If a loan is not over, or memory ran out, the store is unchanged.
 abbrev pub Retires : List Side → Option (Option (List ℕ)) → Result Bool ToolFault → Option (Option (List ℕ)) → Type 0
 Retires sides old (Ok true) new = (are_all_over sides ≡ true) × Copies retired_mark old (Ok tt) new
 Retires sides old (Ok false) new = (are_all_over sides ≡ false) × (new ≡ old)

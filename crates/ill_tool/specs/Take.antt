@@ -105,9 +105,9 @@ abbrev pub answer_of : Result ℕ ToolFault → Bool → Result Bool ToolFault
 answer_of (Ok count) fine = Ok fine
 answer_of (Err fault) fine = Err fault
 
--- The command `take`, with texts by `told`. The input went from `old` to `new`, and the desk from `from` to
--- `to`. The kept bytes went from `kept_before` to `kept_after`, and the output from `before` to `after`. If
--- the input was read to its end, the answer is true if all went well.
+-- The command `take`, which writes texts by `told`. The input went from `old` to `new`, and the desk from
+-- `from` to `to`. The kept bytes went from `kept_before` to `kept_after`, and the output from `before` to
+-- `after`. If the input was read to its end, the answer is true if all went well.
 abbrev pub RunsTaking : {L K : Type 0} → Bool → Wording → Effects L K → Option (List ℕ) → Option (List ℕ) →
     Option (List ℕ) → Option (List ℕ) → Option (List ℕ) → Option (List ℕ) → HeldAndLanded L → Result Bool ToolFault →
     HeldAndLanded L → Type 0

@@ -1,5 +1,5 @@
-//! The deeds that a date makes due for a responder: Overdue in an overdue loan, and Expire of a request whose expiry
-//! date is past.
+//! The deeds that a date makes due for a responder. They are Overdue in an overdue loan, and Expire of a request whose
+//! expiry date is past.
 
 ghost use Rattle.std.specs.Prelude.{◌≡◌, ◌++◌, map, slice_get, IfErr, IfOk, OnOk};
 ghost use Rattle.std.specs.Option.{option_to_list};
@@ -34,10 +34,10 @@ pub(crate) struct Due {
     pub deed: Deed,
 }
 
-/// Performs the deeds that are due on the day `today` at `desk`, in the order in which the loans were begun. If any was
-/// done, it then saves the desk once. For each done deed it writes a line, and then it flushes these lines: `GROUP
-/// TRANSACTION VERB done STATE DUE RELEASED/ISSUED`. A refused deed changes nothing, and has no line. At the desk of a
-/// requester nothing is done.
+/// Performs the deeds that are due on the day `today` at `desk`, in the order of its loans. If any was done, it then
+/// saves the desk once. For each done deed it writes a line, and then it flushes these lines: `GROUP TRANSACTION VERB
+/// done STATE DUE RELEASED/ISSUED`. A refused deed changes nothing, and has no line. At the desk of a requester nothing
+/// is done.
 ///
 /// After every fault the store has its old record, or the one with all deeds. Unless the fault is `Write`, nothing was
 /// written.

@@ -16,8 +16,8 @@ pub(crate) enum Escaping {
 }
 
 /// Appends `item`, a text of UTF-8, for a screen. An escape such as `\u{202e}` replaces each character on which a
-/// terminal may act. These are the controls up to U+001F and from U+007F to U+009F, and the marks that change the
-/// direction of a text.
+/// terminal may act. Terminals act on the controls up to U+001F and from U+007F to U+009F. They act on the marks that
+/// change the direction of a text, too.
 pub(crate) fn push_escaped(text: &mut Vec<u8>, item: &[u8]) -> Result<(), OutOfMemory>
     ensures { OnOk result (text.new.items ≡ text.old.items ++ escaped item.now) }
 {

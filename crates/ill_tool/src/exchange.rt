@@ -301,7 +301,7 @@ fn send_into<T: Files, S: Store, W: Write, E: Write>(
     send_to(rt, alloc, file, desk, folder, writer, errors)
 }
 
-/// Returns `sent`. If a mail could not be put into its folder, it writes a line with the path of the mail to `errors`.
+/// Returns `sent`. If a mail could not be put into its folder, a line with its path goes to `errors`.
 fn blame_mail<T: Files, E: Write>(
     alloc: Global,
     sent: Result<usize, ToolFault>,
@@ -396,7 +396,7 @@ fn exchange_at<T: Files, S: Store, W: Write, E: Write>(
     }
 }
 
-/// Performs the deeds of the day, copies the desk, and sends its messages, after the mails of a night were taken.
+/// Performs the deeds of the day, copies the desk, and sends its messages. The mails were taken before.
 fn go_on<T: Files, S: Store, W: Write, E: Write>(
     rt: &T,
     alloc: Global,
@@ -416,7 +416,7 @@ fn go_on<T: Files, S: Store, W: Write, E: Write>(
     }
 }
 
-/// Returns `answer`. If it is a fault of a file or a folder, it writes a line of `path` and `text` to `errors`.
+/// Returns `answer`. If it is a fault of a file or folder, a line of `path` and `text` goes to `errors`.
 pub(crate) fn blame<X: Drop, E: Write>(
     alloc: Global,
     answer: Result<X, ToolFault>,
@@ -448,8 +448,8 @@ fn say_dates<S: Store, W: Write>(
     }
 }
 
-/// Copies the desk, and then sends the messages of the loans that want sending. If a deed of the day has ended a loan,
-/// its messages are sent too if a message of it came in this run. If the copy fails, nothing is sent.
+/// Copies the desk, and then sends the messages of the loans that want sending. A loan that a deed of the day has ended
+/// is among them, if a message of it came in this run. If the copy fails, nothing is sent.
 fn send_all<T: Files, S: Store, W: Write, E: Write>(
     rt: &T,
     alloc: Global,
@@ -516,7 +516,7 @@ fn copy_path(alloc: Global, file: &str, night: &Night<'_>) -> Result<Option<Stri
     Ok(Some(format!(in alloc; "{copy}/{name}")?))
 }
 
-/// Writes the file at `path` anew, if there is a path, so that its time is the time of the run.
+/// Writes the file at `path` anew, if there is a path. Its time is then the time of the run.
 pub(crate) fn beat<T: Files, E: Write>(
     rt: &T,
     alloc: Global,

@@ -1,7 +1,7 @@
 //! The lines that `--explain` adds after the line of a fault.
 //!
-//! They are found after the command has ended, from the words of its line and from the file at the path. No program may
-//! depend on these texts. Faults in finding them are ignored.
+//! They are found after the command has ended, from its words and from the file at the path. No program may depend on
+//! these texts. Faults in finding them are ignored.
 
 mod action;
 mod arguments;

@@ -18,7 +18,7 @@ pub(crate) fn push_text(page: &mut Vec<u8>, text: &[u8]) -> Result<(), OutOfMemo
     push_html(page, &shown)
 }
 
-/// Appends `text` to `page`, with an HTML entity for each character that may begin or end an element or an attribute.
+/// Appends `text` to `page`, with an HTML entity for each character that may begin or end an element or attribute.
 pub(crate) fn push_html(page: &mut Vec<u8>, text: &[u8]) -> Result<(), OutOfMemory>
     ensures { OnOk result (page.new.items ≡ page.old.items ++ html_escaped text.now) }
 {

@@ -100,7 +100,7 @@ pub fn run_desk_list<S: Store, W: Write>(
     write_whole(writer, &lines)
 }
 
-/// Writes an object of JSON for each wanted loan of `desk`, in the order of `run_desk_list`, and then one of the
+/// Writes an object of JSON for each wanted loan of `desk`, in the order of `run_desk_list`. Then it writes one of the
 /// counts. Each object has the path `file` of the desk, if it is given.
 pub fn run_desk_list_objects<S: Store, W: Write>(
     alloc: Global,

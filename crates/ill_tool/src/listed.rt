@@ -31,8 +31,8 @@ impl<'a> Listed<'a> {
     }
 }
 
-/// Returns the heading of a desk in lines. It is an empty line, if another desk is before it, and a line of its path,
-/// if it is written.
+/// Returns the heading of a desk in lines. It has an empty line if another desk is before it. It has a line of its path
+/// if that is written.
 pub(crate) fn heading(alloc: Global, listed: &Listed<'_>) -> Result<Vec<u8>, OutOfMemory>
     ensures { IfOk result (λ text. text.items
         ≡ gap listed.now.is_first ++ heading listed.now.is_headed listed.now.path.now) }

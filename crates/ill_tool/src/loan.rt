@@ -81,7 +81,7 @@ fn push_side(lines: &mut Vec<u8>, side: &Side, released: u8) -> Result<(), OutOf
     push_taken(lines, side)
 }
 
-/// Appends the line of the library that acts next, and the line of the actions that the side may do now.
+/// Appends the lines of the library that acts next, and of the actions that the side may do now.
 fn push_turn(lines: &mut Vec<u8>, side: &Side) -> Result<(), OutOfMemory>
     ensures { OnOk result (lines.new.items ≡ lines.old.items ++ turn_lines side.now) }
 {

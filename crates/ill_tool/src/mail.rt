@@ -28,7 +28,7 @@ use std::{fs, io};
 /// The greatest number of mails in one run. Further ones wait for the next run.
 const MAILS: usize = 10_000;
 
-/// The number of names for the folder of a run that are tried, if other runs take them at that moment.
+/// The number of names that are tried for the folder of a run, if other runs take them.
 const TRIES: u32 = 100;
 
 /// The mails of a run.

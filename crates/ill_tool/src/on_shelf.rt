@@ -296,7 +296,7 @@ fn end_night<T: Files, E: Write>(
 /// The text that follows the path of a folder of copies.
 const NO_MARKS: &str = " does not have the marks of all retired groups";
 
-/// Writes the mark of each retired group into `folder`, which has the copies, and removes the copy of its desk there.
+/// Writes the mark of each retired group into `folder`, the folder of copies. It removes the copy of its desk there.
 fn copy_marks<T: Files>(rt: &T, alloc: Global, shelf: &Shelf<'_>, folder: &str) -> io::Result<()> {
     for name in names_of_desks(rt, alloc, shelf.folder, shelf.role, RETIRED)? {
         let copy = format!(in alloc; "{folder}/{name}")?;
@@ -373,8 +373,8 @@ fn tell_with(is_well: bool, told: Result<(), ToolFault>) -> Result<bool, ToolFau
     }
 }
 
-/// Marks the group of the desk in `file` as retired, if all loans of the desk are over, and then removes the desk. It
-/// returns true if the group is marked.
+/// If all loans of the desk in `file` are over, marks its group as retired, and then removes the desk. It returns true
+/// if the group is marked.
 fn mark_and_clear<T: Files>(rt: &T, alloc: Global, file: &str) -> Result<bool, ToolFault>
     ensures { IfErr result IsOpenFault }
 {

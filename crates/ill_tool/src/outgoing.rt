@@ -79,8 +79,7 @@ impl<'a, R: Files> MailFolder<'a, R> {
     }
 
     /// Writes a message to a new file, and then renames the file to `name`. So the mail `name` is there whole, or
-    /// unchanged. It follows no link: the new file is made at a path without a file, and the rename replaces a link at
-    /// `name`.
+    /// unchanged. It follows no link. The new file is made at a path without a file, and the rename replaces a link.
     fn write(&self, name: &[u8], bytes: &[u8]) -> io::Result<()> {
         let folder = self.path;
         let name = str::from_utf8(name).unwrap_or_default();

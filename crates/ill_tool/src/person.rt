@@ -69,7 +69,7 @@ impl Matter {
         }
     }
 
-    /// Returns the matter of a mail with these bytes, whose message was in conflict, if it should never be in conflict.
+    /// Returns the matter of a message in conflict, with these bytes, if it should never be in conflict.
     fn of_conflicting(role: Role, bytes: &[u8]) -> Option<Matter>
         ensures { result ≡ conflict_of role (message_in bytes.now) }
     {

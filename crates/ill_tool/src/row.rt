@@ -14,7 +14,7 @@ use ill_saved::Side;
 use ill_values::{Body, Item, OutOfMemory};
 use std::alloc::Global;
 
-/// The columns of a list: the widths that depend on the loans, and true if there is a column of verbs.
+/// The columns of a list: the widths that depend on the loans, and true if verbs have a column.
 #[derive(Clone, Copy)]
 pub struct Columns {
     pub group: usize,

@@ -33,7 +33,7 @@ const UNSORTED: &str = ".unsorted";
 /// The ending of the name of the file that marks a retired group, after the name of its desk.
 pub(crate) const RETIRED: &str = ".retired";
 
-/// The bytes that become an escape in the name of a desk: all except letters, digits, the hyphen and the underscore.
+/// The bytes that become an escape in the name of a desk. Letters, digits, the hyphen and the underscore do not.
 pub(crate) const ESCAPED: AsciiSet = ascii_set!(NON_ALPHANUMERIC.remove(b'-').remove(b'_'));
 
 /// Returns the name of the file of the desk of `group`.
@@ -112,8 +112,8 @@ pub(crate) fn own_path(alloc: Global, folder: &str) -> Result<String, OutOfMemor
     Ok(format!(in alloc; "{folder}/{OWN}")?)
 }
 
-/// Returns the paths of the desks of `role` in `folder`, in the order of their names, without the desks of retired
-/// groups.
+/// Returns the paths of the desks of `role` in `folder`, in the order of their names. The desks of retired groups are
+/// left out.
 fn desks_in<T: Files>(rt: &T, alloc: Global, folder: &str, role: Role) -> io::Result<Vec<String>> {
     let mut desks = Vec::new(alloc);
     for name in names_of_desks(rt, alloc, folder, role, "")? {
@@ -125,7 +125,7 @@ fn desks_in<T: Files>(rt: &T, alloc: Global, folder: &str, role: Role) -> io::Re
     Ok(desks)
 }
 
-/// Returns the names of desks of `role` for which `folder` has a file with this name and `ending`, in their order.
+/// Returns the names of the desks of `role` in `folder`, in their order. A file there has the name and then `ending`.
 pub(crate) fn names_of_desks<T: Files>(
     rt: &T,
     alloc: Global,
@@ -157,8 +157,8 @@ fn is_desk_name(alloc: Global, role: Role, name: &str) -> Result<bool, OutOfMemo
     Ok(TxnId::is_qualifier(&group) && desk_name(alloc, role, &group)?.as_str() == name)
 }
 
-/// Returns true if the desk in `file` of a shelf may take `bytes`: they are no message, or a message of its group. The
-/// shelf's own desk may take any message that begins no loan there.
+/// Returns true if the desk in `file` of a shelf may take `bytes`: no message, or one of its group. The shelf's own
+/// desk may take any message that begins no loan there.
 pub(crate) fn is_for_desk(
     alloc: Global,
     file: &str,

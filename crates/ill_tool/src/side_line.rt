@@ -1,4 +1,4 @@
-//! The line of an outcome and of the side after it, alone or with the heading and the fields of a message.
+//! The line of an outcome and of the side after it. It may have the heading and the fields of a message.
 
 ghost use Rattle.std.specs.Prelude.{◌≡◌, ◌++◌, true, OnOk};
 ghost use Rattle.ill_tool.specs.Telling.{as_told, done_line, held_text, is_fine, long, side_line, wording, WritesOutcome};

@@ -13,7 +13,7 @@ use std::io::{Read, Write};
 /// returns the number of events.
 ///
 /// If the qualifiers are invalid, nothing is read or written. If a line of the script is bad or the reader fails, the
-/// lines of all events before it are written. If memory runs out, the lines of some of the first events are written. If
+/// lines of all events before are written. If memory runs out, the lines of some of the first events are written. If
 /// the writer fails, a prefix of this text is written.
 pub fn run_simulate<R: Read, W: Write>(
     alloc: Global,

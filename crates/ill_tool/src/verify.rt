@@ -18,7 +18,7 @@ use std::alloc::Global;
 use std::io::Write;
 
 /// Writes five lines of the record in `store`. They have its version, its role, and three numbers. These are of its
-/// loans, of the messages that they have issued, and of further loans for which there is room.
+/// loans, of their issued messages, and of further loans for which there is room.
 ///
 /// Nothing is saved. The fault is `NoRecord` if the store has no record, and `Saved` if its bytes are no record.
 pub fn run_desk_verify<S: Store, W: Write>(

@@ -54,8 +54,8 @@ pub fn run_words<T: LockFiles, R: Read, W: Write, E: Write>(
     }
 }
 
-/// Writes the line of a fault, if there is one, and the reason after it, if the words ask for that. It returns the exit
-/// status.
+/// Writes the line of a fault, if there is one. The reason comes after it, if the words ask for that. It returns the
+/// exit status.
 fn conclude<T: LockFiles, E: Write>(
     rt: &T,
     alloc: Global,

@@ -1,5 +1,5 @@
-//! An example to copy from: a library asks for a book at a desk that it keeps in a file, and takes the answer.
-//! docs/BUILDING-ON.md goes through it.
+//! An example to copy from: a library with a desk in a file asks for a book, and takes the answer. docs/BUILDING-ON.md
+//! explains it.
 #![tactic(auto)]
 
 use anyhow::{Context, Result, bail};
@@ -10,7 +10,7 @@ use ill_values::{Apdu, Body, Day, Item, Number, TxnId};
 use std::alloc::Global;
 use std::fs;
 
-/// The file of the desk. One that is there already is left alone.
+/// The file of the desk. If it exists already, the example fails and leaves it unchanged.
 const PATH: &str = "loans";
 
 fn main(rt: HostRuntime) -> Result<()> {
@@ -18,7 +18,7 @@ fn main(rt: HostRuntime) -> Result<()> {
     Ok(fs::remove_file(&rt, PATH)?)
 }
 
-/// Asks for a book, as in a first run of a program, and takes the answer, as in a second one.
+/// Asks for a book, like the first run of a program, and takes the answer, like the second.
 fn lend(rt: &HostRuntime) -> Result<()> {
     let loan = TxnId::new(rt.alloc(), b"North-2025", b"17")?;
     begin(rt, &loan)?;
@@ -61,7 +61,7 @@ fn ask<S: Store>(rt: &HostRuntime, desk: &mut Desk<S>, loan: &TxnId) -> Result<(
     show(rt, desk, loan)
 }
 
-/// Takes the answer, and saves what it did. A repeat changes nothing, and a person should see a conflict.
+/// Takes the answer, and saves the change. A repeat changes nothing, and a person should see a conflict.
 fn take<S: Store>(rt: &HostRuntime, desk: &mut Desk<S>, loan: &TxnId) -> Result<()> {
     let answer = shipped(rt.alloc(), loan)?;
     if let Taking::Conflict(state) = desk.take_bytes(rt.alloc(), &answer)? {
@@ -71,7 +71,7 @@ fn take<S: Store>(rt: &HostRuntime, desk: &mut Desk<S>, loan: &TxnId) -> Result<
     show(rt, desk, loan)
 }
 
-/// Returns the answer of the other library, as mail brings it: the book is shipped, and due on 15 March.
+/// Returns the answer of the other library, as mail would bring it. The book is shipped, and due on 15 March.
 fn shipped(alloc: Global, loan: &TxnId) -> Result<Vec<u8>> {
     let due = Day::new(2025, 3, 15)?;
     let number = Number::new(1).context("no number")?;
@@ -85,12 +85,12 @@ fn side_of<'a, S: Store>(desk: &'a Desk<S>, loan: &TxnId) -> Result<&'a Side> {
     desk.sides().get(loan).context("the desk has no such loan")
 }
 
-/// Returns the number of the message that was issued last.
+/// Returns the number of the last issued message.
 fn last_number(side: &Side) -> Result<Number> {
     Number::new(side.issued_count()).context("no message was issued")
 }
 
-/// Prints the state of `loan`, and the day on which the book is due.
+/// Prints the state of `loan`, and the due date of the book.
 fn show<S: Store>(rt: &HostRuntime, desk: &Desk<S>, loan: &TxnId) -> Result<()> {
     let side = side_of(desk, loan)?;
     match side.due() {

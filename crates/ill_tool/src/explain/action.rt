@@ -1,4 +1,4 @@
-//! The lines on an action whose words are wrong.
+//! The lines about an action whose words are wrong.
 
 use crate::command_line::Argument;
 use crate::explain::arguments::tell_no_day;
@@ -11,7 +11,7 @@ use ill_values::{Day, Item, OutOfMemory, TextFault};
 use std::alloc::Global;
 use std::rt::Files;
 
-/// Appends the lines on the words of `ill act` that are wrong for the role of the desk. If the desk cannot be opened
+/// Appends the lines about the words of `ill act` that are wrong for the role of the desk. If the desk cannot be opened
 /// again, it appends nothing.
 pub fn tell_action<T: Files>(
     rt: &T,
@@ -32,14 +32,14 @@ pub fn tell_action<T: Files>(
     }
 }
 
-/// Returns the role of the desk in `file`, if one can be opened there.
+/// Returns the role of the desk in `file`, if there is one that can be opened.
 fn role_at<T: Files>(rt: &T, alloc: Global, file: &str) -> Option<Role> {
     let store = FileStore::at(rt, alloc, file, RECORD_LIMIT).ok()?;
     let desk = Desk::start(alloc, store).ok()?;
     Some(desk.sides().role())
 }
 
-/// Appends the lines on words that are no action of this role.
+/// Appends the lines about words that name no action of this role.
 fn tell_words(
     alloc: Global,
     text: &mut String,
@@ -65,7 +65,7 @@ fn tell_words(
     }
 }
 
-/// Appends a line on a word that no action may have.
+/// Appends a line about a word that no action may have.
 fn tell_no_word(text: &mut String, word: &str) -> Result<(), OutOfMemory> {
     let shown = Shown::of(word);
     if word.is_empty() {
@@ -77,7 +77,7 @@ fn tell_no_word(text: &mut String, word: &str) -> Result<(), OutOfMemory> {
     )
 }
 
-/// Appends a line on a word that is no verb, with the nearest verb or all verbs of the role.
+/// Appends a line about a word that is no verb, with the nearest verb or all verbs of the role.
 fn tell_no_verb(
     alloc: Global,
     text: &mut String,
@@ -94,7 +94,7 @@ fn tell_no_verb(
     }
 }
 
-/// Appends a line on a verb that only the other role has, and the verbs of this one.
+/// Appends a line about a verb that only the other role has, and the verbs of this one.
 fn tell_other_role(text: &mut String, role: Role, form: Form) -> Result<(), OutOfMemory> {
     let verb = form.verb;
     let other = role_name(form.role);
@@ -115,7 +115,7 @@ fn tell_verbs(text: &mut String, role: Role) -> Result<(), OutOfMemory> {
     writeln!(text, ".")
 }
 
-/// Appends that the day of a responder's action is missing, or stands after its verb.
+/// Appends that the day of a responder's action is missing, or is after its verb.
 fn tell_no_today(text: &mut String, form: Form, parts: &[&str]) -> Result<(), OutOfMemory> {
     let verb = form.verb;
     writeln!(
@@ -131,7 +131,7 @@ fn tell_no_today(text: &mut String, form: Form, parts: &[&str]) -> Result<(), Ou
     Ok(())
 }
 
-/// Appends the lines on the parts after a verb that are wrong.
+/// Appends the lines about wrong parts after a verb.
 fn tell_parts(
     alloc: Global,
     text: &mut String,
@@ -152,7 +152,7 @@ fn tell_parts(
     }
 }
 
-/// Appends the lines on the part after a verb that is wrong. The number of parts is right.
+/// Appends the lines about a wrong part after a verb. The number of parts is right.
 fn tell_part(
     alloc: Global,
     text: &mut String,
@@ -201,7 +201,7 @@ fn tell_no_wish(text: &mut String, form: Form, part: &str) -> Result<(), OutOfMe
     writeln!(text, "  `none` stands for no day: the form is {form}.")
 }
 
-/// Appends why `part` is no day on which an item may be due.
+/// Appends the reason why `part` is no day on which an item may be due.
 fn tell_no_due(
     text: &mut String,
     form: Form,
@@ -222,7 +222,7 @@ fn tell_no_due(
     }
 }
 
-/// Appends why `part` names no day: its digits are wrong, or it leads past the calendar.
+/// Appends the reason why `part` names no day. Its digits are wrong, or the day is past the end of the calendar.
 fn tell_no_days(
     text: &mut String,
     today: Option<Day>,
@@ -243,7 +243,7 @@ fn tell_no_days(
     )
 }
 
-/// Appends the lines on a grant that is wrong.
+/// Appends the lines about the wrong parts of a Renew-Answer.
 fn tell_grant(
     text: &mut String,
     form: Form,
@@ -262,7 +262,7 @@ fn tell_grant(
     }
 }
 
-/// Appends why `words` are no item.
+/// Appends the reason why `words` are no item.
 fn tell_item(alloc: Global, text: &mut String, words: &[&str]) -> Result<(), OutOfMemory> {
     let item = words.join(alloc, " ")?;
     match Item::new(alloc, item.as_bytes()) {

@@ -1,4 +1,4 @@
-//! The lines on arguments that are wrong, with what each should be.
+//! The lines about wrong arguments, with the right form of each.
 
 use crate::command_line::{Argument, Name};
 use crate::explain::action::tell_action;
@@ -11,7 +11,7 @@ use ill_values::{Day, DayFault, OutOfMemory, TextFault, TxnId};
 use ill_world::words::{number, who};
 use std::alloc::Global;
 
-/// Appends a line for each argument of a command that is wrong. If each is right alone, it appends the lines on all
+/// Appends a line about each wrong argument of a command. If each is right alone, it appends the lines about all
 /// together.
 pub fn tell_arguments<T: LockFiles>(
     rt: &T,
@@ -31,7 +31,7 @@ pub fn tell_arguments<T: LockFiles>(
     Ok(())
 }
 
-/// Appends the lines on arguments that are wrong together, while each is right alone.
+/// Appends the lines about arguments that are wrong together, although each is right alone.
 fn tell_together<T: LockFiles>(
     rt: &T,
     alloc: Global,
@@ -53,7 +53,7 @@ fn tell_together<T: LockFiles>(
     }
 }
 
-/// Appends a line on `argument`, if it is wrong.
+/// Appends a line about `argument`, if it is wrong.
 fn tell_argument(
     alloc: Global,
     text: &mut String,
@@ -75,7 +75,7 @@ fn tell_argument(
     }
 }
 
-/// Appends a line on a role, if it is none.
+/// Appends a line about a role, if it is none.
 fn tell_role(text: &mut String, word: &str) -> Result<(), OutOfMemory> {
     if who(word.as_bytes()).is_some() {
         return Ok(());
@@ -84,7 +84,7 @@ fn tell_role(text: &mut String, word: &str) -> Result<(), OutOfMemory> {
     writeln!(text, "  {shown} is no role: it is requester or responder.")
 }
 
-/// Adds a line on a qualifier of a loan, if it is none.
+/// Appends a line about a qualifier of a loan, if it is invalid.
 fn tell_qualifier(
     alloc: Global,
     text: &mut String,
@@ -110,7 +110,7 @@ fn tell_qualifier(
     }
 }
 
-/// Adds a line on the first byte of a qualifier that may not stand there.
+/// Appends a line about the first byte that a qualifier may not have.
 fn tell_bad_byte(text: &mut String, name: &str, word: &str) -> Result<(), OutOfMemory> {
     let shown = Shown::of(word);
     for (place, byte) in (1_u64..).zip(word.bytes()) {
@@ -128,7 +128,7 @@ fn tell_bad_byte(text: &mut String, name: &str, word: &str) -> Result<(), OutOfM
     Ok(())
 }
 
-/// Adds a line on a day, if it is none.
+/// Appends a line about a day, if it is none.
 fn tell_day(text: &mut String, word: &str) -> Result<(), OutOfMemory> {
     match Day::read(word.as_bytes()) {
         Ok(_) => Ok(()),
@@ -136,7 +136,7 @@ fn tell_day(text: &mut String, word: &str) -> Result<(), OutOfMemory> {
     }
 }
 
-/// Adds a line on a word that is no day.
+/// Appends a line about a word that is no day.
 pub fn tell_no_day(text: &mut String, word: &str, fault: DayFault) -> Result<(), OutOfMemory> {
     let shown = Shown::of(word);
     match fault {
@@ -149,7 +149,7 @@ pub fn tell_no_day(text: &mut String, word: &str, fault: DayFault) -> Result<(),
     }
 }
 
-/// Adds a line on a state, if it is none.
+/// Appends a line about a state, if it is none.
 fn tell_state(alloc: Global, text: &mut String, word: &str) -> Result<(), OutOfMemory> {
     if State::read(word.as_bytes()).is_some() {
         return Ok(());
@@ -166,7 +166,7 @@ fn tell_state(alloc: Global, text: &mut String, word: &str) -> Result<(), OutOfM
     }
 }
 
-/// Appends a line on the number of a message, if it is none.
+/// Appends a line about the number of a message, if it is none.
 fn tell_number(text: &mut String, word: &str) -> Result<(), OutOfMemory> {
     if number(word.as_bytes()).is_some() {
         return Ok(());

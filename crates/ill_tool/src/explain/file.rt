@@ -1,4 +1,4 @@
-//! The lines on the file of a desk with which something is wrong.
+//! The lines about a fault of a desk's file.
 
 use crate::came::CAME;
 use crate::command_line::Argument;
@@ -14,13 +14,13 @@ use std::fs::Metadata;
 use std::io::ErrorKind;
 use std::path::Path;
 
-/// The ending of the name of the file that is locked in place of a desk's.
+/// The ending of the name of the file that is locked instead of a desk's.
 const LOCK: &str = ".lck";
 
-/// The endings of the names of files that are the program's own.
+/// The endings of the names of the program's own files.
 const RESERVED: [&str; 2] = [".new", LOCK];
 
-/// The number of bytes that begin each record and tell its version.
+/// The number of bytes at the beginning of each record, which give its version.
 const MARK: u32 = 4;
 
 /// Appends the cause of a fault of a desk.
@@ -90,7 +90,7 @@ fn has_mails(matches: &ArgMatches<'_>) -> bool {
     matches.get_str(Argument::Folder.id()).is_some() || matches.get_str(Argument::In.id()).is_some()
 }
 
-/// Returns true if another command is at work on the file at `path`.
+/// Returns true if another command is working on the file at `path`.
 fn is_at_work<T: LockFiles>(rt: &T, alloc: Global, path: &str) -> bool {
     match format!(in alloc; "{path}{LOCK}") {
         Ok(lock) => is_held(rt, lock.as_str()),
@@ -103,8 +103,7 @@ fn is_open<T: LockFiles>(rt: &T, alloc: Global, path: &str) -> bool {
     open(rt, alloc, path).is_ok()
 }
 
-/// Returns the first of the paths of a command that fails: a desk that cannot be opened, or a folder that cannot be
-/// read.
+/// Returns the first path of a command that fails. It is a desk that cannot be opened, or a folder that cannot be read.
 fn failed_path<T: LockFiles>(rt: &T, alloc: Global, matches: &ArgMatches<'_>) -> Option<String> {
     for path in matches.get_strs(Argument::Paths.id())? {
         if let Some(failed) = failed_at(rt, alloc, path) {
@@ -124,7 +123,7 @@ fn failed_at<T: LockFiles>(rt: &T, alloc: Global, path: &str) -> Option<String> 
     }
 }
 
-/// Appends which file has too many bytes: that of the desk, or that of the messages that came.
+/// Appends the file that has too many bytes: the file of the desk, or of the messages that came.
 fn tell_too_large<T: LockFiles>(
     rt: &T,
     alloc: Global,
@@ -144,7 +143,7 @@ fn tell_too_large<T: LockFiles>(
     }
 }
 
-/// Appends that no file is there, and that its folder is none, if that is so.
+/// Appends that there is no file at `path`. If its folder does not exist, it appends that too.
 fn tell_absent<T: LockFiles>(rt: &T, text: &mut String, path: &str) -> Result<(), OutOfMemory> {
     let shown = Shown::of(path);
     writeln!(text, "  {shown} is not there: `ill new` begins a desk.")?;
@@ -152,7 +151,7 @@ fn tell_absent<T: LockFiles>(rt: &T, text: &mut String, path: &str) -> Result<()
     Ok(())
 }
 
-/// Appends that the folder of a file is none, if that is so, and returns true then.
+/// Appends that the folder of the file at `path` does not exist, if so. It then returns true.
 fn tell_no_folder<T: LockFiles>(
     rt: &T,
     text: &mut String,
@@ -178,7 +177,7 @@ fn folder_of(path: &str) -> &str {
     }
 }
 
-/// Appends why the file at `path` was not read, locked or written.
+/// Appends the reason why the file at `path` was not read, locked or written.
 fn tell_failed<T: LockFiles>(
     rt: &T,
     alloc: Global,
@@ -204,7 +203,7 @@ fn tell_failed<T: LockFiles>(
     }
 }
 
-/// Appends the kind of thing that stands at `path` in place of a file.
+/// Appends the kind of thing that is at `path` instead of a file.
 fn tell_kind<T: LockFiles>(
     rt: &T,
     text: &mut String,
@@ -227,7 +226,7 @@ fn tell_kind<T: LockFiles>(
     writeln!(text, "  {shown} is no regular file.")
 }
 
-/// Appends why the file at `path` could not be used.
+/// Appends the reason why the file at `path` could not be used.
 fn tell_closed<T: LockFiles>(
     rt: &T,
     alloc: Global,
@@ -244,7 +243,7 @@ fn tell_closed<T: LockFiles>(
     }
 }
 
-/// Appends why no file was found at `path`.
+/// Appends the reason why no file was found at `path`.
 fn tell_not_found<T: LockFiles>(
     rt: &T,
     alloc: Global,
@@ -265,7 +264,7 @@ fn tell_not_found<T: LockFiles>(
     tell_unsaved(rt, alloc, text, path)
 }
 
-/// Appends that another command holds the file at `path`; else that nothing can be saved there.
+/// Appends that another command holds the file at `path`, or else that nothing can be saved there.
 fn tell_unsaved<T: LockFiles>(
     rt: &T,
     alloc: Global,
@@ -292,7 +291,7 @@ fn tell_unsaved<T: LockFiles>(
     tell_came(rt, alloc, text, path)
 }
 
-/// Appends that the file of the messages that came may be at fault, if something stands there.
+/// Appends that the file of the messages that came may be the cause, if it exists.
 fn tell_came<T: LockFiles>(
     rt: &T,
     alloc: Global,
@@ -321,7 +320,7 @@ fn is_held<T: LockFiles>(rt: &T, lock: &str) -> bool {
     }
 }
 
-/// Returns true if a regular file stands at `path`: to open a pipe would be to wait on it.
+/// Returns true if there is a regular file at `path`. To open a pipe would be to wait on it.
 fn is_file<T: LockFiles>(rt: &T, path: &str) -> bool {
     match fs::symlink_metadata(rt, path) {
         Ok(found) => found.is_file(),
@@ -329,7 +328,7 @@ fn is_file<T: LockFiles>(rt: &T, path: &str) -> bool {
     }
 }
 
-/// Appends why the bytes of a file are no record.
+/// Appends the reason why the bytes of a file are no record.
 fn tell_no_record(text: &mut String, path: &str, fault: RecordFault) -> Result<(), OutOfMemory> {
     let shown = Shown::of(path);
     writeln!(text, "  {shown} holds no record of a desk.")?;

@@ -1,4 +1,4 @@
-//! The lines on the message of the input that is faulty.
+//! The lines about the faulty message of an input.
 
 ghost use Rattle.std.specs.Prelude.{None};
 
@@ -9,7 +9,7 @@ use std::alloc::Global;
 use std::io;
 use std::io::Read;
 
-/// The good messages that a reader has given.
+/// The good messages that a reader has passed on.
 #[derive(Clone, Copy)]
 pub struct Passed {
     pub messages: u64,
@@ -27,7 +27,7 @@ impl Passed {
     }
 }
 
-/// A reader that counts the good messages at the beginning of its input, if it is asked to.
+/// A reader that counts the good messages at the beginning of its input, if `is_counting` is set.
 #[derive(Drop)]
 pub struct Watched<'a, R> {
     reader: &'a mut R,
@@ -53,7 +53,7 @@ impl<'a, R> Watched<'a, R> {
         }
     }
 
-    /// Returns the messages that it has given, if it has counted all.
+    /// Returns the messages that it has passed on, if it has counted all of them.
     pub fn passed(&self) -> Option<Passed> {
         match self.feed {
             Some(_) => Some(self.passed),
@@ -85,7 +85,7 @@ impl<R: Read> Read for Watched<'_, R> {
     }
 }
 
-/// Appends the lines on the message of the input that is faulty: its place, and its fault.
+/// Appends the lines about the faulty message of the input: its place and its fault.
 pub fn tell_bad_bytes(
     text: &mut String,
     fault: DerFault,
@@ -109,7 +109,7 @@ pub fn tell_bad_bytes(
     }
 }
 
-/// Appends the number of the faulty message, and the byte at which it begins. The good ones before it are `passed`.
+/// Appends the number of the faulty message, and the byte at which it begins. The good messages before it are `passed`.
 fn tell_place(text: &mut String, passed: Passed) -> Result<(), OutOfMemory> {
     let number = passed.messages.saturating_add(1);
     let begin = passed.bytes;
@@ -119,7 +119,7 @@ fn tell_place(text: &mut String, passed: Passed) -> Result<(), OutOfMemory> {
     )
 }
 
-/// Appends that the line `line` of a script is no event, and the help that lists them.
+/// Appends that the line `line` of a script is no event, and the help that lists the events.
 pub fn tell_bad_line(text: &mut String, name: Name, line: u32) -> Result<(), OutOfMemory> {
     let command = name.word();
     writeln!(

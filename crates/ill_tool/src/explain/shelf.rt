@@ -1,4 +1,4 @@
-//! The lines on a shelf, or on the desk of a group on it, with which something is wrong.
+//! The lines about a fault of a shelf, or of the desk of a group on it.
 
 use crate::command_line::Argument;
 use crate::explain::file::tell_fault_at;

@@ -2,11 +2,11 @@
 
 use std::fmt;
 
-/// The most characters of a word that are shown.
+/// The greatest number of characters of a word that are shown.
 const MOST: usize = 200;
 
-/// A word in quotes, with escapes for the characters that a terminal may act on. Two points stand for the rest of a
-/// long one.
+/// A word in quotes, with an escape for each character on which a terminal may act. Two full stops replace the end of a
+/// long word.
 #[derive(Clone, Copy)]
 pub struct Shown<'a> {
     word: &'a str,

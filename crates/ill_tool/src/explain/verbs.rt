@@ -37,7 +37,7 @@ impl Parts {
         }
     }
 
-    /// Returns the least and the greatest number of their words.
+    /// Returns the least and the greatest number of words in the parts.
     pub fn counts(self) -> (usize, usize) {
         match self {
             Parts::Nothing => (0, 0),
@@ -48,7 +48,7 @@ impl Parts {
     }
 }
 
-/// The form of an action. It is displayed as it is typed.
+/// The form of an action. It is displayed as a user types it.
 #[derive(Clone, Copy)]
 pub struct Form {
     pub verb: Verb,
@@ -103,7 +103,7 @@ pub fn names_of(alloc: Global, role: Role) -> Result<Vec<&'static str>, OutOfMem
     )
 }
 
-/// The most letters that are wrong, missing, too many or swapped in a word that is near to a name.
+/// The greatest number of wrong, missing, extra or swapped letters in a word that is near a name.
 const NEAR: usize = 2;
 
 /// Returns the name that is nearest to `word`, if one is near.

@@ -38,13 +38,13 @@ use Rattle.ill_tool.specs.Telling.{as_told, long}
 -- ---- the message of a mail
 
 -- Returns the only message of a mail. If decoding fails or bytes follow the message, it returns the reason
--- that no desk takes the mail.
+-- why no desk takes the mail.
 abbrev pub one_message : Result (Apdu × List ℕ) DerFault → Result Apdu Unfit
 one_message (Ok (a, [])) = Ok a
 one_message (Ok (a, byte ∷ rest)) = Err unfits.Trailing
 one_message (Err fault) = Err (unfits.NoMessage fault)
 
--- Returns the message of a mail, or the reason that no desk will ever take it. A message has at most 359
+-- Returns the message of a mail, or the reason why no desk will ever take it. A message has at most 359
 -- bytes.
 abbrev pub message_in : List ℕ → Result Apdu Unfit
 message_in bytes = if nat_lt 359 (length bytes) then Err unfits.TooLong else one_message (apdu_at bytes)
@@ -75,14 +75,14 @@ abbrev pub place_text : Option ℕ → List ℕ
 place_text None = []
 place_text (Some at) = codes " at " ++ decimal at
 
--- Returns the text of the reason that no desk will ever take a mail.
+-- Returns the text of the reason why no desk will ever take a mail.
 abbrev pub unfit_text : Unfit → List ℕ
 unfit_text (unfits.NoMessage fault) = der_word fault ++ place_text (place_of fault)
 unfit_text unfits.TooLong = codes "too-long"
 unfit_text unfits.Trailing = codes "trailing"
 unfit_text (unfits.Refused refusal) = desk_outcome_word (seen.Plain (outcomes.Refused refusal))
 
--- Returns the text of the reason that a mail waits for the next run.
+-- Returns the text of the reason why a mail waits for the next run.
 abbrev pub delay_text : Delay → List ℕ
 delay_text delays.NotRead = codes "not-read"
 delay_text delays.NoSuchTransaction = desk_outcome_word seen.NoSuchTransaction
@@ -144,7 +144,7 @@ told_of effects bytes a outcome live old = record {
 }
 
 -- Returns the state after a message was handed to its side, and its mail got a verdict. A fault that is no
--- refusal changes nothing; no side returns one.
+-- refusal changes nothing. No side returns one.
 abbrev pub after_hand : {L K : Type 0} → Effects L K → List ℕ → List ℕ → Apdu → Result DeskOutcome ToolFault × L →
     Sorting L → Sorting L
 after_hand effects name bytes a (Ok outcome, live) old =

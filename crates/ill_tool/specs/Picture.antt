@@ -118,8 +118,8 @@ linked link own theirs = take (through link own theirs) theirs
 abbrev pub not_linked : Link → Apdu → List Apdu → List Apdu
 not_linked link own theirs = drop (through link own theirs) theirs
 
--- Returns the drawing after one more message of this side. Before `own` it draws the messages that `own`
--- needs or answers. Directly after `own` it draws the answers to it.
+-- Returns the drawing after one more message of this side. Before `own` it draws the other side's messages up
+-- to the last that `own` needs or answers. After `own` it draws them up to the last answer to it.
 abbrev pub with_own : Drawing → Apdu → Drawing
 with_own so_far own =
     let left = not_linked Before own so_far.left in

@@ -449,7 +449,7 @@ fn say_dates<S: Store, W: Write>(
 }
 
 /// Copies the desk, and then sends the messages of the loans that want sending. A loan that a deed of the day has ended
-/// is among them, if a message of it came in this run. If the copy fails, nothing is sent.
+/// wants sending if a message of it came. If the copy fails, nothing is sent.
 fn send_all<T: Files, S: Store, W: Write, E: Write>(
     rt: &T,
     alloc: Global,

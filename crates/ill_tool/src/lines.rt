@@ -123,7 +123,7 @@ pub fn push_fields(lines: &mut Vec<u8>, body: &BodyView<'_>) -> Result<(), OutOf
     }
 }
 
-/// Appends the lines of a Renew-Answer: the number of the Renew, yes or no, and the new due date if yes.
+/// Appends the lines of a Renew-Answer: the number of the Renew, yes or no, and the new due date.
 fn push_grant(lines: &mut Vec<u8>, answers: Number, granted: Option<Day>) -> Result<(), OutOfMemory>
     ensures { OnOk result (lines.new.items ≡ lines.old.items ++ grant_lines answers granted) }
 {

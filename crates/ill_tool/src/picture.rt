@@ -96,8 +96,8 @@ fn draw(alloc: Global, own: &[Apdu], theirs: &[Apdu]) -> Result<Vec<u8>, OutOfMe
     Ok(lines)
 }
 
-/// Appends the message `own`, and the messages of `theirs` that it needs or answers, or that answer it. It returns the
-/// other messages.
+/// Appends the messages of `theirs` up to the last that `own` needs or answers. Then it appends `own`, and the messages
+/// up to the last answer to it. It returns the other messages.
 fn push_own<'a>(
     lines: &mut Vec<u8>,
     own: &Apdu,

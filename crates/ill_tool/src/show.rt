@@ -18,8 +18,8 @@ use std::io::{Read, Write};
 
 /// Shows each APDU of the input, up to its end, and returns their number.
 ///
-/// After a faulty APDU, one too many, or a failure of the reader, the lines of all APDUs before are written. If memory
-/// runs out, the lines of some of the first APDUs are written. If the writer fails, a prefix of this text is written.
+/// After a faulty APDU, one too many, or a failure of the reader, the lines of the APDUs before remain. If memory runs
+/// out, the lines of some of the first APDUs are written. If the writer fails, a prefix of this text is written.
 pub fn run_show<R: Read, W: Write>(
     alloc: Global,
     reader: &mut R,

@@ -1,5 +1,5 @@
-//! An example to copy from: a library with a desk in a file asks for a book, and takes the answer. docs/BUILDING-ON.md
-//! explains it.
+//! An example to copy from: a library with a desk asks for a book, and takes the answer. docs/BUILDING-ON.md explains
+//! it.
 #![tactic(auto)]
 
 use anyhow::{Context, Result, bail};

@@ -38,8 +38,9 @@ is_overdue today state due = is_among (Shipped ∷ RenewPending ∷ []) state &&
 abbrev pub may_expire : State → Bool
 may_expire state = is_among (InProcess ∷ Conditional ∷ []) state
 
--- Returns the deed that is due on the day `today` in a responder's loan with this state and due date. `which`
--- has the deeds that are wanted.
+-- Returns the deed to attempt on the day `today` in a responder's loan with this state and due date. `which`
+-- has the deeds that are wanted. Expire is attempted for each open request, and refused if the request has
+-- not expired.
 abbrev pub deed_at : Dates → Date → State → Option Date → Option Deed
 deed_at which today state due =
     if which.overdue && is_overdue today state due then Some deeds.Overdue

@@ -108,7 +108,8 @@ fn deed_by_date(which: Dates, today: Day, side: &Side) -> Option<Deed>
     }
 }
 
-/// Returns the deed that is due in a responder's loan in `state`, due on `due`, if there is one.
+/// Returns the deed to attempt in a responder's loan in `state`, due on `due`, if there is one. Expire is attempted for
+/// each open request, and refused if the request has not expired.
 fn deed_at(which: Dates, today: Day, state: State, due: Option<Day>) -> Option<Deed>
     ensures { result ≡ deed_at which today state due }
 {

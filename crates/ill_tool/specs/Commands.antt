@@ -50,7 +50,7 @@ abbrev pub all_well : {A : Type 0} → Result A ToolFault → Result Bool ToolFa
 all_well (Ok answer) = Ok true
 all_well (Err fault) = Err fault
 
--- The result is true in place of an answer that satisfies `Answers`, or the fault of that answer.
+-- An answer satisfies `Answers`, and the result is true in its place, or its fault.
 abbrev pub GoesWell : {A : Type 0} → (Result A ToolFault → Type 0) → Result Bool ToolFault → Type 0
 GoesWell {A} Answers result = (answer : Result A ToolFault) × Answers answer × (result ≡ all_well answer)
 
@@ -184,7 +184,7 @@ abbrev pub night_asks : DeskContents → Night → List ℕ
 night_asks live night = asked_by live (zip night.mails night.verdicts)
 
 -- The end of a night, after its deeds: a copy of the desk `live`, and then the sending. A loan that a deed
--- has ended is among the senders, if a message of it came in this night. If the copy fails, nothing is sent.
+-- has ended wants sending if a message of it came in this night. If the copy fails, nothing is sent.
 abbrev pub SendsAll : Night → DeskContents → Option (List ℕ) → Option (List ℕ) → Result (Unit {0}) ToolFault →
     Result Bool ToolFault → Type 0
 SendsAll night live before after (Err fault) result = (result ≡ Err fault) × (after ≡ before)

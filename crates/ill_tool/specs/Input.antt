@@ -35,8 +35,8 @@ FailsInHand handles fault count bytes before after =
     (apdu : Apdu) × IsApdu apdu × (bytes ≡ spelling apdu) × (count < 100000)
     × handles before apdu (Err fault) after
 
--- An input ended with this result. All APDUs were handled, and `count` of them is the answer. Or the reading
--- stopped. Or the handling of an APDU failed.
+-- An input ended with this result. All `count` APDUs were handled, and this number is the answer. Or the
+-- reading stopped. Or the handling of an APDU failed.
 abbrev pub Ends : {S : Type 0} → Handles S ToolFault → Result ℕ ToolFault → ℕ → List ℕ → List ℕ →
     Option (List ℕ) → S → S → Type 0
 Ends handles (Ok n) count bytes ahead left before after =

@@ -122,7 +122,7 @@ VisitsAll is_headed Runs paths before after answer =
     (stops : List Stop) × (map (λ stop. stop.path) stops ≡ paths) × Follow before stops after
     × All (Headed is_headed Runs) stops × (answer ≡ gravest stops)
 
--- All is well, or mails wait that have no desk, or a file failed.
+-- The result is that all is well, that mails without a desk wait, or that a file failed.
 abbrev pub IsFurther : Result Bool ToolFault → Type 0
 IsFurther (Ok is_well) = is_well ≡ true
 IsFurther (Err Left) = Unit {0}
@@ -147,8 +147,8 @@ are_all_over sides = list_all is_over sides
 abbrev pub retired_mark : List ℕ
 retired_mark = codes "retired\n"
 
--- A group is retired. If all loans of its desk are over, its mark is saved, and the store goes from `old` to
--- `new`. If a loan is not over, or memory ran out, the store is unchanged.
+-- The group of a desk is marked as retired if all loans of the desk are over. The content of the mark's store
+-- goes from `old` to `new`. If a loan is not over, or memory ran out, the store is unchanged.
 abbrev pub Retires : List Side → Option (Option (List ℕ)) → Result Bool ToolFault → Option (Option (List ℕ)) → Type 0
 Retires sides old (Ok true) new = (are_all_over sides ≡ true) × Copies retired_mark old (Ok tt) new
 Retires sides old (Ok false) new = (are_all_over sides ≡ false) × (new ≡ old)

@@ -1,4 +1,4 @@
--- Tests on the type and the fields of an APDU (this profile's own).
+-- Tests the type and the fields of an APDU (this profile's own).
 use Rattle.std.specs.Prelude.{ℕ, Bool, true, false, ◌||◌, Option, Some, None}
 use Rattle.ill_values.specs.declared.apdu.Body.{Body}
 use Rattle.ill_values.specs.declared.apdu.Body.TheVariants.{IllRequest, IllAnswer, ConditionalReply, Cancel, CancelReply, Shipped}
@@ -47,7 +47,7 @@ abbrev pub names_conditions : Body → Bool
 names_conditions (IllAnswer Conditional) = true
 names_conditions other = false
 
--- Returns true if this result of an ILL-Answer ends the request.
+-- Returns true if an ILL-Answer with this result ends the request.
 abbrev pub is_final : AnswerResult → Bool
 is_final Conditional = false
 is_final WillSupply = false
@@ -65,7 +65,8 @@ abbrev pub is_cancelled : Body → Bool
 is_cancelled (CancelReply c true) = true
 is_cancelled other = false
 
--- Returns true if the APDU ends the request: not supplied, cancelled or shipped.
+-- Returns true if the APDU ends the request: the item is not supplied, the request is cancelled, or the item is
+-- shipped.
 abbrev pub is_end : Body → Bool
 is_end body = is_unsupplied body || (is_cancelled body || is_shipped body)
 
@@ -74,7 +75,7 @@ abbrev pub is_renewal : Body → Bool
 is_renewal (RenewAnswer answers (Some due)) = true
 is_renewal other = false
 
--- Returns the date that a Shipped or a Renew-Answer yes grants.
+-- Returns the due date that a Shipped or a Renew-Answer yes grants, and `None` for any other APDU.
 abbrev pub grant_in : Body → Option Date
 grant_in (Shipped due) = Some due
 grant_in (RenewAnswer answers due) = due
@@ -85,7 +86,7 @@ abbrev pub declines : Body → Bool
 declines (ConditionalReply answers false) = true
 declines other = false
 
--- Returns the number that a Conditional-Reply yes answers.
+-- Returns the number of the conditions that a Conditional-Reply yes accepts, and `None` for any other APDU.
 abbrev pub accepts : Body → Option ℕ
 accepts (ConditionalReply answers true) = Some answers
 accepts other = None

@@ -1,4 +1,4 @@
--- Days and due dates (this profile's own).
+-- Compares two days, and a day with a due date (this profile's own).
 use Rattle.std.specs.Prelude.{Bool, false, ◌&&◌, ◌==◌, nat_lt, Option, Some, None, if◌then◌else◌}
 use Rattle.ill_values.specs.Day.{Date}
 
@@ -6,7 +6,7 @@ use Rattle.ill_values.specs.Day.{Date}
 abbrev pub is_same_day : Date → Date → Bool
 is_same_day a b = (a.year == b.year) && ((a.month == b.month) && (a.day == b.day))
 
--- Returns true if there is a due date, and it is `d`.
+-- Returns true if there is a due date, and `d` is that day.
 abbrev pub is_due_on : Date → Option Date → Bool
 is_due_on d None = false
 is_due_on d (Some due) = is_same_day d due

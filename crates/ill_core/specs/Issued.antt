@@ -1,4 +1,4 @@
--- The APDUs that a side has issued in a transaction, and tests on them (this profile's own).
+-- Defines the list of the APDUs that a side has issued in a transaction, and tests on it (this profile's own).
 use Rattle.std.specs.Prelude.{◌≡◌, ℕ, zero, suc, ◌+◌, Bool, true, false, ◌&&◌, ◌==◌, nat_lt, List, [], ◌∷◌, ◌++◌, length}
 use Rattle.std.specs.Prelude.{slice_get, Option, Some, None, Result, Ok, Err, if◌then◌else◌}
 use Rattle.std.specs.List.{list_any, filter_map, last_or}
@@ -22,23 +22,23 @@ pub record IssuedList : Type 0 where
 abbrev pub is_same_txn : Qualifiers → Qualifiers → Bool
 is_same_txn a b = bytes_eq a.group b.group && bytes_eq a.transaction b.transaction
 
--- Returns true if every APDU is of `txn`, and they have the numbers from `number` on, one by one.
+-- Returns true if every APDU belongs to `txn`, and the numbers run from `number` upwards in steps of one.
 unfoldable pub are_numbered : Qualifiers → ℕ → List Apdu → Bool
 are_numbered txn number [] = true
 are_numbered txn number (a ∷ apdus) =
     (is_same_txn a.txn txn && (a.number == number)) && are_numbered txn (number + 1) apdus
 
--- Returns message n: the n-th APDU that was issued, from 1 on.
+-- Returns the n-th APDU of the list, counted from 1, or `None` if there is none.
 abbrev pub message : List Apdu → ℕ → Option Apdu
 message apdus zero = None
 message apdus (suc n) = slice_get apdus n
 
--- Returns true if nothing has been issued.
+-- Returns true if the list is empty.
 abbrev pub is_none : List Apdu → Bool
 is_none [] = true
 is_none (a ∷ apdus) = false
 
--- Returns true if `says` holds of the body of one of the APDUs.
+-- Returns true if `says` holds of the body of at least one APDU.
 abbrev pub has : (Body → Bool) → List Apdu → Bool
 has says apdus = list_any (λ a. says a.body) apdus
 
@@ -51,42 +51,42 @@ is_there says (Some a) = says a.body
 abbrev pub was : (Body → Bool) → List Apdu → ℕ → Bool
 was says apdus n = is_there says (message apdus n)
 
--- Returns the last value that `f` finds in the APDUs.
+-- Returns the last value that `f` gives for the APDUs, or `None` if it gives none.
 abbrev pub last_of : {X : Type 0} → (Apdu → Option X) → List Apdu → Option X
 last_of f apdus = last_or None (filter_map f apdus)
 
--- Returns the due date that an APDU grants, if it is a Shipped or a Renew-Answer yes.
+-- Returns the due date that an APDU grants, or `None` if it is neither a Shipped nor a Renew-Answer yes.
 abbrev pub granted_day : Apdu → Option Date
 granted_day a = grant_in a.body
 
--- Returns the number of the conditions that an APDU accepts, if it is a Conditional-Reply yes.
+-- Returns the number of the conditions that an APDU accepts, or `None` if it is no Conditional-Reply yes.
 abbrev pub accepted_in : Apdu → Option ℕ
 accepted_in a = accepts a.body
 
--- Returns the number of an APDU if it is a Cancel.
+-- Returns the number of an APDU if it is a Cancel, and else `None`.
 abbrev pub number_of_cancel : Apdu → Option ℕ
 number_of_cancel a = if is_cancel a.body then Some a.number else None
 
--- Returns the number of an APDU if it is a Renew.
+-- Returns the number of an APDU if it is a Renew, and else `None`.
 abbrev pub number_of_renew : Apdu → Option ℕ
 number_of_renew a = if is_renew a.body then Some a.number else None
 
--- Returns the number of an APDU if it ends the request.
+-- Returns the number of an APDU if it ends the request, and else `None`.
 abbrev pub number_of_end : Apdu → Option ℕ
 number_of_end a = if is_end a.body then Some a.number else None
 
--- Returns the number that is sought in an APDU, if the APDU has it.
+-- Returns the number that is sought in an APDU, or `None` if the APDU lacks it.
 abbrev pub sought_number : Sought → Apdu → Option ℕ
 sought_number Accepted a = accepted_in a
 sought_number CancelNumber a = number_of_cancel a
 sought_number RenewNumber a = number_of_renew a
 sought_number EndNumber a = number_of_end a
 
--- Returns the number of the next APDU, or `NumbersUsed` once 255 are issued.
+-- Returns the number of the next APDU, or `NumbersUsed` if 255 are issued.
 abbrev pub next_number : List Apdu → Result ℕ Refusal
 next_number apdus = if nat_lt (length apdus) 255 then Ok (length apdus + 1) else Err NumbersUsed
 
--- Returns the next APDU: it has the next number and this body.
+-- Returns the next APDU of the list: it belongs to `txn`, and has the next number and `body`.
 abbrev pub next_apdu : Qualifiers → List Apdu → Body → Apdu
 next_apdu txn apdus body = record { txn = txn; number = length apdus + 1; body = body }
 
@@ -98,13 +98,14 @@ with_next txn apdus body = apdus ++ next_apdu txn apdus body ∷ []
 abbrev pub IssuesNext : Qualifiers → List Apdu → List Apdu → Type 0
 IssuesNext txn old new = (body : Body) × (new ≡ with_next txn old body)
 
--- Before its table, a side refuses an APDU of another transaction, and then one that its own role issues.
+-- Returns the refusal that comes before the table: `OtherTransaction`, then `WrongRole`, or else `None`. `is_own` says
+-- that the side's own role issues APDUs of this type.
 abbrev pub first_refusal : Qualifiers → Bool → Apdu → Option Refusal
 first_refusal txn is_own a =
     if is_same_txn a.txn txn then (if is_own then Some WrongRole else None)
     else Some OtherTransaction
 
--- If the first refusal is there, the side answers with it. Else it admits the APDU.
+-- The result is the refusal if there is one, and else `Ok`.
 abbrev pub Admits : Option Refusal → Result Unit Refusal → Type 0
 Admits None (Ok done) = Unit
 Admits None (Err refusal) = ⊥

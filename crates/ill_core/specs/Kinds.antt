@@ -1,4 +1,4 @@
--- The kinds of messages that the tables tell apart (this profile's own).
+-- Defines the kinds of messages that the tables distinguish (this profile's own).
 use Rattle.std.specs.Prelude.{ℕ, true, false, Option, Some, None}
 use Rattle.ill_values.specs.Day.{Date}
 use Rattle.ill_values.specs.declared.apdu.Apdu.{Apdu}
@@ -15,21 +15,22 @@ use Rattle.ill_core.specs.declared.kind.RequesterKind.TheVariants as requester
 use Rattle.ill_core.specs.declared.kind.ResponderKind.{ResponderKind}
 use Rattle.ill_core.specs.declared.kind.ResponderKind.TheVariants as responder
 
--- Returns the number that an APDU tells: the number that it answers, or else its own.
+-- Returns the number by which a row judges an APDU. An answer has the number of the message that it answers, any other
+-- APDU its own.
 abbrev pub number_in : Apdu → Body → ℕ
 number_in a (types.ConditionalReply answers is_yes) = answers
 number_in a (types.CancelReply answers is_yes) = answers
 number_in a (types.RenewAnswer answers granted) = answers
 number_in a other = a.number
 
--- Returns the due date that an APDU tells, if it tells one.
+-- Returns the due date that an APDU states, or `None`.
 abbrev pub date_in : Body → Option Date
 date_in (types.Shipped due) = Some due
 date_in (types.Overdue due) = Some due
 date_in (types.RenewAnswer answers granted) = granted
 date_in other = None
 
--- Returns the place of a requester's kind in their order, from 0.
+-- Returns the index of a requester's kind in the order of `RequesterKind`, from 0.
 abbrev pub requester_place : RequesterKind → ℕ
 requester_place requester.Request = 0
 requester_place requester.Yes = 1
@@ -39,7 +40,7 @@ requester_place requester.Received = 4
 requester_place requester.Renew = 5
 requester_place requester.Returned = 6
 
--- Returns the place of a responder's kind in their order, from 0.
+-- Returns the index of a responder's kind in the order of `ResponderKind`, from 0.
 abbrev pub responder_place : ResponderKind → ℕ
 responder_place responder.Conditions = 0
 responder_place responder.Promise = 1
@@ -54,7 +55,7 @@ responder_place responder.RenewNo = 9
 responder_place responder.Recall = 10
 responder_place responder.CheckedIn = 11
 
--- Returns the kind of a requester's message. A responder's has none.
+-- Returns the kind of a requester's message, or `None` for a responder's.
 abbrev pub requester_kind : Body → Option RequesterKind
 requester_kind (types.IllRequest expiry item) = Some requester.Request
 requester_kind (types.ConditionalReply answers true) = Some requester.Yes
@@ -95,7 +96,7 @@ deed_kind deeds.Recall = responder.Recall
 deed_kind deeds.CheckIn = responder.CheckedIn
 deed_kind deeds.Expire = responder.Expired
 
--- Returns the kind of a responder's message. A requester's has none.
+-- Returns the kind of a responder's message, or `None` for a requester's.
 abbrev pub responder_kind : Body → Option ResponderKind
 responder_kind (types.IllAnswer answer) = Some (answer_kind answer)
 responder_kind types.Expired = Some responder.Expired

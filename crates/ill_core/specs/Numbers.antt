@@ -1,24 +1,24 @@
--- A number beside one that may be absent (this profile's own): none is at most, or equal to, one
--- that is absent.
+-- Compares a number with one that may be absent (this profile's own). No number equals an absent one, or is at most or
+-- below it.
 use Rattle.std.specs.Prelude.{ℕ, Bool, true, false, not, ◌&&◌, ◌==◌, nat_lt, nat_le, List, [], ◌∷◌, Option, Some, None}
 use Rattle.std.specs.List.{list_any}
 
--- Returns true if the number is there, and equal to `n`.
+-- Returns true if the second argument is a number, and `n` equals it.
 abbrev pub is_the : ℕ → Option ℕ → Bool
 is_the n None = false
 is_the n (Some m) = n == m
 
--- Returns true if the number is there, and `n` is at most that.
+-- Returns true if the second argument is a number, and `n` is at most it.
 abbrev pub is_at_most : ℕ → Option ℕ → Bool
 is_at_most n None = false
 is_at_most n (Some m) = nat_le n m
 
--- Returns true if the number is there, and `n` is below it.
+-- Returns true if the second argument is a number, and `n` is below it.
 abbrev pub is_below : ℕ → Option ℕ → Bool
 is_below n None = false
 is_below n (Some m) = nat_lt n m
 
--- Returns true if no number stands twice in the list.
+-- Returns true if no number occurs twice in the list.
 unfoldable pub are_distinct : List ℕ → Bool
 are_distinct [] = true
 are_distinct (n ∷ ns) = not (list_any (λ m. m == n) ns) && are_distinct ns

@@ -1,6 +1,6 @@
--- The wishes of a requester: its table of actions (this profile's own; the services are those of ISO 10160). A
--- transition has the states before, the state after, the APDU that is issued, and the conditions held then. A wish that
--- no transition has is not done now.
+-- Defines the table of a requester's wishes (this profile's own; the services are those of ISO 10160). A transition has
+-- the state after the wish, the APDU that is issued, and the conditions held afterwards. A wish without a transition is
+-- refused with `NotNow`.
 use Rattle.std.specs.Prelude.{◌≡◌, ℕ, Bool, not, ◌&&◌, [], ◌∷◌, List, Option, None, Result, Ok, Err, IsOk, if◌then◌else◌}
 use Rattle.std.specs.Option.{unwrap_or}
 use Rattle.ill_values.specs.Day.{Date}
@@ -18,33 +18,34 @@ use Rattle.ill_core.specs.State.{is_among}
 use Rattle.ill_core.specs.Issued.{next_number, with_next}
 use Rattle.ill_core.specs.Requester.{RequesterRecord, is_declined, is_received_by}
 
--- The effect of a wish: the next state, the APDU that is issued, and the conditions held then.
+-- The effect of a wish: the next state, the APDU that is issued, and the conditions held afterwards.
 pub record Transition : Type 0 where
   pub next : State
   pub body : Body
   pub held : Option ℕ
 
--- The transition that leads to `next`, issues `body`, and keeps the conditions.
+-- Returns the transition that leads to `next`, issues `body`, and does not change the conditions held.
 abbrev pub leads_to : State → Body → RequesterRecord → Result Transition Refusal
 leads_to next body x = Ok (record { next = next; body = body; held = x.held })
 
--- The wish is refused with `NotNow` and the present state.
+-- Returns the refusal `NotNow` with the present state.
 abbrev pub not_now : RequesterRecord → Result Transition Refusal
 not_now x = Err (refusals.NotNow x.state)
 
--- Request leads from IDLE to PENDING, and issues an ILL-Request with `expiry` and `item`.
+-- Returns the transition of Request: from IDLE to PENDING, with an ILL-Request with `expiry` and `item`.
 abbrev pub request_transition : RequesterRecord → Option Date → List ℕ → Result Transition Refusal
 request_transition x expiry item =
     if is_among (Idle ∷ []) x.state then leads_to Pending (types.IllRequest expiry item) x
     else not_now x
 
--- Cancel leads from PENDING to CANCEL-PENDING, and issues a Cancel.
+-- Returns the transition of Cancel: from PENDING to CANCEL-PENDING, with a Cancel.
 abbrev pub cancel_transition : RequesterRecord → Result Transition Refusal
 cancel_transition x =
     if is_among (Pending ∷ []) x.state then leads_to CancelPending types.Cancel x
     else not_now x
 
--- A reply answers the conditions held. A yes leads to PENDING and holds none; a no stays in CONDITIONAL.
+-- Returns the transition that answers the conditions held. A yes leads to PENDING and holds none; a no stays in
+-- CONDITIONAL.
 abbrev pub answer_held : RequesterRecord → Bool → Transition
 answer_held x is_yes =
     record {
@@ -53,14 +54,14 @@ answer_held x is_yes =
       held = if is_yes then None else x.held;
     }
 
--- Reply has a transition in CONDITIONAL, unless the conditions were declined.
+-- Returns the transition of Reply. It exists in CONDITIONAL, unless the conditions were declined.
 abbrev pub reply_transition : RequesterRecord → Bool → Result Transition Refusal
 reply_transition x is_yes =
     if is_among (Conditional ∷ []) x.state && not (is_declined x) then Ok (answer_held x is_yes)
     else not_now x
 
--- Receive leads from SHIPPED to RECEIVED, and from NOT-RECEIVED/OVERDUE to OVERDUE. In RECALL it stays, and needs
--- that no Received was issued.
+-- Returns the transition of Receive: from SHIPPED to RECEIVED, and from NOT-RECEIVED/OVERDUE to OVERDUE. In RECALL the
+-- state stays, and no Received may have been issued before.
 abbrev pub receive_transition : RequesterRecord → Result Transition Refusal
 receive_transition x =
     if is_among (Shipped ∷ []) x.state then leads_to Received types.Received x
@@ -69,14 +70,14 @@ receive_transition x =
     then leads_to Recall types.Received x
     else not_now x
 
--- Renew leads from RECEIVED to RENEW/PENDING, and from OVERDUE to RENEW/OVERDUE.
+-- Returns the transition of Renew: from RECEIVED to RENEW/PENDING, and from OVERDUE to RENEW/OVERDUE.
 abbrev pub renew_transition : RequesterRecord → Option Date → Result Transition Refusal
 renew_transition x wished =
     if is_among (Received ∷ []) x.state then leads_to RenewPending (types.Renew wished) x
     else if is_among (Overdue ∷ []) x.state then leads_to RenewOverdue (types.Renew wished) x
     else not_now x
 
--- Return leads to RETURNED, from each state in which the item is with the requester.
+-- Returns the transition of Return: to RETURNED, from each state in which the requester has the item.
 abbrev pub return_transition : RequesterRecord → Result Transition Refusal
 return_transition x =
     if is_among (Received ∷ RenewPending ∷ Overdue ∷ RenewOverdue ∷ []) x.state
@@ -106,7 +107,7 @@ record_after x transition =
       issued = with_next x.txn x.issued transition.body;
     }
 
--- Returns the record after a transition, or the refusal of the transition, or else that of the number.
+-- Returns the record after a transition, or the refusal of the transition, or else the refusal of the number.
 abbrev pub acts_by : RequesterRecord → Result Transition Refusal → Result ℕ Refusal →
     Result RequesterRecord Refusal
 acts_by x (Err refusal) number = Err refusal
@@ -117,8 +118,8 @@ acts_by x (Ok transition) (Ok number) = Ok (record_after x transition)
 abbrev pub acts : RequesterRecord → Wish → Result RequesterRecord Refusal
 acts x wish = acts_by x (transition_of x wish) (next_number x.issued)
 
--- A requester answers `wish` so, and `new` is the record after it. `OutOfMemory` comes only for a wish that would be
--- done. A refusal leaves the record.
+-- A requester in record `old` answers `wish` with the result, and `new` is the record after it. `OutOfMemory` comes
+-- only for a wish that would succeed. A refusal does not change the record.
 abbrev pub Acts : RequesterRecord → Wish → Result Unit Refusal → RequesterRecord → Type 0
 Acts old wish (Ok done) new = acts old wish ≡ Ok new
 Acts old wish (Err refusals.OutOfMemory) new = IsOk (acts old wish) × (new ≡ old)

@@ -1,5 +1,5 @@
--- The messages of a responder to a requester: the table of deliveries (this profile's own). The first transition that
--- fits decides. An APDU that no transition fits is a conflict with the present state.
+-- Defines the table of a responder's messages to a requester (this profile's own). The first transition that fits
+-- decides. An APDU that no transition fits is a conflict with the present state.
 use Rattle.std.specs.Prelude.{◌≡◌, ℕ, Bool, true, not, ◌&&◌, [], ◌∷◌, Option, Some, None, Result, if◌then◌else◌}
 use Rattle.ill_values.specs.Day.{Date}
 use Rattle.ill_values.specs.declared.apdu.Apdu.{Apdu}
@@ -20,8 +20,8 @@ use Rattle.ill_core.specs.Bodies.{is_cancel, is_renew, is_requesters}
 use Rattle.ill_core.specs.Issued.{was, first_refusal}
 use Rattle.ill_core.specs.Requester.{RequesterRecord, accepted_number, last_cancel, last_renew, later}
 
--- Conditions with number k are a repeat if k is at most the accepted number, or is held in CONDITIONAL. Else a
--- requester in PENDING takes them, and goes to CONDITIONAL with k held.
+-- Returns the answer to conditions with number `k`. They are a repeat if `k` is at most the accepted number, or is held
+-- in CONDITIONAL. Else PENDING takes them, and leads to CONDITIONAL with `k` held.
 abbrev pub take_conditions : RequesterRecord → ℕ → Result Taking Refusal × RequesterRecord
 take_conditions x k =
     if is_at_most k (accepted_number x) then repeat x
@@ -30,12 +30,12 @@ take_conditions x k =
     then taken (record x { state = Conditional; held = Some k })
     else conflict x.state x
 
--- PENDING takes an ILL-Answer will-supply or hold-placed, and the record stays.
+-- Returns the answer to an ILL-Answer will-supply or hold-placed. PENDING takes it, and the record does not change.
 abbrev pub take_promise : RequesterRecord → Result Taking Refusal × RequesterRecord
 take_promise x = if is_among (Pending ∷ []) x.state then taken x else conflict x.state x
 
--- An end without the item is a repeat in NOT-SUPPLIED. PENDING, CONDITIONAL and CANCEL-PENDING take it, and lead to
--- NOT-SUPPLIED.
+-- Returns the answer to a message that ends the request without the item. It is a repeat in NOT-SUPPLIED. PENDING,
+-- CONDITIONAL and CANCEL-PENDING take it, and lead to NOT-SUPPLIED.
 abbrev pub take_end : RequesterRecord → Result Taking Refusal × RequesterRecord
 take_end x =
     if is_among (NotSupplied ∷ []) x.state then repeat x
@@ -43,8 +43,8 @@ take_end x =
     then taken (record x { state = NotSupplied; held = None })
     else conflict x.state x
 
--- In CANCEL-PENDING a Cancel-Reply to the last Cancel leads to CANCELLED on yes, and to PENDING on no. In CANCELLED
--- that yes is a repeat. Any other reply to a Cancel is stale.
+-- Returns the answer to a Cancel-Reply to message `c`. In CANCEL-PENDING a reply to the last Cancel leads to CANCELLED
+-- on yes, and to PENDING on no. In CANCELLED that yes is a repeat. Any other reply to a Cancel is stale.
 abbrev pub take_cancel_reply : RequesterRecord → ℕ → Bool → Result Taking Refusal × RequesterRecord
 take_cancel_reply x c is_yes =
     if is_among (CancelPending ∷ []) x.state && is_the c (last_cancel x)
@@ -54,8 +54,8 @@ take_cancel_reply x c is_yes =
     else if was is_cancel x.issued c then stale x
     else conflict x.state x
 
--- PENDING, CONDITIONAL and CANCEL-PENDING take a Shipped, and lead to SHIPPED with its due date. In SHIPPED or later
--- it is a repeat.
+-- Returns the answer to a Shipped with due date `d`. PENDING, CONDITIONAL and CANCEL-PENDING take it, and lead to
+-- SHIPPED. In SHIPPED or later it is a repeat.
 abbrev pub take_shipped : RequesterRecord → Date → Result Taking Refusal × RequesterRecord
 take_shipped x d =
     if is_among (Pending ∷ Conditional ∷ CancelPending ∷ []) x.state
@@ -63,8 +63,8 @@ take_shipped x d =
     else if is_among later x.state then repeat x
     else conflict x.state x
 
--- In SHIPPED or later, an Overdue for another day than the due date is stale. One for the due date leads to the
--- overdue form of SHIPPED, RECEIVED and RENEW/PENDING.
+-- Returns the answer to an Overdue for day `d`. In SHIPPED or later it is stale if `d` is not the due date. Else it
+-- leads from SHIPPED, RECEIVED or RENEW/PENDING to the overdue form of that state.
 abbrev pub take_overdue : RequesterRecord → Date → Result Taking Refusal × RequesterRecord
 take_overdue x d =
     if is_among later x.state && not (is_due_on d x.due) then stale x
@@ -74,7 +74,8 @@ take_overdue x d =
     else if is_among (NotReceivedOverdue ∷ Overdue ∷ RenewOverdue ∷ []) x.state then repeat x
     else conflict x.state x
 
--- A yes to the open Renew leads to RECEIVED if its date is after the due date. A no leads to RECEIVED or OVERDUE.
+-- Returns the answer to a Renew-Answer to the open Renew. A yes leads to RECEIVED if its date is after the due date. A
+-- no leads to RECEIVED from RENEW/PENDING, and else to OVERDUE.
 abbrev pub take_renewal : RequesterRecord → Option Date → Result Taking Refusal × RequesterRecord
 take_renewal x (Some d) =
     if is_after_due d x.due then taken (record x { state = Received; due = Some d })
@@ -82,7 +83,8 @@ take_renewal x (Some d) =
 take_renewal x None =
     taken (record x { state = (if is_among (RenewPending ∷ []) x.state then Received else Overdue) })
 
--- An answer to the last Renew decides it while it waits. Any other answer to a Renew is stale.
+-- Returns the answer to a Renew-Answer to message `c`. In RENEW/PENDING and RENEW/OVERDUE an answer to the last Renew
+-- decides it. Any other answer to a Renew is stale.
 abbrev pub take_renew_answer : RequesterRecord → ℕ → Option Date →
     Result Taking Refusal × RequesterRecord
 take_renew_answer x c granted =
@@ -91,7 +93,8 @@ take_renew_answer x c granted =
     else if was is_renew x.issued c then stale x
     else conflict x.state x
 
--- Each state from SHIPPED on but RECALL and RETURNED takes a Recall, and leads to RECALL. There it is a repeat.
+-- Returns the answer to a Recall. Each state from SHIPPED on but RECALL and RETURNED takes it, and leads to RECALL. In
+-- RECALL it is a repeat.
 abbrev pub take_recall : RequesterRecord → Result Taking Refusal × RequesterRecord
 take_recall x =
     if is_among
@@ -100,7 +103,8 @@ take_recall x =
     else if is_among (Recall ∷ []) x.state then repeat x
     else conflict x.state x
 
--- RETURNED takes the first Checked-In, which sets the mark. A later one is a repeat.
+-- Returns the answer to a Checked-In. RETURNED takes the first one, which sets the checked-in mark. A later one is a
+-- repeat.
 abbrev pub take_checked_in : RequesterRecord → Result Taking Refusal × RequesterRecord
 take_checked_in x =
     if is_among (Returned ∷ []) x.state && not x.checked_in
@@ -108,7 +112,7 @@ take_checked_in x =
     else if is_among (Returned ∷ []) x.state then repeat x
     else conflict x.state x
 
--- An ILL-Answer names conditions, promises to go on, or ends the request.
+-- Returns the answer to an ILL-Answer with number `k`, which names conditions, promises supply, or ends the request.
 abbrev pub take_answer : RequesterRecord → ℕ → AnswerResult →
     Result Taking Refusal × RequesterRecord
 take_answer x k results.Conditional = take_conditions x k
@@ -128,12 +132,12 @@ take_message x a types.Recall = take_recall x
 take_message x a types.CheckedIn = take_checked_in x
 take_message x a other = conflict x.state x
 
--- Returns the answer of a requester to an APDU, and the record after it. An APDU of another transaction, or of the
--- requester's own role, is refused.
+-- Returns the answer of a requester to an APDU, and the record after it. An APDU of another transaction, or of a type
+-- that a requester issues, is refused.
 abbrev pub takes : RequesterRecord → Apdu → Result Taking Refusal × RequesterRecord
 takes x a =
     unless_refused (first_refusal x.txn (is_requesters a.body) a) x (take_message x a a.body)
 
--- A requester answers APDU `a` with `answer`, and `new` is the record after it.
+-- A requester in record `old` answers APDU `a` with `answer`, and `new` is the record after it.
 abbrev pub Takes : RequesterRecord → Apdu → Result Taking Refusal → RequesterRecord → Type 0
 Takes old a answer new = (answer, new) ≡ takes old a

@@ -1,4 +1,5 @@
--- The facts that a requester's record shows, and the APDUs of a responder that tell them (this profile's own).
+-- Defines the facts that a requester's record claims, and the responder's APDUs that are evidence of them (this
+-- profile's own).
 use Rattle.std.specs.Prelude.{◌≡◌, ◌⊎◌, ℕ, Bool, true, false, ◌&&◌, List, [], ◌∷◌, ◌++◌, Option, Some, None, Result, Ok}
 use Rattle.ill_values.specs.Day.{Date}
 use Rattle.ill_values.specs.declared.apdu.Apdu.{Apdu}
@@ -20,24 +21,25 @@ use Rattle.std.specs.List.{list_all, filter_map}
 
 -- A fact that a message of the responder may tell.
 pub data Fact : Type 0 where
-  Cancelled : Fact  -- a Cancel was accepted
-  Ended : Fact  -- the item is not supplied
-  Granted : (due : Date) → Fact  -- the item may be kept until that day
-  Refused : (cancel : ℕ) → Fact  -- the Cancel with that number was refused
-  GivenBack : Fact  -- the item is back
+  Cancelled : Fact  -- A Cancel was accepted.
+  Ended : Fact  -- The item is not supplied.
+  Granted : (due : Date) → Fact  -- The item may be kept until `due`.
+  Refused : (cancel : ℕ) → Fact  -- The Cancel with number `cancel` was refused.
+  GivenBack : Fact  -- The item is back at the responder.
 
--- The Cancel c is open while it is the last one, in CANCEL-PENDING and CANCELLED.
+-- Returns true if `c` is the last Cancel, and the state is CANCEL-PENDING or CANCELLED.
 abbrev pub is_open : RequesterRecord → ℕ → Bool
 is_open x c =
     is_among (states.CancelPending ∷ states.Cancelled ∷ []) x.state && is_the c (last_cancel x)
 
--- A record shows Cancel c refused if it issued c, c is not open, and no other end has come.
+-- The record `x` claims that the responder refused Cancel `c`. The requester issued `c`, `c` is not open, and the state
+-- is neither NOT-SUPPLIED nor SHIPPED or later.
 abbrev pub ClaimsRefusal : RequesterRecord → ℕ → Type 0
 ClaimsRefusal x c =
     (was is_cancel x.issued c ≡ true) × (is_among (states.NotSupplied ∷ later) x.state ≡ false)
     × (is_open x c ≡ false)
 
--- The record of a requester shows a fact.
+-- The record `x` claims the fact.
 abbrev pub Claims : RequesterRecord → Fact → Type 0
 Claims x Cancelled = x.state ≡ states.Cancelled
 Claims x Ended = x.state ≡ states.NotSupplied
@@ -45,7 +47,7 @@ Claims x (Granted due) = x.due ≡ Some due
 Claims x (Refused cancel) = ClaimsRefusal x cancel
 Claims x GivenBack = x.checked_in ≡ true
 
--- The body of an APDU tells a fact.
+-- An APDU with this body is evidence of the fact.
 abbrev pub IsEvidence : Body → Fact → Type 0
 IsEvidence (types.CancelReply c true) Cancelled = Unit {0}
 IsEvidence (types.IllAnswer answer) Ended = is_final answer ≡ true
@@ -56,24 +58,24 @@ IsEvidence (types.CancelReply c false) (Refused cancel) = c ≡ cancel
 IsEvidence types.CheckedIn GivenBack = Unit {0}
 IsEvidence other fact = ⊥
 
--- Returns true if both due dates are there, and the new one is after the old one.
+-- Returns true if both due dates are there, and the new one is after `old`.
 abbrev pub is_raised : Option Date → Option Date → Bool
 is_raised old None = false
 is_raised old (Some d) = is_after_due d old
 
--- A due date that was there is kept or raised.
+-- There was no due date, or it is unchanged, or it was raised.
 abbrev pub KeepsDue : Option Date → Option Date → Type 0
 KeepsDue old new = (old ≡ None) ⊎ (new ≡ old) ⊎ (is_raised old new ≡ true)
 
--- Conditions k are held that were not. The record went from PENDING to CONDITIONAL, and k is not at most the accepted
--- number.
+-- The record `new` holds conditions `k`, and `x` did not. The state changed from PENDING to CONDITIONAL, and `k` is not
+-- at most the accepted number.
 abbrev pub HoldsNew : RequesterRecord → ℕ → RequesterRecord → Type 0
 HoldsNew x k new =
     (x.state ≡ states.Pending) × (new.state ≡ states.Conditional) × (new.held ≡ Some k)
     × (is_at_most k (accepted_number x) ≡ false)
 
--- The record holds new conditions k, or keeps its state and those held. Otherwise it is outside CONDITIONAL, with
--- those held or none.
+-- The record `new` holds the new conditions `k`, or has the conditions and the state of `x`. Otherwise `new` is outside
+-- CONDITIONAL, and holds the conditions of `x` or none.
 abbrev pub Holds : RequesterRecord → ℕ → RequesterRecord → Type 0
 Holds x k new =
     ((new.held ≡ x.held) × ((new.state ≡ x.state)
@@ -81,8 +83,8 @@ Holds x k new =
     ⊎ ((new.held ≡ None) × (is_among (states.Conditional ∷ []) new.state ≡ false))
     ⊎ HoldsNew x k new
 
--- A Conditional-Reply that is issued answers the conditions held. The state before was CONDITIONAL, and no conditions
--- were declined.
+-- A Conditional-Reply that is issued from `x` to `new` answers the conditions held. The state of `x` was CONDITIONAL,
+-- and no conditions had been declined.
 abbrev pub Replies : RequesterRecord → RequesterRecord → Type 0
 Replies x new =
     (a : Apdu) (n : ℕ) (is_yes : Bool) → new.issued ≡ x.issued ++ a ∷ [] →
@@ -90,12 +92,12 @@ Replies x new =
     → (is_among (states.Conditional ∷ []) x.state ≡ true) × (has declines x.issued ≡ false)
     × (n ≡ unwrap_or x.held 0)
 
--- The message was taken or a repeat, and the record after it is in one of `states`.
+-- The answer is `Taken` or `Repeat`, and the record after it is in one of `states`.
 abbrev pub LeadsTo : List State → Result Taking Refusal × RequesterRecord → Type 0
 LeadsTo states answer =
     ((answer.0 ≡ Ok Taken) ⊎ (answer.0 ≡ Ok Repeat)) × (is_among states answer.1.state ≡ true)
 
--- Returns the number of the conditions that a Conditional-Reply answers.
+-- Returns the number of the conditions that a Conditional-Reply answers, and `None` for any other APDU.
 abbrev pub replied_number : Body → Option ℕ
 replied_number (types.ConditionalReply answers is_yes) = Some answers
 replied_number other = None
@@ -104,8 +106,8 @@ replied_number other = None
 abbrev pub replies : List Apdu → List ℕ
 replies apdus = filter_map (λ a. replied_number a.body) apdus
 
--- Conditions are answered once. Until some are declined, those answered are at most the accepted number, and in
--- CONDITIONAL below the one held.
+-- The requester answers no conditions twice. If it has declined none, the answered numbers are at most the accepted
+-- number. In CONDITIONAL they are below the held number as well.
 pub record AnswersOnce (x : RequesterRecord) : Type 0 where
   pub distinct : are_distinct (replies x.issued) ≡ true
   pub above : has declines x.issued ≡ false →

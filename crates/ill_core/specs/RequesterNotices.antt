@@ -1,5 +1,5 @@
--- The notices that a requester's record reflects, with the APDUs of a responder that attest them (this profile's
--- own). Then the APDUs that the record has heard.
+-- Defines the notices that a requester's record reflects, and the responder's APDUs that attest them. Then it defines
+-- the APDUs that would not change the record (this profile's own).
 use Rattle.std.specs.Prelude.{◌≡◌, ◌⊎◌, ℕ, ◌<◌, Bool, true, false, not, ◌&&◌, ◌||◌, List, [], ◌∷◌, length, Option, Some, None}
 use Rattle.ill_values.specs.Day.{Date}
 use Rattle.ill_values.specs.declared.apdu.Body.{Body}
@@ -15,24 +15,24 @@ use Rattle.ill_core.specs.Bodies.{is_renew}
 use Rattle.ill_core.specs.Issued.{was}
 use Rattle.ill_core.specs.Requester.{RequesterRecord, accepted_number, last_cancel, last_renew}
 
--- ---- what a message gives notice of
+-- ---- notices
 
 -- A notice that a message of the responder may give.
 pub data Notice : Type 0 where
-  Recalled : Notice  -- the item is asked back
-  Named : (conditions : ℕ) → Notice  -- there are conditions with that number
-  -- the Renew with that number was answered, and grants no day after this one
+  Recalled : Notice  -- The responder asks for the item.
+  Named : (conditions : ℕ) → Notice  -- The responder named conditions with number `conditions`.
+  -- The Renew with number `renew` was answered. The answer grants no date after `day`.
   Answered : (renew : ℕ) → (day : Date) → Notice
-  -- a Shipped, or an answer to a Renew with a lower number, grants that day
+  -- A Shipped, or an answer to a Renew with a number below `renew`, grants the due date `due`.
   GrantedBefore : (renew : ℕ) → (due : Date) → Notice
-  PastDue : (due : Date) → Notice  -- the item was not back on that day, on which it was due
+  PastDue : (due : Date) → Notice  -- The item was not back after its due date `due`.
 
--- The Renew with this number is the last one, and waits for its answer.
+-- Returns true if `renew` is the last Renew, and waits for its answer.
 abbrev pub awaits : RequesterRecord → ℕ → Bool
 awaits x renew =
     is_among (states.RenewPending ∷ states.RenewOverdue ∷ []) x.state && is_the renew (last_renew x)
 
--- The Cancel with this number is the last one, and waits for its answer.
+-- Returns true if `cancel` is the last Cancel, and waits for its answer.
 abbrev pub awaits_cancel : RequesterRecord → ℕ → Bool
 awaits_cancel x cancel = is_among (states.CancelPending ∷ []) x.state && is_the cancel (last_cancel x)
 
@@ -41,7 +41,7 @@ abbrev pub is_due_after : Date → Option Date → Bool
 is_due_after day None = false
 is_due_after day (Some due) = is_before day due
 
--- The record of a requester reflects a notice.
+-- The record `x` reflects the notice.
 abbrev pub Reflects : RequesterRecord → Notice → Type 0
 Reflects x Recalled = x.state ≡ states.Recall
 Reflects x (Named conditions) = (x.held ≡ Some conditions) ⊎ (accepted_number x ≡ Some conditions)
@@ -55,7 +55,7 @@ Reflects x (PastDue due) =
     (x.due ≡ Some due)
     × (is_among (states.NotReceivedOverdue ∷ states.Overdue ∷ states.RenewOverdue ∷ []) x.state ≡ true)
 
--- An APDU with this number and body attests a notice.
+-- An APDU with this number and body attests the notice.
 abbrev pub Attests : ℕ → Body → Notice → Type 0
 Attests number types.Recall Recalled = Unit {0}
 Attests number (types.IllAnswer results.Conditional) (Named conditions) = number ≡ conditions
@@ -67,23 +67,23 @@ Attests number (types.RenewAnswer answers (Some granted)) (GrantedBefore renew d
 Attests number (types.Overdue day) (PastDue due) = day ≡ due
 Attests number other notice = ⊥
 
--- ---- which messages a record has heard
+-- ---- messages that change nothing
 
--- The states that wait for the responder to ship, to cancel or to give up.
+-- Lists the states in which the requester waits for the responder to ship, to cancel or to refuse.
 abbrev pub undecided : List State
 undecided = states.Pending ∷ states.Conditional ∷ states.CancelPending ∷ []
 
--- The states in which the item is with the requester, or on its way there, and was not recalled.
+-- Lists the states in which the requester has the item, or the item is on its way there, and was not recalled.
 abbrev pub lent : List State
 lent =
     states.Shipped ∷ states.NotReceivedOverdue ∷ states.Received ∷ states.Overdue ∷ states.RenewPending
     ∷ states.RenewOverdue ∷ []
 
--- The states that an Overdue for the due date changes.
+-- Lists the states that an Overdue for the due date changes.
 abbrev pub in_time : List State
 in_time = states.Shipped ∷ states.Received ∷ states.RenewPending ∷ []
 
--- A record has heard an APDU with this number and body if that would not change it now.
+-- Returns true if an APDU with `number` and this body would not change record `x` now.
 abbrev pub has_heard : RequesterRecord → ℕ → Body → Bool
 has_heard x number (types.IllAnswer results.Conditional) =
     not (is_among (states.Pending ∷ []) x.state) || is_at_most number (accepted_number x)
@@ -100,7 +100,7 @@ has_heard x number types.Recall = not (is_among lent x.state)
 has_heard x number types.CheckedIn = implies (is_among (states.Returned ∷ []) x.state) x.checked_in
 has_heard x number other = true
 
--- Returns true if `first` leads to a state in which `second`, though heard before, would change the record.
+-- Returns true if `first` leads to a state in which `second` changes the record, although it changed nothing before.
 abbrev pub reopens : Body → Body → Bool
 reopens (types.CancelReply answers false) (types.IllAnswer results.Conditional) = true
 reopens (types.Shipped due) types.Recall = true

@@ -1,4 +1,4 @@
--- The rules of a requester's record one by one. A proof takes them from `is_consistent`, and back.
+-- Splits the invariant `is_consistent` of a requester's record into its rules, one field for each.
 use Rattle.std.specs.Prelude.{◌≡◌, Bool, true, false, not, List, [], ◌∷◌, is_some}
 use Rattle.std.specs.List.{list_all}
 use Rattle.ill_values.specs.declared.apdu.Apdu.{Apdu}
@@ -12,15 +12,16 @@ use Rattle.ill_core.specs.Bodies.{declines, is_requesters, is_cancel, is_receive
 use Rattle.ill_core.specs.Issued.{is_none, are_numbered, has}
 use Rattle.ill_core.specs.Requester.{RequesterRecord, later, begins_with_request}
 
--- The state is a requester's, and has the parts that it wants. `is_held` is of conditions, `is_due` of a due date,
--- `is_marked` of the checked-in mark.
+-- The state is a requester's, and the parts of the record fit it. `is_held` says that conditions are held, `is_due`
+-- that there is a due date, and `is_marked` that the checked-in mark is set.
 pub record PartsFit (state : State) (is_held is_due is_marked : Bool) : Type 0 where
   pub role : is_among (InProcess ∷ CheckedIn ∷ []) state ≡ false
   pub held : is_held ≡ is_among (Conditional ∷ []) state
   pub due : is_due ≡ is_among later state
   pub checked_in : implies is_marked (is_among (Returned ∷ []) state) ≡ true
 
--- The list fits the state. `none` says that it is empty, and each other test that it has one kind of APDU.
+-- The list fits the state. `none` says that the list is empty. Each of the other tests says that it has an APDU of one
+-- kind.
 pub record IssuedFit (state : State) (none has_received has_cancel has_renew has_returned has_no : Bool)
     : Type 0 where
   pub idle : none ≡ is_among (Idle ∷ []) state
@@ -36,13 +37,13 @@ pub record IssuedFit (state : State) (none has_received has_cancel has_renew has
   pub declined : implies has_no
       (not (is_among (Pending ∷ CancelPending ∷ Cancelled ∷ []) state)) ≡ true
 
--- The list of a record fits its state.
+-- The list `issued` fits `state`.
 abbrev pub IssuedFits : State → List Apdu → Type 0
 IssuedFits state issued =
     IssuedFit state (is_none issued) (has is_received issued) (has is_cancel issued)
     (has is_renew issued) (has is_returned issued) (has declines issued)
 
--- A record keeps all rules of a requester.
+-- The record `x` satisfies all rules of a requester.
 pub record RequesterRules (x : RequesterRecord) : Type 0 where
   pub numbered : are_numbered x.txn 1 x.issued ≡ true
   pub role : list_all (λ a. is_requesters a.body) x.issued ≡ true

@@ -1,4 +1,4 @@
--- A requester's tables as arrays of rows: their guards and their changes (this profile's own).
+-- Defines the guards and the changes of the rows in a requester's tables (this profile's own).
 use Rattle.std.specs.Prelude.{ℕ, Bool, false, not, ◌||◌, ◌==◌, List, [], ◌∷◌, ◌++◌, Option, Some, None, if◌then◌else◌}
 use Rattle.std.specs.List.{filter, find}
 use Rattle.std.specs.Option.{unwrap_or}
@@ -22,15 +22,15 @@ use Rattle.ill_core.specs.Kinds.{responder_kind, responder_place, requester_plac
 use Rattle.ill_core.specs.Tables.{Guard, has, next_state, fits}
 use Rattle.ill_core.specs.Requester.{RequesterRecord, accepted_number, is_declined, is_received_by, last_cancel, last_renew}
 
--- Returns the conditions held after a row is followed for message k: k, none, or those held before.
+-- Returns the held conditions after a row with `changes` is followed for message `k`: `k`, none, or those held before.
 abbrev pub held_after : ℕ → Option ℕ → ℕ → Option ℕ
 held_after changes held k = if has changes HOLDS then Some k else (if has changes FREES then None else held)
 
--- Returns the due date after a row is followed for `date`.
+-- Returns the due date after a row with `changes` is followed for `date`.
 abbrev pub due_after : ℕ → Option Date → Option Date → Option Date
 due_after changes due date = if has changes DUE then date else due
 
--- Returns the record after a row is followed for message k with `date`.
+-- Returns the record after a row is followed for message `k` with `date`.
 abbrev pub after : {K : Type 0} → RequesterRecord → Row K → ℕ → Option Date → RequesterRecord
 after x row k date =
     record x {
@@ -45,48 +45,49 @@ abbrev pub is_dated : (Date → Bool) → Option Date → Bool
 is_dated f None = false
 is_dated f (Some d) = f d
 
--- The guards of conditions that message k names: k is at most the accepted number, or k is held.
+-- Returns the guards on the conditions of message `k`: `k` is at most the accepted number, or `k` is held.
 abbrev pub number_guards : RequesterRecord → ℕ → List Guard
 number_guards x k =
     record { bit = delivery.PASSED; holds = is_at_most k (accepted_number x) }
     ∷ record { bit = delivery.HELD; holds = is_the k x.held } ∷ []
 
--- The guards of an answer to message c: c is the last Cancel, or some Cancel.
+-- Returns the guards on an answer to message `c`: `c` is the last Cancel, or `c` is any Cancel.
 abbrev pub cancel_guards : RequesterRecord → ℕ → List Guard
 cancel_guards x c =
     record { bit = delivery.LAST_CANCEL; holds = is_the c (last_cancel x) }
     ∷ record { bit = delivery.WAS_CANCEL; holds = was is_cancel x.issued c } ∷ []
 
--- The guards of an answer to message c: c is the last Renew, or some Renew.
+-- Returns the guards on an answer to message `c`: `c` is the last Renew, or `c` is any Renew.
 abbrev pub renew_guards : RequesterRecord → ℕ → List Guard
 renew_guards x c =
     record { bit = delivery.LAST_RENEW; holds = is_the c (last_renew x) }
     ∷ record { bit = delivery.WAS_RENEW; holds = was is_renew x.issued c } ∷ []
 
--- The guards of a date: it is not the due date; it is later; the checked-in mark is not set.
+-- Returns the guards on `date`: it is not the due date, or it is later. The last guard is that the checked-in mark is
+-- not set.
 abbrev pub due_guards : RequesterRecord → Option Date → List Guard
 due_guards x date =
     record { bit = delivery.NOT_DUE; holds = not (is_dated (λ d. is_due_on d x.due) date) }
     ∷ record { bit = delivery.LATER; holds = is_dated (λ d. is_after_due d x.due) date }
     ∷ record { bit = delivery.UNMARKED; holds = not x.checked_in } ∷ []
 
--- The guards that rows of deliveries may ask for, of a message that tells k and `date`.
+-- Returns all guards that rows of deliveries may ask for, for a message with number `k` and `date`.
 abbrev pub delivery_guards : RequesterRecord → ℕ → Option Date → List Guard
 delivery_guards x k date =
     number_guards x k ++ (cancel_guards x k ++ (renew_guards x k ++ due_guards x date))
 
--- Returns the rows of a kind, in the order of the table.
+-- Returns the rows of deliveries of a kind, in the order of the table.
 abbrev pub delivery_rows : ResponderKind → List (Row ResponderKind)
 delivery_rows kind = filter (λ r. responder_place r.0 == responder_place kind) delivery.ROWS
 
--- Returns the first row of the kind that fits an APDU. Without a kind there is none.
+-- Returns the first row of the kind that fits an APDU. It is `None` without a kind or a row.
 abbrev pub delivery_row_of : RequesterRecord → Apdu → Body → Option ResponderKind →
     Option (Row ResponderKind)
 delivery_row_of x a body None = None
 delivery_row_of x a body (Some kind) =
     find (fits x.state (delivery_guards x (number_in a body) (date_in body))) (delivery_rows kind)
 
--- Returns the first row that fits an APDU.
+-- Returns the first row of deliveries that fits an APDU, or `None`.
 abbrev pub delivery_row : RequesterRecord → Apdu → Option (Row ResponderKind)
 delivery_row x a = delivery_row_of x a a.body (responder_kind a.body)
 
@@ -99,7 +100,8 @@ wish_body x wishes.Receive = types.Received
 wish_body x (wishes.Renew wished) = types.Renew wished
 wish_body x wishes.Return = types.Returned
 
--- The guards that rows of wishes may ask for: no conditions declined, no item received, item received.
+-- Returns the guards that rows of wishes may ask for: the conditions were not declined, no Received was issued, a
+-- Received was issued.
 abbrev pub wish_guards : RequesterRecord → List Guard
 wish_guards x =
     record { bit = wish.UNDECLINED; holds = not (is_declined x) }
@@ -110,6 +112,6 @@ wish_guards x =
 abbrev pub wish_rows : RequesterKind → List (Row RequesterKind)
 wish_rows kind = filter (λ r. requester_place r.0 == requester_place kind) wish.ROWS
 
--- Returns the first row that fits a wish.
+-- Returns the first row of wishes that fits wish `w`, or `None`.
 abbrev pub wish_row : RequesterRecord → Wish → Option (Row RequesterKind)
 wish_row x w = find (fits x.state (wish_guards x)) (wish_rows (wish_kind w))

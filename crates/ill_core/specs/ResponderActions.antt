@@ -1,6 +1,6 @@
--- The deeds of a responder: its table of actions (this profile's own; the services are those of ISO 10160). A
--- transition has the states before, the state after, the APDU that is issued, and the date that forbids it. A deed that
--- no transition has is not done now.
+-- Defines the table of a responder's deeds (this profile's own; the services are those of ISO 10160). A transition has
+-- the state after the deed and the APDU that is issued. A date may forbid it. A deed without a transition is refused
+-- with `NotNow`.
 use Rattle.std.specs.Prelude.{◌≡◌, ℕ, Bool, true, false, not, [], ◌∷◌, Option, Some, None, Result, Ok, Err, IsOk, if◌then◌else◌}
 use Rattle.std.specs.Option.{unwrap_or}
 use Rattle.ill_values.specs.Day.{Date}
@@ -25,35 +25,36 @@ use Rattle.ill_core.specs.Responder.{ResponderRecord, due_of}
 -- The effect of a deed.
 pub record Transition : Type 0 where
   pub next : State  -- the state after the deed
-  pub body : Body  -- the body of the APDU that is issued
+  pub body : Body  -- The body of the APDU that is issued.
 
--- The transition that leads to `next` and issues `body`.
+-- Returns the transition that leads to `next` and issues `body`.
 abbrev pub leads_to : State → Body → Result Transition Refusal
 leads_to next body = Ok (record { next = next; body = body })
 
--- The deed is refused with `NotNow` and the present state.
+-- Returns the refusal `NotNow` with the present state.
 abbrev pub not_now : ResponderRecord → Result Transition Refusal
 not_now y = Err (refusals.NotNow y.state)
 
--- Returns the transition if its date allows it, and else the refusal.
+-- Returns `transition` if its date allows it, and else `refusal`.
 abbrev pub if_allowed : Bool → Refusal → Result Transition Refusal → Result Transition Refusal
 if_allowed true refusal transition = transition
 if_allowed false refusal transition = Err refusal
 
--- Returns the state after an ILL-Answer is issued.
+-- Returns the state after an ILL-Answer with this result is issued.
 abbrev pub after_answer : AnswerResult → State
 after_answer results.Conditional = Conditional
 after_answer results.WillSupply = InProcess
 after_answer results.HoldPlaced = InProcess
 after_answer other = NotSupplied
 
--- Answer has a transition in IN-PROCESS, and leads to the state of its result.
+-- Returns the transition of Answer: from IN-PROCESS to the state of its result.
 abbrev pub answer_transition : ResponderRecord → AnswerResult → Result Transition Refusal
 answer_transition y answer =
     if is_among (InProcess ∷ []) y.state then leads_to (after_answer answer) (types.IllAnswer answer)
     else not_now y
 
--- CancelReply leads from CANCEL-PENDING to CANCELLED on yes, and to IN-PROCESS on no. It answers the last Cancel.
+-- Returns the transition of CancelReply: from CANCEL-PENDING to CANCELLED on yes, and to IN-PROCESS on no. It answers
+-- the last Cancel.
 abbrev pub cancel_reply_transition : ResponderRecord → Bool → Result Transition Refusal
 cancel_reply_transition y is_yes =
     if is_among (CancelPending ∷ []) y.state
@@ -61,7 +62,7 @@ cancel_reply_transition y is_yes =
     (types.CancelReply (unwrap_or y.last_cancel 0) is_yes)
     else not_now y
 
--- Ship leads from IN-PROCESS to SHIPPED, unless `due` is before `today`.
+-- Returns the transition of Ship: from IN-PROCESS to SHIPPED, unless `due` is before `today`.
 abbrev pub ship_transition : ResponderRecord → Date → Date → Result Transition Refusal
 ship_transition y due today =
     if is_among (InProcess ∷ []) y.state
@@ -69,61 +70,63 @@ ship_transition y due today =
     (leads_to Shipped (types.Shipped due))
     else not_now y
 
--- A RenewAnswer yes leads to SHIPPED if its date is after the due date. A no leads to `unrenewed`. Both answer the
--- last Renew.
+-- Returns the transition of a RenewAnswer, which answers the last Renew. A yes leads to SHIPPED if its date is after
+-- the due date. A no leads to `unrenewed`.
 abbrev pub renewal_transition : ResponderRecord → State → Option Date → Result Transition Refusal
 renewal_transition y unrenewed None = leads_to unrenewed (types.RenewAnswer (unwrap_or y.last_renew 0) None)
 renewal_transition y unrenewed (Some d) =
     if_allowed (is_after_due d (due_of y)) refusals.DateNotLater
     (leads_to Shipped (types.RenewAnswer (unwrap_or y.last_renew 0) (Some d)))
 
--- RenewAnswer has a transition in RENEW/PENDING and in RENEW/OVERDUE. After a no the item is in SHIPPED or in OVERDUE.
+-- Returns the transition of RenewAnswer: from RENEW/PENDING or RENEW/OVERDUE. A no leads to SHIPPED from RENEW/PENDING,
+-- and to OVERDUE from RENEW/OVERDUE.
 abbrev pub renew_answer_transition : ResponderRecord → Option Date → Result Transition Refusal
 renew_answer_transition y granted =
     if is_among (RenewPending ∷ []) y.state then renewal_transition y Shipped granted
     else if is_among (RenewOverdue ∷ []) y.state then renewal_transition y Overdue granted
     else not_now y
 
--- A date that stands for none.
+-- Returns a date that stands for an absent date.
 abbrev pub no_date : Date
 no_date = record { year = 0; month = 0; day = 0 }
 
--- Overdue leads to `next` if `today` is after the due date. It issues an Overdue for the due date.
+-- Returns the transition of Overdue to `next`, if `today` is after the due date. It issues an Overdue for the due date.
 abbrev pub overdue_transition_to : ResponderRecord → Date → State → Result Transition Refusal
 overdue_transition_to y today next =
     if_allowed (is_after_due today (due_of y)) refusals.NotDue
     (leads_to next (types.Overdue (unwrap_or (due_of y) no_date)))
 
--- Overdue leads from SHIPPED to OVERDUE, and from RENEW/PENDING to RENEW/OVERDUE.
+-- Returns the transition of Overdue: from SHIPPED to OVERDUE, and from RENEW/PENDING to RENEW/OVERDUE.
 abbrev pub overdue_transition : ResponderRecord → Date → Result Transition Refusal
 overdue_transition y today =
     if is_among (Shipped ∷ []) y.state then overdue_transition_to y today Overdue
     else if is_among (RenewPending ∷ []) y.state then overdue_transition_to y today RenewOverdue
     else not_now y
 
--- Recall leads from SHIPPED and OVERDUE to RECALL.
+-- Returns the transition of Recall: from SHIPPED or OVERDUE to RECALL.
 abbrev pub recall_transition : ResponderRecord → Result Transition Refusal
 recall_transition y =
     if is_among (Shipped ∷ Overdue ∷ []) y.state then leads_to Recall types.Recall
     else not_now y
 
--- CheckIn leads from RETURNED to CHECKED-IN.
+-- Returns the transition of CheckIn: from RETURNED to CHECKED-IN.
 abbrev pub check_in_transition : ResponderRecord → Result Transition Refusal
 check_in_transition y =
     if is_among (Returned ∷ []) y.state then leads_to CheckedIn types.CheckedIn
     else not_now y
 
--- Returns the expiry date of an ILL-Request.
+-- Returns the expiry date of an ILL-Request, or `None`.
 abbrev pub expiry_in : Body → Option Date
 expiry_in (types.IllRequest expiry item) = expiry
 expiry_in other = None
 
--- Returns the expiry date of a request, if there is one.
+-- Returns the expiry date of a request, or `None`.
 abbrev pub expiry_of : Option Apdu → Option Date
 expiry_of None = None
 expiry_of (Some a) = expiry_in a.body
 
--- Expire leads from IN-PROCESS and CONDITIONAL to NOT-SUPPLIED, if `today` is after the expiry date.
+-- Returns the transition of Expire: from IN-PROCESS or CONDITIONAL to NOT-SUPPLIED, if `today` is after the expiry
+-- date.
 abbrev pub expire_transition : ResponderRecord → Date → Result Transition Refusal
 expire_transition y today =
     if is_among (InProcess ∷ Conditional ∷ []) y.state
@@ -131,7 +134,7 @@ expire_transition y today =
     (leads_to NotSupplied types.Expired)
     else not_now y
 
--- Returns the transition of a deed, or the refusal: `NotNow`, or that of its date.
+-- Returns the transition of a deed on the day `today`, or the refusal: `NotNow`, or the refusal of its date.
 abbrev pub transition_of : ResponderRecord → Deed → Date → Result Transition Refusal
 transition_of y (deeds.Answer answer) today = answer_transition y answer
 transition_of y (deeds.CancelReply is_yes) today = cancel_reply_transition y is_yes
@@ -142,7 +145,7 @@ transition_of y deeds.Recall today = recall_transition y
 transition_of y deeds.CheckIn today = check_in_transition y
 transition_of y deeds.Expire today = expire_transition y today
 
--- Returns the record in `state`, with one more APDU of this body.
+-- Returns the record in `state`, with one more APDU, which has `body`.
 abbrev pub issues_to : ResponderRecord → Body → State → ResponderRecord
 issues_to y body state =
     record {
@@ -160,19 +163,20 @@ issues_to y body state =
 abbrev pub record_after : ResponderRecord → Transition → ResponderRecord
 record_after y transition = issues_to y transition.body transition.next
 
--- Returns the record after a transition, or the refusal of the transition, or else that of the number.
+-- Returns the record after a transition, or the refusal of the transition, or else the refusal of the number.
 abbrev pub acts_by : ResponderRecord → Result Transition Refusal → Result ℕ Refusal →
     Result ResponderRecord Refusal
 acts_by y (Err refusal) number = Err refusal
 acts_by y (Ok transition) (Err refusal) = Err refusal
 acts_by y (Ok transition) (Ok number) = Ok (record_after y transition)
 
--- Returns the record after a deed, or its refusal: first `NotNow`, then that of its date, then `NumbersUsed`.
+-- Returns the record after a deed on the day `today`, or its refusal: first `NotNow`, then the refusal of its date,
+-- then `NumbersUsed`.
 abbrev pub acts : ResponderRecord → Deed → Date → Result ResponderRecord Refusal
 acts y deed today = acts_by y (transition_of y deed today) (next_number y.issued)
 
--- A responder answers `deed` so on the day `today`, and `new` is the record after it. `OutOfMemory` comes only for a
--- deed that would be done. A refusal leaves the record.
+-- A responder in record `old` answers `deed` on the day `today` with the result, and `new` is the record after it.
+-- `OutOfMemory` comes only for a deed that would succeed. A refusal does not change the record.
 abbrev pub Acts : ResponderRecord → Deed → Date → Result Unit Refusal → ResponderRecord → Type 0
 Acts old deed today (Ok done) new = acts old deed today ≡ Ok new
 Acts old deed today (Err refusals.OutOfMemory) new = IsOk (acts old deed today) × (new ≡ old)

@@ -1,5 +1,5 @@
--- The messages of a requester to a responder: the table of deliveries (this profile's own). The first transition that
--- fits decides. An APDU that no transition fits is a conflict with the present state.
+-- Defines the table of a requester's messages to a responder (this profile's own). The first transition that fits
+-- decides. An APDU that no transition fits is a conflict with the present state.
 use Rattle.std.specs.Prelude.{◌≡◌, ℕ, Bool, true, false, not, ◌&&◌, [], ◌∷◌, Some, Result, Ok, Err, if◌then◌else◌}
 use Rattle.ill_values.specs.declared.apdu.Apdu.{Apdu}
 use Rattle.ill_values.specs.declared.apdu.Body.{Body}
@@ -19,14 +19,15 @@ use Rattle.ill_core.specs.Issued.{was, first_refusal, next_number}
 use Rattle.ill_core.specs.Responder.{ResponderRecord, outstanding_number, later}
 use Rattle.ill_core.specs.ResponderActions.{issues_to}
 
--- IDLE takes an ILL-Request, keeps it, and leads to IN-PROCESS. In any other state it is a repeat.
+-- Returns the answer to an ILL-Request. IDLE takes it, keeps it, and leads to IN-PROCESS. In any other state it is a
+-- repeat.
 abbrev pub take_request : ResponderRecord → Apdu → Result Taking Refusal × ResponderRecord
 take_request y a =
     if is_among (Idle ∷ []) y.state then taken (record y { state = InProcess; request = Some a })
     else repeat y
 
--- A yes to the outstanding conditions leads to IN-PROCESS, and accepts them. A yes to those accepted is a repeat, and
--- one to other conditions is stale.
+-- Returns the answer to a Conditional-Reply yes to message `c`. If `c` is outstanding, it leads to IN-PROCESS, and `c`
+-- is accepted. If `c` is accepted, it is a repeat. If `c` named other conditions, it is stale.
 abbrev pub take_yes : ResponderRecord → ℕ → Result Taking Refusal × ResponderRecord
 take_yes y c =
     if is_the c (outstanding_number y) then taken (record y { state = InProcess; accepted = Some c })
@@ -34,20 +35,21 @@ take_yes y c =
     else if was names_conditions y.issued c then stale y
     else conflict y.state y
 
--- A no is answered by an ILL-Answer unfilled, which leads to NOT-SUPPLIED. It is refused if no number is left.
+-- Returns the answer to a no that is taken. It issues an ILL-Answer unfilled, and leads to NOT-SUPPLIED. It is refused
+-- if no number is left.
 abbrev pub answers_no : ResponderRecord → Result ℕ Refusal → Result Taking Refusal × ResponderRecord
 answers_no y (Ok number) = taken (issues_to y (types.IllAnswer Unfilled) NotSupplied)
 answers_no y (Err refusal) = (Err refusal, y)
 
--- IN-PROCESS and CONDITIONAL take a no. In NOT-SUPPLIED it is a repeat.
+-- Returns the answer to a Conditional-Reply no. IN-PROCESS and CONDITIONAL take it. In NOT-SUPPLIED it is a repeat.
 abbrev pub take_no : ResponderRecord → Result Taking Refusal × ResponderRecord
 take_no y =
     if is_among (InProcess ∷ Conditional ∷ []) y.state then answers_no y (next_number y.issued)
     else if is_among (NotSupplied ∷ []) y.state then repeat y
     else conflict y.state y
 
--- A Cancel is a repeat if its number is at most the last Cancel. Else IN-PROCESS and CONDITIONAL take it, and lead to
--- CANCEL-PENDING.
+-- Returns the answer to a Cancel with number `n`. It is a repeat if `n` is at most the last Cancel. Else IN-PROCESS and
+-- CONDITIONAL take it, and lead to CANCEL-PENDING.
 abbrev pub take_cancel : ResponderRecord → ℕ → Result Taking Refusal × ResponderRecord
 take_cancel y n =
     if is_at_most n y.last_cancel then repeat y
@@ -55,15 +57,16 @@ take_cancel y n =
     then taken (record y { state = CancelPending; last_cancel = Some n })
     else conflict y.state y
 
--- SHIPPED and later states take the first Received, which sets the mark. A later one is a repeat.
+-- Returns the answer to a Received. SHIPPED or later takes the first one, which sets the received mark. A later one is
+-- a repeat.
 abbrev pub take_received : ResponderRecord → Result Taking Refusal × ResponderRecord
 take_received y =
     if is_among later y.state && not y.received then taken (record y { received = true })
     else if is_among later y.state then repeat y
     else conflict y.state y
 
--- A Renew is a repeat if its number is at most the last Renew. Else SHIPPED takes it to RENEW/PENDING, and OVERDUE to
--- RENEW/OVERDUE.
+-- Returns the answer to a Renew with number `n`. It is a repeat if `n` is at most the last Renew. Else SHIPPED takes it
+-- to RENEW/PENDING, and OVERDUE takes it to RENEW/OVERDUE.
 abbrev pub take_renew : ResponderRecord → ℕ → Result Taking Refusal × ResponderRecord
 take_renew y n =
     if is_at_most n y.last_renew then repeat y
@@ -73,7 +76,8 @@ take_renew y n =
     then taken (record y { state = RenewOverdue; last_renew = Some n })
     else conflict y.state y
 
--- A Returned leads to RETURNED while the item is out. In RETURNED and CHECKED-IN it is a repeat.
+-- Returns the answer to a Returned. It leads to RETURNED while the item is lent. In RETURNED and CHECKED-IN it is a
+-- repeat.
 abbrev pub take_returned : ResponderRecord → Result Taking Refusal × ResponderRecord
 take_returned y =
     if is_among (Shipped ∷ RenewPending ∷ Overdue ∷ RenewOverdue ∷ Recall ∷ []) y.state
@@ -92,26 +96,27 @@ take_message y a (types.Renew wished) = take_renew y a.number
 take_message y a types.Returned = take_returned y
 take_message y a other = conflict y.state y
 
--- Returns the answer of a responder to an APDU, and the record after it. An APDU of another transaction, or of the
--- responder's own role, is refused.
+-- Returns the answer of a responder to an APDU, and the record after it. An APDU of another transaction, or of a type
+-- that a responder issues, is refused.
 abbrev pub takes : ResponderRecord → Apdu → Result Taking Refusal × ResponderRecord
 takes y a =
     unless_refused (first_refusal y.txn (not (is_requesters a.body)) a) y (take_message y a a.body)
 
--- Returns true for an ILL-Request in IDLE, and for a Conditional-Reply no in IN-PROCESS or CONDITIONAL.
+-- Returns true if the delivery takes memory: an ILL-Request in IDLE, or a Conditional-Reply no in IN-PROCESS or
+-- CONDITIONAL.
 abbrev pub takes_memory : ResponderRecord → Body → Bool
 takes_memory y (types.IllRequest expiry item) = is_among (Idle ∷ []) y.state
 takes_memory y (types.ConditionalReply c false) = is_among (InProcess ∷ Conditional ∷ []) y.state
 takes_memory y other = false
 
--- A call gives the expected answer and record. If it takes memory for news, it may also answer `OutOfMemory` and
--- leave the record.
+-- A call returns the expected answer and record. If the expected answer is `Taken` and `memory` is true, it may return
+-- `OutOfMemory` instead, and not change the record.
 abbrev pub MayWantMemory : Result Taking Refusal × ResponderRecord → Bool → ResponderRecord →
     Result Taking Refusal → ResponderRecord → Type 0
 MayWantMemory expected memory old (Err refusals.OutOfMemory) new =
     (expected.0 ≡ Ok Taken) × (memory ≡ true) × (new ≡ old)
 MayWantMemory expected memory old answer new = (answer, new) ≡ expected
 
--- A responder answers APDU `a` with `answer`, and `new` is the record after it.
+-- A responder in record `old` answers APDU `a` with `answer`, and `new` is the record after it.
 abbrev pub Takes : ResponderRecord → Apdu → Result Taking Refusal → ResponderRecord → Type 0
 Takes old a answer new = MayWantMemory (takes old a) (takes_memory old a.body) old answer new

@@ -1,5 +1,5 @@
--- The facts that a responder's record shows, with the APDUs of a requester that tell them (this profile's own). Then
--- the rules that its rows keep.
+-- Defines the facts that a responder's record claims, and the requester's APDUs that are evidence of them (this
+-- profile's own). Then it defines the properties that the responder's rows satisfy.
 use Rattle.std.specs.Prelude.{◌≡◌, ◌⊎◌, ℕ, Bool, true, false, ◌&&◌, ◌||◌, ◌==◌, List, [], ◌∷◌, ◌++◌, Option, Some, None, Result}
 use Rattle.std.specs.Prelude.{Ok, if◌then◌else◌}
 use Rattle.std.specs.List.{list_all, filter_map, count_by}
@@ -23,18 +23,18 @@ use Rattle.ill_core.specs.Responder.{ResponderRecord, later}
 
 -- A fact that a message of the requester may tell.
 pub data Fact : Type 0 where
-  Requested : Fact  -- the item was asked for
-  Accepted : (conditions : ℕ) → Fact  -- the conditions with that number were accepted
-  CancelAsked : (cancel : ℕ) → Fact  -- there is a Cancel with that number
-  Arrived : Fact  -- the requester has the item
-  SentBack : Fact  -- the requester has sent the item back
+  Requested : Fact  -- The requester asked for the item.
+  Accepted : (conditions : ℕ) → Fact  -- The requester accepted the conditions with number `conditions`.
+  CancelAsked : (cancel : ℕ) → Fact  -- The requester issued a Cancel with number `cancel`.
+  Arrived : Fact  -- The requester has the item.
+  SentBack : Fact  -- The requester has sent the item back.
 
--- Returns true if the APDU is a Cancel-Reply yes to Cancel n.
+-- Returns true if the APDU is a Cancel-Reply yes to Cancel `n`.
 abbrev pub cancels : ℕ → Body → Bool
 cancels n (types.CancelReply c true) = c == n
 cancels n other = false
 
--- The record of a responder shows a fact.
+-- The record `y` claims the fact.
 abbrev pub Claims : ResponderRecord → Fact → Type 0
 Claims y Requested = is_among (Idle ∷ []) y.state ≡ false
 Claims y (Accepted conditions) = y.accepted ≡ Some conditions
@@ -42,7 +42,7 @@ Claims y (CancelAsked cancel) = (y.last_cancel ≡ Some cancel) ⊎ (has (cancel
 Claims y Arrived = y.received ≡ true
 Claims y SentBack = is_among (Returned ∷ CheckedIn ∷ []) y.state ≡ true
 
--- An APDU with this number and body tells a fact.
+-- An APDU with this number and body is evidence of the fact.
 abbrev pub IsEvidence : ℕ → Body → Fact → Type 0
 IsEvidence number (types.IllRequest expiry item) Requested = Unit {0}
 IsEvidence number (types.ConditionalReply c true) (Accepted conditions) = c ≡ conditions
@@ -51,58 +51,59 @@ IsEvidence number types.Received Arrived = Unit {0}
 IsEvidence number types.Returned SentBack = Unit {0}
 IsEvidence number other fact = ⊥
 
--- A record past IDLE keeps its request, and stays past IDLE.
+-- If `y` is not in IDLE, `new` is not in IDLE either, and has the request of `y`.
 abbrev pub KeepsRequest : ResponderRecord → ResponderRecord → Type 0
 KeepsRequest y new =
     is_among (Idle ∷ []) y.state ≡ false →
     (is_among (Idle ∷ []) new.state ≡ false) × (new.request ≡ y.request)
 
--- An APDU issues nothing, or, if it is a Conditional-Reply no, one ILL-Answer unfilled.
+-- A message issues nothing. A Conditional-Reply no may issue one ILL-Answer unfilled.
 abbrev pub IssuesUnfilled : ResponderRecord → Body → ResponderRecord → Type 0
 IssuesUnfilled y body new =
     (new.issued ≡ y.issued) ⊎ ((declines body ≡ true)
     × (new.issued ≡ with_next y.txn y.issued (types.IllAnswer Unfilled)))
 
--- SHIPPED or later stays so. RETURNED stays, or leads to CHECKED-IN.
+-- If `y` is in SHIPPED or later, `new` is in SHIPPED or later. If `y` is in RETURNED, `new` is in RETURNED or
+-- CHECKED-IN.
 abbrev pub StaysLater : ResponderRecord → ResponderRecord → Type 0
 StaysLater y new =
     (is_among later y.state ≡ true → is_among later new.state ≡ true)
     × (is_among (Returned ∷ []) y.state ≡ true →
     is_among (Returned ∷ CheckedIn ∷ []) new.state ≡ true)
 
--- The states after an end of the request.
+-- Lists the states after a message that ends the request.
 abbrev pub ended : List State
 ended = NotSupplied ∷ Cancelled ∷ later
 
--- Returns true if `body` is an end, and `state` is one that this end leads to.
+-- Returns true if `body` ends the request, and `state` is a state to which it leads.
 abbrev pub ends_in : Body → State → Bool
 ends_in body state =
     (is_unsupplied body && is_among (NotSupplied ∷ []) state)
     || ((is_cancelled body && is_among (Cancelled ∷ []) state)
     || (is_shipped body && is_among later state))
 
--- An end is issued only while the request is open, and leads to its own state.
+-- An APDU that ends the request is issued only while the request is open, and leads to its own state.
 abbrev pub Ends : ResponderRecord → ResponderRecord → Type 0
 Ends y new =
     (a : Apdu) → new.issued ≡ y.issued ++ a ∷ [] → is_end a.body ≡ true
     → (is_among (InProcess ∷ Conditional ∷ CancelPending ∷ []) y.state ≡ true)
     × (ends_in a.body new.state ≡ true)
 
--- A record enters a state after an end only by issuing that end.
+-- If `new` is in a state after the end and `y` is not, an APDU that leads to this state was issued.
 abbrev pub EntersByEnd : ResponderRecord → ResponderRecord → Type 0
 EntersByEnd y new =
     is_among ended new.state ≡ true
     → (is_among ended y.state ≡ true) ⊎ ((a : Apdu) × (new.issued ≡ y.issued ++ a ∷ [])
     × (ends_in a.body new.state ≡ true))
 
--- A request ends once, and its state says how.
+-- The responder has issued at most one APDU that ends the request, and the state is the one after it.
 pub record EndsOnce (y : ResponderRecord) : Type 0 where
   pub unsupplied : has is_unsupplied y.issued ≡ is_among (NotSupplied ∷ []) y.state
   pub cancelled : has is_cancelled y.issued ≡ is_among (Cancelled ∷ []) y.state
   pub shipped : has is_shipped y.issued ≡ is_among later y.state
   pub once : count_by (λ a. is_end a.body) y.issued ≡ (if is_among ended y.state then 1 else 0)
 
--- A question of the requester, which the responder answers yes or no.
+-- A question that the requester asks and the responder answers with yes or no.
 pub data Question : Type 0 where
   MayCancel : Question
   MayRenew : Question
@@ -112,36 +113,37 @@ abbrev pub asks : Question → Body → Bool
 asks MayCancel body = is_cancel body
 asks MayRenew body = is_renew body
 
--- Returns the number of the question that an APDU answers.
+-- Returns the number of the question that an APDU answers, or `None`.
 abbrev pub answered_number : Question → Body → Option ℕ
 answered_number MayCancel (types.CancelReply c is_yes) = Some c
 answered_number MayRenew (types.RenewAnswer c granted) = Some c
 answered_number question other = None
 
--- Returns the number of the last such question taken.
+-- Returns the number of the last Cancel or Renew taken, as `question` says, or `None`.
 abbrev pub last_asked : Question → ResponderRecord → Option ℕ
 last_asked MayCancel y = y.last_cancel
 last_asked MayRenew y = y.last_renew
 
--- Returns true if the question waits for its answer in this state.
+-- Returns true if the question waits for its answer in `state`.
 abbrev pub waits : Question → State → Bool
 waits MayCancel state = is_among (CancelPending ∷ []) state
 waits MayRenew state = is_among (RenewPending ∷ RenewOverdue ∷ []) state
 
--- A question is answered only while it waits, and waits no more after that. The answer names the last one taken.
+-- A question is answered only while it waits, and waits no longer afterwards. The answer has the number of the last
+-- such question taken.
 abbrev pub AnswersLast : Question → ResponderRecord → ResponderRecord → Type 0
 AnswersLast question y new =
     (a : Apdu) (n : ℕ) → new.issued ≡ y.issued ++ a ∷ [] → answered_number question a.body ≡ Some n
     → (waits question y.state ≡ true) × (waits question new.state ≡ false)
     × (n ≡ unwrap_or (last_asked question y) 0)
 
--- The last question stays, and none waits that did not wait before.
+-- The last question is unchanged, and none waits in `new` that did not wait in `y`.
 abbrev pub KeepsLast : Question → ResponderRecord → ResponderRecord → Type 0
 KeepsLast question y new =
     (last_asked question new ≡ last_asked question y)
     × (waits question new.state ≡ true → waits question y.state ≡ true)
 
--- The APDU asks the question. Its number is not at most the last one, and is the last one now.
+-- The APDU asks the question. Its number is not at most the last one in `y`, and is the last one in `new`.
 abbrev pub TakesNew : Question → ℕ → Body → ResponderRecord → ResponderRecord → Type 0
 TakesNew question number body y new =
     (asks question body ≡ true) × (is_at_most number (last_asked question y) ≡ false)
@@ -151,18 +153,18 @@ TakesNew question number body y new =
 abbrev pub answers_to : Question → List Apdu → List ℕ
 answers_to question apdus = filter_map (λ a. answered_number question a.body) apdus
 
--- No question is answered twice. Those answered are at most the last one, and below it while it waits.
+-- No number occurs twice in `answers`. Each is at most `last`, and below it while the last question waits.
 pub record AnsweredOnce (answers : List ℕ) (last : Option ℕ) (is_waiting : Bool) : Type 0 where
   pub distinct : are_distinct answers ≡ true
   pub most : list_all (λ n. is_at_most n last) answers ≡ true
   pub below : is_waiting ≡ true → list_all (λ n. is_below n last) answers ≡ true
 
--- A responder answers each question of this kind once.
+-- The responder has answered each Cancel or each Renew, as `question` says, at most once.
 abbrev pub AnswersOnce : Question → ResponderRecord → Type 0
 AnswersOnce question y =
     AnsweredOnce (answers_to question y.issued) (last_asked question y) (waits question y.state)
 
--- The message was taken or a repeat, and the record after it is in one of `states`.
+-- The answer is `Taken` or `Repeat`, and the record after it is in one of `states`.
 abbrev pub LeadsTo : List State → Result Taking Refusal × ResponderRecord → Type 0
 LeadsTo states answer =
     ((answer.0 ≡ Ok Taken) ⊎ (answer.0 ≡ Ok Repeat)) × (is_among states answer.1.state ≡ true)

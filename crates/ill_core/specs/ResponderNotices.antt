@@ -1,5 +1,5 @@
--- The questions that a responder's record has, and the order in which it issued (this profile's own). Then the APDUs
--- of a requester that the record has heard.
+-- Defines the questions in a responder's record, and the order of the APDUs that it issued. Then it defines the
+-- requester's APDUs that would not change the record (this profile's own).
 use Rattle.std.specs.Prelude.{◌≡◌, ◌⊎◌, ℕ, ◌<◌, Bool, true, false, not, ◌||◌, ◌==◌, nat_lt, List, [], ◌∷◌, length, Option, Some}
 use Rattle.std.specs.Prelude.{None}
 use Rattle.std.specs.List.{list_any}
@@ -24,16 +24,16 @@ use Rattle.ill_core.specs.ResponderEvidence.{Question, MayCancel, MayRenew, last
 abbrev pub has_answered : Question → ResponderRecord → ℕ → Bool
 has_answered question y number = list_any (λ n. n == number) (answers_to question y.issued)
 
--- A question was asked: it is the last one, or it was answered.
+-- The question with this number is the last one taken, or was answered.
 abbrev pub WasAsked : Question → ResponderRecord → ℕ → Type 0
 WasAsked question y number = (last_asked question y ≡ Some number) ⊎ (has_answered question y number ≡ true)
 
--- The states in which the last question may have no answer. It waits, or the item came back first.
+-- Lists the states in which the last question may have no answer. It waits, or the item came back first.
 abbrev pub unanswered : Question → List State
 unanswered MayCancel = states.CancelPending ∷ []
 unanswered MayRenew = states.RenewPending ∷ states.RenewOverdue ∷ states.Returned ∷ states.CheckedIn ∷ []
 
--- In every other state the last question was answered.
+-- The last question was answered, unless the state is one of `unanswered question`.
 abbrev pub HasAnsweredLast : Question → ResponderRecord → Type 0
 HasAnsweredLast question y =
     (number : ℕ) → last_asked question y ≡ Some number → is_among (unanswered question) y.state ≡ false →
@@ -46,29 +46,29 @@ abbrev pub is_recall : Body → Bool
 is_recall types.Recall = true
 is_recall other = false
 
--- In RECALL a Recall was issued. A record with a Recall is in RECALL, RETURNED or CHECKED-IN.
+-- In RECALL the list has a Recall. If the list has a Recall, the state is RECALL, RETURNED or CHECKED-IN.
 pub record RecallFits (y : ResponderRecord) : Type 0 where
   pub issued : is_among (states.Recall ∷ []) y.state ≡ true → has is_recall y.issued ≡ true
   pub after : has is_recall y.issued ≡ true →
       is_among (states.Recall ∷ states.Returned ∷ states.CheckedIn ∷ []) y.state ≡ true
 
--- Every Recall is issued after every Shipped.
+-- Every Shipped has a lower number than every Recall.
 abbrev pub ShipsBeforeRecall : List Apdu → Type 0
 ShipsBeforeRecall apdus =
     (m n : ℕ) (a b : Apdu) → message apdus m ≡ Some a → message apdus n ≡ Some b →
     is_shipped a.body ≡ true → is_recall b.body ≡ true → m < n
 
--- A due date that is granted, with the number that its APDU answers. A Shipped grants as if it answered number 0.
+-- A due date that an APDU grants, with the number that the APDU answers. A Shipped counts as an answer to number 0.
 pub data Grant : Type 0 where
   grant : (answers : ℕ) → (due : Date) → Grant
 
--- Returns the grant of a Shipped or a Renew-Answer yes.
+-- Returns the grant of a Shipped or a Renew-Answer yes, or `None`.
 abbrev pub grant_of : Body → Option Grant
 grant_of (types.Shipped due) = Some (grant 0 due)
 grant_of (types.RenewAnswer answers (Some due)) = Some (grant answers due)
 grant_of other = None
 
--- Of two granted dates, the one that answers the higher number is the later one.
+-- If one granted date answers a higher number than another, it is the later date.
 abbrev pub GrantsRise : List Apdu → Type 0
 GrantsRise apdus =
     (i j m n : ℕ) (a b : Apdu) (d e : Date) → message apdus i ≡ Some a → message apdus j ≡ Some b →
@@ -79,8 +79,8 @@ abbrev pub is_overdue_of : Date → Body → Bool
 is_overdue_of due (types.Overdue day) = is_same_day day due
 is_overdue_of due other = false
 
--- No Overdue has a date after the due date. In OVERDUE and RENEW/OVERDUE one for the due date was issued. A record
--- with such a one is in these states, RECALL, RETURNED or CHECKED-IN.
+-- No Overdue has a date after the due date. In OVERDUE and RENEW/OVERDUE the list has an Overdue for the due date. If
+-- the list has one, the state is OVERDUE, RENEW/OVERDUE, RECALL, RETURNED or CHECKED-IN.
 pub record OverdueFits (y : ResponderRecord) : Type 0 where
   pub dated : (n : ℕ) (a : Apdu) (day : Date) → message y.issued n ≡ Some a → a.body ≡ types.Overdue day →
       (due : Date) × (due_of y ≡ Some due) × (is_before due day ≡ false)
@@ -91,24 +91,24 @@ pub record OverdueFits (y : ResponderRecord) : Type 0 where
       is_among (states.Overdue ∷ states.RenewOverdue ∷ states.Recall ∷ states.Returned ∷ states.CheckedIn ∷ [])
       y.state ≡ true
 
--- Every Overdue is issued after the grant of its date.
+-- Every APDU that grants a due date has a lower number than every Overdue for this date.
 abbrev pub GrantsBeforeOverdue : List Apdu → Type 0
 GrantsBeforeOverdue apdus =
     (m n c : ℕ) (a b : Apdu) (due day : Date) → message apdus m ≡ Some a → message apdus n ≡ Some b →
     grant_of a.body ≡ Some (grant c due) → b.body ≡ types.Overdue day → is_same_day day due ≡ true → m < n
 
--- ---- which messages a record has heard
+-- ---- messages that change nothing
 
--- The states in which the request is open, and no Cancel waits.
+-- Lists the states in which the request is open, and no Cancel waits for its answer.
 abbrev pub undecided : List State
 undecided = states.InProcess ∷ states.Conditional ∷ []
 
--- The states in which the item is out.
+-- Lists the states in which the item is lent, and no Returned was taken.
 abbrev pub lent : List State
 lent =
     states.Shipped ∷ states.RenewPending ∷ states.Overdue ∷ states.RenewOverdue ∷ states.Recall ∷ []
 
--- A record has heard an APDU with this number and body if that would not change it now.
+-- Returns true if an APDU with `number` and this body would not change record `y` now.
 abbrev pub has_heard : ResponderRecord → ℕ → Body → Bool
 has_heard y number (types.IllRequest expiry item) = not (is_among (states.Idle ∷ []) y.state)
 has_heard y number (types.ConditionalReply answers true) = not (is_the answers (outstanding_number y))
@@ -121,7 +121,7 @@ has_heard y number (types.Renew wished) =
 has_heard y number types.Returned = not (is_among lent y.state)
 has_heard y number other = true
 
--- Returns true if `first` leads to a state in which `second`, though heard before, would change the record.
+-- Returns true if `first` leads to a state in which `second` changes the record, although it changed nothing before.
 abbrev pub reopens : Body → Body → Bool
 reopens (types.IllRequest expiry item) (types.ConditionalReply answers false) = true
 reopens (types.IllRequest expiry item) types.Cancel = true

@@ -1,4 +1,4 @@
--- The rules of a responder's record one by one. A proof takes them from `is_consistent`, and back.
+-- Splits the invariant `is_consistent` of a responder's record into its rules, one field for each.
 use Rattle.std.specs.Prelude.{◌≡◌, Bool, true, false, not, ◌&&◌, List, [], ◌∷◌, is_some, if◌then◌else◌}
 use Rattle.std.specs.List.{list_all, filter_map, count_by}
 use Rattle.ill_values.specs.declared.apdu.Apdu.{Apdu}
@@ -12,8 +12,8 @@ use Rattle.ill_core.specs.Issued.{are_numbered, has, is_none, granted_day}
 use Rattle.ill_core.specs.Responder.{ResponderRecord, later, are_rising, ships_first, ends_with_conditions, is_named}
 use Rattle.ill_core.specs.Responder.{is_request_of}
 
--- The state is a responder's, and has the parts that it wants. The tests are of a request, of each number, of the
--- received mark, and of the empty list.
+-- The state is a responder's, and the parts of the record fit it. Each test says that a part is there. `is_marked` says
+-- that the received mark is set, and `none` that the list is empty.
 pub record PartsFit (state : State) (has_request has_accepted has_cancel has_renew is_marked none : Bool)
     : Type 0 where
   pub role : is_among (Pending ∷ Received ∷ NotReceivedOverdue ∷ []) state ≡ false
@@ -24,14 +24,14 @@ pub record PartsFit (state : State) (has_request has_accepted has_cancel has_ren
   pub cancel : implies (is_among (CancelPending ∷ Cancelled ∷ []) state) has_cancel ≡ true
   pub renew : implies (is_among (RenewPending ∷ RenewOverdue ∷ []) state) has_renew ≡ true
 
--- The list fits the state. It has one Shipped exactly in SHIPPED or later, a Checked-In exactly in CHECKED-IN, and
--- conditions last in CONDITIONAL.
+-- The list `apdus` fits `state`. It has one Shipped in SHIPPED or later, and else none. It has a Checked-In exactly in
+-- CHECKED-IN. In CONDITIONAL it ends with conditions.
 pub record IssuedFits (state : State) (apdus : List Apdu) : Type 0 where
   pub shipped : count_by (λ a. is_shipped a.body) apdus ≡ (if is_among later state then 1 else 0)
   pub checked_in : has is_checked_in apdus ≡ is_among (CheckedIn ∷ []) state
   pub conditions : implies (is_among (Conditional ∷ []) state) (ends_with_conditions apdus) ≡ true
 
--- A record keeps all rules of a responder.
+-- The record `y` satisfies all rules of a responder.
 pub record ResponderRules (y : ResponderRecord) : Type 0 where
   pub numbered : are_numbered y.txn 1 y.issued ≡ true
   pub role : list_all (λ a. not (is_requesters a.body)) y.issued ≡ true

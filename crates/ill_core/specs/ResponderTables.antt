@@ -1,4 +1,4 @@
--- A responder's tables as arrays of rows: their guards and their changes (this profile's own).
+-- Defines the guards and the changes of the rows in a responder's tables (this profile's own).
 use Rattle.std.specs.Prelude.{◌≡◌, ℕ, Bool, true, false, not, ◌||◌, ◌==◌, List, [], ◌∷◌, ◌++◌, Option, Some, None, IsSome, Result}
 use Rattle.std.specs.Prelude.{Ok, Err, if◌then◌else◌}
 use Rattle.std.specs.List.{filter, find}
@@ -29,11 +29,11 @@ use Rattle.ill_core.specs.Tables.{Guard, has, next_state, fits}
 use Rattle.ill_core.specs.Responder.{ResponderRecord, outstanding_number, due_of}
 use Rattle.ill_core.specs.ResponderActions.{no_date, expiry_of}
 
--- Returns k if `changes` has `bit`, and else the number before, `last`.
+-- Returns `k` if `changes` has `bit`, and else the number before, `last`.
 abbrev pub number_after : ℕ → ℕ → Option ℕ → ℕ → Option ℕ
 number_after bit changes last k = if has changes bit then Some k else last
 
--- Returns the record after a row is followed for message k, without its effects on the request and the list.
+-- Returns the record after a row is followed for message `k`, except for the request and the list.
 abbrev pub after : {K : Type 0} → ResponderRecord → Row K → ℕ → ResponderRecord
 after y row k =
     record y {
@@ -44,17 +44,18 @@ after y row k =
       received = has row.4 RECEIVES || y.received;
     }
 
--- Returns the request after a row is followed for an APDU. A row that ends the request keeps it as it was.
+-- Returns the request after a row with `changes` is followed for APDU `a`. A row that ends the request does not change
+-- it.
 abbrev pub request_after : ℕ → Option Apdu → Apdu → Option Apdu
 request_after changes request a =
     if has changes ENDS then request else (if has changes KEEPS then Some a else request)
 
--- Returns the list after a row. A row that ends the request issues an ILL-Answer unfilled.
+-- Returns the list after a row with `changes` is followed. A row that ends the request issues an ILL-Answer unfilled.
 abbrev pub issued_after : ℕ → Qualifiers → List Apdu → List Apdu
 issued_after changes txn issued =
     if has changes ENDS then with_next txn issued (types.IllAnswer Unfilled) else issued
 
--- Returns the record after a row of deliveries is followed for APDU `a`, which tells k.
+-- Returns the record after `row` is followed for APDU `a`, which has number `k` for the row.
 abbrev pub after_delivery : ResponderRecord → Apdu → Row RequesterKind → ℕ → ResponderRecord
 after_delivery y a row k =
     record (after y row k) {
@@ -62,42 +63,42 @@ after_delivery y a row k =
       issued = issued_after row.4 y.txn y.issued;
     }
 
--- Returns the refusal of a number, if no number is left.
+-- Returns the refusal if no number is left, and else `None`.
 abbrev pub refusal_of : Result ℕ Refusal → Option Refusal
 refusal_of (Ok number) = None
 refusal_of (Err refusal) = Some refusal
 
--- Returns the refusal of a row that issues a message while no number is left.
+-- Returns the refusal `NumbersUsed` if the row issues a message and no number is left, and else `None`.
 abbrev pub number_refusal : ℕ → List Apdu → Option Refusal
 number_refusal changes issued = if has changes ENDS then refusal_of (next_number issued) else None
 
--- Returns true if a row takes memory: it keeps a request, or issues a message.
+-- Returns true if a row with `changes` takes memory: it keeps a request, or issues a message.
 abbrev pub grows : ℕ → Bool
 grows changes = has changes KEEPS || has changes ENDS
 
--- A row is refused with `NumbersUsed` if it issues a message and none is left. It is refused with `OutOfMemory` if it
--- takes memory, and a number is left.
+-- A row with `changes` may be refused with this refusal. It is `NumbersUsed` if the row issues a message and no number
+-- is left. It is `OutOfMemory` if the row takes memory and needs no further number.
 abbrev pub IsRefused : ℕ → List Apdu → Refusal → Type 0
 IsRefused changes issued refusals.OutOfMemory =
     (grows changes ≡ true) × (number_refusal changes issued ≡ None)
 IsRefused changes issued refusal = number_refusal changes issued ≡ Some refusal
 
--- The guards of an answer to message c: c is outstanding, c is accepted, c named conditions.
+-- Returns the guards on an answer to message `c`: `c` is outstanding, `c` is accepted, `c` named conditions.
 abbrev pub reply_guards : ResponderRecord → ℕ → List Guard
 reply_guards y c =
     record { bit = delivery.OUTSTANDING; holds = is_the c (outstanding_number y) }
     ∷ record { bit = delivery.ACCEPTED; holds = is_the c y.accepted }
     ∷ record { bit = delivery.WAS_CONDITIONAL; holds = was names_conditions y.issued c } ∷ []
 
--- The guards of a message with number n: n is at most the last Cancel, or the last Renew. The last guard is that the
--- received mark is not set.
+-- Returns the guards on a message with number `n`: `n` is at most the last Cancel, or the last Renew. The last guard is
+-- that the received mark is not set.
 abbrev pub past_guards : ResponderRecord → ℕ → List Guard
 past_guards y n =
     record { bit = delivery.PAST_CANCEL; holds = is_at_most n y.last_cancel }
     ∷ record { bit = delivery.PAST_RENEW; holds = is_at_most n y.last_renew }
     ∷ record { bit = delivery.UNMARKED; holds = not y.received } ∷ []
 
--- The guards that rows of deliveries may ask for, of a message that tells k.
+-- Returns all guards that rows of deliveries may ask for, for a message with number `k`.
 abbrev pub delivery_guards : ResponderRecord → ℕ → List Guard
 delivery_guards y k = reply_guards y k ++ past_guards y k
 
@@ -105,14 +106,14 @@ delivery_guards y k = reply_guards y k ++ past_guards y k
 abbrev pub delivery_rows : RequesterKind → List (Row RequesterKind)
 delivery_rows kind = filter (λ r. requester_place r.0 == requester_place kind) delivery.ROWS
 
--- Returns the first row of the kind that fits an APDU. Without a kind there is none.
+-- Returns the first row of the kind that fits an APDU. It is `None` without a kind or a row.
 abbrev pub delivery_row_of : ResponderRecord → Apdu → Body → Option RequesterKind →
     Option (Row RequesterKind)
 delivery_row_of y a body None = None
 delivery_row_of y a body (Some kind) =
     find (fits y.state (delivery_guards y (number_in a body))) (delivery_rows kind)
 
--- Returns the first row that fits an APDU.
+-- Returns the first row of deliveries that fits an APDU, or `None`.
 abbrev pub delivery_row : ResponderRecord → Apdu → Option (Row RequesterKind)
 delivery_row y a = delivery_row_of y a a.body (requester_kind a.body)
 
@@ -120,16 +121,16 @@ delivery_row y a = delivery_row_of y a a.body (requester_kind a.body)
 abbrev pub deed_rows : ResponderKind → List (Row ResponderKind)
 deed_rows kind = filter (λ r. responder_place r.0 == responder_place kind) action.ROWS
 
--- Returns the first row that has the state and the kind of a deed. It asks for no guards.
+-- Returns the first row of deeds that fits `state` and `deed`, or `None`. It asks for no guards.
 abbrev pub deed_row : State → Deed → Option (Row ResponderKind)
 deed_row state deed = find (fits state []) (deed_rows (deed_kind deed))
 
--- Returns Ok if a test holds, and else the refusal.
+-- Returns `Ok` if the test is true, and else `refusal`.
 abbrev pub check : Bool → Refusal → Result Unit Refusal
 check true refusal = Ok tt
 check false refusal = Err refusal
 
--- Returns Ok if the dates allow a deed `today`, and else the refusal of its date.
+-- Returns `Ok` if the dates allow a deed on the day `today`, and else the refusal of its date.
 abbrev pub check_date : ResponderRecord → Deed → Date → Result Unit Refusal
 check_date y (deeds.Ship due) today = check (not (is_before due today)) refusals.DateEarlier
 check_date y (deeds.RenewAnswer (Some d)) today =
@@ -150,14 +151,14 @@ deed_body y deeds.Recall = types.Recall
 deed_body y deeds.CheckIn = types.CheckedIn
 deed_body y deeds.Expire = types.Expired
 
--- The record has the number or the date that the APDU of a deed tells.
+-- The record has the number or the date that the APDU of the deed needs.
 abbrev pub HasValueFor : ResponderRecord → Deed → Type 0
 HasValueFor y (deeds.CancelReply is_yes) = IsSome y.last_cancel
 HasValueFor y (deeds.RenewAnswer granted) = IsSome y.last_renew
 HasValueFor y deeds.Overdue = IsSome (due_of y)
 HasValueFor y other = Unit
 
--- Returns the record after a row is followed for a deed, whose APDU has this number and body.
+-- Returns the record after `row` is followed for a deed whose APDU has `number` and `body`.
 abbrev pub after_deed : ResponderRecord → Row ResponderKind → ℕ → Body → ResponderRecord
 after_deed y row number body =
     record (after y row number) { issued = with_next y.txn y.issued body }

@@ -1,4 +1,5 @@
--- The states of one side of a transaction (ISO 10161-1; which of them this profile keeps is its own).
+-- Defines the states of a side of a transaction, their order and their names. ISO 10161-1 names the states; the choice
+-- among them is this profile's own.
 use Rattle.std.specs.Prelude.{ℕ, Bool, ◌==◌, List, [], ◌∷◌, Option, codes}
 use Rattle.std.specs.List.{list_any}
 use Rattle.ill_values.specs.Names.{named_by}
@@ -7,7 +8,7 @@ use Rattle.ill_core.specs.declared.state.State.TheVariants.{Idle, Pending, InPro
 use Rattle.ill_core.specs.declared.state.State.TheVariants.{NotSupplied, Shipped, Received, RenewPending, Overdue, RenewOverdue}
 use Rattle.ill_core.specs.declared.state.State.TheVariants.{NotReceivedOverdue, Recall, Returned, CheckedIn}
 
--- Returns the place of a state in their order, from 0.
+-- Returns the index of a state in `all_states`, from 0.
 abbrev pub place_of : State → ℕ
 place_of Idle = 0
 place_of Pending = 1
@@ -49,12 +50,12 @@ state_name Recall = codes "RECALL"
 state_name Returned = codes "RETURNED"
 state_name CheckedIn = codes "CHECKED-IN"
 
--- All sixteen states, in their order.
+-- Lists all sixteen states, in their order.
 abbrev pub all_states : List State
 all_states =
     Idle ∷ Pending ∷ InProcess ∷ Conditional ∷ CancelPending ∷ Cancelled ∷ NotSupplied ∷ Shipped
     ∷ Received ∷ RenewPending ∷ Overdue ∷ RenewOverdue ∷ NotReceivedOverdue ∷ Recall ∷ Returned ∷ CheckedIn ∷ []
 
--- Returns the state whose name is given, if there is one.
+-- Returns the state with the given name, or `None`.
 abbrev pub state_named : List ℕ → Option State
 state_named = named_by state_name all_states

@@ -1,5 +1,5 @@
--- The verbs of a side, and whose turn it is (this profile's own). A verb is the first word of an action. A turn says
--- whose library acts next, as far as the record of a side tells.
+-- Defines the verbs of a side and the turn (this profile's own). A verb is the first word of an action in the command
+-- `act`. The turn names the library that acts next, as far as the record of one side shows.
 use Rattle.std.specs.Prelude.{ℕ, Bool, true, false, ◌==◌, List, [], ◌∷◌, Option, Result, Ok, Err, codes}
 use Rattle.std.specs.List.{list_any}
 use Rattle.ill_values.specs.Names.{named_by}
@@ -58,17 +58,17 @@ verb_name Recall = codes "recall"
 verb_name CheckIn = codes "check-in"
 verb_name Expire = codes "expire"
 
--- All fourteen verbs, in their order.
+-- Lists all fourteen verbs, in their order.
 abbrev pub all_verbs : List Verb
 all_verbs =
     Request ∷ Cancel ∷ Reply ∷ Receive ∷ Renew ∷ Return ∷ Answer ∷ CancelReply ∷ Ship ∷ RenewAnswer ∷ Overdue ∷ Recall
     ∷ CheckIn ∷ Expire ∷ []
 
--- Returns the verb whose name is given, if there is one.
+-- Returns the verb with the given name, or `None`.
 abbrev pub verb_named : List ℕ → Option Verb
 verb_named = named_by verb_name all_verbs
 
--- Returns the place of a verb in their order, from 0.
+-- Returns the index of a verb in `all_verbs`, from 0.
 abbrev pub verb_place : Verb → ℕ
 verb_place Request = 0
 verb_place Cancel = 1
@@ -89,27 +89,28 @@ verb_place Expire = 13
 abbrev pub is_verb_among : List Verb → Verb → Bool
 is_verb_among verbs verb = list_any (λ v. verb_place v == verb_place verb) verbs
 
--- ---- what may be done now
+-- ---- the verbs of a record
 
--- An action has a place now if it is not refused for the state or the role. Its date, the numbers or memory may still
--- refuse it.
+-- Returns true if an action is not refused for the state or the role. Its date, the numbers or memory may still refuse
+-- it.
 abbrev pub is_now : {R : Type 0} → Result R Refusal → Bool
 is_now (Ok done) = true
 is_now (Err (refusals.NotNow state)) = false
 is_now (Err refusals.WrongRole) = false
 is_now (Err other) = true
 
--- Returns the verbs in CONDITIONAL: reply, unless the conditions were declined.
+-- Returns the requester's verbs in CONDITIONAL: reply, or none if it declined the conditions.
 abbrev pub reply_verbs : Bool → List Verb
 reply_verbs true = []
 reply_verbs false = Reply ∷ []
 
--- Returns the verbs in RECALL: return if the item was received, and else receive.
+-- Returns the requester's verbs in RECALL: return if it issued a Received, and else receive.
 abbrev pub recalled_verbs : Bool → List Verb
 recalled_verbs true = Return ∷ []
 recalled_verbs false = Receive ∷ []
 
--- Returns a requester's verbs in a state. `declined` is of its conditions, `received` of the item.
+-- Returns a requester's verbs in a state. `declined` says that it declined the conditions, `received` that it issued a
+-- Received.
 abbrev pub requester_verbs_in : State → Bool → Bool → List Verb
 requester_verbs_in states.Idle declined received = Request ∷ []
 requester_verbs_in states.Pending declined received = Cancel ∷ []
@@ -123,7 +124,7 @@ requester_verbs_in states.NotReceivedOverdue declined received = Receive ∷ []
 requester_verbs_in states.Recall declined received = recalled_verbs received
 requester_verbs_in other declined received = []
 
--- Returns the verbs of the wishes that have a place now.
+-- Returns the verbs of the wishes that are not `NotNow` for record `x`.
 abbrev pub requester_verbs : RequesterRecord → List Verb
 requester_verbs x = requester_verbs_in x.state (is_declined x) (is_received_by x)
 
@@ -139,23 +140,24 @@ responder_verbs_in states.RenewOverdue = RenewAnswer ∷ []
 responder_verbs_in states.Returned = CheckIn ∷ []
 responder_verbs_in other = []
 
--- Returns the verbs of the deeds that have a place now.
+-- Returns the verbs of the deeds that are not `NotNow` for record `y`.
 abbrev pub responder_verbs : ResponderRecord → List Verb
 responder_verbs y = responder_verbs_in y.state
 
--- ---- whose turn it is
+-- ---- the turn
 
--- In CONDITIONAL the requester replies. Once it has declined, the responder ends the request or goes on with it.
+-- Returns the turn in CONDITIONAL: the responder's if the requester declined the conditions, and else the requester's.
 abbrev pub reply_turn : Bool → Turn
 reply_turn true = Theirs
 reply_turn false = Mine
 
--- In RETURNED the responder checks the item in. Once the requester knows that, the loan is over.
+-- Returns the turn in RETURNED: nobody's if the requester has the checked-in mark, and else the responder's.
 abbrev pub returned_turn : Bool → Turn
 returned_turn true = Over
 returned_turn false = Theirs
 
--- Returns the turn in a requester's state. `declined` is of its conditions, `checked_in` of the item.
+-- Returns the turn in a requester's state. `declined` says that it declined the conditions, `checked_in` that it has
+-- the checked-in mark.
 abbrev pub requester_turn_in : State → Bool → Bool → Turn
 requester_turn_in states.Idle declined checked_in = Mine
 requester_turn_in states.Pending declined checked_in = Theirs
@@ -171,7 +173,7 @@ requester_turn_in states.Recall declined checked_in = Mine
 requester_turn_in states.Returned declined checked_in = returned_turn checked_in
 requester_turn_in other declined checked_in = Over
 
--- Returns the turn, as far as a requester's record tells.
+-- Returns the turn, as far as a requester's record shows.
 abbrev pub requester_turn : RequesterRecord → Turn
 requester_turn x = requester_turn_in x.state (is_declined x) x.checked_in
 
@@ -189,6 +191,6 @@ responder_turn_in states.Recall = Theirs
 responder_turn_in states.Returned = Mine
 responder_turn_in other = Over
 
--- Returns the turn, as far as a responder's record tells.
+-- Returns the turn, as far as a responder's record shows.
 abbrev pub responder_turn : ResponderRecord → Turn
 responder_turn y = responder_turn_in y.state

@@ -1,4 +1,4 @@
--- APDUs whose parts are in range.
+-- States the ranges of the parts of an APDU.
 use Rattle.std.specs.Prelude.{ℕ, ◌≤◌, IfSome}
 use Rattle.ill_values.specs.declared.apdu.Apdu.{Apdu}
 use Rattle.ill_values.specs.declared.apdu.Body.{Body}
@@ -9,11 +9,11 @@ use Rattle.ill_values.specs.Day.{IsDate}
 use Rattle.ill_values.specs.Text.{IsItem}
 use Rattle.ill_values.specs.TxnId.{AreQualifiers}
 
--- Holds if `n` may be the number of a message: 1 to 255.
+-- `n` is the number of a message: 1 to 255.
 abbrev pub IsNumber : ℕ → Type 0
 IsNumber n = (1 ≤ n) × (n ≤ 255)
 
--- Holds if the fields of a body are in range.
+-- Each field of the body is in range.
 abbrev pub IsBody : Body → Type 0
 IsBody (IllRequest expiry item) = IfSome expiry IsDate × IsItem item
 IsBody (IllAnswer result) = Unit {0}
@@ -30,8 +30,8 @@ IsBody (Renew wished) = IfSome wished IsDate
 IsBody (RenewAnswer answers granted) = IsNumber answers × IfSome granted IsDate
 IsBody Expired = Unit {0}
 
--- Holds if each part of `apdu` is in range.
--- It is the premise of a clause on all messages, where a number is any number and a text any list.
+-- Each part of `apdu` is in range. A clause on all messages needs this as a premise, because a number is any natural
+-- number there, and a text any list.
 pub record IsApdu (apdu : Apdu) : Type 0 where
   pub txn : AreQualifiers apdu.txn
   pub number : IsNumber apdu.number

@@ -1,4 +1,4 @@
--- Days of the Gregorian calendar, from 1 January 1900 to 31 December 9999, and their texts.
+-- Defines the days of the Gregorian calendar, from 1 January 1900 to 31 December 9999, and their texts.
 use Rattle.std.specs.Prelude.{◌≡◌, ℕ, zero, suc, ◌+◌, ◌-◌, ◌*◌, ◌/◌, ◌%◌, ◌<◌, ◌≤◌, ◌⊎◌, Bool, not, ◌&&◌, ◌||◌, ◌==◌, nat_lt}
 use Rattle.std.specs.Prelude.{nat_le, if◌then◌else◌, List, [], ◌∷◌, length, slice_index, Result, Ok, Err}
 use Rattle.std.specs.List.{list_all}
@@ -12,7 +12,7 @@ pub record Date : Type 0 where
   pub month : ℕ
   pub day : ℕ
 
--- Returns true if `year` is a leap year: every fourth, but of the centuries only every fourth.
+-- Returns true if `year` is a leap year: divisible by 4, and if divisible by 100, also by 400.
 abbrev pub is_leap_year : ℕ → Bool
 is_leap_year year = (year % 4 == 0) && (not (year % 100 == 0) || (year % 400 == 0))
 
@@ -22,16 +22,16 @@ days_in_month year month =
     if month == 2 then (if is_leap_year year then 29 else 28)
     else (if (month == 4) || (month == 6) || (month == 9) || (month == 11) then 30 else 31)
 
--- Returns true if `year` is 1900 to 9999, the years of this profile.
+-- Returns true if `year` is from 1900 to 9999, the years of this profile.
 abbrev pub is_year : ℕ → Bool
 is_year year = nat_le 1900 year && nat_le year 9999
 
--- Returns true if `month` is 1 to 12, and has this day in `year`.
+-- Returns true if `month` is from 1 to 12, and has `day` in `year`.
 abbrev pub is_in_year : ℕ → ℕ → ℕ → Bool
 is_in_year year month day =
     nat_le 1 month && nat_le month 12 && nat_le 1 day && nat_le day (days_in_month year month)
 
--- Holds if `d` is a day of the calendar, in the years of this profile.
+-- `d` is a day of the calendar, in the years of this profile.
 pub record IsDate (d : Date) : Type 0 where
   pub from_1900 : 1900 ≤ d.year
   pub to_9999 : d.year ≤ 9999
@@ -40,7 +40,7 @@ pub record IsDate (d : Date) : Type 0 where
   pub from_first : 1 ≤ d.day
   pub to_last : d.day ≤ days_in_month d.year d.month
 
--- Returns the day with this year, month and day of the month, or the first fault.
+-- Returns the day with `year`, `month` and `day` of the month, or the first fault.
 abbrev pub date_of : ℕ → ℕ → ℕ → Result Date DayFault
 date_of year month day =
     if is_year year
@@ -48,7 +48,7 @@ date_of year month day =
     else Err NotADate)
     else Err OutOfRange
 
--- Returns the day after `d`: in its month, in its year, or in the next year.
+-- Returns the day after `d`.
 abbrev pub next_day : Date → Date
 next_day d =
     if nat_lt d.day (days_in_month d.year d.month)
@@ -61,7 +61,7 @@ unfoldable pub days_later : ℕ → Date → Date
 days_later zero d = d
 days_later (suc n) d = next_day (days_later n d)
 
--- Returns the day that is `n` days after `d`, or OutOfRange if it is after 31 December 9999.
+-- Returns the day that is `n` days after `d`, or `OutOfRange` if it is after 31 December 9999.
 abbrev pub day_after : ℕ → Date → Result Date DayFault
 day_after n d =
     let later = days_later n d in
@@ -77,7 +77,7 @@ date_text d =
     last_digit (d.year / 1000) ∷ last_digit (d.year / 100) ∷ last_digit (d.year / 10) ∷ last_digit d.year
     ∷ last_digit (d.month / 10) ∷ last_digit d.month ∷ last_digit (d.day / 10) ∷ last_digit d.day ∷ []
 
--- Returns a day with hyphens, YYYY-MM-DD (ISO 8601-1, extended format).
+-- Returns the text of a day with hyphens, YYYY-MM-DD (ISO 8601-1, extended format).
 abbrev pub iso_text : Date → List ℕ
 iso_text d =
     last_digit (d.year / 1000) ∷ last_digit (d.year / 100) ∷ last_digit (d.year / 10) ∷ last_digit d.year
@@ -88,15 +88,15 @@ iso_text d =
 abbrev pub eight_digits : List ℕ → Bool
 eight_digits text = (length text == 8) && list_all is_ascii_digit text
 
--- Returns the value of the digit at `place`.
+-- Returns the value of the digit at index `place`.
 abbrev pub digit_at : List ℕ → ℕ → ℕ
 digit_at text place = slice_index text place - 48
 
--- Returns the number that the two digits from `place` on are.
+-- Returns the value of the two digits from index `place` on.
 abbrev pub two_digits_at : List ℕ → ℕ → ℕ
 two_digits_at text place = 10 * digit_at text place + digit_at text (place + 1)
 
--- Returns the day whose date text `text` is, or the first fault.
+-- Returns the day with date text `text`, or the first fault of `text`.
 abbrev pub read_date : List ℕ → Result Date DayFault
 read_date text =
     if eight_digits text
@@ -104,7 +104,7 @@ read_date text =
     (two_digits_at text 4) (two_digits_at text 6)
     else Err NotDigits
 
--- Holds if `a` is before `b`: by year, then by month, then by day of the month.
+-- `a` is before `b`: by year, then by month, then by day of the month.
 abbrev pub IsBefore : Date → Date → Type 0
 IsBefore a b =
     (a.year < b.year)

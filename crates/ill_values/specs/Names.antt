@@ -1,4 +1,4 @@
--- The names of values, and the values that have a name.
+-- Finds a value by its name.
 use Rattle.std.specs.Prelude.{ℕ, List, Option, find, bytes_eq}
 
 -- Returns the value of `all` whose name is `word`, if there is one.

@@ -1,4 +1,4 @@
--- The results of an ILL-Answer, and their names.
+-- Defines the results of an ILL-Answer, and their names.
 use Rattle.std.specs.Prelude.{ℕ, List, [], ◌∷◌, Option, codes}
 use Rattle.ill_values.specs.declared.apdu.AnswerResult.{AnswerResult}
 use Rattle.ill_values.specs.declared.apdu.AnswerResult.TheVariants.{Conditional, Retry, Unfilled, LocationsProvided, WillSupply}
@@ -15,11 +15,11 @@ result_name WillSupply = codes "will-supply"
 result_name HoldPlaced = codes "hold-placed"
 result_name Estimate = codes "estimate"
 
--- The seven results of an ILL-Answer.
+-- Lists the seven results of an ILL-Answer.
 abbrev pub all_results : List AnswerResult
 all_results =
     Conditional ∷ Retry ∷ Unfilled ∷ LocationsProvided ∷ WillSupply ∷ HoldPlaced ∷ Estimate ∷ []
 
--- Returns the result with a name, if there is one.
+-- Returns the result with the given name, or `None`.
 abbrev pub result_named : List ℕ → Option AnswerResult
 result_named = named_by result_name all_results

@@ -1,4 +1,4 @@
--- Transaction ids.
+-- Defines transaction ids.
 use Rattle.std.specs.Prelude.{ℕ, List, Result, Ok}
 use Rattle.ill_values.specs.declared.fault.TextFault.{TextFault}
 use Rattle.ill_values.specs.Text.{qualifier_check, IsQualifier, ◌>>=◌}
@@ -8,12 +8,12 @@ pub record Qualifiers : Type 0 where
   pub group : List ℕ
   pub transaction : List ℕ
 
--- Holds if both parts of `id` are qualifiers.
+-- Both parts of `id` are qualifiers.
 pub record AreQualifiers (id : Qualifiers) : Type 0 where
   pub group : IsQualifier id.group
   pub transaction : IsQualifier id.transaction
 
--- Returns the id with these qualifiers, or the first fault. The group is judged before the transaction.
+-- Returns the id with these qualifiers, or the first fault. `group` is tested before `transaction`.
 abbrev pub txn_id_of : List ℕ → List ℕ → Result Qualifiers TextFault
 txn_id_of group transaction =
     qualifier_check group >>= λ _. qualifier_check transaction >>= λ _.

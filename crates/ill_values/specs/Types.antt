@@ -1,4 +1,4 @@
--- The fourteen types of APDU, and their names.
+-- Defines the fourteen types of APDU, and their names.
 use Rattle.std.specs.Prelude.{ℕ, List, [], ◌∷◌, Option, codes}
 use Rattle.ill_values.specs.declared.apdu.Body.{Body}
 use Rattle.ill_values.specs.declared.apdu.Body.TheVariants as bodies
@@ -8,7 +8,7 @@ use Rattle.ill_values.specs.declared.apdu_type.ApduType.TheVariants.{CancelReply
 use Rattle.ill_values.specs.declared.apdu_type.ApduType.TheVariants.{Renew, RenewAnswer, Expired}
 use Rattle.ill_values.specs.Names.{named_by}
 
--- The fourteen types of APDU.
+-- Lists the fourteen types of APDU.
 abbrev pub all_types : List ApduType
 all_types =
     IllRequest ∷ Shipped ∷ IllAnswer ∷ ConditionalReply ∷ Cancel ∷ CancelReply ∷ Received ∷ Recall
@@ -48,7 +48,7 @@ apdu_type_name Renew = codes "Renew"
 apdu_type_name RenewAnswer = codes "Renew-Answer"
 apdu_type_name Expired = codes "Expired"
 
--- Returns the type with a name, if there is one.
+-- Returns the type with the given name, or `None`.
 abbrev pub apdu_type_named : List ℕ → Option ApduType
 apdu_type_named = named_by apdu_type_name all_types
 

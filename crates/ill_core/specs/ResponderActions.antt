@@ -24,7 +24,7 @@ use Rattle.ill_core.specs.Responder.{ResponderRecord, due_of}
 
 -- The effect of a deed.
 pub record Transition : Type 0 where
-  pub next : State  -- the state after the deed
+  pub next : State  -- The state after the deed.
   pub body : Body  -- The body of the APDU that is issued.
 
 -- Returns the transition that leads to `next` and issues `body`.

@@ -1,4 +1,4 @@
-//! Tests on the type and the fields of an APDU.
+//! Tests the type and the fields of an APDU.
 
 ghost use Rattle.std.specs.Prelude.{◌≡◌};
 ghost use Rattle.ill_core.specs.Bodies.{is_requesters, is_ill_request, is_shipped, is_end, is_renewal, names_conditions, grant_in};
@@ -34,8 +34,8 @@ pub fn is_shipped(body: &Body) -> bool
     matches!(body, Body::Shipped { .. })
 }
 
-/// Returns true if `body` ends a request: an ILL-Answer after which the item is not supplied, an
-/// Expired, a Cancel-Reply yes, or a Shipped.
+/// Returns true if `body` ends the request: an ILL-Answer after which the item is not supplied, an Expired, a
+/// Cancel-Reply yes, or a Shipped.
 pub fn is_end(body: &Body) -> bool
     ensures { result ≡ is_end body.now }
 {
@@ -75,7 +75,7 @@ pub fn names_conditions(body: &Body) -> bool
     )
 }
 
-/// Returns the date that a Shipped or a Renew-Answer yes grants.
+/// Returns the due date that a Shipped or a Renew-Answer yes grants, and `None` for any other APDU.
 pub fn grant_in(body: &Body) -> Option<Day>
     ensures { result ≡ grant_in body.now }
 {

@@ -1,11 +1,11 @@
-//! A day beside a date that may be absent.
+//! Compares a day with a date that may be absent.
 
 ghost use Rattle.std.specs.Prelude.{◌≡◌};
 ghost use Rattle.ill_core.specs.Dates.{is_due_on, is_after_due};
 
 use ill_values::Day;
 
-/// Returns true if there is a due date, and `day` is it.
+/// Returns true if there is a due date, and `day` is that day.
 pub fn is_due_on(day: Day, due: Option<Day>) -> bool
     ensures { result ≡ is_due_on day due }
 {

@@ -1,4 +1,4 @@
-//! The APDUs that a side has issued, with the calls that both roles share.
+//! Defines the list of the APDUs that a side has issued, and the methods that both roles share.
 
 ghost use Rattle.std.specs.Prelude.{◌≡◌, ◌≤◌, ◌<◌, ◌==◌, ◌&&◌, true, length, take, [], Ok, Some, is_some, IfOk, IfErr, IfSome, OnOk, OnErr, option_map};
 ghost use Rattle.ill_core.specs.declared.refusal.Refusal.TheVariants as refusals;
@@ -11,7 +11,7 @@ use ill_values::{Apdu, Body, Day, Number, TxnId};
 use std::alloc::Global;
 use std::marker::Model;
 
-/// A transaction, and the APDUs that a side has issued in it: the n-th has number n.
+/// A transaction, and the APDUs that a side has issued in it. The n-th APDU has number n.
 #[derive(Debug, Drop)]
 pub struct Issued {
     txn: TxnId,
@@ -20,7 +20,7 @@ pub struct Issued {
     granted: Option<Day>,
 }
 
-/// A kind of number, of which the last is sought among the APDUs.
+/// A kind of number that may be sought in the list.
 #[derive(Clone, Copy)]
 pub enum Sought {
     /// The number that a Conditional-Reply yes answers.
@@ -44,6 +44,7 @@ impl Model for Issued {
 }
 
 impl Sought {
+    /// Returns the number of this kind in `apdu`, or `None` if it lacks one.
     fn find(self, apdu: &Apdu) -> Option<Number>
         ensures { result ≡ sought_number self apdu.now }
     {
@@ -70,7 +71,7 @@ impl Issued {
         }
     }
 
-    /// Returns the list of `apdus`. Each is of the transaction, and the n-th has number n.
+    /// Returns the list of `apdus`. Each belongs to `txn`, and the n-th has number n.
     pub fn of_numbered(txn: TxnId, apdus: Vec<Apdu>) -> Issued
         requires numbered { are_numbered txn 1 apdus.items ≡ true }
         requires few { length apdus.items ≤ 255 }
@@ -107,14 +108,14 @@ impl Issued {
         self.apdus.len() as u8
     }
 
-    /// Returns APDU `number`, if it was issued.
+    /// Returns the APDU with this number, or `None` if it was not issued.
     pub fn get(&self, number: Number) -> Option<&Apdu>
         ensures { option_map (λ a. a.now) result ≡ message self.now.apdus number }
     {
         self.apdus.get(usize::from(number.get()) - 1)
     }
 
-    /// Returns the last number of the kind `sought`.
+    /// Returns the last number of the kind `sought`, or `None`.
     #[tactic(auto, using(crate::proofs::IssuedLemmas::last_at))]
     pub fn last(&self, sought: Sought) -> Option<Number>
         ensures { result ≡ last_of (sought_number sought) self.now.apdus }
@@ -126,7 +127,7 @@ impl Issued {
         last
     }
 
-    /// The date of the last Shipped or Renew-Answer yes.
+    /// Returns the date of the last Shipped or Renew-Answer yes, or `None`.
     pub fn granted(&self) -> Option<Day>
         ensures { result ≡ last_of granted_day self.now.apdus }
     {
@@ -151,7 +152,7 @@ impl Issued {
         self.granted = last_granted(&self.apdus);
     }
 
-    /// Returns the number of the next APDU.
+    /// Returns the number of the next APDU, or `NumbersUsed` after 255.
     pub fn next_number(&self) -> Result<Number, Refusal>
         ensures { result ≡ next_number self.now.apdus }
     {
@@ -161,7 +162,7 @@ impl Issued {
             .ok_or(Refusal::NumbersUsed)
     }
 
-    /// Issues the next APDU, with `number` and `body`, or changes nothing.
+    /// Appends the next APDU, with `number` and `body`. If memory runs out, nothing changes.
     #[tactic(auto, using(crate::proofs::IssuedLemmas::numbered_issue, crate::proofs::IssuedLemmas::last_of_next))]
     pub fn issue(&mut self, alloc: Global, number: Number, body: Body) -> Result<(), Refusal>
         requires next { next_number self.old.apdus ≡ Ok number }
@@ -177,7 +178,7 @@ impl Issued {
         Ok(())
     }
 
-    /// Refuses an APDU of another transaction, and then one of a type that this role issues.
+    /// Refuses an APDU of another transaction, and then one of a type that this role issues, if `is_own` says so.
     pub fn admit(&self, apdu: &Apdu, is_own: bool) -> Result<(), Refusal>
         ensures { Admits (first_refusal self.now.txn is_own apdu.now) result }
     {
@@ -191,7 +192,7 @@ impl Issued {
     }
 }
 
-/// The date of the last Shipped or Renew-Answer yes among the APDUs.
+/// Returns the date of the last Shipped or Renew-Answer yes in `apdus`, or `None`.
 #[tactic(auto, using(crate::proofs::IssuedLemmas::last_at))]
 fn last_granted(apdus: &[Apdu]) -> Option<Day>
     ensures { result ≡ last_of granted_day apdus.now }
@@ -203,7 +204,7 @@ fn last_granted(apdus: &[Apdu]) -> Option<Day>
     last
 }
 
-/// Returns true if each APDU is of the transaction, and the n-th has number n.
+/// Returns true if each APDU belongs to `txn`, and the n-th has number n.
 pub fn are_numbered(txn: &TxnId, apdus: &[Apdu]) -> bool
     ensures value { result ≡ are_numbered txn.now 1 apdus.now }
     ensures few { result ≡ true → length apdus.now ≤ 255 }
@@ -216,7 +217,7 @@ pub fn are_numbered(txn: &TxnId, apdus: &[Apdu]) -> bool
     true
 }
 
-/// Returns true if the APDU is of the transaction and has this number.
+/// Returns true if the APDU belongs to `txn` and has this number.
 fn is_message(apdu: &Apdu, txn: &TxnId, number: usize) -> bool
     ensures value { result ≡ (is_same_txn apdu.now.txn txn.now && (apdu.now.number == number)) }
     ensures few { result ≡ true → number ≤ 255 }
@@ -224,28 +225,28 @@ fn is_message(apdu: &Apdu, txn: &TxnId, number: usize) -> bool
     apdu.txn == *txn && usize::from(apdu.number.get()) == number
 }
 
-/// Returns true if an ILL-Request is among the APDUs.
+/// Returns true if `apdus` has an ILL-Request.
 pub fn has_ill_request(apdus: &[Apdu]) -> bool
     ensures { result ≡ has is_ill_request apdus.now }
 {
     apdus.iter().any(|apdu| is_ill_request(&apdu.body))
 }
 
-/// Returns true if a Received is among the APDUs.
+/// Returns true if `apdus` has a Received.
 pub fn has_received(apdus: &[Apdu]) -> bool
     ensures { result ≡ has is_received apdus.now }
 {
     apdus.iter().any(|apdu| matches!(apdu.body, Body::Received))
 }
 
-/// Returns true if a Cancel is among the APDUs.
+/// Returns true if `apdus` has a Cancel.
 pub fn has_cancel(apdus: &[Apdu]) -> bool
     ensures { result ≡ has is_cancel apdus.now }
 {
     apdus.iter().any(|apdu| matches!(apdu.body, Body::Cancel))
 }
 
-/// Returns true if a Renew is among the APDUs.
+/// Returns true if `apdus` has a Renew.
 pub fn has_renew(apdus: &[Apdu]) -> bool
     ensures { result ≡ has is_renew apdus.now }
 {
@@ -254,21 +255,21 @@ pub fn has_renew(apdus: &[Apdu]) -> bool
         .any(|apdu| matches!(apdu.body, Body::Renew { .. }))
 }
 
-/// Returns true if a Returned is among the APDUs.
+/// Returns true if `apdus` has a Returned.
 pub fn has_returned(apdus: &[Apdu]) -> bool
     ensures { result ≡ has is_returned apdus.now }
 {
     apdus.iter().any(|apdu| matches!(apdu.body, Body::Returned))
 }
 
-/// Returns true if a Conditional-Reply no is among the APDUs.
+/// Returns true if `apdus` has a Conditional-Reply no.
 pub fn has_declined(apdus: &[Apdu]) -> bool
     ensures { result ≡ has declines apdus.now }
 {
     apdus.iter().any(|apdu| matches!(apdu.body, Body::ConditionalReply { yes: false, .. }))
 }
 
-/// Returns true if a Checked-In is among the APDUs.
+/// Returns true if `apdus` has a Checked-In.
 pub fn has_checked_in(apdus: &[Apdu]) -> bool
     ensures { result ≡ has is_checked_in apdus.now }
 {

@@ -1,4 +1,4 @@
-//! The kinds of messages that the tables tell apart.
+//! Defines the kinds of messages that the tables distinguish.
 
 ghost use Rattle.std.specs.Prelude.{◌≡◌, ◌<◌, Some, None, IsSome};
 ghost use Rattle.ill_core.specs.Kinds.{requester_kind, responder_kind, answer_kind, requester_place, responder_place, number_in, date_in};
@@ -54,7 +54,7 @@ pub enum ResponderKind {
 }
 
 impl RequesterKind {
-    /// The place of the kind in their order.
+    /// Returns the index of the kind among the variants, from 0.
     pub fn place(self) -> usize
         ensures value { result ≡ requester_place self }
         ensures few { result < 7 }
@@ -62,7 +62,7 @@ impl RequesterKind {
         self as usize
     }
 
-    /// Returns the kind of a message, if a requester issues it.
+    /// Returns the kind of a message that a requester issues, and `None` for any other message.
     pub fn of(body: &Body) -> Option<RequesterKind>
         ensures { result ≡ requester_kind body.now }
     {
@@ -80,7 +80,7 @@ impl RequesterKind {
 }
 
 impl ResponderKind {
-    /// The place of the kind in their order.
+    /// Returns the index of the kind among the variants, from 0.
     pub fn place(self) -> usize
         ensures value { result ≡ responder_place self }
         ensures few { result < 12 }
@@ -88,7 +88,7 @@ impl ResponderKind {
         self as usize
     }
 
-    /// Returns the kind of a message, if a responder issues it.
+    /// Returns the kind of a message that a responder issues, and `None` for any other message.
     pub fn of(body: &Body) -> Option<ResponderKind>
         ensures { result ≡ responder_kind body.now }
     {
@@ -122,7 +122,7 @@ impl ResponderKind {
     }
 }
 
-/// Returns the number that a message tells: the number that it answers, or else its own.
+/// Returns the number by which a row judges a message: the number that it answers, or else its own.
 pub fn number_in(apdu: &Apdu) -> Number
     ensures { result ≡ number_in apdu.now apdu.now.body }
 {
@@ -134,7 +134,7 @@ pub fn number_in(apdu: &Apdu) -> Number
     }
 }
 
-/// Returns the due date that a message tells.
+/// Returns the due date that a message states, or `None`.
 pub fn date_in(body: &Body) -> Option<Day>
     ensures { result ≡ date_in body.now }
 {
@@ -145,7 +145,7 @@ pub fn date_in(body: &Body) -> Option<Day>
     }
 }
 
-/// Returns the number or the date that is known.
+/// Returns the number or the date in `value`, which is not `None`.
 pub fn known_value<T: Copy>(value: Option<T>) -> T
     requires there { IsSome value }
     ensures { Some result ≡ value }

@@ -1,6 +1,6 @@
-//! The laws of single rows of the tables, as contracts of functions that do nothing.
+//! States the laws of single rows of the tables, as contracts of functions that do nothing.
 //!
-//! They are over the definitions alone, and of every record unless a premise says otherwise.
+//! They are statements on the definitions alone. They hold of every record, unless a premise restricts it.
 
 mod names;
 mod requester;

@@ -1,6 +1,7 @@
-//! Both sides of an interlibrary loan, as records that act and take messages by tables.
+//! Implements both sides of an interlibrary loan, as records that act and take messages by tables.
 //!
-//! Each side is a value of its own: `act` does a decision of its library, and `take` follows a message.
+//! Each side is a value of its own: `act` performs a decision of its library, and `take` takes a message of the other
+//! side.
 #![tactic(auto)]
 
 mod body;

@@ -1,4 +1,4 @@
-//! The refusals of an action or a message.
+//! Defines the refusals of an action or a message.
 
 ghost use Rattle.std.specs.Prelude.{◌≡◌};
 ghost use Rattle.ill_core.specs.declared.refusal.Refusal.TheVariants.{OutOfMemory};
@@ -7,15 +7,15 @@ use crate::state::State;
 use std::alloc::{AllocError, AllocFailed};
 use thiserror::Error;
 
-/// The cause for which an action or a message was refused. The side is unchanged.
+/// The cause for which a side refused an action or a message. The record is unchanged.
 ///
-/// If more than one holds, it is the first in this order.
+/// If more than one cause applies, it is the first in this order.
 #[derive(Clone, Copy, Debug, PartialEq, Eq, Hash, Error)]
 pub enum Refusal {
-    /// The APDU belongs to another transaction. Only `take` gives this.
+    /// The APDU belongs to another transaction. Only `take` returns this.
     #[error("the APDU is of another transaction")]
     OtherTransaction,
-    /// The APDU is of a type that this side itself issues. Only `take` gives this.
+    /// The APDU has a type that this side itself issues. Only `take` returns this.
     #[error("the APDU is one that this role issues")]
     WrongRole,
     /// The action has no place in this state, which is the side's own.
@@ -33,7 +33,7 @@ pub enum Refusal {
     /// The expiry date of the request has not passed, or there is none.
     #[error("the request has not expired")]
     NotExpired,
-    /// The side has issued 255 messages, and there is no number for another.
+    /// The side has issued 255 messages, and no number is left for another.
     #[error("all 255 numbers are used")]
     NumbersUsed,
     /// Memory ran out.

@@ -1,4 +1,4 @@
-//! The requester.
+//! Defines the requester.
 
 mod actions;
 mod deliveries;
@@ -38,28 +38,28 @@ pub struct Requester {
 /// A decision of a requester's library.
 #[derive(Debug, PartialEq, Eq, Drop)]
 pub enum Wish {
-    /// Ask for an item: issue the ILL-Request.
+    /// Asks for an item by an ILL-Request.
     Request {
         /// The last day of the request, if it may expire.
         expiry: Option<Day>,
         /// The item to ask for.
         item: Item,
     },
-    /// Ask the responder to cancel the request.
+    /// Asks the responder to cancel the request.
     Cancel,
-    /// Accept or decline the responder's conditions: issue a Conditional-Reply.
+    /// Accepts or declines the responder's conditions by a Conditional-Reply.
     Reply {
         /// True if the conditions are accepted.
         yes: bool,
     },
-    /// Tell the responder that the item has arrived.
+    /// Tells the responder that the item has arrived.
     Receive,
-    /// Ask the responder for a later due date.
+    /// Asks the responder for a later due date.
     Renew {
         /// The due date that the library would like, if it names one.
         wished: Option<Day>,
     },
-    /// Tell the responder that the item was sent back.
+    /// Tells the responder that the item was sent back.
     Return,
 }
 
@@ -91,7 +91,7 @@ impl Model for Requester {
 }
 
 impl Requester {
-    /// A requester that has issued and taken nothing. `alloc` is kept for later.
+    /// Returns a requester in IDLE, which has issued and taken nothing. It keeps `alloc` for its list.
     #[tactic(auto, unfolding(crate::specs::Issued::are_numbered, crate::specs::Requester::is_consistent))]
     pub fn idle(alloc: Global, txn: TxnId) -> Requester
         ensures { result ≡ requester_of txn State.Idle None false None [] }
@@ -107,7 +107,7 @@ impl Requester {
         }
     }
 
-    /// Returns the requester with these parts, or `None` if they do not fit together.
+    /// Returns the requester with these parts, or `None` if they break its rules.
     #[tactic(auto, unfolding(crate::specs::Requester::is_consistent))]
     pub fn of_parts(
         txn: TxnId,
@@ -140,8 +140,8 @@ impl Requester {
         })
     }
 
-    /// Goes back to `standing` and the first `count` messages, if these parts fit together. Otherwise
-    /// it answers `false`, and nothing changes.
+    /// Restores `standing` and the first `count` messages, if they satisfy the rules together. Otherwise it returns
+    /// `false`, and nothing changes.
     pub fn go_back(&mut self, standing: Standing, count: u8) -> bool
         ensures fits { (result ≡ true) ↔ IsRequester (back_to standing count self.old) }
         ensures back { self.new ≡ (if result then back_to standing count self.old else self.old) }
@@ -154,7 +154,7 @@ impl Requester {
         true
     }
 
-    /// Returns true if `standing` fits with the first `count` messages.
+    /// Returns true if `standing` and the first `count` messages satisfy the rules together.
     #[tactic(auto, using(crate::proofs::Rules::requester_back, crate::proofs::Rules::requester_back_fits))]
     fn could_stand(&self, standing: &Standing, count: u8) -> bool
         ensures { (result ≡ true) ↔ IsRequester (back_to standing.now count self.now) }
@@ -162,10 +162,9 @@ impl Requester {
         rules::fit_together(standing, self.issued.prefix(count))
     }
 
-    /// Does the decision `wish` of the library, and issues the message that tells the responder.
+    /// Performs the decision `wish` of the library, and issues the message to the responder.
     ///
-    /// It refuses a wish without a place in this state, then a 256th message, then want of memory. A
-    /// refusal changes nothing.
+    /// The refusals are `NotNow`, then `NumbersUsed`, then `OutOfMemory`. A refusal changes nothing.
     pub fn act(&mut self, alloc: Global, wish: &Wish) -> Result<(), Refusal>
         ensures { Acts self.old wish.now result self.new }
     {
@@ -180,8 +179,7 @@ impl Requester {
         Ok(())
     }
 
-    /// Takes a message of the responder, and returns the answer. A refusal changes nothing, and no
-    /// memory is wanted.
+    /// Takes a message of the responder, and returns the answer. A refusal changes nothing. A delivery takes no memory.
     pub fn take(&mut self, apdu: &Apdu) -> Result<Taking, Refusal>
         ensures takes { Takes self.old apdu.now result self.new }
         ensures memory { result ≡ Err refusals.OutOfMemory → ⊥ }
@@ -190,7 +188,7 @@ impl Requester {
         Ok(deliveries::take_message(self, apdu))
     }
 
-    /// The id of the transaction.
+    /// Returns the id of the transaction.
     pub fn txn(&self) -> &TxnId
         ensures { result.now ≡ self.now.txn }
     {
@@ -205,7 +203,7 @@ impl Requester {
         self.standing
     }
 
-    /// The present state.
+    /// Returns the present state.
     pub fn state(&self) -> State
         ensures value { result ≡ self.now.state }
         ensures requester { IsRequester self.now }
@@ -213,7 +211,7 @@ impl Requester {
         self.standing.state
     }
 
-    /// The day on which the item is due, once it was shipped.
+    /// Returns the day on which the item is due, or `None` before SHIPPED.
     pub fn due(&self) -> Option<Day>
         ensures { result ≡ self.now.due }
     {
@@ -227,7 +225,7 @@ impl Requester {
         self.issued.count()
     }
 
-    /// The messages that the requester has issued, in order: the n-th has number n.
+    /// Returns the messages that the requester has issued, in order: the n-th has number n.
     pub fn all_issued(&self) -> &[Apdu]
         ensures value { result.now ≡ self.now.issued }
         ensures few { length self.now.issued ≤ 255 }
@@ -235,7 +233,7 @@ impl Requester {
         self.issued.apdus()
     }
 
-    /// The message that the requester issued with this number, if it did.
+    /// Returns the message with this number that the requester issued, or `None`.
     pub fn issued(&self, number: Number) -> Option<&Apdu>
         ensures { option_map (λ a. a.now) result ≡ message self.now.issued number }
     {
@@ -249,21 +247,21 @@ impl Requester {
         has_received(self.issued.apdus())
     }
 
-    /// The number of the ILL-Answer whose conditions were accepted last, if any.
+    /// Returns the number of the ILL-Answer whose conditions were accepted last, or `None`.
     pub fn accepted(&self) -> Option<Number>
         ensures { result ≡ accepted_number self.now }
     {
         self.issued.last(Sought::Accepted)
     }
 
-    /// The number of the ILL-Answer that named the conditions, while they stand (CONDITIONAL).
+    /// Returns the number of the ILL-Answer whose conditions are held, or `None` outside CONDITIONAL.
     pub fn held(&self) -> Option<Number>
         ensures { result ≡ self.now.held }
     {
         self.standing.held
     }
 
-    /// Returns true if the conditions that stand were declined.
+    /// Returns true if the conditions that are held were declined.
     pub fn is_declined(&self) -> bool
         ensures { result ≡ is_declined self.now }
     {
@@ -277,8 +275,8 @@ impl Requester {
         self.standing.checked_in
     }
 
-    /// The verbs of all wishes that `act` does not refuse as `NotNow`. It may still refuse them: for
-    /// 255 messages that were issued, or for want of memory.
+    /// Returns the verbs of all wishes that `act` does not refuse as `NotNow`. It may still refuse them as
+    /// `NumbersUsed` or `OutOfMemory`.
     pub fn verbs(&self) -> &'static [Verb]
         ensures value { result.now ≡ requester_verbs self.now }
         ensures exact { (wish : Wish) →
@@ -297,7 +295,7 @@ impl Requester {
         }
     }
 
-    /// Returns the turn, as far as the requester knows. In its own turn the requester has a verb.
+    /// Returns the turn, as far as the record shows. In its own turn the requester has a verb.
     pub fn turn(&self) -> Turn
         ensures value { result ≡ requester_turn self.now }
         ensures mine { result ≡ Mine → requester_verbs self.now ≡ [] → ⊥ }

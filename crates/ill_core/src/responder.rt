@@ -1,4 +1,4 @@
-//! The responder.
+//! Defines the responder.
 
 mod actions;
 mod deliveries;
@@ -39,30 +39,30 @@ pub struct Responder {
 /// A decision of a responder's library.
 #[derive(Clone, Copy, Debug, PartialEq, Eq, Hash)]
 pub enum Deed {
-    /// Answer the request: issue an ILL-Answer with this result.
+    /// Answers the request by an ILL-Answer with this result.
     Answer(AnswerResult),
-    /// Agree to the last Cancel or refuse it.
+    /// Agrees to the last Cancel or refuses it.
     CancelReply {
         /// True if the request is cancelled.
         yes: bool,
     },
-    /// Send the item.
+    /// Sends the item.
     Ship {
         /// The day on which the item is due: today or later.
         due: Day,
     },
-    /// Grant the last Renew or refuse it.
+    /// Grants the last Renew or refuses it.
     RenewAnswer {
         /// The new due date, if the answer is yes. Without a date the answer is no.
         granted: Option<Day>,
     },
-    /// Tell the requester that the due date has passed.
+    /// Tells the requester that the due date has passed.
     Overdue,
-    /// Ask for the item back at once.
+    /// Asks for the item back at once.
     Recall,
-    /// Tell the requester that the item is back.
+    /// Tells the requester that the item is back.
     CheckIn,
-    /// End a request whose expiry date has passed.
+    /// Ends a request whose expiry date has passed.
     Expire,
 }
 
@@ -97,7 +97,7 @@ impl Model for Responder {
 }
 
 impl Responder {
-    /// A responder that has issued and taken nothing. `alloc` is kept for later.
+    /// Returns a responder in IDLE, which has issued and taken nothing. It keeps `alloc` for its list.
     #[tactic(auto, unfolding(crate::specs::Issued::are_numbered, crate::specs::Responder::rise_from, crate::specs::Responder::ships_first, crate::specs::Responder::is_consistent))]
     pub fn idle(alloc: Global, txn: TxnId) -> Responder
         ensures { result ≡ responder_of txn State.Idle None None None false None [] }
@@ -115,7 +115,7 @@ impl Responder {
         }
     }
 
-    /// Returns the responder with these parts, or `None` if they do not fit together.
+    /// Returns the responder with these parts, or `None` if they break its rules.
     #[tactic(auto, unfolding(crate::specs::Responder::is_consistent))]
     pub fn of_parts(
         txn: TxnId,
@@ -157,8 +157,8 @@ impl Responder {
         })
     }
 
-    /// Goes back to `standing` and the first `count` messages, if these parts fit together. Otherwise
-    /// it answers `false`, and nothing changes. In IDLE it has no request.
+    /// Restores `standing` and the first `count` messages, if they satisfy the rules together. Otherwise it returns
+    /// `false`, and nothing changes. In IDLE the request is dropped.
     pub fn go_back(&mut self, standing: Standing, count: u8) -> bool
         ensures fits { (result ≡ true) ↔ IsResponder (back_to standing count self.old) }
         ensures back { self.new ≡ (if result then back_to standing count self.old else self.old) }
@@ -172,7 +172,7 @@ impl Responder {
         true
     }
 
-    /// Returns true if `standing` fits with the first `count` messages.
+    /// Returns true if `standing` and the first `count` messages satisfy the rules together.
     #[tactic(auto, using(crate::proofs::Rules::responder_back, crate::proofs::Rules::responder_back_fits))]
     fn could_stand(&self, standing: &Standing, count: u8) -> bool
         ensures { (result ≡ true) ↔ IsResponder (back_to standing.now count self.now) }
@@ -181,11 +181,10 @@ impl Responder {
         rules::fit_together(standing, is_asked, self.issued.prefix(count))
     }
 
-    /// Does the decision `deed` of the library on the day `today`, and issues the message that tells
-    /// the requester.
+    /// Performs the decision `deed` of the library on the day `today`, and issues the message to the requester.
     ///
-    /// It refuses a deed without a place in this state or on this day, then a 256th message, then want
-    /// of memory. A refusal changes nothing.
+    /// The refusals are `NotNow`, then the refusal of a date, then `NumbersUsed`, then `OutOfMemory`. A refusal changes
+    /// nothing.
     pub fn act(&mut self, alloc: Global, deed: &Deed, today: Day) -> Result<(), Refusal>
         ensures { Acts self.old deed.now today result self.new }
     {
@@ -203,8 +202,8 @@ impl Responder {
 
     /// Takes a message of the requester, and returns the answer. A refusal changes nothing.
     ///
-    /// Only the ILL-Request, which is kept, and a Conditional-Reply no, which is answered with an
-    /// ILL-Answer unfilled, take memory.
+    /// Only two messages take memory: the ILL-Request, which is kept, and a Conditional-Reply no, which is answered
+    /// with an ILL-Answer unfilled.
     pub fn take(&mut self, alloc: Global, apdu: &Apdu) -> Result<Taking, Refusal>
         ensures { Takes self.old apdu.now result self.new }
     {
@@ -212,7 +211,7 @@ impl Responder {
         deliveries::take_message(self, alloc, apdu)
     }
 
-    /// The id of the transaction.
+    /// Returns the id of the transaction.
     pub fn txn(&self) -> &TxnId
         ensures { result.now ≡ self.now.txn }
     {
@@ -227,7 +226,7 @@ impl Responder {
         self.standing
     }
 
-    /// The present state.
+    /// Returns the present state.
     pub fn state(&self) -> State
         ensures value { result ≡ self.now.state }
         ensures responder { IsResponder self.now }
@@ -235,7 +234,7 @@ impl Responder {
         self.standing.state
     }
 
-    /// The day on which the item is due, once it was shipped: that of the last Shipped or
+    /// Returns the day on which the item is due, or `None` before SHIPPED. It is the date of the last Shipped or
     /// Renew-Answer yes.
     pub fn due(&self) -> Option<Day>
         ensures { result ≡ due_of self.now }
@@ -250,7 +249,7 @@ impl Responder {
         self.issued.count()
     }
 
-    /// The messages that the responder has issued, in order: the n-th has number n.
+    /// Returns the messages that the responder has issued, in order: the n-th has number n.
     pub fn all_issued(&self) -> &[Apdu]
         ensures value { result.now ≡ self.now.issued }
         ensures few { length self.now.issued ≤ 255 }
@@ -258,7 +257,7 @@ impl Responder {
         self.issued.apdus()
     }
 
-    /// The message that the responder issued with this number, if it did.
+    /// Returns the message with this number that the responder issued, or `None`.
     pub fn issued(&self, number: Number) -> Option<&Apdu>
         ensures { option_map (λ a. a.now) result ≡ message self.now.issued number }
     {
@@ -272,14 +271,14 @@ impl Responder {
         self.standing.received
     }
 
-    /// The number of the ILL-Answer whose conditions the requester accepted last, if any.
+    /// Returns the number of the ILL-Answer whose conditions the requester accepted last, or `None`.
     pub fn accepted(&self) -> Option<Number>
         ensures { result ≡ self.now.accepted }
     {
         self.standing.accepted
     }
 
-    /// The number of the ILL-Answer whose conditions wait for a reply (CONDITIONAL).
+    /// Returns the number of the ILL-Answer whose conditions wait for a reply, or `None` outside CONDITIONAL.
     pub fn outstanding(&self) -> Option<Number>
         ensures { result ≡ outstanding_number self.now }
     {
@@ -289,38 +288,38 @@ impl Responder {
         }
     }
 
-    /// The number of the last Cancel that was taken, if any.
+    /// Returns the number of the last Cancel that was taken, or `None`.
     pub fn last_cancel(&self) -> Option<Number>
         ensures { result ≡ self.now.last_cancel }
     {
         self.standing.last_cancel
     }
 
-    /// The number of the last Renew that was taken, if any.
+    /// Returns the number of the last Renew that was taken, or `None`.
     pub fn last_renew(&self) -> Option<Number>
         ensures { result ≡ self.now.last_renew }
     {
         self.standing.last_renew
     }
 
-    /// The number of the message that ended the request, if one did: an ILL-Answer after which the
-    /// item is not supplied, an Expired, a Cancel-Reply yes, or a Shipped. Once it was sent, one
-    /// arrival of it is enough for the requester.
+    /// Returns the number of the message that ended the request, or `None`. It is an ILL-Answer after which the item is
+    /// not supplied, an Expired, a Cancel-Reply yes, or a Shipped. One arrival of this message is enough for the
+    /// requester.
     pub fn ending(&self) -> Option<Number>
         ensures { result ≡ end_number self.now }
     {
         self.issued.last(Sought::EndNumber)
     }
 
-    /// The ILL-Request, once it was taken.
+    /// Returns the ILL-Request that was taken, or `None`.
     pub fn request(&self) -> Option<&Apdu>
         ensures { option_map (λ a. a.now) result ≡ self.now.request }
     {
         self.request.as_ref()
     }
 
-    /// The verbs of all deeds that `act` does not refuse as `NotNow`. It may still refuse them: for a
-    /// date, for 255 messages that were issued, or for want of memory.
+    /// Returns the verbs of all deeds that `act` does not refuse as `NotNow`. It may still refuse them for a date, as
+    /// `NumbersUsed` or as `OutOfMemory`.
     pub fn verbs(&self) -> &'static [Verb]
         ensures value { result.now ≡ responder_verbs self.now }
         ensures exact { (deed : Deed) (today : Date) →
@@ -339,7 +338,7 @@ impl Responder {
         }
     }
 
-    /// Returns the turn, as far as the responder knows. In its own turn the responder has a verb.
+    /// Returns the turn, as far as the record shows. In its own turn the responder has a verb.
     pub fn turn(&self) -> Turn
         ensures value { result ≡ responder_turn self.now }
         ensures mine { result ≡ Mine → responder_verbs self.now ≡ [] → ⊥ }
@@ -357,14 +356,14 @@ impl Responder {
     }
 }
 
-/// Returns true if there is a request in this state: in IDLE there is none.
+/// Returns true if a responder in `state` has a request: outside IDLE, and `request` is there.
 fn is_asked_in(state: State, request: &Option<Apdu>) -> bool
     ensures { result ≡ is_some (request_in state request.now) }
 {
     state != State::Idle && request.is_some()
 }
 
-/// Drops the request if the state is IDLE.
+/// Drops the request if `state` is IDLE.
 fn drop_in_idle(state: State, request: &mut Option<Apdu>)
     ensures { request.new ≡ request_in state request.old }
 {

@@ -1,4 +1,4 @@
-//! The states of a side.
+//! Defines the states of a side.
 
 ghost use Rattle.std.specs.Prelude.{◌≡◌, Some};
 ghost use Rattle.std.specs.Fmt.{padded};
@@ -24,7 +24,7 @@ pub enum State {
     Cancelled,
     /// The request has ended without the item. This state is final.
     NotSupplied,
-    /// The responder has shipped the item. A requester in this state has not told that it came.
+    /// The responder has shipped the item. A requester in this state has issued no Received.
     Shipped,
     /// The item has reached the requester. Only a requester has this state.
     Received,
@@ -34,8 +34,8 @@ pub enum State {
     Overdue,
     /// The responder has told that the item is overdue, and a Renew waits for its Renew-Answer.
     RenewOverdue,
-    /// The responder has told that the item is overdue, and the requester has not told that it came.
-    /// Only a requester has this state.
+    /// The responder has told that the item is overdue, and the requester has issued no Received. Only a requester has
+    /// this state.
     NotReceivedOverdue,
     /// The responder has asked for the item back.
     Recall,
@@ -45,7 +45,7 @@ pub enum State {
     CheckedIn,
 }
 
-/// All states, in the order of this type's variants.
+/// Lists all states, in the order of the variants.
 pub const STATES: [State; 16] = [
     State::Idle,
     State::Pending,
@@ -90,7 +90,7 @@ impl State {
         }
     }
 
-    /// Returns the state whose name is `text`, if there is one.
+    /// Returns the state with the name `text`, or `None`.
     pub fn read(text: &[u8]) -> Option<State>
         ensures { result ≡ state_named text.now }
     {

@@ -1,4 +1,4 @@
-//! The tables of both roles: arrays of rows, of which the first that fits decides.
+//! Defines the tables of both roles: arrays of rows, of which the first that fits decides.
 
 ghost use Rattle.std.specs.Prelude.{◌≡◌, ℕ, Bool, List, option_copied};
 ghost use Rattle.std.specs.List.{find};
@@ -8,30 +8,30 @@ ghost use Rattle.ill_core.specs.Tables.{Guard, are_met, has_state, fits, taking_
 use crate::state::State;
 use crate::taking::Taking;
 
-/// A row: the kind of action or message, the states and the guards that it asks for, its effect, and
-/// its changes beside the state.
+/// A row: the kind of action or message, the states and the guards that it asks for, its effect, and its changes beside
+/// the state.
 ///
-/// Bit i of the states is variant i of `State`, from 0. Each role names the bits of its guards and of
-/// its changes. The rows of a kind stand together, and the first of them that fits decides.
+/// Bit i of the states is variant i of `State`, from 0. Each role names the bits of its guards and of its changes. The
+/// rows of a kind are adjacent, and the first of them that fits decides.
 pub struct Row<K>(pub K, pub u16, pub u16, pub Then, pub u16);
 
 /// The effect of an action or a message: its answer, and the next state.
 #[derive(Clone, Copy)]
 pub enum Then {
-    /// It is done, or is new, and leads to this state.
+    /// The action is done, or the message is taken. The state becomes this one.
     To(State),
-    /// It is done, or is new, and the state stays.
+    /// The action is done, or the message is taken. The state does not change.
     Stay,
-    /// The record shows it already.
+    /// The record shows the message already.
     Repeat,
-    /// It has been overtaken.
+    /// The message answers a question that is no longer open, or names another due date.
     Stale,
-    /// It has no place in the present state.
+    /// The message has no place in the present state.
     Conflict,
 }
 
 impl Then {
-    /// Returns the answer in `state`.
+    /// Returns the answer that this effect gives in `state`.
     pub fn taking(self, state: State) -> Taking
         ensures { result ≡ taking_of self state }
     {
@@ -43,7 +43,7 @@ impl Then {
         }
     }
 
-    /// Returns the state after `state`.
+    /// Returns the state that follows `state`.
     pub fn next_state(self, state: State) -> State
         ensures { result ≡ next_state self state }
     {
@@ -54,9 +54,9 @@ impl Then {
     }
 }
 
-/// The guards that rows may ask for.
+/// Tests the guards that rows may ask for.
 pub trait Guards {
-    /// Each guard with its bit.
+    /// Returns each guard with its bit.
     ghost guards: { Self → List Guard };
 
     /// Returns true if all guards with a bit in `asked` hold.
@@ -64,7 +64,7 @@ pub trait Guards {
         ensures { result ≡ are_met asked (guards self.now) };
 }
 
-/// Returns the first of `rows` that has `state`, and whose guards hold.
+/// Returns the first of `rows` that contains `state` and whose guards hold, or `None`.
 pub fn find<'a, K, F: Guards>(rows: &'a [Row<K>], state: State, guards: &F) -> Option<&'a Row<K>>
     ensures { option_copied result ≡ find (fits state (F.guards guards.now)) rows.now }
 {
@@ -72,7 +72,7 @@ pub fn find<'a, K, F: Guards>(rows: &'a [Row<K>], state: State, guards: &F) -> O
         .find(|row| has_state(row.1, state) && are_met(guards, row.2))
 }
 
-/// Returns true if all guards with a bit in `asked` hold. If it has none, no guard is looked at.
+/// Returns true if all guards with a bit in `asked` hold. If `asked` has no bit, no guard is tested.
 #[tactic(auto, using(crate::proofs::TableLemmas::none_asked))]
 fn are_met<F: Guards>(guards: &F, asked: u16) -> bool
     ensures { result ≡ are_met asked (F.guards guards.now) }
@@ -87,14 +87,14 @@ fn has_state(states: u16, state: State) -> bool
     states >> place_of(state) & 1 == 1
 }
 
-/// Returns the place of `state` in their order.
+/// Returns the index of `state` among the variants, from 0.
 fn place_of(state: State) -> u16
     ensures { result ≡ place_of state }
 {
     state as u16
 }
 
-/// No guards, or no changes.
+/// The mask without guards or changes.
 pub const NONE: u16 = 0;
 
 pub const IDLE: u16 = 1 << State::Idle as u16;
@@ -129,5 +129,5 @@ pub const RETURNED: u16 = 1 << State::Returned as u16;
 
 pub const CHECKED_IN: u16 = 1 << State::CheckedIn as u16;
 
-/// Every state.
+/// The mask of all states.
 pub const ANY: u16 = 0xffff;

@@ -1,16 +1,16 @@
-//! The answer of a side to a message.
+//! Defines the answer of a side to a message.
 
 use crate::state::State;
 
 /// The answer of a side to a message that it did not refuse.
 #[derive(Clone, Copy, Debug, PartialEq, Eq, Hash)]
 pub enum Taking {
-    /// It was new, and the side has followed it.
+    /// The message was news, and the record has changed as its row says.
     Taken,
-    /// It was taken before; nothing changes.
+    /// The record shows the message already. Nothing changes.
     Repeat,
-    /// It came too late: a later message has settled what it is about. Nothing changes.
+    /// The message answers a question that is no longer open, or names another due date. Nothing changes.
     Stale,
-    /// It has no place in this state, which is the side's own. Nothing changes.
+    /// The message has no place in this state, which is the side's own. Nothing changes.
     Conflict(State),
 }

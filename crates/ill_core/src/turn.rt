@@ -1,13 +1,13 @@
-//! The turn: the library that acts next.
+//! Defines the turn: the library that acts next.
 
-/// The library that acts next in a transaction, as far as the record of a side tells. A side may have verbs in
-/// the other's turn: a requester in PENDING may cancel.
+/// The library that acts next in a transaction, as far as the record of a side shows. A side may have verbs in the
+/// other's turn: a requester in PENDING may cancel.
 #[derive(Clone, Copy, Debug, PartialEq, Eq, Hash)]
 pub enum Turn {
-    /// Nobody: it is over.
+    /// Nobody acts next: the loan is over.
     Over,
-    /// The library of this side.
+    /// The library of this side acts next.
     Mine,
-    /// The library of the other side.
+    /// The library of the other side acts next.
     Theirs,
 }

@@ -1,4 +1,4 @@
-//! The verbs: the first words of all actions.
+//! Defines the verbs: the first words of all actions.
 
 ghost use Rattle.std.specs.Prelude.{◌≡◌, Some};
 ghost use Rattle.std.specs.Fmt.{padded};
@@ -39,7 +39,7 @@ pub enum Verb {
     Expire,
 }
 
-/// All verbs.
+/// Lists all verbs.
 const VERBS: [Verb; 14] = [
     Verb::Request,
     Verb::Cancel,
@@ -80,7 +80,7 @@ impl Verb {
         }
     }
 
-    /// Returns the verb whose name is `text`, if there is one.
+    /// Returns the verb with the name `text`, or `None`.
     pub fn read(text: &[u8]) -> Option<Verb>
         ensures { result ≡ verb_named text.now }
     {

@@ -1,4 +1,4 @@
-//! The requester's rows.
+//! States the laws of the requester's rows.
 
 ghost use Rattle.std.specs.Prelude.{◌≡◌, ◌↔◌, ◌⊎◌, ◌+◌, ◌≤◌, ◌&&◌, ℕ, List, [], ◌∷◌, ◌++◌, length, Option, Some, is_some, true, false, Ok};
 ghost use Rattle.ill_values.specs.Day.{Date};
@@ -20,7 +20,7 @@ ghost use Rattle.ill_core.specs.RequesterEvidence.{Fact, Claims, IsEvidence, Kee
 ghost use Rattle.ill_core.specs.RequesterEvidence as evidence;
 ghost use Rattle.ill_core.specs.RequesterNotices.{Notice, Reflects, Attests, has_heard, reopens};
 
-/// A wish issues exactly one APDU, with the next number, and a message none. There are at most 255.
+/// A wish issues exactly one APDU, with the next number. A message issues none. A requester issues at most 255 APDUs.
 pub fn requester_issues()
     ensures acts { (x new : RequesterRecord) (wish : Wish) → acts x wish ≡ Ok new →
         IssuesNext x.txn x.issued new.issued }
@@ -29,26 +29,26 @@ pub fn requester_issues()
         length new.issued ≤ 255 }
 {}
 
-/// The transaction stays.
+/// No wish and no message changes the transaction.
 pub fn requester_keeps_txn()
     ensures acts { (x new : RequesterRecord) (wish : Wish) → acts x wish ≡ Ok new →
         new.txn ≡ x.txn }
     ensures takes { (x : RequesterRecord) (a : Apdu) → (takes x a).1.txn ≡ x.txn }
 {}
 
-/// A record that keeps the rules of a requester keeps them.
+/// If a record satisfies the rules of a requester, so does the record after a wish or a message.
 pub fn requester_keeps_rules()
     ensures acts { (x new : RequesterRecord) (wish : Wish) → acts x wish ≡ Ok new →
         IsRequester x → IsRequester new }
     ensures takes { (x : RequesterRecord) (a : Apdu) → IsRequester x → IsRequester (takes x a).1 }
 {}
 
-/// The rules that such a record keeps, one by one.
+/// A record satisfies `IsRequester` if, and only if, it satisfies each rule in `RequesterRules`.
 pub fn requester_rules()
     ensures { (x : RequesterRecord) → IsRequester x ↔ RequesterRules x }
 {}
 
-/// A wish leads out of IDLE, and nothing leads back there.
+/// A wish leads out of IDLE, and no message leads back there.
 pub fn requester_has_begun()
     ensures acts { (x new : RequesterRecord) (wish : Wish) → acts x wish ≡ Ok new →
         is_among (states.Idle ∷ []) new.state ≡ false }
@@ -56,12 +56,12 @@ pub fn requester_has_begun()
         is_among (states.Idle ∷ []) (takes x a).1.state ≡ false }
 {}
 
-/// A message that is not taken changes nothing.
+/// A message that is not `Taken` changes nothing.
 pub fn requester_is_quiet()
     ensures { (x : RequesterRecord) (a : Apdu) → ((takes x a).0 ≡ Ok Taken) ⊎ ((takes x a).1 ≡ x) }
 {}
 
-/// CANCELLED, NOT-SUPPLIED and RETURNED are final.
+/// No wish and no message leads out of CANCELLED, NOT-SUPPLIED or RETURNED.
 pub fn requester_is_final()
     ensures acts { (x new : RequesterRecord) (wish : Wish) → acts x wish ≡ Ok new →
         is_among (states.Cancelled ∷ states.NotSupplied ∷ states.Returned ∷ []) x.state ≡ true →
@@ -71,7 +71,7 @@ pub fn requester_is_final()
         (takes x a).1.state ≡ x.state }
 {}
 
-/// A requester in SHIPPED or later stays there.
+/// A requester in SHIPPED or later stays in SHIPPED or later.
 pub fn requester_stays_later()
     ensures acts { (x new : RequesterRecord) (wish : Wish) → acts x wish ≡ Ok new →
         is_among later x.state ≡ true → is_among later new.state ≡ true }
@@ -79,7 +79,7 @@ pub fn requester_stays_later()
         is_among later x.state ≡ true → is_among later (takes x a).1.state ≡ true }
 {}
 
-/// A due date is kept or raised, if it is there exactly in SHIPPED or later.
+/// A wish does not change the due date. A message keeps or raises it, if it is there exactly in SHIPPED or later.
 pub fn requester_keeps_due()
     ensures acts { (x new : RequesterRecord) (wish : Wish) → acts x wish ≡ Ok new →
         new.due ≡ x.due }
@@ -87,8 +87,8 @@ pub fn requester_keeps_due()
         is_some x.due ≡ is_among later x.state → KeepsDue x.due (takes x a).1.due }
 {}
 
-/// Each fact that a record shows after a message was shown before, or the message tells it. A wish
-/// shows nothing new.
+/// Each fact that a record claims after a message was claimed before, or the message is evidence of it. A wish adds no
+/// claim.
 pub fn requester_shows()
     ensures acts { (x new : RequesterRecord) (wish : Wish) (fact : Fact) → acts x wish ≡ Ok new →
         Claims new fact → Claims x fact }
@@ -96,18 +96,18 @@ pub fn requester_shows()
         Claims (takes x a).1 fact → Claims x fact ⊎ IsEvidence a.body fact }
 {}
 
-/// A Conditional-Reply is issued only in CONDITIONAL, to the conditions held, which were not
-/// declined.
+/// A Conditional-Reply is issued only in CONDITIONAL. It answers the conditions held, which were not declined.
 pub fn requester_replies()
     ensures { (x new : RequesterRecord) (wish : Wish) → acts x wish ≡ Ok new → Replies x new }
 {}
 
-/// Conditions are held as they were, or no more, or are new ones in PENDING, above those accepted.
+/// A message does not change the held conditions, or removes them, or brings new ones in PENDING. New ones have a
+/// number above the accepted one.
 pub fn requester_holds()
     ensures { (x : RequesterRecord) (a : Apdu) → Holds x a.number (takes x a).1 }
 {}
 
-/// Conditions are answered once, if they are held exactly in CONDITIONAL.
+/// No conditions are answered twice, if conditions are held exactly in CONDITIONAL.
 pub fn requester_answers_once()
     ensures acts { (x new : RequesterRecord) (wish : Wish) → acts x wish ≡ Ok new →
         is_some x.held ≡ is_among (states.Conditional ∷ []) x.state →
@@ -115,8 +115,9 @@ pub fn requester_answers_once()
     ensures takes { (x : RequesterRecord) (a : Apdu) → AnswersOnce x → AnswersOnce (takes x a).1 }
 {}
 
-/// If the request can still end so, a message of the transaction ends it. Shipped leads to SHIPPED or
-/// later, an end without the item to NOT-SUPPLIED, and a yes to the last Cancel to CANCELLED.
+/// A message of the transaction that ends the request leads to the state of this end, if the request can still end so.
+/// Shipped leads to SHIPPED or later, an end without the item to NOT-SUPPLIED. A yes to the last Cancel leads to
+/// CANCELLED.
 pub fn requester_follows()
     ensures shipped { (x : RequesterRecord) (a : Apdu) (due : Date) →
         is_same_txn a.txn x.txn ≡ true → a.body ≡ types.Shipped due →
@@ -132,8 +133,8 @@ pub fn requester_follows()
         LeadsTo (states.Cancelled ∷ []) (takes x a) }
 {}
 
-/// Each notice that a record reflects after a wish was reflected before. After a message it was, or the
-/// message attests it. The record keeps its rules.
+/// Each notice that a record reflects after a wish was reflected before. After a message it was reflected before, or
+/// the message attests it. The record satisfies the rules of a requester.
 pub fn requester_reflects()
     ensures acts { (x new : RequesterRecord) (wish : Wish) (notice : Notice) → acts x wish ≡ Ok new →
         IsRequester x → Reflects new notice → Reflects x notice }
@@ -141,7 +142,8 @@ pub fn requester_reflects()
         Reflects (takes x a).1 notice → Reflects x notice ⊎ Attests a.number a.body notice }
 {}
 
-/// A record has heard a message of the transaction once that has come, and until one comes that reopens it.
+/// A message of the transaction that was just delivered would change nothing if it came again. This stays so until a
+/// message comes that reopens it.
 pub fn requester_has_heard()
     ensures takes { (x : RequesterRecord) (a : Apdu) → is_same_txn a.txn x.txn ≡ true →
         is_requesters a.body ≡ false → has_heard (takes x a).1 a.number a.body ≡ true }

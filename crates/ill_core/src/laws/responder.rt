@@ -1,4 +1,4 @@
-//! The responder's rows.
+//! States the laws of the responder's rows.
 
 ghost use Rattle.std.specs.Prelude.{◌≡◌, ◌↔◌, ◌⊎◌, ◌≤◌, ℕ, [], ◌∷◌, length, is_some, true, false, Ok};
 ghost use Rattle.ill_values.specs.Day.{Date};
@@ -19,8 +19,8 @@ ghost use Rattle.ill_values.specs.declared.apdu.Body.{Body};
 ghost use Rattle.ill_core.specs.ResponderNotices.{WasAsked, HasAnsweredLast, RecallFits, ShipsBeforeRecall, GrantsRise, OverdueFits, GrantsBeforeOverdue, has_heard, reopens};
 ghost use Rattle.ill_core.specs.ResponderEvidence.{Fact, Claims, IsEvidence, KeepsRequest, IssuesUnfilled, StaysLater, Ends, EntersByEnd, EndsOnce, Question, MayCancel, MayRenew, asks, waits, last_asked, AnswersLast, KeepsLast, TakesNew, AnswersOnce, LeadsTo};
 
-/// A deed issues exactly one APDU, with the next number; a message none, or to a Conditional-Reply no
-/// one ILL-Answer unfilled. There are at most 255.
+/// A deed issues exactly one APDU, with the next number. A message issues none, or, if it is a Conditional-Reply no,
+/// one ILL-Answer unfilled. A responder issues at most 255 APDUs.
 pub fn responder_issues()
     ensures acts { (y new : ResponderRecord) (deed : Deed) (today : Date) →
         acts y deed today ≡ Ok new → IssuesNext y.txn y.issued new.issued }
@@ -31,21 +31,21 @@ pub fn responder_issues()
         length (takes y a).1.issued ≤ 255 }
 {}
 
-/// The transaction stays.
+/// No deed and no message changes the transaction.
 pub fn responder_keeps_txn()
     ensures acts { (y new : ResponderRecord) (deed : Deed) (today : Date) →
         acts y deed today ≡ Ok new → new.txn ≡ y.txn }
     ensures takes { (y : ResponderRecord) (a : Apdu) → (takes y a).1.txn ≡ y.txn }
 {}
 
-/// Once a responder was asked, its request stays, and no transition leads back to IDLE.
+/// Outside IDLE no deed and no message changes the request or leads back to IDLE.
 pub fn responder_keeps_request()
     ensures acts { (y new : ResponderRecord) (deed : Deed) (today : Date) →
         acts y deed today ≡ Ok new → KeepsRequest y new }
     ensures takes { (y : ResponderRecord) (a : Apdu) → KeepsRequest y (takes y a).1 }
 {}
 
-/// A deed leaves no responder in IDLE, and neither does an ILL-Request that is taken.
+/// The record after a deed is not in IDLE, nor is the record after an ILL-Request that is taken.
 pub fn responder_has_begun()
     ensures acts { (y new : ResponderRecord) (deed : Deed) (today : Date) →
         acts y deed today ≡ Ok new → is_among (states.Idle ∷ []) new.state ≡ false }
@@ -53,24 +53,24 @@ pub fn responder_has_begun()
         (takes y a).0 ≡ Ok Taken → is_among (states.Idle ∷ []) (takes y a).1.state ≡ false }
 {}
 
-/// A record that keeps the rules of a responder keeps them.
+/// If a record satisfies the rules of a responder, so does the record after a deed or a message.
 pub fn responder_keeps_rules()
     ensures acts { (y new : ResponderRecord) (deed : Deed) (today : Date) →
         acts y deed today ≡ Ok new → IsResponder y → IsResponder new }
     ensures takes { (y : ResponderRecord) (a : Apdu) → IsResponder y → IsResponder (takes y a).1 }
 {}
 
-/// The rules that such a record keeps, one by one.
+/// A record satisfies `IsResponder` if, and only if, it satisfies each rule in `ResponderRules`.
 pub fn responder_rules()
     ensures { (y : ResponderRecord) → IsResponder y ↔ ResponderRules y }
 {}
 
-/// A message that is not taken changes nothing.
+/// A message that is not `Taken` changes nothing.
 pub fn responder_is_quiet()
     ensures { (y : ResponderRecord) (a : Apdu) → ((takes y a).0 ≡ Ok Taken) ⊎ ((takes y a).1 ≡ y) }
 {}
 
-/// NOT-SUPPLIED, CANCELLED and CHECKED-IN are final.
+/// No deed and no message leads out of NOT-SUPPLIED, CANCELLED or CHECKED-IN.
 pub fn responder_is_final()
     ensures acts { (y new : ResponderRecord) (deed : Deed) (today : Date) →
         acts y deed today ≡ Ok new →
@@ -81,38 +81,35 @@ pub fn responder_is_final()
         (takes y a).1.state ≡ y.state }
 {}
 
-/// A responder in SHIPPED or later stays there, and one in RETURNED stays there or checks the item
-/// in.
+/// A responder in SHIPPED or later stays in SHIPPED or later. One in RETURNED stays there or goes to CHECKED-IN.
 pub fn responder_stays_later()
     ensures acts { (y new : ResponderRecord) (deed : Deed) (today : Date) →
         acts y deed today ≡ Ok new → StaysLater y new }
     ensures takes { (y : ResponderRecord) (a : Apdu) → StaysLater y (takes y a).1 }
 {}
 
-/// An end is issued only while the request is open, and leads to its state.
+/// An APDU that ends the request is issued only while the request is open, and leads to the state of this end.
 pub fn responder_ends()
     ensures acts { (y new : ResponderRecord) (deed : Deed) (today : Date) →
         acts y deed today ≡ Ok new → Ends y new }
     ensures takes { (y : ResponderRecord) (a : Apdu) → Ends y (takes y a).1 }
 {}
 
-/// NOT-SUPPLIED, CANCELLED, and SHIPPED or later, are entered only by issuing the end that leads
-/// there.
+/// NOT-SUPPLIED, CANCELLED, and SHIPPED or later are entered only with the APDU that ends the request so.
 pub fn responder_enters_by_end()
     ensures acts { (y new : ResponderRecord) (deed : Deed) (today : Date) →
         acts y deed today ≡ Ok new → EntersByEnd y new }
     ensures takes { (y : ResponderRecord) (a : Apdu) → EntersByEnd y (takes y a).1 }
 {}
 
-/// A request ends once, and the state says how.
+/// At most one APDU ends the request, and the state is the one after it.
 pub fn responder_ends_once()
     ensures acts { (y new : ResponderRecord) (deed : Deed) (today : Date) →
         acts y deed today ≡ Ok new → EndsOnce y → EndsOnce new }
     ensures takes { (y : ResponderRecord) (a : Apdu) → EndsOnce y → EndsOnce (takes y a).1 }
 {}
 
-/// A Cancel or a Renew is answered only while it waits for its answer, which names the last one
-/// taken.
+/// A Cancel or a Renew is answered only while it waits for its answer. The answer has the number of the last one taken.
 pub fn responder_answers_last()
     ensures acts { (question : Question) (y new : ResponderRecord) (deed : Deed) (today : Date) →
         acts y deed today ≡ Ok new → AnswersLast question y new }
@@ -120,8 +117,8 @@ pub fn responder_answers_last()
         AnswersLast question y (takes y a).1 }
 {}
 
-/// The last Cancel or Renew changes, or one waits that did not, only if one comes with a number above
-/// the last one's.
+/// A deed does not change the last Cancel and the last Renew, and lets no further one wait. A message does either only
+/// if it is a Cancel or Renew with a higher number.
 pub fn responder_keeps_last()
     ensures acts { (question : Question) (y new : ResponderRecord) (deed : Deed) (today : Date) →
         acts y deed today ≡ Ok new → KeepsLast question y new }
@@ -129,7 +126,7 @@ pub fn responder_keeps_last()
         KeepsLast question y (takes y a).1 ⊎ TakesNew question a.number a.body y (takes y a).1 }
 {}
 
-/// Each Cancel and each Renew is answered once, if one that waits is there.
+/// No Cancel and no Renew is answered twice, if the one that waits has a number.
 pub fn responder_answers_once()
     ensures acts { (question : Question) (y new : ResponderRecord) (deed : Deed) (today : Date) →
         acts y deed today ≡ Ok new →
@@ -139,8 +136,8 @@ pub fn responder_answers_once()
         AnswersOnce question y → AnswersOnce question (takes y a).1 }
 {}
 
-/// Each fact that a record shows after a message was shown before, or the message tells it. A deed
-/// shows nothing new, if a Cancel that waits is there.
+/// Each fact that a record claims after a message was claimed before, or the message is evidence of it. A deed adds no
+/// claim, if a Cancel that waits has a number.
 pub fn responder_shows()
     ensures acts { (y new : ResponderRecord) (deed : Deed) (today : Date) (fact : Fact) →
         acts y deed today ≡ Ok new →
@@ -150,15 +147,14 @@ pub fn responder_shows()
         Claims (takes y a).1 fact → Claims y fact ⊎ IsEvidence a.number a.body fact }
 {}
 
-/// If the item was shipped, a Returned of the transaction leads to RETURNED, or the item is checked
-/// in already.
+/// If the item was shipped, a Returned of the transaction leads to RETURNED, unless the state is CHECKED-IN already.
 pub fn responder_follows()
     ensures { (y : ResponderRecord) (a : Apdu) → is_same_txn a.txn y.txn ≡ true →
         a.body ≡ types.Returned → is_among later y.state ≡ true →
         LeadsTo (states.Returned ∷ states.CheckedIn ∷ []) (takes y a) }
 {}
 
-/// A question that was asked was asked before, or it is the message that came.
+/// Each question that was asked after a message was asked before, or the message asks it. A deed adds no question.
 pub fn responder_was_asked()
     ensures acts { (question : Question) (y new : ResponderRecord) (deed : Deed) (today : Date) (number : ℕ) →
         acts y deed today ≡ Ok new →
@@ -169,7 +165,7 @@ pub fn responder_was_asked()
         WasAsked question y number ⊎ ((asks question a.body ≡ true) × (a.number ≡ number)) }
 {}
 
-/// The last Cancel and the last Renew were answered, unless they wait, or the item came back.
+/// The last Cancel and the last Renew were answered, unless they wait or the item came back.
 pub fn responder_has_answered_last()
     ensures acts { (question : Question) (y new : ResponderRecord) (deed : Deed) (today : Date) →
         acts y deed today ≡ Ok new →
@@ -179,7 +175,7 @@ pub fn responder_has_answered_last()
         HasAnsweredLast question y → HasAnsweredLast question (takes y a).1 }
 {}
 
-/// A Recall is issued after the Shipped, and stands in RECALL, RETURNED and CHECKED-IN alone.
+/// A Recall is issued after the Shipped. A record that has issued one is in RECALL, RETURNED or CHECKED-IN.
 pub fn responder_recalls()
     ensures acts { (y new : ResponderRecord) (deed : Deed) (today : Date) → acts y deed today ≡ Ok new →
         RecallFits y → ShipsBeforeRecall y.issued → RecallFits new × ShipsBeforeRecall new.issued }
@@ -187,8 +183,8 @@ pub fn responder_recalls()
         RecallFits (takes y a).1 × ShipsBeforeRecall (takes y a).1.issued }
 {}
 
-/// An Overdue is issued for the due date, after the grant of it, and one for the due date stands in OVERDUE,
-/// RENEW/OVERDUE, RECALL, RETURNED and CHECKED-IN alone.
+/// An Overdue for the due date is issued after the APDU that grants this date. A record that has issued one is in
+/// OVERDUE, RENEW/OVERDUE, RECALL, RETURNED or CHECKED-IN.
 pub fn responder_is_overdue()
     ensures acts { (y new : ResponderRecord) (deed : Deed) (today : Date) → acts y deed today ≡ Ok new →
         IsResponder y → OverdueFits y → GrantsBeforeOverdue y.issued →
@@ -197,14 +193,15 @@ pub fn responder_is_overdue()
         OverdueFits (takes y a).1 × GrantsBeforeOverdue (takes y a).1.issued }
 {}
 
-/// Of two dates that were granted, the one that answers the later Renew is the later one.
+/// If one granted date answers a later Renew than another, it is the later date.
 pub fn responder_grants_rise()
     ensures acts { (y new : ResponderRecord) (deed : Deed) (today : Date) → acts y deed today ≡ Ok new →
         IsResponder y → AnswersOnce MayRenew y → GrantsRise y.issued → GrantsRise new.issued }
     ensures takes { (y : ResponderRecord) (a : Apdu) → GrantsRise y.issued → GrantsRise (takes y a).1.issued }
 {}
 
-/// A record has heard a message of the transaction once that has come, and until one comes that reopens it.
+/// A message of the transaction that was just delivered would change nothing if it came again. This stays so until a
+/// message comes that reopens it.
 pub fn responder_has_heard()
     ensures takes { (y : ResponderRecord) (a : Apdu) → is_same_txn a.txn y.txn ≡ true →
         is_requesters a.body ≡ true → has_heard (takes y a).1 a.number a.body ≡ true }

@@ -1,4 +1,4 @@
-//! The verbs and the turns of both roles.
+//! States the laws of the verbs and the turns of both roles.
 
 ghost use Rattle.std.specs.Prelude.{◌≡◌, []};
 ghost use Rattle.ill_values.specs.Day.{Date};
@@ -14,20 +14,20 @@ ghost use Rattle.ill_core.specs.ResponderActions as responder_actions;
 ghost use Rattle.ill_core.specs.ResponderDeliveries as responder_deliveries;
 ghost use Rattle.ill_core.specs.Verbs.{wish_verb, deed_verb, is_verb_among, is_now, requester_verbs, responder_verbs, requester_turn, responder_turn};
 
-/// The verbs of a requester are those of the wishes that have a place now.
+/// The verbs of a requester are the verbs of the wishes that are not refused as `NotNow`.
 pub fn requester_verbs_are_exact()
     ensures { (x : RequesterRecord) (wish : Wish) →
         is_verb_among (requester_verbs x) (wish_verb wish) ≡ is_now (requester_actions.acts x wish) }
 {}
 
-/// The verbs of a responder are those of the deeds that have a place now, though a date may forbid them.
+/// The verbs of a responder are the verbs of the deeds that are not refused as `NotNow`. A date may still forbid them.
 pub fn responder_verbs_are_exact()
     ensures { (y : ResponderRecord) (deed : Deed) (today : Date) →
         is_verb_among (responder_verbs y) (deed_verb deed)
         ≡ is_now (responder_actions.acts y deed today) }
 {}
 
-/// The side whose turn it is has a verb. When it is over, no side has one.
+/// A side has a verb in its own turn. A side for which the loan is over has none.
 pub fn turns_have_verbs()
     ensures requester_acts { (x : RequesterRecord) → requester_turn x ≡ Mine →
         requester_verbs x ≡ [] → ⊥ }
@@ -39,7 +39,8 @@ pub fn turns_have_verbs()
         responder_verbs y ≡ [] }
 {}
 
-/// A message changes no requester that says that it is over, and leads no responder that says so to another state.
+/// If the loan is over for a requester, no message changes its record. If it is over for a responder, no message
+/// changes its state.
 pub fn what_is_over_stays()
     ensures requester { (x : RequesterRecord) (a : Apdu) → requester_turn x ≡ Over →
         (requester_deliveries.takes x a).1 ≡ x }

@@ -1,4 +1,4 @@
-//! The wishes of a requester: its table of actions.
+//! Defines the table of a requester's wishes.
 
 ghost use Rattle.std.specs.Prelude.{◌≡◌, IsOk, IsSome, IfOk, IfErr, option_copied};
 ghost use Rattle.std.specs.Option.{unwrap_or};
@@ -22,14 +22,14 @@ use crate::table::{
 use ill_values::{Body, Number};
 use std::alloc::Global;
 
-// Facts.
-const UNDECLINED: u16 = 1; // the conditions that stand were not declined
+// The bits of the guards.
+const UNDECLINED: u16 = 1; // The held conditions were not declined.
 
-const IS_HERE: u16 = 1 << 1; // a Received was issued
+const IS_HERE: u16 = 1 << 1; // A Received was issued.
 
-const NOT_HERE: u16 = 1 << 2; // no Received was issued
+const NOT_HERE: u16 = 1 << 2; // No Received was issued.
 
-// States.
+// Sets of states.
 const KEPT: u16 = RECEIVED | RENEW_PENDING | OVERDUE | RENEW_OVERDUE;
 
 const ROWS: [Row<Kind>; 11] = [
@@ -52,17 +52,17 @@ const ROWS: [Row<Kind>; 11] = [
     Row(Kind::Returned, RECALL, IS_HERE, To(Returned), NONE),
 ];
 
-/// The place at which the rows of each kind begin, and that at which those of the last end.
+/// The index of the first row of each kind, and then the number of rows.
 const BEGINNINGS: [usize; 8] = [0, 1, 2, 3, 4, 7, 9, 11];
 
-/// The first row that fits a wish.
+/// Returns the first row that fits a wish, or `None`.
 pub fn row_of(requester: &Requester, wish: &Wish) -> Option<&'static Row<Kind>>
     ensures { option_copied result ≡ wish_row requester.now wish.now }
 {
     find(rows_of(kind_of(wish)), requester.standing.state, requester)
 }
 
-/// The rows of a kind.
+/// Returns the rows of a kind.
 fn rows_of(kind: Kind) -> &'static [Row<Kind>]
     ensures { result.now ≡ wish_rows kind }
 {
@@ -70,7 +70,7 @@ fn rows_of(kind: Kind) -> &'static [Row<Kind>]
     &ROWS[BEGINNINGS[place]..BEGINNINGS[place + 1]]
 }
 
-/// The kind of the message that a wish issues.
+/// Returns the kind of the message that a wish issues.
 fn kind_of(wish: &Wish) -> Kind
     ensures { result ≡ wish_kind wish.now }
 {
@@ -85,7 +85,7 @@ fn kind_of(wish: &Wish) -> Kind
     }
 }
 
-/// The guards that the rows of wishes ask for.
+/// Tests the guards that the rows of wishes ask for.
 impl Guards for Requester {
     ghost guards = { wish_guards };
 

@@ -1,4 +1,4 @@
-//! The messages of a responder: the requester's table of deliveries.
+//! Defines the requester's table of deliveries: the messages of a responder.
 
 ghost use Rattle.std.specs.Prelude.{◌≡◌, ◌==◌, ◌&&◌, Ok, List, filter, option_copied};
 ghost use Rattle.ill_core.specs.Bodies.{is_cancel, is_renew};
@@ -26,31 +26,31 @@ use crate::table::{
 use crate::taking::Taking;
 use ill_values::{Apdu, Body, Day, Number};
 
-// Facts of a message with number k, that answers c and has the date d.
-const PASSED: u16 = 1; // k is at most the number of the conditions accepted last
+// The bits of the guards on a message with number k, which answers message c and has date d.
+const PASSED: u16 = 1; // k is at most the number of the conditions accepted last.
 
-const HELD: u16 = 1 << 1; // k is held
+const HELD: u16 = 1 << 1; // Conditions k are held.
 
-const LAST_CANCEL: u16 = 1 << 2; // c is the last Cancel
+const LAST_CANCEL: u16 = 1 << 2; // c is the last Cancel.
 
-const WAS_CANCEL: u16 = 1 << 3; // message c of the requester is a Cancel
+const WAS_CANCEL: u16 = 1 << 3; // Message c of the requester is a Cancel.
 
-const NOT_DUE: u16 = 1 << 4; // d is not the due date
+const NOT_DUE: u16 = 1 << 4; // d is not the due date.
 
-const LATER: u16 = 1 << 5; // d is later than the due date
+const LATER: u16 = 1 << 5; // d is after the due date.
 
-const LAST_RENEW: u16 = 1 << 6; // c is the last Renew
+const LAST_RENEW: u16 = 1 << 6; // c is the last Renew.
 
-const WAS_RENEW: u16 = 1 << 7; // message c of the requester is a Renew
+const WAS_RENEW: u16 = 1 << 7; // Message c of the requester is a Renew.
 
-const UNMARKED: u16 = 1 << 8; // no Checked-In was taken
+const UNMARKED: u16 = 1 << 8; // The checked-in mark is not set.
 
 const RENEWS: u16 = LAST_RENEW | LATER;
 
-// States.
+// Sets of states.
 const OPEN: u16 = PENDING | CONDITIONAL | CANCEL_PENDING;
 
-const WAITING: u16 = CANCEL_PENDING; // for the answer to a Cancel
+const WAITING: u16 = CANCEL_PENDING; // It waits for the answer to a Cancel.
 
 const RENEWING: u16 = RENEW_PENDING | RENEW_OVERDUE;
 
@@ -93,7 +93,7 @@ const ROWS: [Row<Kind>; 30] = [
     Row(Kind::CheckedIn, RETURNED, NONE, Repeat, NONE),
 ];
 
-/// The place at which the rows of each kind begin, and that at which those of the last end.
+/// The index of the first row of each kind, and then the number of rows.
 const BEGINNINGS: [usize; 13] = [0, 3, 4, 6, 8, 11, 13, 15, 20, 23, 26, 28, 30];
 
 /// Follows the first row that fits a message, and returns the answer.
@@ -113,7 +113,7 @@ pub fn take_message(requester: &mut Requester, apdu: &Apdu) -> Taking
     }
 }
 
-/// The first row that fits a message.
+/// Returns the first row that fits a message, or `None`.
 fn row_of(requester: &Requester, apdu: &Apdu) -> Option<&'static Row<Kind>>
     ensures { option_copied result ≡ delivery_row requester.now apdu.now }
 {
@@ -126,7 +126,7 @@ fn row_of(requester: &Requester, apdu: &Apdu) -> Option<&'static Row<Kind>>
     find(rows, requester.standing.state, &arrival)
 }
 
-/// The rows of a kind.
+/// Returns the rows of a kind.
 fn rows_of(kind: Kind) -> &'static [Row<Kind>]
     ensures { result.now ≡ delivery_rows kind }
 {
@@ -134,7 +134,7 @@ fn rows_of(kind: Kind) -> &'static [Row<Kind>]
     &ROWS[BEGINNINGS[place]..BEGINNINGS[place + 1]]
 }
 
-/// A message beside the record that it comes to.
+/// A message, with the record to which it is delivered.
 #[derive(Drop)]
 struct Arrival<'a> {
     requester: &'a Requester,
@@ -154,6 +154,7 @@ impl Guards for Arrival<'_> {
     }
 }
 
+/// Returns true if the guards in `asked` on conditions with `number` hold.
 fn number_holds(requester: &Requester, number: Number, asked: u16) -> bool
     ensures { result ≡ are_met asked (number_guards requester.now number) }
 {
@@ -163,6 +164,7 @@ fn number_holds(requester: &Requester, number: Number, asked: u16) -> bool
     asked & HELD == 0 || requester.standing.held == Some(number)
 }
 
+/// Returns true if the guards in `asked` on an answer to Cancel `number` hold.
 fn cancel_holds(requester: &Requester, number: Number, asked: u16) -> bool
     ensures { result ≡ are_met asked (cancel_guards requester.now number) }
 {
@@ -172,6 +174,7 @@ fn cancel_holds(requester: &Requester, number: Number, asked: u16) -> bool
     asked & WAS_CANCEL == 0 || was_cancel(requester, number)
 }
 
+/// Returns true if the guards in `asked` on an answer to Renew `number` hold.
 fn renew_holds(requester: &Requester, number: Number, asked: u16) -> bool
     ensures { result ≡ are_met asked (renew_guards requester.now number) }
 {
@@ -181,6 +184,7 @@ fn renew_holds(requester: &Requester, number: Number, asked: u16) -> bool
     asked & WAS_RENEW == 0 || was_renew(requester, number)
 }
 
+/// Returns true if the guards in `asked` on `date` and on the checked-in mark hold.
 fn due_holds(requester: &Requester, date: &Option<Day>, asked: u16) -> bool
     ensures { result ≡ are_met asked (due_guards requester.now date.now) }
 {
@@ -193,6 +197,7 @@ fn due_holds(requester: &Requester, date: &Option<Day>, asked: u16) -> bool
     asked & UNMARKED == 0 || !requester.standing.checked_in
 }
 
+/// Returns true if `date` is there, and is the due date.
 fn is_due(requester: &Requester, date: &Option<Day>) -> bool
     ensures { result ≡ is_dated (λ d. is_due_on d requester.now.due) date.now }
 {
@@ -202,6 +207,7 @@ fn is_due(requester: &Requester, date: &Option<Day>) -> bool
     }
 }
 
+/// Returns true if `date` is there, and is after the due date.
 fn is_later(requester: &Requester, date: &Option<Day>) -> bool
     ensures { result ≡ is_dated (λ d. is_after_due d requester.now.due) date.now }
 {
@@ -211,6 +217,7 @@ fn is_later(requester: &Requester, date: &Option<Day>) -> bool
     }
 }
 
+/// Returns true if the requester issued a Cancel with `number`.
 fn was_cancel(requester: &Requester, number: Number) -> bool
     ensures { result ≡ was is_cancel requester.now.issued number }
 {
@@ -220,6 +227,7 @@ fn was_cancel(requester: &Requester, number: Number) -> bool
     }
 }
 
+/// Returns true if the requester issued a Renew with `number`.
 fn was_renew(requester: &Requester, number: Number) -> bool
     ensures { result ≡ was is_renew requester.now.issued number }
 {

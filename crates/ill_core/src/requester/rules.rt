@@ -1,4 +1,4 @@
-//! The rules of a requester's parts.
+//! Tests the rules of a requester's record.
 
 ghost use Rattle.std.specs.Prelude.{◌≡◌, ◌&&◌, false, [], ◌∷◌, is_some};
 ghost use Rattle.std.specs.List.{list_all};
@@ -15,7 +15,7 @@ use crate::issued::{
 use crate::state::State;
 use ill_values::Apdu;
 
-/// Returns true if the parts of `standing` fit together, and with `apdus`.
+/// Returns true if the parts of `standing` fit together and fit `apdus`.
 pub fn fit_together(standing: &Standing, apdus: &[Apdu]) -> bool
     ensures { result ≡ (parts_fit standing.now.state (is_some standing.now.held)
         (is_some standing.now.due) standing.now.checked_in
@@ -33,7 +33,7 @@ pub fn fit_together(standing: &Standing, apdus: &[Apdu]) -> bool
     are_kept(state, apdus)
 }
 
-/// Returns true if `apdus` keep the rules of a requester in this state.
+/// Returns true if `apdus` satisfy the rules of a requester in `state`.
 fn are_kept(state: State, apdus: &[Apdu]) -> bool
     requires role { is_among (states.InProcess ∷ states.CheckedIn ∷ []) state ≡ false }
     ensures { result ≡ issued_keeps_rules state apdus.now }
@@ -47,14 +47,14 @@ fn are_kept(state: State, apdus: &[Apdu]) -> bool
     issued_fits(state, apdus)
 }
 
-/// Returns true if a requester issues APDUs of the types of `apdus`.
+/// Returns true if a requester issues the types of all `apdus`.
 fn is_role(apdus: &[Apdu]) -> bool
     ensures { result ≡ list_all (λ a. is_requesters a.body) apdus.now }
 {
     apdus.iter().all(|apdu| is_requesters(&apdu.body))
 }
 
-/// Returns true if the first APDU, and no other, is an ILL-Request. An empty list passes.
+/// Returns true if `apdus` is empty, or its first APDU and no other is an ILL-Request.
 fn begins_with_request(apdus: &[Apdu]) -> bool
     ensures { result ≡ begins_with_request apdus.now }
 {
@@ -64,7 +64,7 @@ fn begins_with_request(apdus: &[Apdu]) -> bool
     }
 }
 
-/// Returns true if the state has the conditions, the due date and the mark that it wants, and no more.
+/// Returns true if `state` is a requester's, and has exactly the conditions, due date and mark that it may have.
 fn parts_fit(state: State, held: bool, due: bool, checked_in: bool) -> bool
     ensures { result ≡ parts_fit state held due checked_in }
 {
@@ -76,7 +76,7 @@ fn parts_fit(state: State, held: bool, due: bool, checked_in: bool) -> bool
     }
 }
 
-/// Returns true if `apdus` fit the state.
+/// Returns true if `apdus` fit `state`.
 fn issued_fits(state: State, apdus: &[Apdu]) -> bool
     requires role { is_among (states.InProcess ∷ states.CheckedIn ∷ []) state ≡ false }
     ensures { result ≡ issued_fits state apdus.now }

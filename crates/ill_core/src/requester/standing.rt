@@ -1,4 +1,4 @@
-//! The standing of a requester: the parts of its record that a row of its tables may change.
+//! Defines the standing of a requester: the parts of its record that a row of its tables may change.
 
 ghost use Rattle.std.specs.Prelude.{◌≡◌, ◌||◌};
 ghost use Rattle.ill_core.specs.Tables.{has, next_state};
@@ -9,21 +9,21 @@ use crate::state::State;
 use crate::table::Row;
 use ill_values::{Day, Number};
 
-// The changes beside the state when a row is followed for a message of number k with the date d.
-pub const HOLDS: u16 = 1; // k is held
+// The bits of the changes beside the state, when a row is followed for message k with date d.
+pub const HOLDS: u16 = 1; // Conditions k become the held ones.
 
-pub const FREES: u16 = 1 << 1; // no conditions are held
+pub const FREES: u16 = 1 << 1; // No conditions are held any longer.
 
-pub const DUE: u16 = 1 << 2; // the due date is d
+pub const DUE: u16 = 1 << 2; // The due date becomes d.
 
-pub const MARK: u16 = 1 << 3; // a Checked-In was taken
+pub const MARK: u16 = 1 << 3; // The checked-in mark is set.
 
-/// The standing of a requester: its record without the transaction and the messages issued.
+/// The record of a requester without the transaction and the list of messages.
 #[derive(Clone, Copy, Debug)]
 pub struct Standing {
     /// The present state.
     pub state: State,
-    /// The number of the ILL-Answer whose conditions stand.
+    /// The number of the ILL-Answer whose conditions are held.
     pub held: Option<Number>,
     /// True if the responder has said that the item is back.
     pub checked_in: bool,
@@ -32,7 +32,7 @@ pub struct Standing {
 }
 
 impl Standing {
-    /// Returns the standing to which `row` leads.
+    /// Returns the standing after `row` is followed for a message with `number` and `date`.
     pub fn after<K>(self, row: &Row<K>, number: Number, date: Option<Day>) -> Standing
         ensures state { result.state ≡ next_state row.now.3 self.state }
         ensures held { result.held ≡ held_after row.now.4 self.held number }
@@ -49,6 +49,7 @@ impl Standing {
     }
 }
 
+/// Returns the held conditions after a row with `changes` is followed for message `number`.
 fn held_after(changes: u16, held: Option<Number>, number: Number) -> Option<Number>
     ensures { result ≡ held_after changes held number }
 {

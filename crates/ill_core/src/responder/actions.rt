@@ -1,4 +1,4 @@
-//! The deeds of a responder: its table of actions.
+//! Defines the table of a responder's deeds.
 
 ghost use Rattle.std.specs.Prelude.{◌≡◌, Bool, [], filter, option_copied};
 ghost use Rattle.ill_core.specs.Kinds.{deed_kind};
@@ -20,7 +20,7 @@ use crate::table::{
 };
 use ill_values::{Body, Day};
 
-// States.
+// Sets of states.
 const OPEN: u16 = IN_PROCESS | CONDITIONAL;
 
 const RENEWING: u16 = RENEW_PENDING | RENEW_OVERDUE;
@@ -42,17 +42,17 @@ const ROWS: [Row<Kind>; 14] = [
     Row(Kind::CheckedIn, RETURNED, NONE, To(CheckedIn), NONE),
 ];
 
-/// The place at which the rows of each kind begin, and that at which those of the last end.
+/// The index of the first row of each kind, and then the number of rows.
 const BEGINNINGS: [usize; 13] = [0, 1, 2, 3, 4, 5, 6, 7, 9, 10, 12, 13, 14];
 
-/// The row of a deed, if it has a place in this state.
+/// Returns the first row that fits `state` and `deed`, or `None`.
 pub fn row_of(state: State, deed: &Deed) -> Option<&'static Row<Kind>>
     ensures { option_copied result ≡ deed_row state deed.now }
 {
     find(rows_of(kind_of(deed)), state, &NoGuards)
 }
 
-/// The rows of a kind.
+/// Returns the rows of a kind.
 fn rows_of(kind: Kind) -> &'static [Row<Kind>]
     ensures { result.now ≡ deed_rows kind }
 {
@@ -60,7 +60,7 @@ fn rows_of(kind: Kind) -> &'static [Row<Kind>]
     &ROWS[BEGINNINGS[place]..BEGINNINGS[place + 1]]
 }
 
-/// The kind of the message that a deed issues.
+/// Returns the kind of the message that a deed issues.
 fn kind_of(deed: &Deed) -> Kind
     ensures { result ≡ deed_kind deed.now }
 {
@@ -78,7 +78,7 @@ fn kind_of(deed: &Deed) -> Kind
     }
 }
 
-/// No row of actions asks for a guard.
+/// The empty set of guards: no row of deeds asks for one.
 struct NoGuards;
 
 impl Guards for NoGuards {
@@ -89,7 +89,7 @@ impl Guards for NoGuards {
     }
 }
 
-/// Refuses a deed that its date forbids.
+/// Refuses a deed that its date or `today` forbids.
 pub fn check_date(responder: &Responder, deed: &Deed, today: Day) -> Result<(), Refusal>
     ensures { result ≡ check_date responder.now deed.now today }
 {
@@ -104,13 +104,14 @@ pub fn check_date(responder: &Responder, deed: &Deed, today: Day) -> Result<(), 
     }
 }
 
+/// Returns `Ok` if the deed is allowed, and else `refusal`.
 fn check(is_allowed: bool, refusal: Refusal) -> Result<(), Refusal>
     ensures { result ≡ check is_allowed refusal }
 {
     if is_allowed { Ok(()) } else { Err(refusal) }
 }
 
-/// The expiry date of the request.
+/// Returns the expiry date of the request, or `None`.
 fn expiry(responder: &Responder) -> Option<Day>
     ensures { result ≡ expiry_of responder.now.request }
 {
@@ -123,7 +124,7 @@ fn expiry(responder: &Responder) -> Option<Day>
     }
 }
 
-/// The message that a deed issues.
+/// Returns the body of the message that a deed issues.
 pub fn body_of(responder: &Responder, deed: &Deed) -> Body
     requires known { HasValueFor responder.now deed.now }
     ensures { result ≡ deed_body responder.now deed.now }

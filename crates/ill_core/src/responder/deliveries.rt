@@ -1,4 +1,4 @@
-//! The messages of a requester: the responder's table of deliveries.
+//! Defines the responder's table of deliveries: the messages of a requester.
 
 ghost use Rattle.std.specs.Prelude.{◌≡◌, true, OnOk, OnErr, IfErr, None, filter, option_copied};
 ghost use Rattle.ill_core.specs.Bodies.{names_conditions};
@@ -26,20 +26,20 @@ use crate::taking::Taking;
 use ill_values::{AnswerResult, Apdu, Body, Number};
 use std::alloc::Global;
 
-// Facts of a message with number n, that answers c.
-const OUTSTANDING: u16 = 1; // c is outstanding
+// The bits of the guards on a message with number n, which answers message c.
+const OUTSTANDING: u16 = 1; // c is outstanding.
 
-const ACCEPTED: u16 = 1 << 1; // c is accepted
+const ACCEPTED: u16 = 1 << 1; // c is accepted.
 
-const WAS_CONDITIONAL: u16 = 1 << 2; // message c of the responder names conditions
+const WAS_CONDITIONAL: u16 = 1 << 2; // Message c of the responder names conditions.
 
-const PAST_CANCEL: u16 = 1 << 3; // n is at most the last Cancel
+const PAST_CANCEL: u16 = 1 << 3; // n is at most the last Cancel.
 
-const PAST_RENEW: u16 = 1 << 4; // n is at most the last Renew
+const PAST_RENEW: u16 = 1 << 4; // n is at most the last Renew.
 
-const UNMARKED: u16 = 1 << 5; // no Received was taken
+const UNMARKED: u16 = 1 << 5; // The received mark is not set.
 
-// States.
+// Sets of states.
 const OPEN: u16 = IN_PROCESS | CONDITIONAL;
 
 const LENT: u16 = SHIPPED | RENEW_PENDING | OVERDUE | RENEW_OVERDUE | RECALL;
@@ -67,11 +67,11 @@ const ROWS: [Row<Kind>; 16] = [
     Row(Kind::Returned, BACK, NONE, Repeat, NONE),
 ];
 
-/// The place at which the rows of each kind begin, and that at which those of the last end.
+/// The index of the first row of each kind, and then the number of rows.
 const BEGINNINGS: [usize; 8] = [0, 2, 5, 7, 9, 11, 14, 16];
 
-/// Follows the first row that fits a message, and returns the answer. Only an ILL-Request that is kept
-/// and a Conditional-Reply no take memory.
+/// Follows the first row that fits a message, and returns the answer. Only an ILL-Request that is kept and a
+/// Conditional-Reply no take memory.
 pub fn take_message(
     responder: &mut Responder,
     alloc: Global,
@@ -99,7 +99,7 @@ pub fn take_message(
     }
 }
 
-/// The first row that fits a message.
+/// Returns the first row that fits a message, or `None`.
 fn row_of(responder: &Responder, apdu: &Apdu) -> Option<&'static Row<Kind>>
     ensures { option_copied result ≡ delivery_row responder.now apdu.now }
 {
@@ -114,7 +114,7 @@ fn row_of(responder: &Responder, apdu: &Apdu) -> Option<&'static Row<Kind>>
     )
 }
 
-/// The rows of a kind.
+/// Returns the rows of a kind.
 fn rows_of(kind: Kind) -> &'static [Row<Kind>]
     ensures { result.now ≡ delivery_rows kind }
 {
@@ -122,8 +122,7 @@ fn rows_of(kind: Kind) -> &'static [Row<Kind>]
     &ROWS[BEGINNINGS[place]..BEGINNINGS[place + 1]]
 }
 
-/// Issues the answer to a no, or keeps the request, if that is among the changes. If it is refused,
-/// nothing changes.
+/// Issues the answer to a no, or keeps the request, if `changes` says so. If it is refused, nothing changes.
 fn grow(
     request: &mut Option<Apdu>,
     issued: &mut Issued,
@@ -151,7 +150,7 @@ fn grow(
     Ok(())
 }
 
-/// A message beside the record that it comes to.
+/// A message, with the record to which it is delivered.
 #[derive(Drop)]
 struct Arrival<'a> {
     responder: &'a Responder,
@@ -167,6 +166,7 @@ impl Guards for Arrival<'_> {
     }
 }
 
+/// Returns true if the guards in `asked` on an answer to conditions `number` hold.
 fn reply_holds(responder: &Responder, number: Number, asked: u16) -> bool
     ensures { result ≡ are_met asked (reply_guards responder.now number) }
 {
@@ -179,6 +179,7 @@ fn reply_holds(responder: &Responder, number: Number, asked: u16) -> bool
     asked & WAS_CONDITIONAL == 0 || was_conditional(responder, number)
 }
 
+/// Returns true if the guards in `asked` on the last Cancel, the last Renew and the received mark hold.
 fn past_holds(responder: &Responder, number: Number, asked: u16) -> bool
     ensures { result ≡ are_met asked (past_guards responder.now number) }
 {
@@ -191,6 +192,7 @@ fn past_holds(responder: &Responder, number: Number, asked: u16) -> bool
     asked & UNMARKED == 0 || !responder.standing.received
 }
 
+/// Returns true if message `number` of the responder is an ILL-Answer conditional.
 fn was_conditional(responder: &Responder, number: Number) -> bool
     ensures { result ≡ was names_conditions responder.now.issued number }
 {

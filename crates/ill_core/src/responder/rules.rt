@@ -1,4 +1,4 @@
-//! The rules of a responder's parts.
+//! Tests the rules of a responder's record.
 
 ghost use Rattle.std.specs.Prelude.{◌≡◌, false, not, ◌&&◌, is_some};
 ghost use Rattle.std.specs.List.{list_all, filter_map, count_by};
@@ -14,7 +14,8 @@ use crate::issued::has_checked_in;
 use crate::state::State;
 use ill_values::{Apdu, Day, Number, TxnId};
 
-/// Returns true if the parts of `standing` fit together, with the request and with `apdus`.
+/// Returns true if the parts of `standing` fit together and fit the request and `apdus`. `is_asked` says that there is
+/// a request.
 pub fn fit_together(standing: &Standing, is_asked: bool, apdus: &[Apdu]) -> bool
     ensures { result ≡ (parts_fit standing.now.state is_asked
         (is_some standing.now.accepted) (is_some standing.now.last_cancel)
@@ -35,7 +36,7 @@ pub fn fit_together(standing: &Standing, is_asked: bool, apdus: &[Apdu]) -> bool
     are_kept(standing.state, &standing.accepted, apdus)
 }
 
-/// Returns true if `apdus` keep the rules of a responder in this state.
+/// Returns true if `apdus` satisfy the rules of a responder in `state` with these accepted conditions.
 fn are_kept(state: State, accepted: &Option<Number>, apdus: &[Apdu]) -> bool
     ensures { result ≡ issued_keeps_rules state accepted.now apdus.now }
 {
@@ -54,7 +55,7 @@ fn are_kept(state: State, accepted: &Option<Number>, apdus: &[Apdu]) -> bool
     ships_first(apdus)
 }
 
-/// Returns true if there is no request, or it is an ILL-Request of the transaction.
+/// Returns true if there is no request, or it is an ILL-Request of `txn`.
 pub fn is_request_of(txn: &TxnId, request: &Option<Apdu>) -> bool
     ensures { result ≡ is_request_of txn.now request.now }
 {
@@ -64,14 +65,14 @@ pub fn is_request_of(txn: &TxnId, request: &Option<Apdu>) -> bool
     }
 }
 
-/// Returns true if a responder issues APDUs of the types of `apdus`.
+/// Returns true if a responder issues the types of all `apdus`.
 pub fn is_role(apdus: &[Apdu]) -> bool
     ensures { result ≡ list_all (λ a. not (is_requesters a.body)) apdus.now }
 {
     apdus.iter().all(|apdu| !is_requesters(&apdu.body))
 }
 
-/// The parts of a responder that are there.
+/// Says for each part of a responder that it is there.
 #[derive(Clone, Copy)]
 struct Present {
     /// The ILL-Request.
@@ -88,7 +89,7 @@ struct Present {
     nothing_issued: bool,
 }
 
-/// Returns true if the state has the parts that it wants.
+/// Returns true if `state` is a responder's, and has the parts that it requires and none that it forbids.
 fn parts_fit(state: State, present: Present) -> bool
     ensures { result ≡ parts_fit state present.request present.accepted present.last_cancel
         present.last_renew present.received present.nothing_issued }
@@ -103,6 +104,7 @@ fn parts_fit(state: State, present: Present) -> bool
     }
 }
 
+/// Returns true if no part is there and no message was issued.
 fn is_empty(present: Present) -> bool
     ensures { result ≡ (not present.request && (not present.accepted && (not present.last_cancel
         && (not present.last_renew && (not present.received && present.nothing_issued))))) }
@@ -115,7 +117,7 @@ fn is_empty(present: Present) -> bool
         && present.nothing_issued
 }
 
-/// Returns true if there is no number, or it is that of conditions that were issued.
+/// Returns true if there is no number, or the message with this number is an ILL-Answer conditional.
 pub fn is_named(accepted: &Option<Number>, apdus: &[Apdu]) -> bool
     ensures { result ≡ is_named accepted.now apdus.now }
 {
@@ -128,7 +130,7 @@ pub fn is_named(accepted: &Option<Number>, apdus: &[Apdu]) -> bool
     }
 }
 
-/// Returns true if `apdus` fit the state.
+/// Returns true if `apdus` fit `state`.
 pub fn issued_fits(state: State, apdus: &[Apdu]) -> bool
     ensures { result ≡ issued_fits state apdus.now }
 {
@@ -144,13 +146,14 @@ pub fn issued_fits(state: State, apdus: &[Apdu]) -> bool
     }
 }
 
+/// Returns the number of Shipped in `apdus`.
 fn shipped_count(apdus: &[Apdu]) -> usize
     ensures { result ≡ count_by (λ a. is_shipped a.body) apdus.now }
 {
     apdus.iter().filter(|apdu| is_shipped(&apdu.body)).count()
 }
 
-/// Returns true if the last of `apdus` names conditions.
+/// Returns true if the last of `apdus` is an ILL-Answer conditional.
 fn ends_with_conditions(apdus: &[Apdu]) -> bool
     ensures { result ≡ ends_with_conditions apdus.now }
 {
@@ -163,7 +166,7 @@ fn ends_with_conditions(apdus: &[Apdu]) -> bool
     }
 }
 
-/// Returns true if each date that was granted is after those before it.
+/// Returns true if each granted date is after those before it.
 #[tactic(auto, using(crate::proofs::ResponderLists::rise_end))]
 pub fn dates_rise(apdus: &[Apdu]) -> bool
     ensures { result ≡ are_rising (filter_map granted_day apdus.now) }
@@ -179,7 +182,7 @@ pub fn dates_rise(apdus: &[Apdu]) -> bool
     true
 }
 
-/// Returns true if no date comes, or the first, or one that is after the last.
+/// Returns true if `found` is absent, or `last` is absent, or `found` is after `last`.
 fn may_follow(found: &Option<Day>, last: &Option<Day>) -> bool
     ensures { result ≡ rises last.now found.now }
 {
@@ -189,7 +192,7 @@ fn may_follow(found: &Option<Day>, last: &Option<Day>) -> bool
     }
 }
 
-/// Returns true if a Shipped stands before each Renew-Answer yes.
+/// Returns true if a Shipped comes before each Renew-Answer yes.
 #[tactic(auto, using(crate::proofs::ResponderLists::ships_end))]
 pub fn ships_first(apdus: &[Apdu]) -> bool
     ensures { result ≡ ships_first apdus.now }

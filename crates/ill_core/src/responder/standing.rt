@@ -1,4 +1,4 @@
-//! The standing of a responder: the parts of its record that a row of either table may change.
+//! Defines the standing of a responder: the parts of its record that a row of either table may change.
 
 ghost use Rattle.std.specs.Prelude.{◌≡◌, ◌||◌};
 ghost use Rattle.ill_core.specs.Tables.{has, next_state};
@@ -9,20 +9,20 @@ use crate::state::State;
 use crate::table::Row;
 use ill_values::Number;
 
-// The changes beside the state when a row is followed for a message that tells the number k.
-pub const ACCEPTS: u16 = 1; // the conditions accepted last are k
+// The bits of the changes beside the state, when a row is followed for a message with number k.
+pub const ACCEPTS: u16 = 1; // The accepted conditions become k.
 
-pub const CANCELS: u16 = 1 << 1; // the last Cancel is k
+pub const CANCELS: u16 = 1 << 1; // The last Cancel becomes k.
 
-pub const RENEWS: u16 = 1 << 2; // the last Renew is k
+pub const RENEWS: u16 = 1 << 2; // The last Renew becomes k.
 
-pub const RECEIVES: u16 = 1 << 3; // a Received was taken
+pub const RECEIVES: u16 = 1 << 3; // The received mark is set.
 
-pub const KEEPS: u16 = 1 << 4; // the ILL-Request is kept
+pub const KEEPS: u16 = 1 << 4; // The ILL-Request is kept.
 
-pub const ENDS: u16 = 1 << 5; // an ILL-Answer unfilled is issued
+pub const ENDS: u16 = 1 << 5; // An ILL-Answer unfilled is issued.
 
-/// The standing of a responder: its record without the transaction, the request and the messages issued.
+/// The record of a responder without the transaction, the request and the list of messages.
 #[derive(Clone, Copy, Debug)]
 pub struct Standing {
     /// The present state.
@@ -38,7 +38,7 @@ pub struct Standing {
 }
 
 impl Standing {
-    /// Returns the standing to which `row` leads.
+    /// Returns the standing after `row` is followed for a message with `number`.
     pub fn after<K>(self, row: &Row<K>, number: Number) -> Standing
         ensures state { result.state ≡ next_state row.now.3 self.state }
         ensures accepted { result.accepted ≡ number_after ACCEPTS row.now.4 self.accepted number }
@@ -58,7 +58,7 @@ impl Standing {
     }
 }
 
-/// Returns `number` if `bit` is among `changes`, and else `last`.
+/// Returns `number` if `changes` has `bit`, and else `last`.
 fn number_after(bit: u16, changes: u16, last: Option<Number>, number: Number) -> Option<Number>
     ensures { result ≡ number_after bit changes last number }
 {

@@ -1,4 +1,4 @@
--- A date text is read as its day, and no other text is read as that day.
+-- Proves that a date text is read as its day, and that no other text is read as that day.
 use Rattle.std.proofs.Common.{◌≡◌, ℕ, ◌+◌, ◌-◌, ◌*◌, ◌/◌, ◌%◌, ◌≤◌, Bool, true, false, cond, ◌&&◌, eqb, leb, List, [], ◌∷◌}
 use Rattle.std.proofs.Common.{length, Result, Ok, Err, refl, sym, ap, subst, ◌∙◌, arith}
 use Rattle.std.specs.List.{list_all}
@@ -11,13 +11,13 @@ use Rattle.ill_values.specs.declared.fault.DayFault.TheVariants.{NotDigits, OutO
 use Rattle.ill_values.specs.Day.{Date, IsDate, is_year, is_in_year, days_in_month, date_of, date_text, eight_digits}
 use Rattle.ill_values.specs.Day.{two_digits_at, read_date}
 
--- If `cond b r (Err fault)` gives `x`, `b` is true and `r` gives `x`.
+-- If `cond b r (Err fault)` is `Ok x`, `b` is true and `r` is `Ok x`.
 passed : {A : Type 0} (b : Bool) (r : Result A DayFault) (fault : DayFault) (x : A) → cond b r (Err fault) ≡ Ok x
     → (b ≡ true) × (r ≡ Ok x)
 passed true r fault x e = (refl, e)
 passed false r fault x e = absurd cc
 
--- Returns `Ok d`, as a result whose faults are those of days.
+-- Returns `Ok d` as a result with the faults of days.
 abbrev found : Date → Result Date DayFault
 found d = Ok d
 
@@ -25,13 +25,13 @@ found d = Ok d
 ok_is : (x y : Date) → found x ≡ found y → x ≡ y
 ok_is x y e = cc
 
--- If both tests of `n` pass, `n` is at least `low` and at most `high`.
+-- If both tests of `n` are true, `n` is at least `low` and at most `high`.
 between : (low high n : ℕ) → (leb low n && leb n high) ≡ true → (low ≤ n) × (n ≤ high)
 between low high n e =
     let p = and_parts (leb low n) (leb n high) e in
     (leb-true low n p.0, leb-true n high p.1)
 
--- If `date_of` gives `d`, `d` is in range, and has this year, month and day.
+-- If `date_of` returns `d`, `d` is in range, and has this year, month and day.
 date_found : (year month day : ℕ) (d : Date) → date_of year month day ≡ Ok d
     → IsDate d × (record { year = year; month = month; day = day } ≡ d)
 date_found year month day d e =
@@ -53,25 +53,25 @@ date_found year month day d e =
     } in
     (subst IsDate is whole, is)
 
--- Two ASCII digits `a` and `b` are the digits of the number that they make.
+-- Two ASCII digits `a` and `b` are the digits of their decimal value.
 two_digits : (a b : ℕ) → IsInRange 48 57 a → IsInRange 48 57 b
     → let n = 10 * (a - 48) + (b - 48) in (a ≡ 48 + n / 10 % 10) × (b ≡ 48 + n % 10)
 two_digits a b ha hb = (omega arith, omega arith)
 
--- Four ASCII digits are the digits of the number that they make.
+-- Four ASCII digits are the digits of their decimal value.
 four_digits : (a b c e : ℕ) → IsInRange 48 57 a → IsInRange 48 57 b → IsInRange 48 57 c → IsInRange 48 57 e
     → let n = (10 * (a - 48) + (b - 48)) * 100 + (10 * (c - 48) + (e - 48)) in
     (a ≡ 48 + n / 1000 % 10) × (b ≡ 48 + n / 100 % 10) × (c ≡ 48 + n / 10 % 10) × (e ≡ 48 + n % 10)
 four_digits a b c e ha hb hc he = (omega arith, omega arith, omega arith, omega arith)
 
--- If all bytes of `x ∷ rest` are ASCII digits, `x` is 48 to 57, and those of `rest` are digits.
+-- If all bytes of `x ∷ rest` are ASCII digits, `x` is from 48 to 57, and all bytes of `rest` are ASCII digits.
 digit_range : (x : ℕ) (rest : List ℕ) → list_all is_ascii_digit (x ∷ rest) ≡ true
     → IsInRange 48 57 x × (list_all is_ascii_digit rest ≡ true)
 digit_range x rest e =
     let p = and_parts (is_ascii_digit x) (list_all is_ascii_digit rest) e in
     (between 48 57 x p.0, p.1)
 
--- Eight ASCII digits are the date text of the year, the month and the day that they make.
+-- Eight ASCII digits are the date text of the year, the month and the day with these values.
 eight_spelled : (a b c e f g h i : ℕ) → list_all is_ascii_digit (a ∷ b ∷ c ∷ e ∷ f ∷ g ∷ h ∷ i ∷ []) ≡ true
     → a ∷ b ∷ c ∷ e ∷ f ∷ g ∷ h ∷ i ∷ []
     ≡ date_text (record {
@@ -93,7 +93,7 @@ eight_spelled a b c e f g h i digits =
     let day = two_digits h i ph.0 pi.0 in
     cc
 
--- If `text` has `n + 1` elements, it is an element and a list of `n`.
+-- If `text` has `n + 1` elements, it is one element followed by a list of `n`.
 first_of : (text : List ℕ) (n : ℕ) → length text ≡ n + 1 → (x : ℕ) × (rest : List ℕ) × (text ≡ x ∷ rest) × (length rest ≡ n)
 first_of [] n e = absurd (omega arith)
 first_of (x ∷ rest) n e = (x, rest, refl, omega arith)
@@ -103,11 +103,11 @@ none_left : (text : List ℕ) → length text ≡ 0 → text ≡ []
 none_left [] e = refl
 none_left (x ∷ rest) e = absurd (omega arith)
 
--- Holds if `d` is in range and `text` is its date text, when `text` is read as `d`.
+-- If `text` is read as `d`, `d` is in range and `text` is its date text.
 abbrev IsRead : Date → List ℕ → Type 0
 IsRead d text = read_date text ≡ Ok d → IsDate d × (text ≡ date_text d)
 
--- If a text of eight bytes is read as `d`, it is the date text of `d`, which is in range.
+-- If a text of eight bytes is read as `d`, `d` is in range and the text is its date text.
 eight_read : (d : Date) (a b c e f g h i : ℕ) → IsRead d (a ∷ b ∷ c ∷ e ∷ f ∷ g ∷ h ∷ i ∷ [])
 eight_read d a b c e f g h i found =
     let text = a ∷ b ∷ c ∷ e ∷ f ∷ g ∷ h ∷ i ∷ [] in
@@ -119,7 +119,7 @@ eight_read d a b c e f g h i found =
     let made = date_found year month day d tested.1 in
     (made.0, eight_spelled a b c e f g h i digits.1 ∙ ap date_text made.1)
 
--- If `text` is read as `d`, it is the date text of `d`, which is in range.
+-- If `text` is read as `d`, `d` is in range and `text` is its date text.
 pub date_read : (text : List ℕ) (d : Date) → IsRead d text
 date_read text d found =
     let tested = passed (eight_digits text)
@@ -142,12 +142,12 @@ date_read text d found =
 month_at_most : (year month : ℕ) → days_in_month year month ≤ 31
 month_at_most year month = grind (arith, common_steps)
 
--- 48 and a last decimal digit make an ASCII digit.
+-- The sum of 48 and a last decimal digit is an ASCII digit.
 is_digit : (n : ℕ) → is_ascii_digit (48 + n % 10) ≡ true
 is_digit n = and_from (leb 48 (48 + n % 10)) (leb (48 + n % 10) 57) (le-leb 48 (48 + n % 10) (omega arith))
     (le-leb (48 + n % 10) 57 (omega arith))
 
--- If `d` is in range, `date_of` makes it of its year, month and day.
+-- If `d` is in range, `date_of` of its year, month and day returns `d`.
 pub date_made : (d : Date) → IsDate d → date_of d.year d.month d.day ≡ Ok d
 date_made d is =
     rw (

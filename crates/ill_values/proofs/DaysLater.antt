@@ -1,4 +1,4 @@
--- The day `n` days later has, in jiff's calendar, a number that is higher by `n`.
+-- Proves that the day `n` days later has a number in jiff's calendar that is higher by `n`.
 use Rattle.std.proofs.Common.{◌≡◌, ℕ, zero, suc, ◌+◌, ◌<◌, ◌≤◌, Bool, true, false, cond, nat_lt, Ok, Err, refl, sym, ap, ◌∙◌}
 use Rattle.std.proofs.Common.{arith, ℤ, pos, ◌+ℤ◌, ◌≤ℤ◌, unsigned_abs, inl, inr}
 use Rattle.std.specs.Int.{IsInRange}
@@ -20,13 +20,13 @@ use Rattle.ill_values.proofs.Dates.{date_made}
 abbrev day_number : Date → ℤ
 day_number d = days_from_civil (pos d.year) d.month d.day
 
--- Holds if `d` is a day of the calendar, from 1900 on, in any year.
+-- `d` is a day of the calendar, in any year from 1900 on.
 record IsDay (d : Date) : Type 0 where
   from_1900 : 1900 ≤ d.year
   month_in : IsInRange 1 12 d.month
   day_in : IsInRange 1 (days_in_month d.year d.month) d.day
 
--- Holds if `b` is a day of the calendar, `n` days after `a`.
+-- `b` is a day of the calendar, and is `n` days after `a`.
 record IsLater (n : ℕ) (a b : Date) : Type 0 where
   is_day : IsDay b
   number : day_number b ≡ day_number a +ℤ pos n
@@ -91,7 +91,7 @@ next_in_next_year d is last end =
           (omega (arith, signed_arith)));
     }
 
--- The choice of `next_day`, by both of its tests, is the day one day after `d`.
+-- The day that `next_day` chooses by its two tests is one day after `d`.
 next_by : (d : Date) (in_month in_year : Bool) → IsDay d → nat_lt d.day (days_in_month d.year d.month) ≡ in_month
     → nat_lt d.month 12 ≡ in_year
     → IsLater 1 d (cond in_month (record { year = d.year; month = d.month; day = d.day + 1 })
@@ -101,15 +101,15 @@ next_by d true in_year is e f = next_in_month d is (ltb-true d.day (days_in_mont
 next_by d false true is e f = next_in_year d is (ltb-false d.day (days_in_month d.year d.month) e) (ltb-true d.month 12 f)
 next_by d false false is e f = next_in_next_year d is (ltb-false d.day (days_in_month d.year d.month) e) (ltb-false d.month 12 f)
 
--- `next_day d` is the day one day after `d`.
+-- `next_day d` is one day after `d`.
 next_later : (d : Date) → IsDay d → IsLater 1 d (next_day d)
 next_later d is = next_by d (nat_lt d.day (days_in_month d.year d.month)) (nat_lt d.month 12) is refl refl
 
--- If `b` is `n` days after `a`, and `c` is one day after `b`, `c` is `suc n` days after `a`.
+-- If `b` is `n` days after `a`, and `c` is one day after `b`, then `c` is `suc n` days after `a`.
 later_later : (n : ℕ) (a b c : Date) → IsLater n a b → IsLater 1 b c → IsLater (suc n) a c
 later_later n a b c far near = record { is_day = near.is_day; number = omega (arith, signed_arith, far.number, near.number) }
 
--- `days_later n d` is the day `n` days after `d`.
+-- `days_later n d` is `n` days after `d`.
 days_later_later : (n : ℕ) (d : Date) → IsDay d → IsLater n d (days_later n d)
 unfolding days_later
 days_later_later zero d is = record { is_day = is; number = omega (arith, signed_arith) }
@@ -128,23 +128,23 @@ civil_of d is = record {
   day_in = (is.from_first, is.to_last);
 }
 
--- Holds if the date of jiff has the year, the month and the day of `d`.
+-- The date of jiff has the year, the month and the day of `d`.
 abbrev pub IsSame : Date → CivilDate → Type 0
 IsSame d date = IsYmd (pos d.year) (pos d.month) (pos d.day) date
 
--- If a date of jiff is the day `d`, its number is that of `d`.
+-- If a date of jiff is the day `d`, its number is the number of `d`.
 number_same : (d : Date) (date : CivilDate) → IsSame d date → epoch_day date ≡ day_number d
 number_same d date same =
     let month : date.month ≡ d.month = omega (arith, signed_arith, same.1) in
     let day : date.day ≡ d.day = omega (arith, signed_arith, same.2) in
     rw (same.0, month, day) refl
 
--- If the year of a day is at most 9999, jiff's calendar has its number.
+-- If the year of a day is at most 9999, its number is within jiff's calendar.
 number_in_reach : (d : Date) → IsDay d → d.year ≤ 9999 → IsEpochDay (day_number d)
 unfolding civil_of
 number_in_reach d is year = epoch_day_range (civil_of d (date_of_day d is year))
 
--- If jiff's calendar has the number of a day, its year is at most 9999.
+-- If the number of a day is within jiff's calendar, its year is at most 9999.
 year_in_reach : (d : Date) → IsDay d → IsEpochDay (day_number d) → d.year ≤ 9999
 year_in_reach d is reach =
     elim (cases_lt 9999 d.year) [
@@ -160,15 +160,15 @@ year_in_reach d is reach =
       | inr year ↦ year
     ]
 
--- If the day `n` days later has a year after 9999, `day_after` is OutOfRange.
+-- If the year of the day `n` days after `d` is above 9999, `day_after` returns `OutOfRange`.
 refused : (n : ℕ) (d : Date) → 9999 < (days_later n d).year → Err OutOfRange ≡ day_after n d
 refused n d late = grind (arith, common_steps)
 
--- If the day `n` days later has a year up to 9999, `day_after` gives it.
+-- If the year of the day `n` days after `d` is at most 9999, `day_after` returns that day.
 accepted : (n : ℕ) (d : Date) → (days_later n d).year ≤ 9999 → Ok (days_later n d) ≡ day_after n d
 accepted n d year = grind (arith, common_steps)
 
--- If jiff's calendar has no number that is higher by `n` than that of `d`, `day_after` is OutOfRange.
+-- If the number of `date` plus `n` is not within jiff's calendar, `day_after` returns `OutOfRange`.
 pub refused_beyond : (n : ℕ) (d : Date) (date : CivilDate) → IsDate d → IsSame d date
     → ¬ (IsEpochDay (epoch_day date +ℤ pos n)) → Err OutOfRange ≡ day_after n d
 refused_beyond n d date is same beyond =
@@ -176,7 +176,7 @@ refused_beyond n d date is same beyond =
     let number : day_number (days_later n d) ≡ epoch_day date +ℤ pos n = rw (number_same d date same) far.number in
     refused n d (lt_of_not-le (λ year. beyond (rw (← number) (number_in_reach (days_later n d) far.is_day year))))
 
--- If `n` is above 7,304,484, the most days of a span of jiff, `day_after` is OutOfRange.
+-- If `n` is above 7,304,484, the most days in a span of jiff, `day_after` returns `OutOfRange`.
 pub refused_too_many : (n : ℕ) (d : Date) → IsDate d → 7_304_484 < n → Err OutOfRange ≡ day_after n d
 refused_too_many n d is many =
     let day = day_of_date d is in
@@ -190,7 +190,7 @@ refused_too_many n d is many =
       far.number,
     )))
 
--- If the number of `later` is higher by `n` than that of `d`, it is `days_later n d`, in range.
+-- If the number of `later` is higher by `n` than that of `d`, `later` is `days_later n d`, which is in range.
 reached_same : (n : ℕ) (d : Date) (date later : CivilDate) → IsDate d → IsSame d date
     → epoch_day later ≡ epoch_day date +ℤ pos n → IsDate (days_later n d) × IsSame (days_later n d) later
 unfolding civil_of
@@ -209,7 +209,7 @@ reached_year n d date later is same number =
     let there = reached_same n d date later is same number in
     rw there.1.0 (omega (arith, signed_arith))
 
--- If the number of `later` is higher by `n` than that of `d`, `date_of` its parts is `day_after n d`.
+-- If the number of `later` is higher by `n` than that of `d`, `date_of` of its parts returns `day_after n d`.
 pub reached : (n : ℕ) (d : Date) (date later : CivilDate) → IsDate d → IsSame d date
     → epoch_day later ≡ epoch_day date +ℤ pos n
     → date_of (unsigned_abs later.year) later.month later.day ≡ day_after n d

@@ -1,4 +1,4 @@
--- The tests of texts: UTF-8, by the answer of std's `from_utf8`, the size of a text, and texts that are UTF-8.
+-- Proves the tests of texts: UTF-8 by the result of `from_utf8`, and the size of a text.
 use Rattle.std.proofs.Common.{◌≡◌, ℕ, ◌/◌, ◌<◌, ◌≤◌, Bool, true, false, cond, eqb, ltb, List, [], ◌∷◌, length, Result, Ok, Err}
 use Rattle.std.proofs.Common.{sym, refl, arith}
 use Rattle.std.specs.Prelude.{MatchResult, is_ok, map}
@@ -18,13 +18,13 @@ is_false : (b : Bool) → (b ≡ true → ⊥) → false ≡ b
 is_false true never = absurd (never refl)
 is_false false never = refl
 
--- If `r` is Ok for UTF-8 and Err for other bytes, `is_ok r` is `is_utf8 bs`.
+-- If `r` is `Ok` for UTF-8 and `Err` for other bytes, `is_ok r` is `is_utf8 bs`.
 pub is_ok-from_utf8 : {S E : Type 0} (bs : List ℕ) (r : Result S E) (P : S → Type 0) (Q : E → Type 0)
     → MatchResult r (λ s. P s × IsUtf8 bs) (λ e. ¬ (IsUtf8 bs) × Q e) → is_ok r ≡ is_utf8 bs
 is_ok-from_utf8 bs (Ok s) P Q h = sym (is_utf8-from_IsUtf8 bs h.1)
 is_ok-from_utf8 bs (Err e) P Q h = is_false (is_utf8 bs) (λ is. h.0 (IsUtf8-from_is_utf8 bs is))
 
--- If `cond b (Err fault) r` is a success, `b` is false and `r` is that success.
+-- If `cond b (Err fault) r` is `Ok`, `b` is false and `r` is `Ok`.
 no_fault : (b : Bool) (r : Result (Unit {0}) TextFault) (fault : TextFault) → cond b (Err fault) r ≡ Ok tt
     → (b ≡ false) × (r ≡ Ok tt)
 no_fault true r fault e = absurd cc
@@ -38,7 +38,7 @@ text_most most passes text e =
     let few = no_fault (ltb most (length text)) (cond (passes text) (Ok tt) (Err BadByte)) TooLong some.1 in
     ltb-false most (length text) few.0
 
--- A text that passes `text_check` has a byte.
+-- A text that passes `text_check` has at least one byte.
 text_least : (most : ℕ) (passes : List ℕ → Bool) (text : List ℕ) → text_check most passes text ≡ Ok tt → 1 ≤ length text
 text_least most passes [] e = absurd cc
 text_least most passes (byte ∷ text) e = omega arith
@@ -48,11 +48,11 @@ pub text_size : (most : ℕ) (passes : List ℕ → Bool) (text : List ℕ) → 
     → (1 ≤ length text) × (length text ≤ most)
 text_size most passes text e = (text_least most passes text e, text_most most passes text e)
 
--- Returns the result of the last test of a text.
+-- Returns the result of the last test of a text, whose value is `b`.
 abbrev judged : Bool → Result (Unit {0}) TextFault
 judged b = cond b (Ok tt) (Err BadByte)
 
--- If the last test of a text finds no fault, `b` is true.
+-- If the last test of a text finds no fault, its value `b` is true.
 passed : (b : Bool) → judged b ≡ Ok tt → b ≡ true
 passed true e = refl
 passed false e = absurd cc
@@ -70,15 +70,15 @@ pub item_utf8 : (text : List ℕ) → IsItem text → IsUtf8 text
 item_utf8 text e =
     IsUtf8-from_is_utf8 text (and_parts (list_all is_no_control text) (is_utf8 text) (text_passes 200 is_item_text text e)).1
 
--- A digit is ASCII.
+-- The digit that `last_digit` returns is ASCII.
 digit_ascii : (n : ℕ) → last_digit n < 128
 digit_ascii n = omega arith
 
--- Holds if `byte` is below 128.
+-- `byte` is below 128.
 abbrev below_128 : ℕ → Type 0
 below_128 byte = byte < 128
 
--- The last digits of `numbers` are all ASCII.
+-- The last digits of all `numbers` are ASCII.
 digits_ascii : (numbers : List ℕ) → All below_128 (map last_digit numbers)
 digits_ascii [] = All-nil below_128
 digits_ascii (n ∷ more) = All-cons below_128 (last_digit n) (map last_digit more) (digit_ascii n) (digits_ascii more)

@@ -1,4 +1,4 @@
-//! The messages of the protocol.
+//! Defines the messages of the protocol.
 
 ghost use Rattle.std.specs.Prelude.{◌≡◌, Some, IfOk};
 ghost use Rattle.std.specs.Fmt.{padded};
@@ -13,8 +13,7 @@ use crate::txn_id::TxnId;
 use std::alloc::{AllocError as OutOfMemory, Global};
 use std::fmt;
 
-/// One message of the interlibrary loan protocol (ISO 10161-1), with the fields that this profile
-/// keeps.
+/// A message of the interlibrary loan protocol (ISO 10161-1), with the fields that this profile has.
 #[derive(Debug, PartialEq, Eq, Drop)]
 pub struct Apdu {
     /// The transaction that the message belongs to.
@@ -26,7 +25,7 @@ pub struct Apdu {
 }
 
 impl Apdu {
-    /// Returns a copy of the message, on its own memory.
+    /// Returns a copy of the message, in memory of its own.
     pub fn copy(&self, alloc: Global) -> Result<Apdu, OutOfMemory>
         ensures { IfOk result (λ apdu. apdu ≡ self.now) }
     {
@@ -42,8 +41,8 @@ impl Apdu {
 
 /// The body of a message: one of the fourteen types, with exactly its fields.
 ///
-/// A requester issues `IllRequest`, `ConditionalReply`, `Cancel`, `Received`, `Renew` and
-/// `Returned`, and a responder the other eight.
+/// A requester issues `IllRequest`, `ConditionalReply`, `Cancel`, `Received`, `Renew` and `Returned`, and a responder
+/// the other eight.
 #[derive(Debug, PartialEq, Eq, Drop)]
 pub enum Body {
     /// The requester asks for an item.
@@ -53,9 +52,9 @@ pub enum Body {
         /// The item that is asked for.
         item: Item,
     },
-    /// The responder tells what will become of the request.
+    /// The responder reports a result: conditions, a promise, or the end of the request.
     IllAnswer {
-        /// The answer.
+        /// The result that is reported.
         result: AnswerResult,
     },
     /// The requester accepts or declines the responder's conditions.
@@ -116,7 +115,7 @@ impl Body {
         ApduType::of(self).name()
     }
 
-    /// Returns a copy of the body, on its own memory. Only an `IllRequest` allocates.
+    /// Returns a copy of the body, in memory of its own. Only an `IllRequest` allocates.
     fn copy(&self, alloc: Global) -> Result<Body, OutOfMemory>
         ensures { IfOk result (λ body. body ≡ self.now) }
     {
@@ -170,7 +169,7 @@ pub enum AnswerResult {
     Estimate,
 }
 
-/// All results, in the order of their octets.
+/// Lists all results, in the order of their octets.
 const RESULTS: [AnswerResult; 7] = [
     AnswerResult::Conditional,
     AnswerResult::Retry,
@@ -197,7 +196,7 @@ impl AnswerResult {
         }
     }
 
-    /// Returns the result whose name is `text`, if there is one.
+    /// Returns the result with the name `text`, or `None`.
     pub fn read(text: &[u8]) -> Option<AnswerResult>
         ensures { result ≡ result_named text.now }
     {

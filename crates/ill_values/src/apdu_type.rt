@@ -1,4 +1,4 @@
-//! The types of APDU.
+//! Defines the types of APDU.
 
 ghost use Rattle.std.specs.Prelude.{◌≡◌, Some};
 ghost use Rattle.std.specs.Fmt.{padded};
@@ -41,7 +41,7 @@ pub enum ApduType {
     Expired,
 }
 
-/// All types, in the order of their tags.
+/// Lists all types, in the order of their tags.
 const TYPES: [ApduType; 14] = [
     ApduType::IllRequest,
     ApduType::Shipped,
@@ -82,7 +82,7 @@ impl ApduType {
         }
     }
 
-    /// Returns the type whose name is `text`, if there is one.
+    /// Returns the type with the name `text`, or `None`.
     pub fn read(text: &[u8]) -> Option<ApduType>
         ensures { result ≡ apdu_type_named text.now }
     {

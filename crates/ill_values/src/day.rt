@@ -1,4 +1,4 @@
-//! Calendar days.
+//! Defines calendar days.
 
 ghost use Rattle.std.specs.Prelude.{◌≡◌, ◌+◌, ◌-◌, ◌*◌, ◌%◌, ◌<◌, ◌≤◌, Some, pos, ◌≤ℤ◌, unsigned_abs, length, slice_index, EachIndex};
 ghost use Rattle.std.specs.List.{list_all};
@@ -14,13 +14,13 @@ use jiff::{ToSpan, civil};
 use std::marker::Model;
 use std::{fmt, str};
 
-/// The most days that a span of jiff holds. A refusal of more loses no day of this profile: even from
-/// its first, 1 January 1900, that many days lead past its last, 31 December 9999.
+/// The largest number of days in a span of jiff. From 1 January 1900, the first day of this profile, this many days
+/// lead past the last, 31 December 9999. So `after` may refuse a larger number.
 const MAX_DAYS: u32 = 7_304_484;
 
 /// A day of the Gregorian calendar, from 1 January 1900 to 31 December 9999.
 ///
-/// Days are ordered as the calendar has them. A day is displayed by its eight digits, as `20250315`.
+/// Days are ordered by the calendar. A day is displayed by its eight digits, as `20250315`.
 #[derive(Clone, Copy, Debug, PartialEq, Eq, PartialOrd, Ord, Hash)]
 pub struct Day {
     year: u16,
@@ -41,7 +41,7 @@ impl Model for Day {
 impl Day {
     /// Returns the day with this year, month (1 to 12) and day of the month (1 to 31).
     ///
-    /// A year other than 1900 to 9999 is `OutOfRange`, and a day that the calendar lacks `NotADate`.
+    /// The fault is `OutOfRange` if the year is not from 1900 to 9999, and `NotADate` if the calendar lacks the day.
     pub fn new(year: u16, month: u8, day: u8) -> Result<Day, DayFault>
         ensures { result ≡ date_of year month day }
     {
@@ -55,7 +55,7 @@ impl Day {
         }
     }
 
-    /// Returns the day whose eight ASCII digits `text` is, as `20250315`. Any other text is `NotDigits`.
+    /// Returns the day with the eight ASCII digits `text`, as `20250315`. The fault of any other text is `NotDigits`.
     pub fn read(text: &[u8]) -> Result<Day, DayFault>
         ensures { result ≡ read_date text.now }
     {
@@ -117,7 +117,7 @@ impl Day {
         [y1, y2, y3, y4, b'-', m1, m2, b'-', d1, d2]
     }
 
-    /// Returns the day that is `days` days later. A day after 31 December 9999 is `OutOfRange`.
+    /// Returns the day that is `days` days later, or `OutOfRange` if it is after 31 December 9999.
     pub fn after(&self, days: u32) -> Result<Day, DayFault>
         ensures value { result ≡ day_after days self.now }
         ensures date { IsDate self.now }
@@ -132,7 +132,7 @@ impl Day {
         }
     }
 
-    /// Returns this day as a date of jiff.
+    /// Returns the day as a date of jiff.
     fn to_civil(self) -> civil::Date
         ensures valid { IsDate self }
         ensures value { IsYmd (pos self.year) (pos self.month) (pos self.day) result }
@@ -140,7 +140,7 @@ impl Day {
         civil::date(self.year as i16, self.month as i8, self.day as i8)
     }
 
-    /// Returns the day of a date of jiff, if its year is 1900 to 9999.
+    /// Returns a date of jiff as a day, or `OutOfRange` if its year is not from 1900 to 9999.
     fn from_civil(date: civil::Date) -> Result<Day, DayFault>
         requires { pos 0 ≤ℤ date.year }
         ensures { result ≡ date_of (unsigned_abs date.year) date.month date.day }
@@ -162,7 +162,7 @@ impl fmt::Display for Day {
     }
 }
 
-/// Returns true if the calendar has this day, in a year up to 9999.
+/// Returns true if the calendar has this day. The year is at most 9999.
 fn is_in_calendar(year: u16, month: u8, day: u8) -> bool
     requires { year ≤ 9999 }
     ensures { result ≡ is_in_year year month day }
@@ -173,6 +173,7 @@ fn is_in_calendar(year: u16, month: u8, day: u8) -> bool
     civil::Date::new(year as i16, month as i8, day as i8).is_ok()
 }
 
+/// Returns true if `text` is eight ASCII digits.
 fn is_eight_digits(text: &[u8]) -> bool
     ensures value { result ≡ eight_digits text.now }
     ensures length { OnTrue result (length text.now ≡ 8) }
@@ -182,6 +183,7 @@ fn is_eight_digits(text: &[u8]) -> bool
     text.len() == 8 && is_digits(text)
 }
 
+/// Returns true if each byte of `text` is an ASCII digit.
 fn is_digits(text: &[u8]) -> bool
     ensures value { result ≡ list_all is_ascii_digit text.now }
     ensures each { OnTrue result (EachIndex text.now
@@ -190,7 +192,7 @@ fn is_digits(text: &[u8]) -> bool
     text.iter().all(|byte| byte.is_ascii_digit())
 }
 
-/// Returns the number that the two digits of `text` from `place` on make.
+/// Returns the value of the two digits of `text` from index `place` on.
 fn two_digits(text: &[u8], place: usize) -> u8
     requires place { place < 7 }
     requires length { length text.now ≡ 8 }
@@ -201,7 +203,7 @@ fn two_digits(text: &[u8], place: usize) -> u8
     (text[place] - b'0') * 10 + (text[place + 1] - b'0')
 }
 
-/// Returns the last digit of `number`, in ASCII.
+/// Returns the last decimal digit of `number`, in ASCII.
 fn last_digit(number: u16) -> u8
     ensures { result ≡ 48 + number % 10 }
 {

@@ -1,4 +1,4 @@
-//! The reasons to refuse a value.
+//! Defines the reasons to refuse a value.
 
 ghost use Rattle.std.specs.Prelude.{◌≡◌};
 ghost use Rattle.ill_values.specs.declared.fault.TextFault.TheVariants.{OutOfMemory};
@@ -6,7 +6,7 @@ ghost use Rattle.ill_values.specs.declared.fault.TextFault.TheVariants.{OutOfMem
 use std::alloc::{AllocError, AllocFailed};
 use thiserror::Error;
 
-/// A fault of bytes that are no qualifier or no item: of several, the first in this order.
+/// A fault of bytes that are not a qualifier or not an item. If there are several, it is the first in this order.
 #[derive(Clone, Copy, Debug, PartialEq, Eq, Hash, Error)]
 pub enum TextFault {
     /// The text has no bytes.
@@ -19,18 +19,18 @@ pub enum TextFault {
     /// character of ASCII.
     #[error("the text has a byte that may not stand there")]
     BadByte,
-    /// The text is good, and memory ran out.
+    /// The text has no fault, but memory ran out.
     #[error("out of memory")]
     OutOfMemory,
 }
 
-/// A fault of a day that does not exist: of several, the first in this order.
+/// A fault of a day that does not exist. If there are several, it is the first in this order.
 #[derive(Clone, Copy, Debug, PartialEq, Eq, Hash, Error)]
 pub enum DayFault {
-    /// The text is not exactly eight ASCII digits. Only `Day::read` gives this.
+    /// The text is not exactly eight ASCII digits. Only `Day::read` returns this.
     #[error("a date is eight digits")]
     NotDigits,
-    /// The year is not 1900 to 9999, or the day that is some days later is after 31 December 9999.
+    /// The year is not from 1900 to 9999, or the day that is some days later is after 31 December 9999.
     #[error("the years are 1900 to 9999")]
     OutOfRange,
     /// The calendar has no such day.

@@ -1,4 +1,4 @@
-//! Items.
+//! Defines items.
 
 ghost use Rattle.std.specs.Prelude.{◌≡◌, ◌≤◌, ℕ, List, length, is_ok, IfOk};
 ghost use Rattle.std.specs.Str.{bytes_eq};
@@ -12,7 +12,7 @@ use std::alloc::{AllocError as OutOfMemory, Global};
 use std::marker::Model;
 use std::str;
 
-/// An item, for which a request asks: 1 to 200 bytes of UTF-8 without the control characters of ASCII.
+/// The description of an item that a request asks for: 1 to 200 bytes of UTF-8 without the control characters of ASCII.
 #[derive(Debug, Drop)]
 pub struct Item {
     text: Vec<u8>,
@@ -41,7 +41,7 @@ impl Eq for Item {
 }
 
 impl Item {
-    /// Returns the item with this text, on its own memory, or the first fault of the text.
+    /// Returns the item with bytes `text`, in memory of its own, or the first fault of `text`.
     pub fn new(alloc: Global, text: &[u8]) -> Result<Item, TextFault>
         ensures { MakesText (item_of text.now) result }
     {
@@ -51,7 +51,7 @@ impl Item {
         })
     }
 
-    /// Returns a copy of the item, on its own memory.
+    /// Returns a copy of the item, in memory of its own.
     pub fn copy(&self, alloc: Global) -> Result<Item, OutOfMemory>
         ensures { IfOk result (λ item. item ≡ self.now) }
     {
@@ -60,7 +60,7 @@ impl Item {
         })
     }
 
-    /// Returns true if `text` is an item. Allocates nothing.
+    /// Returns true if `text` is an item. It allocates nothing.
     pub fn is_item(text: &[u8]) -> bool
         ensures { result ≡ is_ok (item_check text.now) }
     {

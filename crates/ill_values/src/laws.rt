@@ -1,4 +1,4 @@
-//! Laws of the values, as contracts of functions that do nothing.
+//! States the laws of the values, as contracts of functions that do nothing.
 
 ghost use Rattle.std.specs.Prelude.{◌≡◌, ◌≤◌, ◌↔◌, ℕ, List, length, IsTrue, Some, Ok};
 ghost use Rattle.ill_values.specs.Text.{IsQualifier, IsItem};
@@ -20,42 +20,42 @@ use crate::number::Number;
 use crate::txn_id::TxnId;
 use std::cmp::Ordering;
 
-/// Transaction ids are equal if, and only if, both qualifiers are.
+/// Transaction ids are equal if, and only if, both of their qualifiers are equal.
 pub fn equal_txn_ids()
     ensures { (a b : Qualifiers) → IsTrue (⟦<TxnId as PartialEq>⟧.eq a b) ↔ (a ≡ b) }
 {}
 
-/// Items are equal if, and only if, their bytes are.
+/// Items are equal if, and only if, their bytes are equal.
 pub fn equal_items()
     ensures { (a b : List ℕ) → IsTrue (⟦<Item as PartialEq>⟧.eq a b) ↔ (a ≡ b) }
 {}
 
-/// Numbers are equal if, and only if, the values that `get` returns are.
+/// Numbers are equal if, and only if, `get` returns equal values for them.
 pub fn equal_numbers()
     ensures { (a b : ℕ) → IsTrue (⟦<Number as PartialEq>⟧.eq a b) ↔ (a ≡ b) }
 {}
 
-/// Days are equal if, and only if, year, month and day of the month are.
+/// Days are equal if, and only if, year, month and day of the month are equal.
 pub fn equal_days()
     ensures { (a b : Date) → IsTrue (⟦<Day as PartialEq>⟧.eq a b) ↔ (a ≡ b) }
 {}
 
-/// A day is less than another if, and only if, it is before it in the calendar.
+/// One day is less than another if, and only if, it comes before it in the calendar.
 pub fn ordered_days()
     ensures { (a b : Date) → (⟦<Day as Ord>⟧.cmp a b ≡ Ordering.Less) ↔ IsBefore a b }
 {}
 
-/// Results are equal if, and only if, they are one variant.
+/// Results are equal if, and only if, they are equal variants.
 pub fn equal_results()
     ensures { (a b : AnswerResult) → IsTrue (⟦<AnswerResult as PartialEq>⟧.eq a b) ↔ (a ≡ b) }
 {}
 
-/// Bodies are equal if, and only if, they are one variant with equal fields.
+/// Bodies are equal if, and only if, they are equal variants with equal fields.
 pub fn equal_bodies()
     ensures { (a b : Body) → IsTrue (⟦<Body as PartialEq>⟧.eq a b) ↔ (a ≡ b) }
 {}
 
-/// APDUs are equal if, and only if, all their parts are.
+/// APDUs are equal if, and only if, all their parts are equal.
 pub fn equal_apdus()
     ensures { (a b : Apdu) → IsTrue (⟦<Apdu as PartialEq>⟧.eq a b) ↔ (a ≡ b) }
 {
@@ -63,14 +63,14 @@ pub fn equal_apdus()
     equal_bodies();
 }
 
-/// A qualifier has 1 to 64 bytes, and an item 1 to 200.
+/// A qualifier has 1 to 64 bytes, and an item has 1 to 200.
 pub fn text_sizes()
     ensures qualifier { (text : List ℕ) → IsQualifier text →
         (1 ≤ length text) × (length text ≤ 64) }
     ensures item { (text : List ℕ) → IsItem text → (1 ≤ length text) × (length text ≤ 200) }
 {}
 
-/// The date text of a day is read as that day, and a text that is read as a day is its date text.
+/// The date text of a day is read as that day, and any text that is read as a day is its date text.
 pub fn date_texts()
     ensures spelled { (d : Date) → IsDate d → read_date (date_text d) ≡ Ok d }
     ensures read { (text : List ℕ) (d : Date) → read_date text ≡ Ok d →

@@ -1,7 +1,7 @@
-//! The values of an interlibrary loan: days, message numbers, transaction ids, items and APDUs.
+//! Defines the values of an interlibrary loan: days, message numbers, transaction ids, items and APDUs.
 //!
-//! Each type holds exactly the values that its constructor accepts. Two values of a type are equal
-//! if, and only if, they stand for equal things.
+//! Each type holds exactly the values that its constructor accepts. Two values of a type are equal if, and only if, all
+//! their parts are.
 #![tactic(auto)]
 
 mod apdu;

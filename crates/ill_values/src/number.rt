@@ -1,4 +1,4 @@
-//! The numbers of messages.
+//! Defines the numbers of messages.
 
 ghost use Rattle.std.specs.Prelude.{◌≡◌, ℕ, ◌≤◌, ◌<◌, ◌↔◌, IsSome, IfSome};
 
@@ -6,7 +6,7 @@ use std::marker::Model;
 
 /// The number of a message among those that one side issued in a transaction: 1 to 255.
 ///
-/// It stands in this profile for the service date and time of ISO 10161-1.
+/// It replaces the service date and time of ISO 10161-1 in this profile.
 #[derive(Clone, Copy, Debug, PartialEq, Eq, PartialOrd, Ord, Hash)]
 pub struct Number {
     value: u8,
@@ -35,7 +35,7 @@ impl Number {
         }
     }
 
-    /// Returns the number as it was given to `new`.
+    /// Returns the value of the number, from 1 to 255.
     pub fn get(&self) -> u8
         ensures value { result ≡ self.now }
         ensures from { 1 ≤ result }

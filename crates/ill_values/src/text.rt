@@ -1,4 +1,4 @@
-//! The tests of texts, which take no memory.
+//! Tests texts, without taking memory.
 
 ghost use Rattle.std.specs.Prelude.{◌≡◌};
 ghost use Rattle.std.specs.List.{list_all};
@@ -7,13 +7,13 @@ ghost use Rattle.ill_values.specs.Text.{is_printable, is_no_control, is_item_tex
 use crate::fault::TextFault;
 use std::str;
 
-/// The most bytes of a qualifier.
+/// The largest number of bytes in a qualifier.
 pub const QUALIFIER_LIMIT: usize = 64;
 
-/// The most bytes of an item.
+/// The largest number of bytes in an item.
 pub const ITEM_LIMIT: usize = 200;
 
-/// Checks that `text` is a qualifier, or returns its first fault.
+/// Returns `Ok` if `text` is a qualifier, and else its first fault.
 pub fn check_qualifier(text: &[u8]) -> Result<(), TextFault>
     ensures { result ≡ qualifier_check text.now }
 {
@@ -28,7 +28,7 @@ pub fn check_qualifier(text: &[u8]) -> Result<(), TextFault>
     }
 }
 
-/// Checks that `text` is an item, or returns its first fault.
+/// Returns `Ok` if `text` is an item, and else its first fault.
 pub fn check_item(text: &[u8]) -> Result<(), TextFault>
     ensures { result ≡ item_check text.now }
 {
@@ -43,7 +43,8 @@ pub fn check_item(text: &[u8]) -> Result<(), TextFault>
     }
 }
 
-/// Returns true if each byte is a printing character. Reads all bytes, so that many are compared at once.
+/// Returns true if each byte is a printing character or a space. It reads all bytes, so that the compiler can compare
+/// many at once.
 fn is_printable_text(text: &[u8]) -> bool
     ensures { result ≡ list_all is_printable text.now }
 {
@@ -54,13 +55,14 @@ fn is_printable_text(text: &[u8]) -> bool
     so_far
 }
 
+/// Returns true if `text` is UTF-8 without control characters of ASCII.
 fn is_item(text: &[u8]) -> bool
     ensures { result ≡ is_item_text text.now }
 {
     has_no_control(text) && str::from_utf8(text).is_ok()
 }
 
-/// Returns true if no byte is a control character. Reads all bytes, so that many are compared at once.
+/// Returns true if no byte is a control character. It reads all bytes, so that the compiler can compare many at once.
 fn has_no_control(text: &[u8]) -> bool
     ensures { result ≡ list_all is_no_control text.now }
 {

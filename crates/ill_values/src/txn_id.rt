@@ -1,4 +1,4 @@
-//! Transaction ids.
+//! Defines transaction ids.
 
 ghost use Rattle.std.specs.Prelude.{◌≡◌, ◌≤◌, ◌&&◌, ◌++◌, length, is_ok, IfOk};
 ghost use Rattle.std.specs.Str.{bytes_eq};
@@ -14,9 +14,8 @@ use std::alloc::{AllocError as OutOfMemory, Global};
 use std::hash::{Hash, Hasher};
 use std::marker::Model;
 
-/// The id of a transaction: a transaction group qualifier and a transaction qualifier, each of 1 to
-/// 64 bytes, 0x20 to 0x7E (this profile's own). Two ids are equal, and hashed alike, if both of their
-/// qualifiers are.
+/// The id of a transaction: a transaction group qualifier and a transaction qualifier. Each has 1 to 64 bytes from 0x20
+/// to 0x7E (this profile's own). Ids with equal qualifiers are equal, and have equal hashes.
 #[derive(Debug, Drop)]
 pub struct TxnId {
     group: Vec<u8>,
@@ -58,8 +57,8 @@ impl Hash for TxnId {
 }
 
 impl TxnId {
-    /// Returns the id with these qualifiers, on its own memory, or the first fault: of the group, then of
-    /// the transaction, then out of memory.
+    /// Returns the id with these qualifiers, in memory of its own, or the first fault. The faults of `group` come
+    /// first, then those of `transaction`, then `OutOfMemory`.
     pub fn new(alloc: Global, group: &[u8], transaction: &[u8]) -> Result<TxnId, TextFault>
         ensures { MakesText (txn_id_of group.now transaction.now) result }
     {
@@ -71,7 +70,7 @@ impl TxnId {
         })
     }
 
-    /// Returns a copy of the id, on its own memory.
+    /// Returns a copy of the id, in memory of its own.
     pub fn copy(&self, alloc: Global) -> Result<TxnId, OutOfMemory>
         ensures { IfOk result (λ id. id ≡ self.now) }
     {
@@ -81,7 +80,7 @@ impl TxnId {
         })
     }
 
-    /// Returns true if `text` is a qualifier. Allocates nothing.
+    /// Returns true if `text` is a qualifier. It allocates nothing.
     pub fn is_qualifier(text: &[u8]) -> bool
         ensures { result ≡ is_ok (qualifier_check text.now) }
     {

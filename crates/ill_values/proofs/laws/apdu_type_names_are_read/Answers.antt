@@ -1,4 +1,5 @@
--- Proves the law `laws::apdu_type_names_are_read`: exactly the name of a type is read as that type.
+-- Proves the law `laws::apdu_type_names_are_read`: a text is read as a type if, and only if, it is the name of that
+-- type.
 use Rattle.ill_values.specs.Types.{apdu_type_name, all_types}
 use Rattle.ill_values.proofs.Names.{apdu_type_again}
 use Rattle.ill_values.proofs.laws.apdu_type_names_are_read.Goals as goal

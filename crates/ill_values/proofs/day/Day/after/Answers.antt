@@ -1,4 +1,5 @@
--- Proves the contract of `Day::after`: the result is the day `days` days later, or OutOfRange.
+-- Proves the contract of `Day::after`: the result is the day `days` days later, or `OutOfRange`. It holds because
+-- `days` days later the number of the day in jiff's calendar is higher by `days`.
 use Rattle.std.proofs.Common.{◌≡◌, ℕ, ◌∙◌, ◌≤◌, false, true, ℤ, pos, arith, FitsSigned, w64, to_z, of_z}
 use Rattle.std.proofs.lemmas.Int.{to_z-of_z}
 use Rattle.jiff_core.specs.declared.span.Span.{Span}
@@ -8,7 +9,7 @@ use Rattle.jiff.proofs.SpanFacts.{date_add-days, can_add-days, signed_arith}
 use Rattle.ill_values.proofs.DaysLater.{refused_beyond, refused_too_many, reached_year, reached}
 use Rattle.ill_values.proofs.day.Day.after.Goals as goal
 
--- The span of jiff for `n` days has `n` days and nothing else, up to the most that a span holds.
+-- If `n` is at most 7,304,484, the span of jiff for `n` days has `n` days and nothing else.
 span_of_days : (n : ℕ) (given : ℤ) (s : Span) → n ≤ 7_304_484 → given ≡ pos n → IsOnly Day (to_z w64 (of_z w64 given)) s
     → IsOnly Day (pos n) s
 span_of_days n given s few e only =

@@ -1,4 +1,4 @@
--- Proves that the error arm of `DayDisplay::fmt` is never reached: a date text is UTF-8.
+-- Proves that `DayDisplay::fmt` never reaches its error arm, because a date text is UTF-8.
 use Rattle.std.proofs.Common.{subst, sym}
 use Rattle.std.specs.Str.{IsUtf8}
 use Rattle.ill_values.proofs.Texts.{date_utf8}

@@ -1,4 +1,4 @@
--- The order of days, and the due dates that a responder grants in that order.
+-- Proves the order of days, and that a responder's granted due dates follow this order.
 use Rattle.std.proofs.Common.{rules, arith, ◌≡◌, ◌⊎◌, inl, inr, ℕ, zero, suc, ◌<◌, Bool, true, false, if◌then◌else◌, ◌==◌, nat_lt}
 use Rattle.std.proofs.Common.{List, [], ◌∷◌, Option, Some, None, refl, sym, ap, ◌∙◌, subst}
 use Rattle.std.specs.Prelude.{slice_get}
@@ -14,11 +14,11 @@ use Rattle.ill_core.specs.Responder.{are_rising, rise_from}
 
 -- ---- the order of days
 
--- One number is less than the other, or they are equal and `Rest` holds.
+-- One number is less than the other, or they are equal and the third argument holds.
 abbrev Less : ℕ → ℕ → Type 0 → Type 0
 Less p q Rest = (p < q) ⊎ ((p ≡ q) × Rest)
 
--- Returns true if p is less than q, or if they are equal and `rest` is true.
+-- Returns true if `p` is less than `q`, or if they are equal and `rest` is true.
 abbrev less : ℕ → ℕ → Bool → Bool
 less p q rest = if p == q then rest else nat_lt p q
 
@@ -37,11 +37,11 @@ is_less p q rest (inl lt) =
     ap (λ (same : Bool). if same then rest else nat_lt p q) (ne_eqb p q other) ∙ lt-ltb p q lt
 is_less p q rest (inr both) = ap (λ (same : Bool). if same then rest else nat_lt p q) (eq-eqb p q both.0) ∙ both.1
 
--- Day a is before day b: by year, then by month, then by day.
+-- Day `a` is before day `b`: by year, then by month, then by day.
 abbrev Before : Date → Date → Type 0
 Before a b = Less a.year b.year (Less a.month b.month (a.day < b.day))
 
--- If the test `is_before` is true, day a is before day b.
+-- If the test `is_before` is true, day `a` is before day `b`.
 before_is : (a b : Date) → is_before a b ≡ true → Before a b
 before_is a b h =
     elim (less_is a.year b.year (less a.month b.month (nat_lt a.day b.day)) h) [
@@ -54,32 +54,32 @@ before_is a b h =
           )
     ]
 
--- If day a is before day b, the test `is_before` is true.
+-- If day `a` is before day `b`, the test `is_before` is true.
 is_before_by : (a b : Date) → Before a b → is_before a b ≡ true
 is_before_by a b (inl lt) = is_less a.year b.year _ (inl lt)
 is_before_by a b (inr (year, inl lt)) = is_less a.year b.year _ (inr (year, is_less a.month b.month _ (inl lt)))
 is_before_by a b (inr (year, inr (month, day))) =
     is_less a.year b.year _ (inr (year, is_less a.month b.month _ (inr (month, lt-ltb a.day b.day day))))
 
--- If p is less than q and q than r, p is less than r. If they are equal, the later parts decide.
+-- If `Less` holds of `p` and `q`, and of `q` and `r`, it holds of `p` and `r`.
 less_on : (p q r : ℕ) (A B C : Type 0) → (A → B → C) → Less p q A → Less q r B → Less p r C
 less_on p q r A B C on (inl lt) (inl lt') = inl (omega (arith, lt, lt'))
 less_on p q r A B C on (inl lt) (inr both) = inl (omega (arith, lt, both.0))
 less_on p q r A B C on (inr both) (inl lt) = inl (omega (arith, both.0, lt))
 less_on p q r A B C on (inr one) (inr two) = inr (one.0 ∙ two.0, on one.1 two.1)
 
--- If p is less than q and q than r, p is less than r.
+-- If `p` is less than `q`, and `q` less than `r`, `p` is less than `r`.
 day_on : (p q r : ℕ) → p < q → q < r → p < r
 day_on p q r one two = omega (arith, one, two)
 
--- If day a is before b, and b before c, then a is before c.
+-- If `a` is before `b`, and `b` before `c`, `a` is before `c`.
 pub before_on : (a b c : Date) → is_before a b ≡ true → is_before b c ≡ true → is_before a c ≡ true
 before_on a b c one two =
     is_before_by a c
     (less_on a.year b.year c.year _ _ _ (less_on a.month b.month c.month _ _ _ (day_on a.day b.day c.day)) (before_is a b one)
     (before_is b c two))
 
--- Of two equal numbers none is less, if what follows them is not.
+-- If `p` equals `q` and `A` is false, `Less p q A` is false.
 never_less : (p q : ℕ) (A : Type 0) → p ≡ q → (A → ⊥) → Less p q A → ⊥
 never_less p q A same never (inl lt) = omega (arith, same, lt)
 never_less p q A same never (inr both) = never both.1
@@ -93,7 +93,7 @@ not_before_same a b same h =
     (never_less a.month b.month _ (eqb-true a.month b.month days.0) (λ lt. omega (arith, eqb-true a.day b.day days.1, lt)))
     (before_is a b h)
 
--- A day is equal to itself.
+-- A day equals itself.
 pub same_itself : (a : Date) → is_same_day a a ≡ true
 same_itself a = and_from _ _ (eq-eqb a.year a.year refl) (and_from _ _ (eq-eqb a.month a.month refl) (eq-eqb a.day a.day refl))
 
@@ -101,16 +101,16 @@ same_itself a = and_from _ _ (eq-eqb a.year a.year refl) (and_from _ _ (eq-eqb a
 pub not_before_itself : (a : Date) → is_before a a ≡ true → ⊥
 not_before_itself a h = not_before_same a a (same_itself a) h
 
--- The test of a day against itself is false.
+-- The test `is_before` of a day and itself is false.
 pub itself_not_before : (a : Date) → is_before a a ≡ false
 itself_not_before a = false_from_ne_true (is_before a a) (not_before_itself a)
 
--- If d is before c, and e is not before c, then e is not before d.
+-- If `d` is before `c`, and `e` is not before `c`, then `e` is not before `d`.
 not_before_earlier : (d c e : Date) → is_before d c ≡ true → is_before e c ≡ false → is_before e d ≡ false
 not_before_earlier d c e earlier not_before =
     false_from_ne_true (is_before e d) (λ h. let no : true ≡ false = sym (before_on e d c h earlier) ∙ not_before in search rules)
 
--- If p is less than r, then p is less than q, or q is less than r.
+-- If `Less` holds of `p` and `r`, it holds of `p` and `q`, or of `q` and `r`.
 less_either : (p q r : ℕ) (A B C : Type 0) → (A → B ⊎ C) → Less p r A → (Less p q B) ⊎ (Less q r C)
 less_either p q r A B C either h = go (cases_order p q) h
   where
@@ -121,7 +121,7 @@ less_either p q r A B C either h = go (cases_order p q) h
     go (inl same) (inl lt) = inr (inl (omega (arith, same, lt)))
     go (inl same) (inr both) = elim (either both.1) [ inl b ↦ inl (inr (same, b)) | inr c ↦ inr (inr (sym same ∙ both.0, c)) ]
 
--- If one number is less than another, each third one is above the first or below the second.
+-- If `p` is less than `r`, then `p` is less than `q`, or `q` is less than `r`.
 day_either : (p q r : ℕ) → p < r → (p < q) ⊎ (q < r)
 day_either p q r lt = go (cases_order p q)
   where
@@ -130,7 +130,7 @@ day_either p q r lt = go (cases_order p q)
     go (inr (inl below)) = inl below
     go (inr (inr above)) = inr (omega (arith, above, lt))
 
--- If a first day is not before a second but before a third, then the second is before the third.
+-- If `a` is before `c` but not before `b`, then `b` is before `c`.
 pub before_later : (a b c : Date) → is_before a b ≡ false → is_before a c ≡ true → is_before b c ≡ true
 before_later a b c not_before before =
     go (less_either a.year b.year c.year _ _ _ (less_either a.month b.month c.month _ _ _ (day_either a.day b.day c.day))
@@ -142,7 +142,7 @@ before_later a b c not_before before =
 
 -- ---- the dates that were granted
 
--- If the dates rise from d on, the last of them is not before d.
+-- If dates rise after `d`, the last of them is not before `d`.
 rise_above : (d : Date) (dates : List Date) → rise_from (Some d) dates ≡ true
     → (e : Date) × (last_or (Some d) dates ≡ Some e) × (is_before e d ≡ false)
 unfolding rise_from
@@ -152,14 +152,14 @@ rise_above d (c ∷ dates) rises =
     let later = rise_above c dates parts.1 in
     (later.0, later.1, not_before_earlier d c later.0 parts.0 later.2)
 
--- If dates rise, those after the first rise too.
+-- If dates rise, the dates after the first one rise.
 rise_rest : (last : Option Date) (o : Option Date) (dates : List Date) → rise_from last (cons_option o dates) ≡ true
     → (next : Option Date) × (rise_from next dates ≡ true)
 unfolding rise_from
 rise_rest last None dates rises = (last, rises)
 rise_rest last (Some d) dates rises = (Some d, (and_parts _ _ rises).1)
 
--- If dates rise, the last of them is not before the first one.
+-- If dates rise, the last one is not before the first one.
 rise_here : (last : Option Date) (o : Option Date) (dates : List Date) (d : Date) (p : Option Date) → o ≡ Some d
     → rise_from last (cons_option o dates) ≡ true
     → (e : Date) × (last_or p (cons_option o dates) ≡ Some e) × (is_before e d ≡ false)
@@ -170,7 +170,7 @@ rise_here last (Some c) dates d p is rises =
     subst (λ x. (e : Date) × (last_or (Some c) dates ≡ Some e) × (is_before e x ≡ false)) same
     (rise_above c dates (and_parts _ _ rises).1)
 
--- One more date put first leaves the last of `dates`, which is not before d.
+-- If the last of `dates` is not before `d`, it still is not after one more date is put first.
 last_skips : (o : Option Date) (dates : List Date) (d : Date) (p : Option Date)
     → ((p : Option Date) → (e : Date) × (last_or p dates ≡ Some e) × (is_before e d ≡ false))
     → (e : Date) × (last_or p (cons_option o dates) ≡ Some e) × (is_before e d ≡ false)
@@ -188,7 +188,7 @@ last_is_latest last (b ∷ apdus) (suc i) a d p rises e is =
     let rest = rise_rest last (granted_day b) (filter_map granted_day apdus) rises in
     last_skips (granted_day b) (filter_map granted_day apdus) d p (λ q. last_is_latest rest.0 apdus i a d q rest.1 e is)
 
--- If the granted dates rise, the due date is not before the date that message n grants.
+-- If the granted dates rise, the due date is not before the date that message `n` grants.
 pub granted_not_later : (apdus : List Apdu) (n : ℕ) (a : Apdu) (d : Date)
     → are_rising (filter_map granted_day apdus) ≡ true → message apdus n ≡ Some a → granted_day a ≡ Some d
     → (e : Date) × (last_of granted_day apdus ≡ Some e) × (is_before e d ≡ false)

@@ -1,4 +1,4 @@
--- Message n of a list of issued APDUs, and of a list with one more.
+-- Proves statements on message n of a list of issued APDUs, and of a list with one more APDU.
 use Rattle.std.proofs.Common.{rules, arith, ◌≡◌, ◌⊎◌, inl, inr, ℕ, zero, suc, ◌+◌, ◌≤◌, Bool, true, List, [], ◌∷◌, ◌++◌, length}
 use Rattle.std.proofs.Common.{Some, refl, ap, ◌∙◌}
 use Rattle.std.proofs.lemmas.Bool.{or_cases, or_left, or_right}
@@ -6,14 +6,14 @@ use Rattle.ill_values.specs.declared.apdu.Apdu.{Apdu}
 use Rattle.ill_values.specs.declared.apdu.Body.{Body}
 use Rattle.ill_core.specs.Issued.{message, has}
 
--- An older message lies within a longer list, and the new one is one further.
+-- If message n + 1 is old or new in a list, so is message n + 2 after one more APDU is put first.
 message_further : (apdus : List Apdu) (a b : Apdu) (n : ℕ)
     → ((message apdus (suc n) ≡ Some b) × (suc n ≤ length apdus)) ⊎ ((suc n ≡ length apdus + 1) × (a ≡ b))
     → ((message apdus (suc n) ≡ Some b) × (suc (suc n) ≤ suc (length apdus))) ⊎ ((suc (suc n) ≡ suc (length apdus) + 1) × (a ≡ b))
 message_further apdus a b n (inl old) = inl (old.0, omega (arith, old.1))
 message_further apdus a b n (inr new) = inr (omega (arith, new.0), new.1)
 
--- A message of a list that has one more is an older one or the new one.
+-- Each message of a list with one more APDU is an old message or the new one.
 pub message_more : (apdus : List Apdu) (a b : Apdu) (n : ℕ) → message (apdus ++ a ∷ []) n ≡ Some b
     → ((message apdus n ≡ Some b) × (n ≤ length apdus)) ⊎ ((n ≡ length apdus + 1) × (a ≡ b))
 message_more apdus a b zero there = search rules
@@ -22,7 +22,7 @@ message_more [] a b (suc (suc n)) there = search rules
 message_more (c ∷ apdus) a b (suc zero) there = inl (there, omega arith)
 message_more (c ∷ apdus) a b (suc (suc n)) there = message_further apdus a b n (message_more apdus a b (suc n) there)
 
--- If `says` holds of a message, it holds of one of the APDUs.
+-- If `says` holds of message `n`, it holds of at least one APDU of the list.
 pub message_says : (says : Body → Bool) (apdus : List Apdu) (n : ℕ) (b : Apdu) → message apdus n ≡ Some b
     → says b.body ≡ true → has says apdus ≡ true
 message_says says apdus zero b there is = search rules
@@ -32,17 +32,17 @@ message_says says (c ∷ apdus) (suc zero) b there is =
     or_left _ _ (ap (λ (a : Apdu). says a.body) same ∙ is)
 message_says says (c ∷ apdus) (suc (suc n)) b there is = or_right (says c.body) _ (message_says says apdus (suc n) b there is)
 
--- Some message of the list says it: `says` holds of its body.
+-- `says` holds of the body of some message of the list.
 abbrev pub Said : (Body → Bool) → List Apdu → Type 0
 Said says apdus = (n : ℕ) × (a : Apdu) × (message apdus n ≡ Some a) × (says a.body ≡ true)
 
--- A message that says it is one number further in a list with one more APDU put first.
+-- If `says` holds of message `n`, it holds of some message after APDU `b` is put first.
 said_further : (says : Body → Bool) (b : Apdu) (apdus : List Apdu) (n : ℕ) (a : Apdu) → message apdus n ≡ Some a
     → says a.body ≡ true → Said says (b ∷ apdus)
 said_further says b apdus zero a at is = search rules
 said_further says b apdus (suc n) a at is = (suc (suc n), a, at, is)
 
--- If the first APDU says it, or one of the others does, a message of the whole list says it.
+-- If `says` holds of `b` or of one of `apdus`, it holds of some message of `b ∷ apdus`.
 said_first : (says : Body → Bool) (b : Apdu) (apdus : List Apdu) → (says b.body ≡ true) ⊎ (has says apdus ≡ true)
     → (has says apdus ≡ true → Said says apdus) → Said says (b ∷ apdus)
 said_first says b apdus (inl is) others = (1, b, refl, is)
@@ -50,7 +50,7 @@ said_first says b apdus (inr there) others =
     let said = others there in
     said_further says b apdus said.0 said.1 said.2 said.3
 
--- If `says` holds of one of the APDUs, it holds of a message.
+-- If `says` holds of at least one APDU of the list, it holds of some message.
 pub says_message : (says : Body → Bool) (apdus : List Apdu) → has says apdus ≡ true → Said says apdus
 says_message says [] there = search rules
 says_message says (b ∷ apdus) there = said_first says b apdus (or_cases _ _ there) (says_message says apdus)

@@ -1,4 +1,4 @@
--- Each state is read back from its name, and each verb too.
+-- Proves that each state and each verb is read back from its name.
 use Rattle.std.proofs.Common.{◌≡◌, Some, refl}
 use Rattle.ill_core.specs.declared.state.State.{State}
 use Rattle.ill_core.specs.declared.state.State.TheVariants as states

@@ -1,4 +1,4 @@
--- Lists of numbers.
+-- Proves statements on lists of numbers.
 use Rattle.std.proofs.Common.{rules, ◌≡◌, ℕ, Bool, true, false, not, nat_eq, List, [], ◌∷◌, ◌++◌, Option, Some, None, refl, ap}
 use Rattle.std.proofs.Common.{◌∙◌}
 use Rattle.std.specs.List.{list_all}
@@ -7,7 +7,7 @@ use Rattle.std.proofs.lemmas.List.Folds.{list_any-append}
 use Rattle.ill_core.specs.Numbers.{is_at_most, is_below, are_distinct}
 use Rattle.ill_core.proofs.IssuedLemmas.{not_true}
 
--- If all of `ns` pass the test p, and p implies q, then all pass q.
+-- If all of `ns` pass the test `p`, and `p` implies `q`, all of them pass `q`.
 pub all_weaker : (p q : ℕ → Bool) → ((n : ℕ) → p n ≡ true → q n ≡ true) → (ns : List ℕ) → list_all p ns ≡ true
     → list_all q ns ≡ true
 all_weaker p q weaker [] all = refl
@@ -15,21 +15,21 @@ all_weaker p q weaker (n ∷ ns) all =
     let parts = and_parts _ _ all in
     and_from _ _ (weaker n parts.0) (all_weaker p q weaker ns parts.1)
 
--- If k is not at most `last`, each n that is at most `last` is below k.
+-- If `k` is not at most `last`, each number that is at most `last` is below `k`.
 pub below_new : (k : ℕ) (last : Option ℕ) → is_at_most k last ≡ false → (n : ℕ) → is_at_most n last ≡ true
     → is_below n (Some k) ≡ true
 below_new k None above n most = search rules
 below_new k (Some m) above n most = search rules
 
--- A number below k is at most k.
+-- A number below `k` is at most `k`.
 pub at_most_below : (k n : ℕ) → is_below n (Some k) ≡ true → is_at_most n (Some k) ≡ true
 at_most_below k n below = search rules
 
--- A number m below n is not equal to n.
+-- A number `m` below `n` does not equal `n`.
 above_not_same : (m n : ℕ) → is_below m (Some n) ≡ true → nat_eq n m ≡ false
 above_not_same m n below = search rules
 
--- If `ns` are distinct and below n, they stay distinct with n at the end.
+-- If `ns` are distinct and below `n`, they stay distinct with `n` at the end.
 pub distinct_more : (ns : List ℕ) (n : ℕ) → are_distinct ns ≡ true → list_all (λ m. is_below m (Some n)) ns ≡ true
     → are_distinct (ns ++ n ∷ []) ≡ true
 unfolding are_distinct

@@ -1,4 +1,4 @@
--- A requester answers conditions once.
+-- Proves that a requester answers no conditions twice.
 use Rattle.std.proofs.Common.{rules, ◌≡◌, inl, inr, ℕ, Bool, true, false, ◌||◌, [], ◌∷◌, ◌++◌, Option, Some, None, is_some}
 use Rattle.std.proofs.Common.{if◌then◌else◌, refl, ap, sym, subst, ◌∙◌}
 use Rattle.std.specs.List.{list_all, filter_map, last_or}
@@ -20,7 +20,7 @@ use Rattle.ill_core.specs.RequesterEvidence.{AnswersOnce, replies, replied_numbe
 use Rattle.ill_core.proofs.NumberLemmas.{all_weaker, below_new, at_most_below, distinct_more}
 use Rattle.ill_core.proofs.IssuedLemmas.{found_none, found_more, last_of_more, has_more}
 
--- After a delivery in CONDITIONAL, the conditions answered so far are below those held, if none were declined.
+-- After a delivery in CONDITIONAL the answered numbers are below the held number, if no conditions were declined.
 held_still : (x new : RequesterRecord) (k : ℕ) → Holds x k new → AnswersOnce x
     → is_among (Conditional ∷ []) new.state ≡ true → has declines x.issued ≡ false
     → list_all (λ n. is_below n new.held) (replies x.issued) ≡ true
@@ -34,7 +34,7 @@ held_still x new k (inr (inr fresh)) once here undeclined =
     (all_weaker (λ n. is_at_most n (accepted_number x)) (λ n. is_below n (Some k)) (below_new k (accepted_number x) fresh.3)
     (replies x.issued) (once.above undeclined))
 
--- A change that issues nothing and holds conditions as `Holds` says keeps conditions answered once.
+-- A change that issues nothing and satisfies `Holds` preserves `AnswersOnce`.
 pub still_once : (x new : RequesterRecord) (k : ℕ) → new.issued ≡ x.issued → Holds x k new → AnswersOnce x → AnswersOnce new
 still_once x new k same holds once =
     let undeclined : has declines new.issued ≡ false → has declines x.issued ≡ false =
@@ -47,7 +47,7 @@ still_once x new k same holds once =
           ∙ held_still x new k holds once here (undeclined no);
     }
 
--- An APDU that answers no conditions, and leads outside CONDITIONAL, keeps them answered once.
+-- An APDU that answers no conditions and leads out of CONDITIONAL preserves `AnswersOnce`.
 pub silent_once : (x : RequesterRecord) (body : Body) (state : State) (held : Option ℕ) → replied_number body ≡ None
     → accepts body ≡ None → declines body ≡ false
     → is_among (Conditional ∷ []) state ≡ false → AnswersOnce x
@@ -66,14 +66,14 @@ silent_once x body state held silent accepts_none declines_not away once =
       held = λ here undeclined. search rules;
     }
 
--- The conditions answered so far are below the held ones, n, in CONDITIONAL and with none declined.
+-- In CONDITIONAL, if no conditions were declined, the answered numbers are below the held number `n`.
 below_held : (x : RequesterRecord) (n : ℕ) → x.held ≡ Some n → is_among (Conditional ∷ []) x.state ≡ true
     → has declines x.issued ≡ false → AnswersOnce x
     → list_all (λ m. is_below m (Some n)) (replies x.issued) ≡ true
 below_held x n is here undeclined once =
     subst (λ o. list_all (λ m. is_below m o) (replies x.issued) ≡ true) is (once.held here undeclined)
 
--- A yes to the held conditions keeps conditions answered once.
+-- A yes to the held conditions preserves `AnswersOnce`.
 yes_once : (x : RequesterRecord) (n : ℕ) → x.held ≡ Some n → is_among (Conditional ∷ []) x.state ≡ true
     → has declines x.issued ≡ false → AnswersOnce x
     → AnswersOnce (requester_of x.txn Pending None x.checked_in x.due (with_next x.txn x.issued (types.ConditionalReply n true)))
@@ -92,7 +92,7 @@ yes_once x n is here undeclined once =
       held = λ here undeclined. search rules;
     }
 
--- A no to the held conditions keeps conditions answered once.
+-- A no to the held conditions preserves `AnswersOnce`.
 no_once : (x : RequesterRecord) (n : ℕ) → x.held ≡ Some n → is_among (Conditional ∷ []) x.state ≡ true
     → has declines x.issued ≡ false → AnswersOnce x
     → AnswersOnce (requester_of x.txn Conditional x.held x.checked_in x.due
@@ -108,7 +108,7 @@ no_once x n is here undeclined once =
       held = λ here no. search (rules, declined);
     }
 
--- A reply to the held conditions keeps conditions answered once.
+-- A reply to the held conditions preserves `AnswersOnce`.
 pub reply_once : (x : RequesterRecord) (is_yes : Bool) (n : ℕ) → x.held ≡ Some n
     → is_among (Conditional ∷ []) x.state ≡ true → has declines x.issued ≡ false → AnswersOnce x
     → AnswersOnce (requester_of x.txn (if is_yes then Pending else Conditional) (if is_yes then None else x.held) x.checked_in
@@ -117,7 +117,7 @@ pub reply_once : (x : RequesterRecord) (is_yes : Bool) (n : ℕ) → x.held ≡ 
 reply_once x true = yes_once x
 reply_once x false = no_once x
 
--- If a number is there, it is what `unwrap_or` gives.
+-- If a number is there, `unwrap_or` returns it.
 pub held_number : (o : Option ℕ) → is_some o ≡ true → o ≡ Some (unwrap_or o 0)
 held_number (Some n) there = refl
 held_number None there = search rules

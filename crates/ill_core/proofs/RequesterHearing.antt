@@ -1,4 +1,5 @@
--- A requester's record has heard a message after it has come, and hears it still after the next ones.
+-- Proves that a message, once delivered to a requester, would change nothing if it came again, until another message
+-- reopens it.
 use Rattle.std.proofs.Common.{rules, ◌≡◌, ℕ, Bool, true, false, not, ◌&&◌, ◌||◌, [], ◌∷◌, Some, None, Result, if◌then◌else◌, ap}
 use Rattle.std.proofs.Common.{refl}
 use Rattle.std.proofs.lemmas.Bool.{cond_both}
@@ -24,15 +25,15 @@ use Rattle.ill_core.specs.RequesterNotices.{awaits, awaits_cancel, undecided, le
 use Rattle.ill_core.proofs.RequesterMoves.{Leads, nowhere, holds_conditions, ends, cancels, keeps_request, ships, misses, reminds}
 use Rattle.ill_core.proofs.RequesterMoves.{reminds_renewing, renews, refuses_renewal, recalls, checks_in, delivery_leads}
 
--- ---- a message that comes is heard
+-- ---- a message that comes again
 
--- If the record has heard the message after each transition that may fit, it has heard it after the answer.
+-- If `has_heard` is true after each transition that may be the first to fit, it is true after the answer.
 transition : (number : ℕ) (body : Body) (fits : Bool) (here others : Result Taking Refusal × RequesterRecord)
     → (fits ≡ true → has_heard here.1 number body ≡ true) → (fits ≡ false → has_heard others.1 number body ≡ true)
     → has_heard (if fits then here else others).1 number body ≡ true
 transition number body fits here others = cond_both fits here others (λ r. has_heard r.1 number body ≡ true)
 
--- After a responder's message that is not refused, the record has heard it.
+-- The record after an admitted message of a responder would not change if it came again.
 message_heard : (x : RequesterRecord) (a : Apdu) (body : Body) → is_requesters body ≡ false
     → has_heard (take_message x a body).1 a.number body ≡ true
 message_heard x a (types.IllAnswer results.Conditional) theirs = search rules
@@ -55,7 +56,8 @@ message_heard x a types.Recall theirs = search rules
 message_heard x a types.CheckedIn theirs = search rules
 message_heard x a other theirs = refl
 
--- A responder's message of the transaction is not refused, so the record has heard it after the answer.
+-- A responder's message of the transaction is admitted, so the record after the answer would not change if it came
+-- again.
 admitted_heard : (x : RequesterRecord) (answer : Result Taking Refusal × RequesterRecord) (number : ℕ) (body : Body)
     (is_same is_own : Bool)
     → is_same ≡ true → is_own ≡ false
@@ -66,16 +68,17 @@ admitted_heard x answer number body true false same own heard = heard
 admitted_heard x answer number body true true same own heard = search rules
 admitted_heard x answer number body false is_own same own heard = search rules
 
--- After a responder's message of the transaction, the record has heard it.
+-- The record after a responder's message of the transaction would not change if it came again.
 pub takes_heard : (x : RequesterRecord) (a : Apdu) → is_same_txn a.txn x.txn ≡ true → is_requesters a.body ≡ false
     → has_heard (takes x a).1 a.number a.body ≡ true
 takes_heard x a same theirs =
     admitted_heard x (take_message x a a.body) a.number a.body (is_same_txn a.txn x.txn) (is_requesters a.body) same theirs
     (message_heard x a a.body theirs)
 
--- ---- a message that was heard stays so
+-- ---- a later message
 
--- The record `new` has heard each message that x has, unless the body of the message between reopens it.
+-- Each message that would not change `x` would not change `new`, unless `body` reopens it. There is one field for each
+-- type of message.
 record Hears (x : RequesterRecord) (body : Body) (new : RequesterRecord) : Type 0 where
   conditions : (number : ℕ) → reopens body (types.IllAnswer results.Conditional) ≡ false
       → not (is_among (Pending ∷ []) x.state) || is_at_most number (accepted_number x) ≡ true
@@ -91,7 +94,7 @@ record Hears (x : RequesterRecord) (body : Body) (new : RequesterRecord) : Type 
   checked_in : implies (is_among (Returned ∷ []) x.state) x.checked_in ≡ true
       → implies (is_among (Returned ∷ []) new.state) new.checked_in ≡ true
 
--- After each row the record has heard what it had heard before, unless the message reopens it.
+-- The record after each row of deliveries satisfies `Hears`.
 hears : (x : RequesterRecord) (number : ℕ) (body : Body) (new : RequesterRecord) → Leads x number body new → Hears x body new
 hears x number _ _ (nowhere body) = search rules
 hears x number _ _ (holds_conditions is) = search rules
@@ -107,7 +110,7 @@ hears x number _ _ (refuses_renewal renew waits) = search rules
 hears x number _ _ (recalls is) = search rules
 hears x number _ _ (checks_in is) = search rules
 
--- If `new` hears as `Hears` says, it has heard a message that x has and that `first` does not reopen.
+-- If `new` satisfies `Hears`, a message that would not change `x` would not change `new`, unless `first` reopens it.
 still_heard : (x : RequesterRecord) (first : Body) (new : RequesterRecord) → Hears x first new
     → (number : ℕ) (second : Body) → reopens first second ≡ false
     → has_heard x number second ≡ true → has_heard new number second ≡ true
@@ -125,7 +128,7 @@ still_heard x first new how number types.Recall stays heard = how.recall stays h
 still_heard x first new how number types.CheckedIn stays heard = how.checked_in heard
 still_heard x first new how number other stays heard = refl
 
--- A message that was heard stays heard after the next APDU, unless that reopens it.
+-- If a message would not change a record, it would not change it after APDU `a`, unless `a` reopens it.
 pub takes_hearing : (x : RequesterRecord) (a : Apdu) (number : ℕ) (body : Body) → reopens a.body body ≡ false
     → has_heard x number body ≡ true
     → has_heard (takes x a).1 number body ≡ true

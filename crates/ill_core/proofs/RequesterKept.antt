@@ -1,4 +1,4 @@
--- A wish keeps the rules of a requester's record.
+-- Proves that a wish preserves the rules of a requester's record.
 use Rattle.std.proofs.Common.{rules, arith, ◌≡◌, ℕ, Bool, true, false, not, ◌||◌, List, [], ◌∷◌, Option, is_some, Ok, ap, subst}
 use Rattle.std.proofs.Common.{sym, ◌∙◌}
 use Rattle.ill_values.specs.Day.{Date}
@@ -21,7 +21,7 @@ use Rattle.ill_core.specs.RequesterActions.{Transition, answer_held, transition_
 use Rattle.ill_core.proofs.TransitionLemmas.{at_transition, is_this, no_more}
 use Rattle.ill_core.proofs.IssuedLemmas.{numbered_next, not_true, same_txn, has_more, all_more, none_more, begins_more}
 
--- The state and the conditions held fit the record x after it issues one more APDU of this body.
+-- The state and the conditions held fit record `x` with one more APDU with this body.
 abbrev pub FitsWith : State → Option ℕ → RequesterRecord → Body → Type 0
 FitsWith state held x body =
     PartsFit state (is_some held) (is_some x.due) x.checked_in
@@ -30,7 +30,7 @@ FitsWith state held x body =
     (has declines x.issued || declines body)
     × (is_requesters body ≡ true) × (is_ill_request body ≡ is_none x.issued)
 
--- A record that keeps the rules keeps them with one more APDU, if the new state fits.
+-- If `state` and `held` fit record `x` with one more APDU, the new record satisfies the rules.
 kept : (x : RequesterRecord) (body : Body) (state : State) (held : Option ℕ) → RequesterRules x → FitsWith state held x body
     → RequesterRules (requester_of x.txn state held x.checked_in x.due (with_next x.txn x.issued body))
 kept x body state held h fits =
@@ -56,7 +56,7 @@ kept x body state held h fits =
       };
     }
 
--- In CONDITIONAL with none declined, the state after a reply fits.
+-- In CONDITIONAL, if none were declined, the state after a reply fits.
 reply_fits : (txn : Qualifiers) (held : Option ℕ) (checked_in : Bool) (due : Option Date) (issued : List Apdu) (is_yes : Bool)
     → RequesterRules (requester_of txn Conditional held checked_in due issued) → has declines issued ≡ false
     → (let x : RequesterRecord = requester_of txn Conditional held checked_in due issued in
@@ -76,7 +76,7 @@ return_fits : (txn : Qualifiers) (held : Option ℕ) (checked_in : Bool) (due : 
     → FitsWith Returned held (requester_of txn Recall held checked_in due issued) types.Returned
 return_fits txn held checked_in due issued h received = search rules
 
--- The state to which the transition of a wish leads fits.
+-- The state after the transition of each wish fits.
 pub fits : (txn : Qualifiers) (state : State) (held : Option ℕ) (checked_in : Bool) (due : Option Date) (issued : List Apdu)
     (wish : Wish) (row : Transition)
     → RequesterRules (requester_of txn state held checked_in due issued)
@@ -101,7 +101,7 @@ fits txn Recall held checked_in due issued wishes.Return row h leads =
     (no_more (λ r. FitsWith r.next r.held x r.body) _ row) leads
 fits txn state held checked_in due issued wish row h leads = search rules
 
--- If the state after a transition fits, the record after it keeps the rules of a requester.
+-- If the state after a transition fits, the record after it satisfies the rules of a requester.
 pub row_kept : (x : RequesterRecord) (row : Transition) (txn : Qualifiers) (issued : List Apdu) → RequesterRules x
     → FitsWith row.next row.held x row.body
     → txn ≡ x.txn → issued ≡ with_next x.txn x.issued row.body

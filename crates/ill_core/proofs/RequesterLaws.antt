@@ -1,4 +1,4 @@
--- The laws of a requester's single rows.
+-- Proves the laws of a requester's single rows.
 use Rattle.std.proofs.Common.{◌≡◌, ◌⊎◌, [], ◌∷◌, is_some, true, false, Ok, refl, ◌∙◌}
 use Rattle.ill_values.specs.declared.apdu.Apdu.{Apdu}
 use Rattle.ill_core.specs.declared.state.State.TheVariants.{Idle, Conditional, Cancelled, NotSupplied, Returned}
@@ -19,15 +19,15 @@ use Rattle.ill_core.proofs.RequesterRows.{delivery_row, of_acts}
 
 -- ---- actions
 
--- A wish that is done issues one APDU, with the next number.
+-- A wish that succeeds issues one APDU, with the next number.
 pub acts_issue : (x new : RequesterRecord) (wish : Wish) → acts x wish ≡ Ok new → IssuesNext x.txn x.issued new.issued
 acts_issue x new wish = of_acts (λ r. IssuesNext x.txn x.issued r.issued) x new wish (λ row there how. (row.body, refl))
 
--- A wish keeps the transaction.
+-- A wish does not change the transaction.
 pub acts_txn : (x new : RequesterRecord) (wish : Wish) → acts x wish ≡ Ok new → new.txn ≡ x.txn
 acts_txn x new wish = of_acts (λ r. r.txn ≡ x.txn) x new wish (λ row there how. refl)
 
--- A wish leads from a requester's record to a requester's record.
+-- The record after a wish satisfies the rules of a requester.
 pub acts_kept : (x new : RequesterRecord) (wish : Wish) → acts x wish ≡ Ok new → IsRequester x → IsRequester new
 acts_kept x new wish = of_acts (λ r. IsRequester x → IsRequester r) x new wish (λ row there how h.
     let rules = requester_rules x h in
@@ -38,7 +38,7 @@ acts_kept x new wish = of_acts (λ r. IsRequester x → IsRequester r) x new wis
 pub acts_begun : (x new : RequesterRecord) (wish : Wish) → acts x wish ≡ Ok new → is_among (Idle ∷ []) new.state ≡ false
 acts_begun x new wish = of_acts (λ r. is_among (Idle ∷ []) r.state ≡ false) x new wish (λ row there how. how.begun)
 
--- A wish in CANCELLED, NOT-SUPPLIED or RETURNED keeps the state.
+-- A wish does not change the states CANCELLED, NOT-SUPPLIED and RETURNED.
 pub acts_final : (x new : RequesterRecord) (wish : Wish) → acts x wish ≡ Ok new
     → is_among (Cancelled ∷ NotSupplied ∷ Returned ∷ []) x.state ≡ true → new.state ≡ x.state
 acts_final x new wish = of_acts (λ r. is_among (Cancelled ∷ NotSupplied ∷ Returned ∷ []) x.state ≡ true → r.state ≡ x.state) x new
@@ -50,21 +50,21 @@ pub acts_later : (x new : RequesterRecord) (wish : Wish) → acts x wish ≡ Ok 
 acts_later x new wish = of_acts (λ r. is_among later x.state ≡ true → is_among later r.state ≡ true) x new wish
     (λ row there how. how.stays)
 
--- A wish keeps the due date.
+-- A wish does not change the due date.
 pub acts_due : (x new : RequesterRecord) (wish : Wish) → acts x wish ≡ Ok new → new.due ≡ x.due
 acts_due x new wish = of_acts (λ r. r.due ≡ x.due) x new wish (λ row there how. refl)
 
--- A record shows no fact after a wish that it did not show before.
+-- A wish adds no claim to a record.
 pub acts_shows : (x new : RequesterRecord) (wish : Wish) (fact : Fact) → acts x wish ≡ Ok new → Claims new fact → Claims x fact
 acts_shows x new wish fact = of_acts (λ r. Claims r fact → Claims x fact) x new wish (λ row there how. how.shows fact)
 
--- A Conditional-Reply that a wish issues answers the conditions held, none of which was declined.
+-- A Conditional-Reply that a wish issues answers the conditions held, which were not declined.
 pub acts_reply : (x new : RequesterRecord) (wish : Wish) → acts x wish ≡ Ok new → Replies x new
 acts_reply x new wish =
     of_acts (Replies x) x new wish (λ row there how a n is_yes same is.
     how.replies n is_yes (issued_body x.txn x.issued row.body a same ∙ is))
 
--- A wish keeps conditions answered once, if conditions are held exactly in CONDITIONAL.
+-- A wish preserves `AnswersOnce`, if conditions are held exactly in CONDITIONAL.
 pub acts_once : (x new : RequesterRecord) (wish : Wish) → acts x wish ≡ Ok new
     → is_some x.held ≡ is_among (Conditional ∷ []) x.state → AnswersOnce x → AnswersOnce new
 acts_once x new wish = of_acts (λ r. is_some x.held ≡ is_among (Conditional ∷ []) x.state → AnswersOnce x → AnswersOnce r) x new
@@ -76,24 +76,24 @@ acts_once x new wish = of_acts (λ r. is_some x.held ≡ is_among (Conditional �
 pub takes_issue : (x : RequesterRecord) (a : Apdu) → (takes x a).1.issued ≡ x.issued
 takes_issue x a = (delivery_row x a).issued
 
--- A message keeps the transaction.
+-- A message does not change the transaction.
 pub takes_txn : (x : RequesterRecord) (a : Apdu) → (takes x a).1.txn ≡ x.txn
 takes_txn x a = (delivery_row x a).txn
 
--- A message leads from a requester's record to a requester's record.
+-- The record after a message satisfies the rules of a requester.
 pub takes_kept : (x : RequesterRecord) (a : Apdu) → IsRequester x → IsRequester (takes x a).1
 takes_kept x a h = is_requester _ ((delivery_row x a).kept (requester_rules x h))
 
--- A message that is not taken leaves the record.
+-- A message that is not `Taken` changes nothing.
 pub takes_quiet : (x : RequesterRecord) (a : Apdu) → ((takes x a).0 ≡ Ok Taken) ⊎ ((takes x a).1 ≡ x)
 takes_quiet x a = (delivery_row x a).quiet
 
--- A message to a requester past IDLE leaves it past IDLE.
+-- A message to a requester outside IDLE does not lead to IDLE.
 pub takes_begun : (x : RequesterRecord) (a : Apdu) → is_among (Idle ∷ []) x.state ≡ false
     → is_among (Idle ∷ []) (takes x a).1.state ≡ false
 takes_begun x a = (delivery_row x a).begun
 
--- A message in CANCELLED, NOT-SUPPLIED or RETURNED keeps the state.
+-- A message does not change the states CANCELLED, NOT-SUPPLIED and RETURNED.
 pub takes_final : (x : RequesterRecord) (a : Apdu) → is_among (Cancelled ∷ NotSupplied ∷ Returned ∷ []) x.state ≡ true
     → (takes x a).1.state ≡ x.state
 takes_final x a = (delivery_row x a).final
@@ -102,15 +102,15 @@ takes_final x a = (delivery_row x a).final
 pub takes_later : (x : RequesterRecord) (a : Apdu) → is_among later x.state ≡ true → is_among later (takes x a).1.state ≡ true
 takes_later x a = (delivery_row x a).stays
 
--- A message keeps or raises the due date, if a due date is there exactly in SHIPPED or later.
+-- A message does not change the due date or raises it, if a due date is there exactly in SHIPPED or later.
 pub takes_due : (x : RequesterRecord) (a : Apdu) → is_some x.due ≡ is_among later x.state → KeepsDue x.due (takes x a).1.due
 takes_due x a = (delivery_row x a).due
 
--- A message leaves the conditions held, or frees them, or is itself the conditions that are held now.
+-- A message does not change the conditions held, or removes them, or is the ILL-Answer with the new ones.
 pub takes_holds : (x : RequesterRecord) (a : Apdu) → Holds x a.number (takes x a).1
 takes_holds x a = (delivery_row x a).holds
 
--- Each fact that a record shows after a message was shown before, or the message tells it.
+-- Each fact that a record claims after a message was claimed before, or the message is evidence of it.
 pub takes_shows : (x : RequesterRecord) (a : Apdu) (fact : Fact) → Claims (takes x a).1 fact
     → Claims x fact ⊎ IsEvidence a.body fact
 takes_shows x a evidence.Cancelled = (delivery_row x a).cancelled
@@ -119,6 +119,6 @@ takes_shows x a (evidence.Granted due) = (delivery_row x a).granted due
 takes_shows x a (evidence.Refused cancel) = (delivery_row x a).refused cancel
 takes_shows x a evidence.GivenBack = (delivery_row x a).given_back
 
--- A message keeps conditions answered once.
+-- A message preserves `AnswersOnce`.
 pub takes_once : (x : RequesterRecord) (a : Apdu) → AnswersOnce x → AnswersOnce (takes x a).1
 takes_once x a = still_once x (takes x a).1 a.number (takes_issue x a) (takes_holds x a)

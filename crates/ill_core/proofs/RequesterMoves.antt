@@ -1,4 +1,4 @@
--- The changes that a message makes to a requester's record, by the rows of its table of deliveries.
+-- Lists the changes that a message may make to a requester's record, and proves that each message makes one of them.
 use Rattle.std.proofs.Common.{rules, ◌≡◌, ℕ, Bool, true, false, not, ◌&&◌, [], ◌∷◌, Option, Some, None, Result, if◌then◌else◌}
 use Rattle.std.proofs.Common.{refl}
 use Rattle.std.proofs.lemmas.Bool.{and_parts, cond_both}
@@ -22,7 +22,8 @@ use Rattle.ill_core.specs.Requester.{RequesterRecord, later, accepted_number, la
 use Rattle.ill_core.specs.RequesterDeliveries.{take_message, takes, take_end, take_cancel_reply}
 use Rattle.ill_core.specs.RequesterNotices.{awaits, undecided, lent}
 
--- A message with this number leads a requester's record to another by a row, or leads nowhere.
+-- A message with `number` and this body changes record `x` to this record by a row of deliveries, or does not change
+-- it.
 pub data Leads (x : RequesterRecord) (number : ℕ) : Body → RequesterRecord → Type 0 where
   nowhere : (body : Body) → Leads x number body x
   holds_conditions : is_among (Pending ∷ []) x.state ≡ true
@@ -49,20 +50,20 @@ pub data Leads (x : RequesterRecord) (number : ℕ) : Body → RequesterRecord �
   recalls : is_among lent x.state ≡ true → Leads x number types.Recall (record x { state = Recall })
   checks_in : is_among (Returned ∷ []) x.state ≡ true → Leads x number types.CheckedIn (record x { checked_in = true })
 
--- If each transition that may be the first to fit leads so, the answer does.
+-- If each transition that may be the first to fit satisfies `Leads`, so does the answer.
 transition : (x : RequesterRecord) (number : ℕ) (body : Body) (fits : Bool)
     (here others : Result Taking Refusal × RequesterRecord)
     → (fits ≡ true → Leads x number body here.1) → (fits ≡ false → Leads x number body others.1)
     → Leads x number body (if fits then here else others).1
 transition x number body fits here others = cond_both fits here others (λ r. Leads x number body r.1)
 
--- An end of the request leads to NOT-SUPPLIED, or nowhere.
+-- A message that ends the request leads to NOT-SUPPLIED, or changes nothing.
 end_leads : (x : RequesterRecord) (number : ℕ) (body : Body) → is_unsupplied body ≡ true → Leads x number body (take_end x).1
 end_leads x number body is =
     transition x number _ (is_among (NotSupplied ∷ []) x.state) _ _ (λ _. nowhere body) (λ _.
     transition x number _ (is_among undecided x.state) _ _ (ends body is) (λ _. nowhere body))
 
--- A Cancel-Reply leads to its decision if a Cancel waits, or nowhere.
+-- A Cancel-Reply leads to its decision if a Cancel waits, and else changes nothing.
 cancel_reply_leads : (x : RequesterRecord) (number cancel : ℕ) (is_yes : Bool)
     → (is_among (CancelPending ∷ []) x.state ≡ true
     → Leads x number (types.CancelReply cancel is_yes) (record x { state = (if is_yes then Cancelled else Pending) }))
@@ -79,7 +80,7 @@ due_now : (x : RequesterRecord) (due : Date) → is_among later x.state ≡ true
     → is_among later x.state && not (is_due_on due x.due) ≡ false → is_due_on due x.due ≡ true
 due_now x due is_later stale_not = search rules
 
--- An APDU that is not refused leads as its row says, or nowhere.
+-- An admitted APDU satisfies `Leads`.
 message_leads : (x : RequesterRecord) (a : Apdu) (body : Body) → Leads x a.number body (take_message x a body).1
 message_leads x a (types.IllAnswer results.Conditional) =
     transition x a.number _ (is_at_most a.number (accepted_number x)) _ _ (λ _. nowhere _) (λ _.
@@ -122,14 +123,14 @@ message_leads x a types.CheckedIn =
     transition x a.number _ (is_among (Returned ∷ []) x.state) _ _ (λ _. nowhere _) (λ _. nowhere _))
 message_leads x a other = nowhere _
 
--- A refused APDU leads nowhere, and an admitted one as before.
+-- If an admitted APDU satisfies `Leads`, so does one that may be refused. A refusal changes nothing.
 admitted : (x : RequesterRecord) (number : ℕ) (body : Body) (refused : Option Refusal)
     (answer : Result Taking Refusal × RequesterRecord)
     → Leads x number body answer.1 → Leads x number body (unless_refused refused x answer).1
 admitted x number body None answer leads = leads
 admitted x number body (Some refusal) answer leads = nowhere body
 
--- An APDU leads as its row says, or nowhere.
+-- Each APDU satisfies `Leads`.
 pub delivery_leads : (x : RequesterRecord) (a : Apdu) → Leads x a.number a.body (takes x a).1
 delivery_leads x a = admitted x a.number a.body (first_refusal x.txn (is_requesters a.body) a) (take_message x a a.body)
     (message_leads x a a.body)

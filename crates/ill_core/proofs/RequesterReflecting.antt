@@ -1,4 +1,4 @@
--- A requester's record reflects what it reflected before, or what the last message attests.
+-- Proves that each notice that a requester's record reflects was reflected before, or the last message attests it.
 use Rattle.std.proofs.Common.{rules, arith, ◌≡◌, ◌⊎◌, inl, inr, ℕ, ◌+◌, ◌<◌, ◌≤◌, true, false, ◌&&◌, ◌==◌, [], ◌∷◌, length}
 use Rattle.std.proofs.Common.{Option, Some, None, is_some, Ok, if◌then◌else◌, length-append, refl, subst, sym, ap, ◌∙◌}
 use Rattle.std.specs.Option.{option_or}
@@ -29,7 +29,7 @@ use Rattle.ill_core.proofs.RequesterRows.{of_acts}
 
 -- ---- due dates
 
--- Two days are equal if year, month and day are.
+-- If `is_same_day a b` is true, `a` equals `b`.
 same_day : (a b : Date) → is_same_day a b ≡ true → a ≡ b
 same_day a b same =
     let p = and_parts (a.year == b.year) ((a.month == b.month) && (a.day == b.day)) same in
@@ -40,14 +40,15 @@ same_day a b same =
     let parts : (a.year, a.month, a.day) ≡ (b.year, b.month, b.day) = cc in
     ap (λ (d : ℕ × ℕ × ℕ). record { year = d.0; month = d.1; day = d.2 }) parts
 
--- If the item is due on `day`, and the due date is `due`, they are equal.
+-- If the item is due on `day`, and the due date is `due`, `day` equals `due`.
 due_on : (day due : Date) (known : Option Date) → is_due_on day known ≡ true → known ≡ Some due → day ≡ due
 due_on day due None on is = search rules
 due_on day due (Some other) on is = same_day day other on ∙ same_Some other due is
 
 -- ---- deliveries
 
--- Each notice that `new` reflects was reflected by x before, or the message attests it.
+-- Each notice that `new` reflects was reflected by `x`, or the message attests it. There is one field for each kind of
+-- notice.
 record Keeps (x : RequesterRecord) (number : ℕ) (body : Body) (new : RequesterRecord) : Type 0 where
   recalled : Reflects new Recalled → Reflects x Recalled ⊎ Attests number body Recalled
   named : (conditions : ℕ) → Reflects new (Named conditions)
@@ -58,7 +59,7 @@ record Keeps (x : RequesterRecord) (number : ℕ) (body : Body) (new : Requester
       → Reflects x (GrantedBefore renew due) ⊎ Attests number body (GrantedBefore renew due)
   past_due : (due : Date) → Reflects new (PastDue due) → Reflects x (PastDue due) ⊎ Attests number body (PastDue due)
 
--- After each row the record reflects what it reflected before, or what the message attests.
+-- The record after each row of deliveries satisfies `Keeps`.
 keeps : (x : RequesterRecord) (number : ℕ) (body : Body) (new : RequesterRecord) → Leads x number body new
     → is_some x.due ≡ is_among later x.state
     → ((n : ℕ) → last_renew x ≡ Some n → n ≤ length x.issued) → Keeps x number body new
@@ -83,7 +84,7 @@ keeps x number _ _ (refuses_renewal renew waits) fits within = search rules
 keeps x number _ _ (recalls is) fits within = search rules
 keeps x number _ _ (checks_in is) fits within = search rules
 
--- A notice of any kind that `new` reflects was reflected before, or the message attests it.
+-- If `new` satisfies `Keeps`, each notice that it reflects was reflected by `x`, or the message attests it.
 kept : (x : RequesterRecord) (number : ℕ) (body : Body) (new : RequesterRecord) (notice : Notice) → Keeps x number body new
     → Reflects new notice → Reflects x notice ⊎ Attests number body notice
 kept x number body new Recalled how = how.recalled
@@ -92,7 +93,7 @@ kept x number body new (Answered renew day) how = how.answered renew day
 kept x number body new (GrantedBefore renew due) how = how.granted_before renew due
 kept x number body new (PastDue due) how = how.past_due due
 
--- A notice that a record reflects after a message was reflected before, or the message attests it.
+-- Each notice that a record reflects after a message was reflected before, or the message attests it.
 pub takes_reflects : (x : RequesterRecord) (a : Apdu) (notice : Notice) → IsRequester x
     → Reflects (takes x a).1 notice → Reflects x notice ⊎ Attests a.number a.body notice
 takes_reflects x a notice h =
@@ -103,7 +104,7 @@ takes_reflects x a notice h =
 
 -- ---- actions
 
--- The transition of a wish leaves nothing new to reflect.
+-- The transition of a wish adds no notice that the record reflects.
 record Leaves (x : RequesterRecord) (transition : Transition) : Type 0 where
   recalled : transition.next ≡ Recall → x.state ≡ Recall
   held : (c : ℕ) → transition.held ≡ Some c → x.held ≡ Some c
@@ -116,7 +117,7 @@ record Leaves (x : RequesterRecord) (transition : Transition) : Type 0 where
   past_due : is_among (NotReceivedOverdue ∷ Overdue ∷ RenewOverdue ∷ []) transition.next ≡ true
       → is_among (NotReceivedOverdue ∷ Overdue ∷ RenewOverdue ∷ []) x.state ≡ true
 
--- Each transition of a wish leaves nothing new to reflect.
+-- Each transition of a wish satisfies `Leaves`.
 leaves : (x : RequesterRecord) (transition : Transition) → IsTransition x transition
     → is_some x.held ≡ is_among (Conditional ∷ []) x.state
     → Leaves x transition
@@ -132,21 +133,21 @@ leaves x _ (transitions.renews_late wished is) fits = search rules
 leaves x _ (transitions.returns is) fits = search rules
 leaves x _ (transitions.returns_recalled is) fits = search rules
 
--- Conditions that are accepted last after a transition were held or accepted before it.
+-- If conditions `c` are the accepted ones after a transition, they were held or accepted before it.
 accepts_named : (x : RequesterRecord) (transition : Transition) (c : ℕ) (accepted : Option ℕ) → Leaves x transition
     → accepts transition.body ≡ accepted → option_or accepted (accepted_number x) ≡ Some c
     → Reflects x (Named c)
 accepts_named x transition c None how is found = inr found
 accepts_named x transition c (Some n) how is found = inl (how.accepted c (is ∙ found))
 
--- If a transition issues a Renew, that is the last Renew of the record after it.
+-- If a transition issues a Renew, this is the last Renew of the record after it.
 renew_next : (x : RequesterRecord) (transition : Transition) → is_renew transition.body ≡ true
     → last_renew (record_after x transition) ≡ Some (length x.issued + 1)
 renew_next x transition is =
     last_of_more number_of_renew x.issued (next_apdu x.txn x.issued transition.body) (length x.issued + 1)
     (ap (λ b. if b then Some (length x.issued + 1) else None) is)
 
--- A Renew that does not wait after a transition, and was issued by then, was issued before the transition.
+-- If a Renew is issued and does not wait after a transition, it was issued before the transition.
 was_before : (x : RequesterRecord) (transition : Transition) (renew : ℕ) → Leaves x transition
     → awaits (record_after x transition) renew ≡ false
     → (was is_renew x.issued renew ≡ true) ⊎ ((renew ≡ length x.issued + 1) × (is_renew transition.body ≡ true))
@@ -158,7 +159,7 @@ was_before x transition renew how waits_not (inr (at, is)) =
     (eq-eqb renew (length x.issued + 1) at)) in
     search rules
 
--- A Renew that waits after a transition has a number above those issued before it.
+-- If a Renew waits after a transition, its number is above the numbers issued before it.
 waits_last : (x : RequesterRecord) (transition : Transition) (renew : ℕ) → Leaves x transition
     → awaits (record_after x transition) renew ≡ true → length x.issued < renew
 waits_last x transition renew how waits =
@@ -169,7 +170,7 @@ waits_last x transition renew how waits =
     (subst (λ o. is_the renew o ≡ true) (renew_next x transition (how.waits parts.0)) parts.1) in
     omega (arith, same)
 
--- A notice that is reflected after a transition was reflected before it.
+-- Each notice that a record reflects after a transition was reflected before it.
 left : (x : RequesterRecord) (transition : Transition) (notice : Notice) → Leaves x transition
     → Reflects (record_after x transition) notice
     → Reflects x notice
@@ -189,7 +190,7 @@ left x transition (GrantedBefore renew due) how (same, inr above) =
     (same, inr (omega (arith, above, length-append x.issued (next_apdu x.txn x.issued transition.body ∷ []))))
 left x transition (PastDue due) how (same, past) = (same, how.past_due past)
 
--- A notice that a record reflects after a wish was reflected before it.
+-- Each notice that a record reflects after a wish was reflected before it.
 pub acts_reflects : (x new : RequesterRecord) (wish : Wish) (notice : Notice) → acts x wish ≡ Ok new → IsRequester x
     → Reflects new notice → Reflects x notice
 acts_reflects x new wish notice =

@@ -1,4 +1,4 @@
--- The changes that each row of a requester's two tables makes.
+-- Proves the changes that each row of a requester's two tables makes.
 use Rattle.std.proofs.Common.{rules, ◌≡◌, ◌⊎◌, ℕ, ◌+◌, ◌≤◌, Bool, true, false, not, ◌&&◌, [], ◌∷◌, ◌++◌, length, Option, Some}
 use Rattle.std.proofs.Common.{None, is_some, Result, Ok, Err, if◌then◌else◌, refl, subst, ◌∙◌}
 use Rattle.std.specs.Option.{unwrap_or}
@@ -41,8 +41,8 @@ not_both b is_false is_true = search rules
 
 -- ---- deliveries
 
--- A row of deliveries gives `answer` to message k with `body`. It issues nothing, keeps the rules, and lowers no due
--- date. It shows only facts that were shown before or that the message tells.
+-- A row of deliveries gives `answer` to message `k` with `body`. It issues nothing, preserves the rules, and does not
+-- lower the due date. The message is evidence of each new claim.
 pub record Moves (x : RequesterRecord) (k : ℕ) (body : Body) (answer : Result Taking Refusal × RequesterRecord) : Type 0 where
   pub txn : answer.1.txn ≡ x.txn
   pub issued : answer.1.issued ≡ x.issued
@@ -59,91 +59,91 @@ pub record Moves (x : RequesterRecord) (k : ℕ) (body : Body) (answer : Result 
   pub refused : (c : ℕ) → ClaimsRefusal answer.1 c → ClaimsRefusal x c ⊎ IsEvidence body (evidence.Refused c)
   pub given_back : answer.1.checked_in ≡ true → (x.checked_in ≡ true) ⊎ IsEvidence body evidence.GivenBack
 
--- An answer that leaves the record is a move.
+-- An answer that does not change the record satisfies `Moves`.
 left : (x : RequesterRecord) (k : ℕ) (body : Body) (answer : Result Taking Refusal) → Moves x k body (answer, x)
 left x k body answer = search rules
 
--- To hold new conditions, with a number above the accepted one, is a move from PENDING to CONDITIONAL.
+-- The change by which PENDING takes conditions with a number above the accepted one satisfies `Moves`.
 conditions_held : (x : RequesterRecord) (k : ℕ) (body : Body) → is_among (Pending ∷ []) x.state ≡ true
     → is_at_most k (accepted_number x) ≡ false
     → Moves x k body (taken (record x { state = Conditional; held = Some k }))
 conditions_held x k body is above = search rules
 
--- To go from PENDING, CONDITIONAL or CANCEL-PENDING to NOT-SUPPLIED by an end is a move.
+-- The change to NOT-SUPPLIED by a message that ends the request satisfies `Moves`.
 ended : (x : RequesterRecord) (k : ℕ) (body : Body) → IsEvidence body evidence.Ended
     → is_among (Pending ∷ Conditional ∷ CancelPending ∷ []) x.state ≡ true
     → Moves x k body (taken (record x { state = NotSupplied; held = None }))
 ended x k body is_end is = search rules
 
--- To go from CANCEL-PENDING to CANCELLED by a yes to the last Cancel is a move.
+-- The change from CANCEL-PENDING to CANCELLED by a yes to the last Cancel satisfies `Moves`.
 cancelled : (x : RequesterRecord) (k : ℕ) (c : ℕ)
     → is_among (CancelPending ∷ []) x.state && is_the c (last_cancel x) ≡ true
     → Moves x k (types.CancelReply c true) (taken (record x { state = Cancelled }))
 cancelled x k c is = search rules
 
--- To go from SHIPPED to NOT-RECEIVED/OVERDUE is a move.
+-- The change from SHIPPED to NOT-RECEIVED/OVERDUE satisfies `Moves`.
 not_received : (x : RequesterRecord) (k : ℕ) (body : Body) → is_among (Shipped ∷ []) x.state ≡ true
     → Moves x k body (taken (record x { state = NotReceivedOverdue }))
 not_received x k body is = search rules
 
--- To go from RECEIVED to OVERDUE is a move.
+-- The change from RECEIVED to OVERDUE satisfies `Moves`.
 overdue : (x : RequesterRecord) (k : ℕ) (body : Body) → is_among (Received ∷ []) x.state ≡ true
     → Moves x k body (taken (record x { state = Overdue }))
 overdue x k body is = search rules
 
--- To go from RENEW/PENDING to RENEW/OVERDUE is a move.
+-- The change from RENEW/PENDING to RENEW/OVERDUE satisfies `Moves`.
 renewal_overdue : (x : RequesterRecord) (k : ℕ) (body : Body) → is_among (RenewPending ∷ []) x.state ≡ true
     → Moves x k body (taken (record x { state = RenewOverdue }))
 renewal_overdue x k body is = search rules
 
--- To go from RENEW/PENDING to RECEIVED, or from RENEW/OVERDUE to OVERDUE, is a move.
+-- The change from RENEW/PENDING to RECEIVED, or from RENEW/OVERDUE to OVERDUE, satisfies `Moves`.
 not_renewed : (x : RequesterRecord) (k : ℕ) (body : Body) → is_among (RenewPending ∷ RenewOverdue ∷ []) x.state ≡ true
     → Moves x k body (taken (record x { state = (if is_among (RenewPending ∷ []) x.state then Received else Overdue) }))
 not_renewed x k body is = search rules
 
--- To go to RECALL is a move from SHIPPED or later, but not from RECALL or RETURNED.
+-- The change to RECALL from SHIPPED or later, except from RECALL and RETURNED, satisfies `Moves`.
 recalled : (x : RequesterRecord) (k : ℕ) (body : Body)
     → is_among (Shipped ∷ NotReceivedOverdue ∷ Received ∷ Overdue ∷ RenewPending ∷ RenewOverdue ∷ []) x.state ≡ true
     → Moves x k body (taken (record x { state = Recall }))
 recalled x k body is = search rules
 
--- To set the checked-in mark in RETURNED by a Checked-In is a move.
+-- The change by which a Checked-In sets the mark in RETURNED satisfies `Moves`.
 given_back : (x : RequesterRecord) (k : ℕ) → is_among (Returned ∷ []) x.state ≡ true
     → Moves x k types.CheckedIn (taken (record x { checked_in = true }))
 given_back x k is = search rules
 
--- To go from PENDING, CONDITIONAL or CANCEL-PENDING to SHIPPED by a Shipped is a move. The due date becomes d.
+-- The change to SHIPPED by a Shipped with due date `d` satisfies `Moves`.
 shipped : (x : RequesterRecord) (k : ℕ) (d : Date)
     → is_among (Pending ∷ Conditional ∷ CancelPending ∷ []) x.state ≡ true
     → Moves x k (types.Shipped d) (taken (record x { state = Shipped; due = Some d; held = None }))
 shipped x k d is = search rules
 
--- To go from RENEW/PENDING or RENEW/OVERDUE to RECEIVED by a yes for a later day d is a move. The due date becomes d.
+-- The change to RECEIVED by a Renew-Answer yes with a later date `d` satisfies `Moves`.
 renewed : (x : RequesterRecord) (k : ℕ) (c : ℕ) (d : Date)
     → is_among (RenewPending ∷ RenewOverdue ∷ []) x.state ≡ true → is_after_due d x.due ≡ true
     → Moves x k (types.RenewAnswer c (Some d)) (taken (record x { state = Received; due = Some d }))
 renewed x k c d is after = search rules
 
--- To go from CANCEL-PENDING to PENDING by a no to the last Cancel is a move.
+-- The change from CANCEL-PENDING to PENDING by a no to the last Cancel satisfies `Moves`.
 cancel_refused : (x : RequesterRecord) (k c : ℕ)
     → is_among (CancelPending ∷ []) x.state && is_the c (last_cancel x) ≡ true
     → Moves x k (types.CancelReply c false) (taken (record x { state = Pending }))
 cancel_refused x k c is = search rules
 
--- If each transition that may be the first to fit is a move, the answer is one.
+-- If each transition that may be the first to fit satisfies `Moves`, so does the answer.
 transition : (x : RequesterRecord) (k : ℕ) (body : Body) (fits : Bool) (here others : Result Taking Refusal × RequesterRecord)
     → (fits ≡ true → Moves x k body here) → (fits ≡ false → Moves x k body others)
     → Moves x k body (if fits then here else others)
 transition x k body fits here others = cond_both fits here others (Moves x k body)
 
--- The answer to an end without the item is a move.
+-- The answer to a message that ends the request without the item satisfies `Moves`.
 end_row : (x : RequesterRecord) (k : ℕ) (body : Body) → IsEvidence body evidence.Ended → Moves x k body (take_end x)
 end_row x k body is_end =
     transition x k _ (is_among (NotSupplied ∷ []) x.state) _ _ (λ _. left x k _ _) (λ _.
     transition x k _ (is_among (Pending ∷ Conditional ∷ CancelPending ∷ []) x.state) _ _ (ended x k body is_end)
     (λ _. left x k _ _))
 
--- The answer to a Cancel-Reply is a move, if it is one when the last Cancel waits.
+-- If the answer to a Cancel-Reply satisfies `Moves` when the last Cancel waits, it satisfies `Moves` always.
 cancel_reply_row : (x : RequesterRecord) (k c : ℕ) (is_yes : Bool)
     → (is_among (CancelPending ∷ []) x.state && is_the c (last_cancel x) ≡ true
     → Moves x k (types.CancelReply c is_yes) (taken (record x { state = (if is_yes then Cancelled else Pending) })))
@@ -153,7 +153,7 @@ cancel_reply_row x k c is_yes decided =
     transition x k _ (is_among (Cancelled ∷ []) x.state && (is_yes && is_the c (last_cancel x))) _ _ (λ _. left x k _ _) (λ _.
     transition x k _ (was is_cancel x.issued c) _ _ (λ _. left x k _ _) (λ _. left x k _ _)))
 
--- The answer to a Renew-Answer is a move, if it is one when a Renew waits.
+-- If the answer to a Renew-Answer satisfies `Moves` when a Renew waits, it satisfies `Moves` always.
 renew_answer_row : (x : RequesterRecord) (k c : ℕ) (granted : Option Date)
     → (is_among (RenewPending ∷ RenewOverdue ∷ []) x.state ≡ true
     → Moves x k (types.RenewAnswer c granted) (take_renewal x granted))
@@ -163,7 +163,7 @@ renew_answer_row x k c granted decided =
     (λ is. decided (and_parts _ _ is).0) (λ _.
     transition x k _ (was is_renew x.issued c) _ _ (λ _. left x k _ _) (λ _. left x k _ _))
 
--- The answer to an APDU that is not refused is a move.
+-- The answer to an admitted APDU satisfies `Moves`.
 pub message_row : (x : RequesterRecord) (a : Apdu) (body : Body) → Moves x a.number body (take_message x a body)
 message_row x a (types.IllAnswer results.Conditional) =
     transition x a.number _ (is_at_most a.number (accepted_number x)) _ _ (λ _. left x a.number _ _) (λ above.
@@ -202,22 +202,22 @@ message_row x a types.CheckedIn =
     transition x a.number _ (is_among (Returned ∷ []) x.state) _ _ (λ _. left x a.number _ _) (λ _. left x a.number _ _))
 message_row x a other = left x a.number _ _
 
--- If the answer to an admitted APDU is a move, so is a refusal before it, which leaves the record.
+-- If the answer to an admitted APDU satisfies `Moves`, so does the answer to one that may be refused.
 admitted : (x : RequesterRecord) (k : ℕ) (body : Body) (refused : Option Refusal)
     (answer : Result Taking Refusal × RequesterRecord)
     → Moves x k body answer → Moves x k body (unless_refused refused x answer)
 admitted x k body None answer row = row
 admitted x k body (Some refusal) answer row = left x k body (Err refusal)
 
--- The answer to each APDU is a move.
+-- The answer to each APDU satisfies `Moves`.
 pub delivery_row : (x : RequesterRecord) (a : Apdu) → Moves x a.number a.body (takes x a)
 delivery_row x a = admitted x a.number a.body (first_refusal x.txn (is_requesters a.body) a) (take_message x a a.body)
     (message_row x a a.body)
 
 -- ---- actions
 
--- A row of wishes leads outside IDLE, and leaves no final state and no loan. It shows no new fact, and answers only
--- held conditions, once.
+-- A row of wishes leads out of IDLE. It does not leave a final state, nor SHIPPED or later. It adds no claim, and
+-- answers only held conditions, once.
 pub record Issues (x : RequesterRecord) (row : Transition) : Type 0 where
   pub begun : is_among (Idle ∷ []) row.next ≡ false
   pub final : is_among (Cancelled ∷ NotSupplied ∷ Returned ∷ []) x.state ≡ true → row.next ≡ x.state
@@ -232,7 +232,7 @@ no_more_idle : (next : State) → is_among (Idle ∷ Cancelled ∷ NotSupplied �
 no_more_idle Idle on = search rules
 no_more_idle next on = refl
 
--- A row to no IDLE, CANCELLED or NOT-SUPPLIED shows no new fact, unless it shows a new refusal.
+-- If a row leads to none of IDLE, CANCELLED and NOT-SUPPLIED, it adds no claim, unless it claims a new refusal.
 goes_on : (x : RequesterRecord) (row : Transition) → is_among (Idle ∷ Cancelled ∷ NotSupplied ∷ []) row.next ≡ false
     → ((c : ℕ) → ClaimsRefusal (record_after x row) c → ClaimsRefusal x c) → (fact : Fact)
     → Claims (record_after x row) fact → Claims x fact
@@ -242,12 +242,12 @@ goes_on x row away refused (evidence.Granted due) shown = shown
 goes_on x row away refused (evidence.Refused cancel) shown = refused cancel shown
 goes_on x row away refused evidence.GivenBack shown = shown
 
--- An APDU that answers no conditions is no Conditional-Reply.
+-- An APDU that answers no conditions is not a Conditional-Reply.
 no_reply : {P : Type 0} (body : Body) (n : ℕ) (is_yes : Bool) → replied_number body ≡ None
     → body ≡ types.ConditionalReply n is_yes → P
 no_reply body n is_yes silent is = search rules
 
--- A row that answers no conditions keeps to `Issues`, if its states allow that and it shows no new refusal.
+-- A row that answers no conditions satisfies `Issues`, if its states permit it and it claims no new refusal.
 silent_row : (x : RequesterRecord) (next : State) (body : Body) → replied_number body ≡ None → accepts body ≡ None
     → declines body ≡ false
     → is_among (Conditional ∷ []) next ≡ false → is_among (Idle ∷ Cancelled ∷ NotSupplied ∷ []) next ≡ false
@@ -265,7 +265,7 @@ silent_row x next body silent accepts_none declines_not held_no_more on settled_
       once = λ held once. silent_once x body next x.held silent accepts_none declines_not held_no_more once;
     }
 
--- A row from SHIPPED or later, but RETURNED, to SHIPPED or later keeps to `Issues`, if it answers no conditions.
+-- A row from SHIPPED or later, except RETURNED, to SHIPPED or later satisfies `Issues`, if it answers no conditions.
 loan_row : (x : RequesterRecord) (next : State) (body : Body) → replied_number body ≡ None → accepts body ≡ None
     → declines body ≡ false
     → is_among (Shipped ∷ Received ∷ RenewPending ∷ Overdue ∷ RenewOverdue ∷ NotReceivedOverdue ∷ Recall ∷ []) x.state ≡ true
@@ -275,7 +275,7 @@ loan_row x next body silent accepts_none declines_not here there =
     silent_row x next body silent accepts_none declines_not (search rules) (search rules) (search rules) (λ _. there)
     (λ c shown. search rules)
 
--- If Cancel c shows refused after a wish Cancel in PENDING, it showed so before.
+-- If a record claims after the wish Cancel that Cancel `c` was refused, it claimed so before.
 cancel_refused_before : (x : RequesterRecord) (c : ℕ) → is_among (Pending ∷ []) x.state ≡ true
     → ClaimsRefusal (record_after x (record { next = CancelPending; body = types.Cancel; held = x.held })) c → ClaimsRefusal x c
 cancel_refused_before x c is shown =
@@ -287,13 +287,13 @@ cancel_refused_before x c is shown =
       search (rules, is),
     )
 
--- A reply leads to no IDLE, CANCELLED or NOT-SUPPLIED.
+-- A reply leads to none of IDLE, CANCELLED and NOT-SUPPLIED.
 answer_goes_on : (is_yes : Bool)
     → is_among (Idle ∷ Cancelled ∷ NotSupplied ∷ []) (if is_yes then Pending else Conditional) ≡ false
 answer_goes_on true = refl
 answer_goes_on false = refl
 
--- A reply to the held conditions keeps to `Issues`, in CONDITIONAL and if none were declined.
+-- A reply to the held conditions in CONDITIONAL satisfies `Issues`, if none were declined.
 answers_held : (x : RequesterRecord) (is_yes : Bool) → is_among (Conditional ∷ []) x.state ≡ true
     → has declines x.issued ≡ false → Issues x (answer_held x is_yes)
 answers_held x is_yes here undeclined =
@@ -307,13 +307,13 @@ answers_held x is_yes here undeclined =
       once = λ held once. reply_once x is_yes (unwrap_or x.held 0) (held_number x.held (held ∙ here)) here undeclined once;
     }
 
--- If a requester in CONDITIONAL has not declined, its list has no Conditional-Reply no.
+-- If a requester is in CONDITIONAL and has not declined, its list has no Conditional-Reply no.
 undeclined_there : (conditional declined : Bool) → conditional && not (conditional && declined) ≡ true
     → (conditional ≡ true) × (declined ≡ false)
 undeclined_there true false h = (refl, refl)
 undeclined_there conditional declined h = search rules
 
--- The transition of each wish keeps to `Issues`.
+-- The transition of each wish satisfies `Issues`.
 wish_row : (x : RequesterRecord) (wish : Wish) (row : Transition) → transition_of x wish ≡ Ok row → Issues x row
 wish_row x (wishes.Request expiry item) row =
     at_transition (Issues x) (is_among (Idle ∷ []) x.state) _ _ row (λ is. is_this (Issues x) _ row
@@ -354,20 +354,20 @@ wish_row x wishes.Return row =
 ok_is : (x y : RequesterRecord) → ◌≡◌ {A = Result RequesterRecord Refusal} (Ok x) (Ok y) → x ≡ y
 ok_is x y h = search rules
 
--- If P holds after each transition that is found, it holds of the record after a wish.
+-- If `P` holds after each transition found, it holds of the record after a wish.
 by_row : (P : RequesterRecord → Type 0) (x new : RequesterRecord) (found : Result Transition Refusal) (number : Result ℕ Refusal)
     → ((row : Transition) → found ≡ Ok row → P (record_after x row)) → acts_by x found number ≡ Ok new → P new
 by_row P x new (Err refusal) number leads acted = search rules
 by_row P x new (Ok row) (Err refusal) leads acted = search rules
 by_row P x new (Ok row) (Ok n) leads acted = subst P (ok_is (record_after x row) new acted) (leads row refl)
 
--- If P holds after each transition that keeps to `Issues`, it holds after a wish.
+-- If `P` holds after each transition that satisfies `Issues`, it holds after a wish.
 pub of_acts : (P : RequesterRecord → Type 0) (x new : RequesterRecord) (wish : Wish)
     → ((row : Transition) → transition_of x wish ≡ Ok row → Issues x row → P (record_after x row)) → acts x wish ≡ Ok new → P new
 of_acts P x new wish leads acted =
     by_row P x new (transition_of x wish) (next_number x.issued) (λ row there. leads row there (wish_row x wish row there)) acted
 
--- After a wish a record has at most 255 messages, since a number was left.
+-- If a transition succeeds, the record after it has at most 255 messages, because a number was left.
 by_few : (x new : RequesterRecord) (found : Result Transition Refusal) (number : Result ℕ Refusal)
     → next_number x.issued ≡ number → acts_by x found number ≡ Ok new → length new.issued ≤ 255
 by_few x new (Err refusal) number next acted = search rules
@@ -376,6 +376,6 @@ by_few x new (Ok row) (Ok n) next acted =
     subst (λ (r : RequesterRecord). length r.issued ≤ 255) (ok_is (record_after x row) new acted)
     (few_with_next x.txn x.issued row.body n next)
 
--- A wish leaves at most 255 messages.
+-- The record after a wish has at most 255 messages.
 pub acts_few : (x new : RequesterRecord) (wish : Wish) → acts x wish ≡ Ok new → length new.issued ≤ 255
 acts_few x new wish = by_few x new (transition_of x wish) (next_number x.issued) refl

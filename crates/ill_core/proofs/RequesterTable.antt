@@ -1,4 +1,4 @@
--- The rows of a requester's two tables give what its definitions give.
+-- Proves that the rows of a requester's two tables agree with its definitions.
 use Rattle.std.proofs.Common.{rules, ◌≡◌, ℕ, ◌+◌, nat_lt, length, ◌||◌, Bool, true, false, not, List, Option, Some, None, Result}
 use Rattle.std.proofs.Common.{Ok, Err, IsOk, if◌then◌else◌, refl, ap, subst, sym, ◌∙◌}
 use Rattle.ill_values.specs.Day.{Date}
@@ -36,25 +36,25 @@ use Rattle.ill_core.proofs.RequesterRows.{message_row}
 use Rattle.ill_core.proofs.Rules.{requester_rules, is_requester}
 use Rattle.ill_core.proofs.RequesterLaws.{acts_kept}
 
--- Returns the answer of a row to an APDU, and the record after it.
+-- Returns the answer that a row gives to an APDU, and the record after it.
 abbrev pub hit : RequesterRecord → Apdu → Body → Row ResponderKind → Result Taking Refusal × RequesterRecord
 hit x a body row = (Ok (taking_of row.3 x.state), after x row (number_in a body) (date_in body))
 
--- Returns the answer of the rows of a kind, as tests one after another.
+-- Returns the answer of the rows of a kind, computed by one test after another.
 abbrev pub tests_of : RequesterRecord → Apdu → Body → Option ResponderKind → Result Taking Refusal × RequesterRecord
 tests_of x a body None = conflict x.state x
 tests_of x a body (Some kind) =
     by_tests x.state (delivery_guards x (number_in a body) (date_in body)) (hit x a body) (conflict x.state x)
     (delivery_rows kind)
 
--- A guard that a definition tests once, and two rows ask for, gives one answer both ways.
+-- If two rows test a guard that a definition tests once, both give one answer.
 asked_twice : {A : Type 0} (last later : Bool) (taken none others : A)
     → (if last then (if later then taken else (if last then none else others)) else (if last then none else others))
     ≡ (if last then (if later then taken else none) else others)
 asked_twice true later taken none others = refl
 asked_twice false later taken none others = refl
 
--- The rows of deliveries give what `take_message` gives, for each APDU and each state.
+-- The rows of deliveries agree with `take_message` for each APDU and each state.
 pub tabled : (body : Body) (state : State) (txn : Qualifiers) (held : Option ℕ) (checked_in : Bool) (due : Option Date)
     (issued : List Apdu) (a : Apdu)
     → tests_of (requester_of txn state held checked_in due issued) a body (responder_kind body)
@@ -85,34 +85,34 @@ tabled (types.ConditionalReply c true) Idle txn held checked_in due issued a = r
 tabled body Idle txn held checked_in due issued a = refl
 tabled body state txn held checked_in due issued a = refl
 
--- The answer of the first row that fits is what the tests of the rows of its kind give.
+-- The answer of the first row that fits equals the tests of the rows of its kind.
 found : (x : RequesterRecord) (a : Apdu) (body : Body) (kind : Option ResponderKind)
     → answer_of (hit x a body) (conflict x.state x) (delivery_row_of x a body kind) ≡ tests_of x a body kind
 found x a body None = refl
 found x a body (Some kind) = found_by_tests x.state (delivery_guards x (number_in a body) (date_in body)) (hit x a body)
     (conflict x.state x) (delivery_rows kind)
 
--- The first row that fits an APDU gives its answer. If none fits, it is a conflict.
+-- The first row that fits an APDU gives the answer of `take_message`. If no row fits, the answer is a conflict.
 pub takes_row : (x : RequesterRecord) (a : Apdu)
     → answer_of (hit x a a.body) (conflict x.state x) (delivery_row x a) ≡ take_message x a a.body
 takes_row x a = found x a a.body (responder_kind a.body) ∙ tabled a.body x.state x.txn x.held x.checked_in x.due x.issued a
 
--- A row that is the first to fit an APDU gives its answer.
+-- If `row` is the first row that fits an APDU, it gives the answer of `take_message`.
 pub takes_this : (x : RequesterRecord) (a : Apdu) (row : Row ResponderKind) → delivery_row x a ≡ Some row
     → hit x a a.body row ≡ take_message x a a.body
 takes_this x a row is = ap (answer_of (hit x a a.body) (conflict x.state x)) (sym is) ∙ takes_row x a
 
--- If no row fits an APDU, it is a conflict.
+-- If no row fits an APDU, `take_message` answers a conflict.
 pub takes_none : (x : RequesterRecord) (a : Apdu) → delivery_row x a ≡ None → conflict x.state x ≡ take_message x a a.body
 takes_none x a is = ap (answer_of (hit x a a.body) (conflict x.state x)) (sym is) ∙ takes_row x a
 
--- The first row that fits an APDU leads from a requester's record to a requester's record.
+-- If `row` is the first that fits an APDU, the record after it satisfies the rules of a requester.
 pub takes_kept : (x : RequesterRecord) (a : Apdu) (row : Row ResponderKind) → IsRequester x → delivery_row x a ≡ Some row
     → IsRequester (after x row (number_in a a.body) (date_in a.body))
 takes_kept x a row h is = subst (λ answer. IsRequester answer.1) (sym (takes_this x a row is))
     (is_requester _ ((message_row x a a.body).kept (requester_rules x h)))
 
--- Parts that are those after a row make the record after it.
+-- A record with the parts after a row is the record after the row.
 pub after_is : (x : RequesterRecord) (row : Row ResponderKind) (k : ℕ) (date : Option Date) (state : State) (held : Option ℕ)
     (checked_in : Bool) (due : Option Date)
     → state ≡ next_state row.3 x.state → held ≡ held_after row.4 x.held k
@@ -122,7 +122,7 @@ after_is x row k date state held checked_in due s h m d = cc
 
 -- ---- wishes
 
--- Returns the record after a row is followed for a wish, which issues message k.
+-- Returns the record after a row is followed for a wish, which issues message `k`.
 abbrev pub wished : RequesterRecord → Wish → ℕ → Row RequesterKind → RequesterRecord
 wished x wish k row =
     requester_of x.txn (next_state row.3 x.state) (held_after row.4 x.held k) (tables.has row.4 MARK || x.checked_in)
@@ -134,13 +134,13 @@ abbrev pub by_transition : RequesterRecord → Result Transition Refusal → Res
 by_transition x (Err refusal) = Err refusal
 by_transition x (Ok transition) = Ok (record_after x transition)
 
--- A choice of two transitions leads to the choice of their two records.
+-- The record after a choice of two transitions is the choice of their two records.
 by_test : (x : RequesterRecord) (test : Bool) (here others : Result Transition Refusal)
     → (if test then by_transition x here else by_transition x others) ≡ by_transition x (if test then here else others)
 by_test x true here others = refl
 by_test x false here others = refl
 
--- The rows of a wish give what its transition gives, in each state.
+-- The rows of a wish agree with its transition, in each state.
 wish_tests : (wish : Wish) (state : State) (txn : Qualifiers) (held : Option ℕ) (checked_in : Bool) (due : Option Date)
     (issued : List Apdu) (k : ℕ)
     → (let x : RequesterRecord = requester_of txn state held checked_in due issued in
@@ -170,36 +170,36 @@ wish_rows_say x wish k =
     (wish_rows (wish_kind wish))
     ∙ wish_tests wish x.state x.txn x.held x.checked_in x.due x.issued k
 
--- A row that is the first to fit a wish gives the record after its transition.
+-- If `row` is the first that fits a wish, it gives the record after the transition.
 by_this : (x : RequesterRecord) (wish : Wish) (k : ℕ) (row : Row RequesterKind) → wish_row x wish ≡ Some row
     → Ok (wished x wish k row) ≡ by_transition x (transition_of x wish)
 by_this x wish k row is = ap (answer_of (λ r. Ok (wished x wish k r)) (Err (refusals.NotNow x.state))) (sym is)
     ∙ wish_rows_say x wish k
 
--- If no row fits a wish, it has no transition now.
+-- If no row fits a wish, the wish has no transition.
 by_none : (x : RequesterRecord) (wish : Wish) → wish_row x wish ≡ None
     → Err (refusals.NotNow x.state) ≡ by_transition x (transition_of x wish)
 by_none x wish is = ap (answer_of (λ r. Ok (wished x wish 0 r)) (Err (refusals.NotNow x.state))) (sym is) ∙ wish_rows_say x wish 0
 
--- If a number is left, the transition that leads to `new` is done, and gives `new`.
+-- If a transition leads to `new` and a number is left, the wish succeeds with `new`.
 numbered : (x new : RequesterRecord) (found : Result Transition Refusal) (n : ℕ) → Ok new ≡ by_transition x found
     → acts_by x found (Ok n) ≡ Ok new
 numbered x new (Ok transition) n is = sym is
 numbered x new (Err refusal) n is = search rules
 
--- If no number is left, a wish that has a transition is refused with the refusal of the number.
+-- If a wish has a transition and no number is left, it is refused with the refusal of the number.
 used : (x new : RequesterRecord) (found : Result Transition Refusal) (refusal : Refusal) → Ok new ≡ by_transition x found
     → acts_by x found (Err refusal) ≡ Err refusal
 used x new (Ok transition) refusal is = refl
 used x new (Err other) refusal is = search rules
 
--- A wish that has no transition is refused with `NotNow`, whatever the number is.
+-- If a wish has no transition, it is refused with the refusal of the transition, and the number does not matter.
 not_now : (x : RequesterRecord) (found : Result Transition Refusal) (refusal : Refusal) (number : Result ℕ Refusal)
     → Err refusal ≡ by_transition x found → acts_by x found number ≡ Err refusal
 not_now x (Err other) refusal number is = sym is
 not_now x (Ok transition) refusal number is = search rules
 
--- If a row fits a wish and a number is left, the wish leads to the record after the row.
+-- If `row` fits a wish and a number is left, the wish leads to the record after the row.
 pub acts_this : (x : RequesterRecord) (wish : Wish) (row : Row RequesterKind) (k n : ℕ) → wish_row x wish ≡ Some row
     → next_number x.issued ≡ Ok n
     → acts x wish ≡ Ok (wished x wish k row)
@@ -207,7 +207,7 @@ acts_this x wish row k n is next =
     ap (acts_by x (transition_of x wish)) next
     ∙ numbered x (wished x wish k row) (transition_of x wish) n (by_this x wish k row is)
 
--- If a row fits a wish and no number is left, the wish is refused with that refusal.
+-- If `row` fits a wish and no number is left, the wish is refused with the refusal of the number.
 pub acts_used : (x : RequesterRecord) (wish : Wish) (row : Row RequesterKind) (refusal : Refusal)
     → wish_row x wish ≡ Some row → next_number x.issued ≡ Err refusal
     → acts x wish ≡ Err refusal
@@ -219,23 +219,23 @@ acts_used x wish row refusal is next =
 pub acts_none : (x : RequesterRecord) (wish : Wish) → wish_row x wish ≡ None → acts x wish ≡ Err (refusals.NotNow x.state)
 acts_none x wish is = not_now x (transition_of x wish) (refusals.NotNow x.state) (next_number x.issued) (by_none x wish is)
 
--- If a record is the one after a transition, there is a transition.
+-- If a record is the one after a transition, the transition exists.
 there : (x new : RequesterRecord) (found : Result Transition Refusal) → Ok new ≡ by_transition x found → IsOk found
 there x new (Ok transition) is = search rules
 there x new (Err refusal) is = search rules
 
--- If a row fits a wish, the wish has a transition.
+-- If `row` fits a wish, the wish has a transition.
 pub transition_there : (x : RequesterRecord) (wish : Wish) (row : Row RequesterKind) → wish_row x wish ≡ Some row
     → IsOk (transition_of x wish)
 transition_there x wish row is = there x (wished x wish 0 row) (transition_of x wish) (by_this x wish 0 row is)
 
--- The first row that fits a wish leads to a requester's record, if a number is left.
+-- If `row` is the first that fits a wish and a number is left, the record after it satisfies the rules.
 pub wished_kept : (x : RequesterRecord) (wish : Wish) (row : Row RequesterKind) (k n : ℕ) → IsRequester x
     → wish_row x wish ≡ Some row → next_number x.issued ≡ Ok n
     → IsRequester (wished x wish k row)
 wished_kept x wish row k n h is next = acts_kept x (wished x wish k row) wish (acts_this x wish row k n is next) h
 
--- Parts that are those after a row make the record after it.
+-- A record with the parts after a row is the record after the wish.
 pub wished_is : (x : RequesterRecord) (wish : Wish) (row : Row RequesterKind) (k : ℕ) (txn : Qualifiers) (state : State)
     (held : Option ℕ) (checked_in : Bool) (due : Option Date) (issued : List Apdu)
     → (txn ≡ x.txn) → state ≡ next_state row.3 x.state → held ≡ held_after row.4 x.held k
@@ -244,7 +244,7 @@ pub wished_is : (x : RequesterRecord) (wish : Wish) (row : Row RequesterKind) (k
     → requester_of txn state held checked_in due issued ≡ wished x wish k row
 wished_is x wish row k txn state held checked_in due issued t s h m d i = cc
 
--- If a wish is refused for want of a number, the requester answers with that refusal, and its record stays.
+-- If a wish is refused because no number is left, the requester answers with this refusal. The record does not change.
 refused_used : (x : RequesterRecord) (wish : Wish) (few : Bool) (refusal : Refusal) → acts x wish ≡ Err refusal
     → (if few then Ok (length x.issued + 1) else Err refusals.NumbersUsed) ≡ Err refusal
     → Acts x wish (Err refusal) x
@@ -252,14 +252,14 @@ refused_used x wish true refusal acted is = search rules
 refused_used x wish false refusals.NumbersUsed acted is = (acted, refl)
 refused_used x wish false refusal acted is = search rules
 
--- If a row fits a wish and no number is left, the requester answers with that refusal.
+-- If `row` fits a wish and no number is left, the requester answers with the refusal of the number.
 pub act_used : (x : RequesterRecord) (wish : Wish) (row : Row RequesterKind) (refusal : Refusal)
     → wish_row x wish ≡ Some row → next_number x.issued ≡ Err refusal
     → Acts x wish (Err refusal) x
 act_used x wish row refusal is next =
     refused_used x wish (nat_lt (length x.issued) 255) refusal (acts_used x wish row refusal is next) next
 
--- If a row fits a wish and a number is left, the requester may answer `OutOfMemory`, and its record stays.
+-- If `row` fits a wish and a number is left, the requester may answer `OutOfMemory`. The record does not change then.
 pub act_memory : (x : RequesterRecord) (wish : Wish) (row : Row RequesterKind) (n : ℕ) (refusal : Refusal)
     → wish_row x wish ≡ Some row → next_number x.issued ≡ Ok n
     → refusal ≡ refusals.OutOfMemory → Acts x wish (Err refusal) x

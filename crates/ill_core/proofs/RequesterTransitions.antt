@@ -1,4 +1,4 @@
--- The transitions of a requester's table of actions, one by one.
+-- Lists the transitions of a requester's table of actions, and proves that each wish has one of them.
 use Rattle.std.proofs.Common.{◌≡◌, ℕ, true, false, not, ◌&&◌, List, [], ◌∷◌, Option, None, Ok}
 use Rattle.std.specs.Option.{unwrap_or}
 use Rattle.std.proofs.lemmas.Bool.{and_parts}
@@ -14,8 +14,8 @@ use Rattle.ill_core.specs.Requester.{RequesterRecord, is_declined, is_received_b
 use Rattle.ill_core.specs.RequesterActions.{Transition, transition_of}
 use Rattle.ill_core.proofs.TransitionLemmas.{at_transition, is_this, no_more}
 
--- The transitions of a requester's wishes. Each has the states before, the state after, the APDU, and the conditions
--- held then.
+-- The transition is one of those of a requester's wishes. Each has the states before, the state after, the APDU, and
+-- the conditions held afterwards.
 pub data IsTransition (x : RequesterRecord) : Transition → Type 0 where
   requests : (expiry : Option Date) (item : List ℕ) → is_among (Idle ∷ []) x.state ≡ true
       → IsTransition x (record { next = Pending; body = types.IllRequest expiry item; held = x.held })
@@ -40,7 +40,7 @@ pub data IsTransition (x : RequesterRecord) : Transition → Type 0 where
   returns_recalled : is_among (Recall ∷ []) x.state ≡ true
       → IsTransition x (record { next = Returned; body = types.Returned; held = x.held })
 
--- The transition of a wish is one of these.
+-- The transition of each wish satisfies `IsTransition`.
 pub is_transition : (x : RequesterRecord) (wish : Wish) (transition : Transition) → transition_of x wish ≡ Ok transition
     → IsTransition x transition
 is_transition x (wishes.Request expiry item) transition =

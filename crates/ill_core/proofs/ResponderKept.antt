@@ -1,4 +1,4 @@
--- A responder's record keeps its rules.
+-- Proves that deeds and messages preserve the rules of a responder's record.
 use Rattle.std.proofs.Common.{rules, arith, ◌≡◌, ℕ, ◌+◌, Bool, true, false, not, ◌&&◌, ◌||◌, List, [], ◌∷◌, ◌++◌, length, Option}
 use Rattle.std.proofs.Common.{Some, None, is_some, Result, Ok, Err, if◌then◌else◌, refl, ap, sym, subst, ◌∙◌}
 use Rattle.std.specs.List.{filter_map, last_or}
@@ -36,11 +36,11 @@ use Rattle.ill_core.proofs.ResponderTransitions.{expires}
 use Rattle.ill_core.proofs.IssuedLemmas.{numbered_next, same_txn, has_more, all_more, none_more, found_none, found_more}
 use Rattle.ill_core.proofs.ResponderLists.{count_more, ends_more, named_more, rise_more, ships_more, ships_renewed, no_grants}
 
--- Returns the number of Shipped that a state wants: one in SHIPPED or later, else none.
+-- Returns the number of Shipped that a state requires: 1 in SHIPPED or later, and else 0.
 abbrev pub shipped_in : State → ℕ
 shipped_in state = if is_among later state then 1 else 0
 
--- The state fits the record of y after it issues one more APDU of this body.
+-- `state` fits record `y` with one more APDU with `body`.
 pub record FitsNext (y : ResponderRecord) (body : Body) (state : State) : Type 0 where
   pub parts : PartsFit state (is_some y.request) (is_some y.accepted) (is_some y.last_cancel) (is_some y.last_renew) y.received
       false
@@ -49,19 +49,19 @@ pub record FitsNext (y : ResponderRecord) (body : Body) (state : State) : Type 0
   pub checked_in : (is_among (CheckedIn ∷ []) y.state || is_checked_in body) ≡ is_among (CheckedIn ∷ []) state
   pub conditions : implies (is_among (Conditional ∷ []) state) (names_conditions body) ≡ true
 
--- The APDU grants no date, or a first one, or one after the due date.
+-- The APDU grants no date, or the first date, or a date after the due date.
 pub data Grants (y : ResponderRecord) (body : Body) : Type 0 where
   no_grant : grant_in body ≡ None → is_renewal body ≡ false → Grants y body
   first_grant : (d : Date) → body ≡ types.Shipped d → is_among later y.state ≡ false → Grants y body
   later_grant : (d : Date) → grant_in body ≡ Some d → is_among later y.state ≡ true → is_after_due d (due_of y) ≡ true
       → Grants y body
 
--- If the second test is true, one of the two is.
+-- If `b` is true, `a || b` is true.
 or_right : (a b : Bool) → b ≡ true → a || b ≡ true
 or_right true b h = refl
 or_right false b h = h
 
--- The granted dates still rise after such an APDU.
+-- If an APDU satisfies `Grants`, the granted dates still rise after it.
 rising_next : (y : ResponderRecord) (a : Apdu) → ResponderRules y → Grants y a.body
     → are_rising (filter_map granted_day (y.issued ++ a ∷ [])) ≡ true
 rising_next y a h (no_grant silent _) = ap are_rising (found_none granted_day y.issued a silent) ∙ h.rising
@@ -74,14 +74,14 @@ rising_next y a h (later_grant d is here after) =
     ap are_rising (found_more granted_day y.issued a d is)
     ∙ rise_more None (filter_map granted_day y.issued) d h.rising (or_right _ _ after)
 
--- A list still ships first after such an APDU.
+-- If an APDU satisfies `Grants`, a Shipped still comes before each renewal after it.
 ships_next : (y : ResponderRecord) (a : Apdu) → ResponderRules y → Grants y a.body → ships_first (y.issued ++ a ∷ []) ≡ true
 ships_next y a h (no_grant _ no_renewal) = ships_more y.issued a h.ships_first no_renewal
 ships_next y a h (first_grant d is away) = ships_more y.issued a h.ships_first (ap is_renewal is)
 ships_next y a h (later_grant d is here after) =
     ships_renewed y.issued a h.ships_first (omega (arith, h.issued.shipped ∙ ap (λ b. if b then 1 else 0) here))
 
--- If the state fits and the date rises, the record with one more APDU keeps the rules.
+-- If an APDU satisfies `FitsNext` and `Grants`, the record after it satisfies the rules.
 next_kept : (y : ResponderRecord) (body : Body) (state : State) → ResponderRules y → FitsNext y body state
     → Grants y body → ResponderRules (issues_to y body state)
 next_kept y body state h fits grants =
@@ -104,7 +104,7 @@ next_kept y body state h fits grants =
       ships_first = ships_next y a h grants;
     }
 
--- The state and the APDU of each transition fit.
+-- Each transition satisfies `FitsNext`.
 transition_fits : (txn : Qualifiers) (state : State) (accepted last_cancel last_renew : Option ℕ) (received : Bool)
     (request : Option Apdu) (issued : List Apdu) (transition : Transition)
     → ResponderRules (responder_of txn state accepted last_cancel last_renew received request issued)
@@ -140,7 +140,7 @@ transition_fits txn InProcess accepted last_cancel last_renew received request i
 transition_fits txn Conditional accepted last_cancel last_renew received request issued _ h (expires is) = search rules
 transition_fits txn state accepted last_cancel last_renew received request issued _ h (expires is) = search rules
 
--- Each transition grants no date, or a first one, or one after the due date.
+-- Each transition satisfies `Grants`.
 transition_grants : (y : ResponderRecord) (transition : Transition) → IsTransition y transition → Grants y transition.body
 transition_grants y _ (answers answer is) = no_grant refl refl
 transition_grants y _ (allows_cancel is) = no_grant refl refl
@@ -155,7 +155,7 @@ transition_grants y _ (recalls is) = no_grant refl refl
 transition_grants y _ (checks_in is) = no_grant refl refl
 transition_grants y _ (expires is) = no_grant refl refl
 
--- A transition leads from a record that keeps the rules to one that keeps them.
+-- The record after a transition satisfies the rules.
 pub transition_kept : (y : ResponderRecord) (transition : Transition) → ResponderRules y → IsTransition y transition
     → ResponderRules (record_after y transition)
 transition_kept y transition h is =
@@ -163,7 +163,7 @@ transition_kept y transition h is =
     (transition_fits y.txn y.state y.accepted y.last_cancel y.last_renew y.received y.request y.issued transition h is)
     (transition_grants y transition is)
 
--- In IN-PROCESS and CONDITIONAL, an ILL-Answer unfilled with NOT-SUPPLIED fits.
+-- In IN-PROCESS and CONDITIONAL, an ILL-Answer unfilled that leads to NOT-SUPPLIED satisfies `FitsNext`.
 no_fits : (txn : Qualifiers) (state : State) (accepted last_cancel last_renew : Option ℕ) (received : Bool)
     (request : Option Apdu) (issued : List Apdu)
     → ResponderRules (responder_of txn state accepted last_cancel last_renew received request issued)
@@ -173,14 +173,14 @@ no_fits : (txn : Qualifiers) (state : State) (accepted last_cancel last_renew : 
 no_fits txn InProcess accepted last_cancel last_renew received request issued h waits = search rules
 no_fits txn state accepted last_cancel last_renew received request issued h waits = search rules
 
--- To answer a no with an ILL-Answer unfilled keeps the rules.
+-- The record after a no is answered with an ILL-Answer unfilled satisfies the rules.
 no_kept : (y : ResponderRecord) → ResponderRules y → is_among (InProcess ∷ Conditional ∷ []) y.state ≡ true
     → ResponderRules (issues_to y (types.IllAnswer results.Unfilled) NotSupplied)
 no_kept y h waits =
     next_kept y (types.IllAnswer results.Unfilled) NotSupplied h
     (no_fits y.txn y.state y.accepted y.last_cancel y.last_renew y.received y.request y.issued h waits) (no_grant refl refl)
 
--- If c is outstanding, the state is CONDITIONAL, and the list has conditions with number c.
+-- If conditions `c` are outstanding, the state is CONDITIONAL, and message `c` names conditions.
 outstanding_named : (txn : Qualifiers) (state : State) (accepted last_cancel last_renew : Option ℕ) (received : Bool)
     (request : Option Apdu) (issued : List Apdu) (c : ℕ)
     → ResponderRules (responder_of txn state accepted last_cancel last_renew received request issued)
@@ -194,13 +194,13 @@ outstanding_named txn Conditional accepted last_cancel last_renew received reque
 )
 outstanding_named txn state accepted last_cancel last_renew received request issued c h is = search rules
 
--- After CONDITIONAL, with a number accepted, IN-PROCESS has the parts that it wants.
+-- If the parts fit CONDITIONAL, they fit IN-PROCESS with an accepted number.
 parts_in_process : (state : State) (r a c n m z : Bool) → PartsFit state r a c n m z
     → is_among (Conditional ∷ []) state ≡ true → PartsFit InProcess r true c n m z
 parts_in_process Conditional r a c n m z fits is = search rules
 parts_in_process state r a c n m z fits is = search rules
 
--- After IDLE, with a request, IN-PROCESS has the parts that it wants.
+-- If the parts fit IDLE, they fit IN-PROCESS with a request.
 parts_requested : (state : State) (r a c n m z : Bool) → PartsFit state r a c n m z
     → is_among (Idle ∷ []) state ≡ true → PartsFit InProcess true a c n m z
 parts_requested Idle r a c n m z fits is = search rules
@@ -213,15 +213,15 @@ issued_in_process Idle apdus fits is = search rules
 issued_in_process Conditional apdus fits is = search rules
 issued_in_process state apdus fits is = search rules
 
--- A state that is CONDITIONAL is one of IDLE and CONDITIONAL.
+-- CONDITIONAL is one of IDLE and CONDITIONAL.
 one_of_two : (state : State) → is_among (Conditional ∷ []) state ≡ true → is_among (Idle ∷ Conditional ∷ []) state ≡ true
 one_of_two state is = search rules
 
--- A state that is IDLE is one of IDLE and CONDITIONAL.
+-- IDLE is one of IDLE and CONDITIONAL.
 first_of_two : (state : State) → is_among (Idle ∷ []) state ≡ true → is_among (Idle ∷ Conditional ∷ []) state ≡ true
 first_of_two state is = search rules
 
--- To accept the outstanding conditions keeps the rules.
+-- The record after the outstanding conditions are accepted satisfies the rules.
 yes_kept : (y : ResponderRecord) (c : ℕ) → ResponderRules y → is_the c (outstanding_number y) ≡ true
     → ResponderRules (record y { state = InProcess; accepted = Some c })
 yes_kept y c h is =
@@ -237,7 +237,7 @@ yes_kept y c h is =
       ships_first = h.ships_first;
     }
 
--- To keep an ILL-Request of the transaction in IDLE keeps the rules.
+-- The record after IDLE takes an ILL-Request of the transaction satisfies the rules.
 request_kept : (y : ResponderRecord) (a : Apdu) → ResponderRules y → is_among (Idle ∷ []) y.state ≡ true
     → is_same_txn a.txn y.txn ≡ true → is_ill_request a.body ≡ true
     → ResponderRules (record y { state = InProcess; request = Some a })
@@ -253,12 +253,12 @@ request_kept y a h idle same is =
       ships_first = h.ships_first;
     }
 
--- An APDU that is admitted has no first refusal.
+-- If an APDU is admitted, its first refusal is `None`.
 pub admits_none : (o : Option Refusal) → Admits o (Ok tt) → o ≡ None
 admits_none None h = refl
 admits_none (Some refusal) h = search rules
 
--- An APDU that is not refused first is answered as its transition says.
+-- If the first refusal of an APDU is `None`, the responder answers as `take_message` says.
 pub takes_admitted : (y new : ResponderRecord) (a : Apdu) (answer : Result Taking Refusal)
     → first_refusal y.txn (not (is_requesters a.body)) a ≡ None
     → MayWantMemory (take_message y a a.body) (takes_memory y a.body) y answer new → Takes y a answer new
@@ -266,9 +266,9 @@ takes_admitted y new a answer admitted comes =
     let same : takes y a ≡ take_message y a a.body = ap (λ o. unless_refused o y (take_message y a a.body)) admitted in
     subst (λ expected. MayWantMemory expected (takes_memory y a.body) y answer new) (sym same) comes
 
--- ---- a delivery keeps the rules
+-- ---- deliveries
 
--- To take a Cancel in IN-PROCESS or CONDITIONAL keeps the rules.
+-- The record after IN-PROCESS or CONDITIONAL takes a Cancel satisfies the rules.
 cancel_asked_kept : (txn : Qualifiers) (state : State) (accepted last_cancel last_renew : Option ℕ) (received : Bool)
     (request : Option Apdu) (issued : List Apdu) (number : ℕ)
     → ResponderRules (responder_of txn state accepted last_cancel last_renew received request issued)
@@ -277,12 +277,12 @@ cancel_asked_kept : (txn : Qualifiers) (state : State) (accepted last_cancel las
 cancel_asked_kept txn InProcess accepted last_cancel last_renew received request issued number h is = search rules
 cancel_asked_kept txn state accepted last_cancel last_renew received request issued number h is = search rules
 
--- To set the received mark in SHIPPED or later keeps the rules.
+-- The record after the received mark is set in SHIPPED or later satisfies the rules.
 arrived_kept : (y : ResponderRecord) → ResponderRules y → is_among later y.state && not y.received ≡ true
     → ResponderRules (record y { received = true })
 arrived_kept y h is = search rules
 
--- To take a Renew in SHIPPED or OVERDUE keeps the rules.
+-- The record after SHIPPED or OVERDUE takes a Renew satisfies the rules.
 renew_asked_kept : (txn : Qualifiers) (state next : State) (accepted last_cancel last_renew : Option ℕ) (received : Bool)
     (request : Option Apdu) (issued : List Apdu) (number : ℕ)
     → ResponderRules (responder_of txn state accepted last_cancel last_renew received request issued)
@@ -292,7 +292,7 @@ renew_asked_kept : (txn : Qualifiers) (state next : State) (accepted last_cancel
 renew_asked_kept txn Shipped RenewPending accepted last_cancel last_renew received request issued number h is there = search rules
 renew_asked_kept txn state next accepted last_cancel last_renew received request issued number h is there = search rules
 
--- To take a Returned while the item is out keeps the rules.
+-- The record after a Returned is taken while the item is lent satisfies the rules.
 sent_back_kept : (txn : Qualifiers) (state : State) (accepted last_cancel last_renew : Option ℕ) (received : Bool)
     (request : Option Apdu) (issued : List Apdu)
     → ResponderRules (responder_of txn state accepted last_cancel last_renew received request issued)
@@ -301,19 +301,20 @@ sent_back_kept : (txn : Qualifiers) (state : State) (accepted last_cancel last_r
 sent_back_kept txn Shipped accepted last_cancel last_renew received request issued h is = search rules
 sent_back_kept txn state accepted last_cancel last_renew received request issued h is = search rules
 
--- If each transition that may be the first to fit keeps the rules, the answer does.
+-- If the record after each transition that may be the first to fit satisfies the rules, so does the record after the
+-- answer.
 transition : (fits : Bool) (here others : Result Taking Refusal × ResponderRecord) → (fits ≡ true → ResponderRules here.1)
     → (fits ≡ false → ResponderRules others.1)
     → ResponderRules (if fits then here else others).1
 transition fits here others = cond_both fits here others (λ r. ResponderRules r.1)
 
--- To answer a no, or to refuse it for want of a number, keeps the rules.
+-- The record after a no is answered, or refused because no number is left, satisfies the rules.
 answer_kept : (y : ResponderRecord) (next : Result ℕ Refusal) → ResponderRules y
     → is_among (InProcess ∷ Conditional ∷ []) y.state ≡ true → ResponderRules (answers_no y next).1
 answer_kept y (Ok number) h waits = no_kept y h waits
 answer_kept y (Err refusal) h waits = h
 
--- A message of the transaction that is not refused keeps the rules.
+-- The record after an admitted message satisfies the rules.
 pub message_kept : (y : ResponderRecord) (a : Apdu) (body : Body) → ResponderRules y → is_same_txn a.txn y.txn ≡ true
     → is_ill_request a.body ≡ is_ill_request body → ResponderRules (take_message y a body).1
 message_kept y a (types.IllRequest expiry item) h same is =
@@ -347,20 +348,20 @@ message_kept y a types.Returned h same is =
     transition (is_among (Returned ∷ CheckedIn ∷ []) y.state) _ _ (λ _. h) (λ _. h))
 message_kept y a other h same is = h
 
--- An APDU that is admitted is of the transaction.
+-- An APDU that is admitted belongs to the transaction.
 admitted_same : (same is_own : Bool)
     → (if same then (if is_own then Some WrongRole else None) else Some OtherTransaction) ≡ None → same ≡ true
 admitted_same true is_own h = refl
 admitted_same false is_own h = search rules
 
--- A refusal keeps the rules, if the answer to an admitted APDU does.
+-- If the record after an admitted APDU satisfies the rules, so does the record after one that may be refused.
 unless_kept : (refused : Option Refusal) (y : ResponderRecord) (answer : Result Taking Refusal × ResponderRecord)
     → ResponderRules y → (refused ≡ None → ResponderRules answer.1)
     → ResponderRules (unless_refused refused y answer).1
 unless_kept (Some refusal) y answer h admitted = h
 unless_kept None y answer h admitted = admitted refl
 
--- A delivery leads from a responder's record to a responder's record.
+-- The record after a message satisfies the rules of a responder.
 pub takes_kept : (y : ResponderRecord) (a : Apdu) → IsResponder y → IsResponder (takes y a).1
 takes_kept y a h =
     let rules = responder_rules y h in

@@ -1,4 +1,4 @@
--- The effect of one more APDU on the tests of a list that a responder has issued.
+-- Proves how one more APDU changes the tests of a responder's list.
 use Rattle.std.proofs.Common.{rules, arith, ◌≡◌, ◌⊎◌, inl, inr, ℕ, zero, suc, ◌+◌, ◌<◌, ◌≤◌, Bool, true, false, not, ◌&&◌, ◌||◌}
 use Rattle.std.proofs.Common.{List, [], ◌∷◌, ◌++◌, length, Option, Some, None, is_some, if◌then◌else◌, cond, drop, refl, ap}
 use Rattle.std.proofs.Common.{length-append, sym, subst, ◌∙◌}
@@ -22,23 +22,23 @@ use Rattle.ill_core.specs.Issued.{was, granted_day, last_of}
 use Rattle.ill_core.specs.Responder.{rises, rise_from, ships_first, ends_with_conditions, is_named, is_request_of, request_in}
 use Rattle.ill_core.proofs.IssuedLemmas.{not_true}
 
--- One more APDU adds one to the count if `says` holds of it, and else nothing.
+-- One more APDU adds 1 to the count if `says` holds of it, and else 0.
 pub count_more : (says : Body → Bool) (apdus : List Apdu) (a : Apdu)
     → count_by (λ b. says b.body) (apdus ++ a ∷ []) ≡ count_by (λ b. says b.body) apdus + (if says a.body then 1 else 0)
 count_more says apdus a = search (rules, sum_by-append (λ (b : Apdu). cond (says b.body) 1 0) apdus (a ∷ []))
 
--- The message after the last one of a list is the new APDU.
+-- `says` holds of the last message of a list with APDU `a` at the end if, and only if, it holds of `a`.
 last_message : (says : Body → Bool) (apdus : List Apdu) (a : Apdu) → was says (apdus ++ a ∷ []) (suc (length apdus)) ≡ says a.body
 last_message says [] a = refl
 last_message says (b ∷ apdus) a = last_message says apdus a
 
--- A list with one more APDU ends with conditions exactly if that APDU names them.
+-- A list with one more APDU ends with conditions if, and only if, this APDU names conditions.
 pub ends_more : (apdus : List Apdu) (a : Apdu) → ends_with_conditions (apdus ++ a ∷ []) ≡ names_conditions a.body
 ends_more apdus a =
     let size : length (apdus ++ a ∷ []) ≡ suc (length apdus) = omega (arith, length-append apdus (a ∷ [])) in
     ap (was names_conditions (apdus ++ a ∷ [])) size ∙ last_message names_conditions apdus a
 
--- Message c of a list is message c of the list with one more APDU.
+-- If `says` holds of message `c` of a list, it holds of message `c` of the list with one more APDU.
 pub was_longer : (says : Body → Bool) (apdus : List Apdu) (a : Apdu) (c : ℕ) → was says apdus c ≡ true
     → was says (apdus ++ a ∷ []) c ≡ true
 was_longer says apdus a zero h = search rules
@@ -46,12 +46,12 @@ was_longer says [] a (suc n) h = search rules
 was_longer says (b ∷ apdus) a (suc zero) h = h
 was_longer says (b ∷ apdus) a (suc (suc n)) h = was_longer says apdus a (suc n) h
 
--- If a list has the accepted conditions, it has them with one more APDU.
+-- If message `c` of a list names conditions, it does so in the list with one more APDU.
 pub named_more : (c : Option ℕ) (apdus : List Apdu) (a : Apdu) → is_named c apdus ≡ true → is_named c (apdus ++ a ∷ []) ≡ true
 named_more None apdus a h = refl
 named_more (Some c) apdus a h = was_longer names_conditions apdus a c h
 
--- If dates rise, they rise with one more date that is after the last.
+-- If dates rise, they rise with one more date that is after the last one.
 pub rise_more : (o : Option Date) (dates : List Date) (d : Date) → rise_from o dates ≡ true
     → not (is_some (last_or o dates)) || is_after_due d (last_or o dates) ≡ true
     → rise_from o (dates ++ d ∷ []) ≡ true
@@ -61,7 +61,7 @@ rise_more o (e ∷ dates) d rising after =
     let parts = and_parts _ _ rising in
     and_from _ _ parts.0 (rise_more (Some e) dates d parts.1 after)
 
--- Dates rise from `o` on exactly if the first is after `o`, and the others rise from the first on.
+-- Dates rise after `o` if, and only if, the first is after `o`, and the others rise after the first.
 rise_first : (o : Option Date) (d : Date) (dates : List Date)
     → rise_from o (d ∷ dates) ≡ ((not (is_some o) || is_after_due d o) && rise_from (Some d) dates)
 unfolding rise_from
@@ -72,13 +72,13 @@ pub rise_none : (o : Option Date) → rise_from o [] ≡ true
 unfolding rise_from
 rise_none o = refl
 
--- Dates with a found date put first rise exactly if that is after `last`, and the others rise after it.
+-- Dates with `found` put first rise if, and only if, `found` is after `last`, and the others rise after it.
 grant_rises : (last found : Option Date) (dates : List Date)
     → rise_from last (cons_option found dates) ≡ (rises last found && rise_from (option_or found last) dates)
 grant_rises last None dates = refl
 grant_rises last (Some d) dates = rise_first last d dates
 
--- The dates from place `i` on rise exactly if the date there follows `last`, and later ones rise on.
+-- The dates from index `i` on rise if, and only if, the date there is after `last`, and the later ones rise after it.
 pub rise_at : (last found next : Option Date) (follows : Bool) (apdus : List Apdu) (i : ℕ) (a : Apdu)
     → i < length apdus → a ≡ get_or apdus i a
     → found ≡ granted_day a → follows ≡ rises last found → next ≡ option_or found last
@@ -98,23 +98,23 @@ rise_at last found next follows apdus i a within there is may then_last =
     ∙ (ap (λ b. b && rise_from (option_or found last) others) (sym may)
     ∙ ap (λ o. follows && rise_from o others) (sym then_last)))))
 
--- After the last APDU, no date is left to rise.
+-- After the last APDU there is no date, so the dates rise.
 pub rise_end : (last : Option Date) (apdus : List Apdu) (i : ℕ) → length apdus ≤ i
     → rise_from last (filter_map granted_day (drop i apdus)) ≡ true
 rise_end last apdus i all = at_drop_all (λ xs. rise_from last (filter_map granted_day xs)) apdus i all ∙ rise_none last
 
--- A list ships first if its first APDU is a Shipped, or is no renewal and the others ship first.
+-- `ships_first` of a list is its test of the first APDU and of the rest.
 ships_cons : (a : Apdu) (apdus : List Apdu)
     → ships_first (a ∷ apdus) ≡ (is_shipped a.body || (not (is_renewal a.body) && ships_first apdus))
 unfolding ships_first
 ships_cons a apdus = refl
 
--- An empty list ships first.
+-- `ships_first` is true of an empty list.
 ships_none : ships_first [] ≡ true
 unfolding ships_first
 ships_none = refl
 
--- The list from place `i` on ships first as `ships_first` tests the APDU there and the rest.
+-- `ships_first` of the list from index `i` on is its test of the APDU there and of the rest.
 pub ships_at : (shipped renewal : Bool) (apdus : List Apdu) (i : ℕ) (a : Apdu) → i < length apdus → a ≡ get_or apdus i a
     → shipped ≡ is_shipped a.body → renewal ≡ is_renewal a.body
     → ships_first (drop i apdus) ≡ (shipped || (not renewal && ships_first (drop (i + 1) apdus)))
@@ -127,35 +127,35 @@ ships_at shipped renewal apdus i a within there is_s is_r =
     prefix ∙ (same ∙ (ships_cons a (drop (i + 1) apdus)
     ∙ (ap (λ b. b || (not (is_renewal a.body) && others)) (sym is_s) ∙ ap (λ b. shipped || (not b && others)) (sym is_r))))
 
--- After the last APDU, the list ships first.
+-- `ships_first` is true of the empty list after the last APDU.
 pub ships_end : (apdus : List Apdu) (i : ℕ) → length apdus ≤ i → ships_first (drop i apdus) ≡ true
 ships_end apdus i all = at_drop_all ships_first apdus i all ∙ ships_none
 
--- If no renewal is issued, a list that ships first still does.
+-- If `ships_first` is true of a list, it is true with one more APDU that is not a renewal.
 pub ships_more : (apdus : List Apdu) (a : Apdu) → ships_first apdus ≡ true → is_renewal a.body ≡ false
     → ships_first (apdus ++ a ∷ []) ≡ true
 unfolding ships_first
 ships_more [] a first none = search rules
 ships_more (b ∷ apdus) a first none = search (rules, ships_more apdus a)
 
--- If a Shipped is in the list, a list that ships first still does with any APDU.
+-- If `ships_first` is true of a list with a Shipped, it is true with any further APDU.
 pub ships_renewed : (apdus : List Apdu) (a : Apdu) → ships_first apdus ≡ true
     → 1 ≤ count_by (λ b. is_shipped b.body) apdus → ships_first (apdus ++ a ∷ []) ≡ true
 unfolding ships_first
 ships_renewed [] a first there = search rules
 ships_renewed (b ∷ apdus) a first there = search (rules, ships_renewed apdus a)
 
--- The count of Shipped is that of the first APDU and that of the others together.
+-- The number of Shipped in a list is 1 or 0 for the first APDU, plus the number in the others.
 count_first : (b : Apdu) (apdus : List Apdu)
     → count_by (λ c. is_shipped c.body) (b ∷ apdus) ≡ cond (is_shipped b.body) 1 0 + count_by (λ c. is_shipped c.body) apdus
 count_first b apdus = sum_by-cons (λ (c : Apdu). cond (is_shipped c.body) 1 0) b apdus
 
--- If no Shipped is counted, the first APDU is none, and none is among the others.
+-- If the number of Shipped is 0, the first APDU is not a Shipped, and the others have none.
 none_counted : (shipped : Bool) (others : ℕ) → cond shipped 1 0 + others ≡ 0 → (shipped ≡ false) × (others ≡ 0)
 none_counted true others none = search rules
 none_counted false others none = (refl, omega (arith, none))
 
--- An APDU that is no Shipped and no Renew-Answer yes grants no date.
+-- An APDU that is neither a Shipped nor a Renew-Answer yes grants no date.
 grants_none : (body : Body) → is_shipped body ≡ false → is_renewal body ≡ false → grant_in body ≡ None
 grants_none (types.Shipped due) shipped renewal = search rules
 grants_none (types.RenewAnswer answers (Some due)) shipped renewal = search rules
@@ -167,17 +167,17 @@ grants_some : (body : Body) → is_shipped body ≡ true → is_some (grant_in b
 grants_some (types.Shipped due) shipped = refl
 grants_some other shipped = search rules
 
--- If a value was found before, a last value is there.
+-- If a value was found before, there is a last value.
 last_some : {X : Type 0} (o : Option X) (xs : List X) → is_some o ≡ true → is_some (last_or o xs) ≡ true
 last_some o [] there = there
 last_some o (x ∷ xs) there = last_some (Some x) xs refl
 
--- If a list has a last value, it has one whatever was found before.
+-- If a list has a last value, it has one after any value found before.
 last_any : {X : Type 0} (o : Option X) (xs : List X) → is_some (last_or None xs) ≡ true → is_some (last_or o xs) ≡ true
 last_any o [] there = search rules
 last_any o (x ∷ xs) there = there
 
--- If a value is found first, or among the others, a last value is there.
+-- If a value is found in the first APDU or in the others, there is a last value.
 last_first : {X : Type 0} (found : Option X) (xs : List X)
     → (is_some found ≡ true) ⊎ (is_some (last_or None xs) ≡ true)
     → is_some (last_or None (cons_option found xs)) ≡ true
@@ -185,7 +185,7 @@ last_first None xs (inl there) = search rules
 last_first None xs (inr there) = there
 last_first (Some x) xs either = last_some (Some x) xs refl
 
--- If a list ships first and has no Shipped, it grants no date.
+-- If `ships_first` is true of a list without a Shipped, the list grants no date.
 pub no_grants : (apdus : List Apdu) → ships_first apdus ≡ true → count_by (λ b. is_shipped b.body) apdus ≡ 0
     → filter_map granted_day apdus ≡ []
 unfolding ships_first
@@ -198,7 +198,7 @@ no_grants (b ∷ apdus) first none =
     ap (λ o. cons_option o (filter_map granted_day apdus)) (grants_none b.body counted.0 (not_true _ parts.0))
     ∙ no_grants apdus parts.1 counted.1
 
--- If one Shipped is counted, the first APDU is one, or one is among the others.
+-- If the number of Shipped is at least 1, the first APDU is a Shipped, or the others have one.
 one_there : (shipped : Bool) (others : ℕ) {A B : Type 0} → 1 ≤ cond shipped 1 0 + others → (shipped ≡ true → A)
     → (1 ≤ others → B) → A ⊎ B
 one_there true others there here rest = inl (here refl)
@@ -212,13 +212,13 @@ due_there (b ∷ apdus) there =
     (one_there (is_shipped b.body) (count_by (λ c. is_shipped c.body) apdus) (subst (λ n. 1 ≤ n) (count_first b apdus) there)
     (grants_some b.body) (due_there apdus))
 
--- A request that is of `txn`, or none in IDLE, is of `txn`.
+-- If a request belongs to `txn`, it does so when IDLE drops it.
 unless_idle : (txn : Qualifiers) (is_idle : Bool) (request : Option Apdu) → is_request_of txn request ≡ true
     → is_request_of txn (if is_idle then None else request) ≡ true
 unless_idle txn true request is = refl
 unless_idle txn false request is = is
 
--- The request of a responder in a state is of `txn`, if its request is.
+-- If the request belongs to `txn`, so does the request that `state` permits.
 pub request_in_is : (txn : Qualifiers) (state : State) (request : Option Apdu) → is_request_of txn request ≡ true
     → is_request_of txn (request_in state request) ≡ true
 request_in_is txn state request is = unless_idle txn (is_among (Idle ∷ []) state) request is

@@ -1,4 +1,5 @@
--- The ways in which a message changes a responder's record, and the messages that the record has heard after it.
+-- Lists the changes that a message may make to a responder's record. Then it proves that a message, once delivered,
+-- would change nothing if it came again.
 use Rattle.std.proofs.Common.{rules, arith, ◌≡◌, ℕ, suc, ◌+◌, ◌≤◌, nat_lt, length, length-append, Bool, true, false, not, ◌&&◌}
 use Rattle.std.proofs.Common.{◌||◌, List, [], ◌∷◌, Option, Some, None, Result, Ok, Err, if◌then◌else◌, refl, sym, subst}
 use Rattle.std.proofs.lemmas.Bool.{cond_both, leb-true, or_left, or_right, not_from_false, not_from_true}
@@ -24,7 +25,7 @@ use Rattle.ill_core.specs.ResponderActions.{issues_to}
 use Rattle.ill_core.specs.ResponderDeliveries.{takes, take_message, answers_no}
 use Rattle.ill_core.specs.ResponderNotices.{has_heard, reopens, undecided, lent}
 
--- A way in which a message with this number changes a record, or leaves it.
+-- A message with `number` and this body changes record `y` to this record, or does not change it.
 pub data Change (y : ResponderRecord) (number : ℕ) : Body → ResponderRecord → Type 0 where
   leaves : (body : Body) → Change y number body y
   requests : (expiry : Option Date) (item : List ℕ) (a : Apdu) → is_among (Idle ∷ []) y.state ≡ true
@@ -42,20 +43,20 @@ pub data Change (y : ResponderRecord) (number : ℕ) : Body → ResponderRecord 
       → Change y number (types.Renew wished) (record y { state = RenewOverdue; last_renew = Some number })
   returns : is_among lent y.state ≡ true → Change y number types.Returned (record y { state = Returned })
 
--- If each transition that may be the first to fit changes the record so, the answer does.
+-- If each transition that may be the first to fit satisfies `Change`, so does the answer.
 transition : (y : ResponderRecord) (number : ℕ) (body : Body) (fits : Bool)
     (here others : Result Taking Refusal × ResponderRecord)
     → (fits ≡ true → Change y number body here.1) → (fits ≡ false → Change y number body others.1)
     → Change y number body (if fits then here else others).1
 transition y number body fits here others = cond_both fits here others (λ r. Change y number body r.1)
 
--- Conditions wait for an answer in CONDITIONAL alone.
+-- If conditions wait for an answer, the state is CONDITIONAL.
 waits_conditional : (c : ℕ) (state : State) (size : Option ℕ)
     → is_the c (if is_among (Conditional ∷ []) state then size else None) ≡ true
     → is_among (Conditional ∷ []) state ≡ true
 waits_conditional c state size is = search rules
 
--- A no is answered, or leaves the record if no number is left.
+-- A Conditional-Reply no is answered, or changes nothing if no number is left.
 no_changes : (y : ResponderRecord) (number c : ℕ) (left : Bool) → nat_lt (length y.issued) 255 ≡ left
     → is_among undecided y.state ≡ true
     → Change y number (types.ConditionalReply c false)
@@ -63,7 +64,7 @@ no_changes : (y : ResponderRecord) (number c : ℕ) (left : Bool) → nat_lt (le
 no_changes y number c true few waiting = declines c waiting few
 no_changes y number c false few waiting = leaves _
 
--- A message that is not refused changes a record in one of these ways, or leaves it.
+-- An admitted message satisfies `Change`.
 message_changes : (y : ResponderRecord) (a : Apdu) (body : Body) → Change y a.number body (take_message y a body).1
 message_changes y a (types.IllRequest expiry item) =
     transition y _ _ (is_among (Idle ∷ []) y.state) _ _ (requests expiry item a) (λ _. leaves _)
@@ -89,21 +90,21 @@ message_changes y a types.Returned =
     transition y _ _ (is_among (Returned ∷ CheckedIn ∷ []) y.state) _ _ (λ _. leaves _) (λ _. leaves _))
 message_changes y a other = leaves _
 
--- A message that is refused leaves the record.
+-- If an admitted message satisfies `Change`, so does one that may be refused. A refusal changes nothing.
 unless_changes : (y : ResponderRecord) (number : ℕ) (body : Body) (refused : Option Refusal)
     (answer : Result Taking Refusal × ResponderRecord)
     → Change y number body answer.1 → Change y number body (unless_refused refused y answer).1
 unless_changes y number body None answer change = change
 unless_changes y number body (Some refusal) answer change = leaves body
 
--- A message changes a record in one of these ways, or leaves it.
+-- Each message satisfies `Change`.
 pub takes_changes : (y : ResponderRecord) (a : Apdu) → Change y a.number a.body (takes y a).1
 takes_changes y a = unless_changes y a.number a.body (first_refusal y.txn (not (is_requesters a.body)) a)
     (take_message y a a.body) (message_changes y a a.body)
 
 -- ---- numbers
 
--- A change leaves at most 255 messages.
+-- A record with at most 255 messages has at most 255 after a change.
 change_few : (y new : ResponderRecord) (number : ℕ) (body : Body) → Change y number body new → length y.issued ≤ 255
     → length new.issued ≤ 255
 change_few y new number body (leaves _) few = few
@@ -121,39 +122,39 @@ change_few y new number body (renews wished above here) few = few
 change_few y new number body (renews_late wished above here) few = few
 change_few y new number body (returns out) few = few
 
--- A message leaves at most 255 messages.
+-- A record with at most 255 messages has at most 255 after an APDU.
 pub takes_few : (y : ResponderRecord) (a : Apdu) → length y.issued ≤ 255 → length (takes y a).1.issued ≤ 255
 takes_few y a = change_few y (takes y a).1 a.number a.body (takes_changes y a)
 
--- ---- a message that has come was heard
+-- ---- a message that comes again
 
--- The record after the answer has heard the message.
+-- The record after the answer would not change if the message came again.
 data Heard (number : ℕ) (body : Body) (answer : Result Taking Refusal × ResponderRecord) : Type 0 where
   hears : has_heard answer.1 number body ≡ true → Heard number body answer
 
--- If each transition leads to a record that has heard the message, the first that fits does.
+-- If each transition that may be the first to fit satisfies `Heard`, so does the answer.
 heard_transition : (number : ℕ) (body : Body) (fits : Bool) (here others : Result Taking Refusal × ResponderRecord)
     → (fits ≡ true → Heard number body here) → (fits ≡ false → Heard number body others)
     → Heard number body (if fits then here else others)
 heard_transition number body fits here others = cond_both fits here others (Heard number body)
 
--- After a no the record has heard it, with a number left for the answer or without.
+-- The record after a Conditional-Reply no would not change if it came again, with a number left or without one.
 no_heard : (y : ResponderRecord) (number c : ℕ) (left : Bool) → nat_lt (length y.issued) 255 ≡ left
     → has_heard (answers_no y (if left then Ok (length y.issued + 1) else Err NumbersUsed)).1 number
     (types.ConditionalReply c false) ≡ true
 no_heard y number c true few = refl
 no_heard y number c false few = or_right (not (is_among undecided y.state)) _ (not_from_false _ few)
 
--- A Received that marks nothing has been heard.
+-- If a Received does not set the received mark now, it would not change the record.
 received_heard : (is_later marked : Bool) → is_later && not marked ≡ false → implies is_later marked ≡ true
 received_heard is_later marked none = search rules
 
--- A Renew in neither SHIPPED nor OVERDUE has been heard.
+-- A Renew in neither SHIPPED nor OVERDUE would not change the record.
 renew_heard : (state : State) (above : Bool) → is_among (Shipped ∷ []) state ≡ false
     → is_among (Overdue ∷ []) state ≡ false → not (is_among (Shipped ∷ Overdue ∷ []) state) || above ≡ true
 renew_heard state above one other = search rules
 
--- After a message that is not refused, the record has heard it.
+-- The answer to an admitted message satisfies `Heard`.
 message_heard : (y : ResponderRecord) (a : Apdu) (body : Body) → Heard a.number body (take_message y a body)
 message_heard y a (types.IllRequest expiry item) =
     heard_transition _ _ (is_among (Idle ∷ []) y.state) _ _ (λ _. hears refl) (λ begun. hears (not_from_false _ begun))
@@ -188,12 +189,12 @@ message_heard y a types.Returned =
     (λ _. hears (not_from_false _ home)))
 message_heard y a other = hears refl
 
--- The record after such an answer has heard the message.
+-- If an answer satisfies `Heard`, `has_heard` is true of the record after it.
 is_heard : (number : ℕ) (body : Body) (answer : Result Taking Refusal × ResponderRecord) → Heard number body answer
     → has_heard answer.1 number body ≡ true
 is_heard number body answer (hears is) = is
 
--- A message of the transaction that the other side issues is not refused before its transition.
+-- A message of the transaction, with a type that the other side issues, is admitted.
 not_refused : (same theirs : Bool) (y : ResponderRecord) (answer : Result Taking Refusal × ResponderRecord)
     → same ≡ true → theirs ≡ true
     → unless_refused (if same then (if not theirs then Some WrongRole else None) else Some OtherTransaction) y answer ≡ answer
@@ -201,32 +202,32 @@ not_refused true true y answer here issued = refl
 not_refused false theirs y answer here issued = search rules
 not_refused true false y answer here issued = search rules
 
--- After a requester's message of the transaction, the record has heard it.
+-- The record after a requester's message of the transaction would not change if it came again.
 pub takes_heard : (y : ResponderRecord) (a : Apdu) → is_same_txn a.txn y.txn ≡ true → is_requesters a.body ≡ true
     → has_heard (takes y a).1 a.number a.body ≡ true
 takes_heard y a same theirs =
     let transition = not_refused (is_same_txn a.txn y.txn) (is_requesters a.body) y (take_message y a a.body) same theirs in
     is_heard a.number a.body (takes y a) (subst (Heard a.number a.body) (sym transition) (message_heard y a a.body))
 
--- ---- what was heard stays so
+-- ---- a later message
 
--- A record in CONDITIONAL is undecided.
+-- CONDITIONAL is one of the states `undecided`.
 undecided_conditional : (state : State) → is_among (Conditional ∷ []) state ≡ true → is_among undecided state ≡ true
 undecided_conditional state is = search rules
 
--- If the item is out, the state is SHIPPED or later.
+-- Each state in which the item is lent is SHIPPED or later.
 later_lent : (state : State) → is_among lent state ≡ true → is_among later state ≡ true
 later_lent state is = search rules
 
--- In SHIPPED the item is out.
+-- In SHIPPED the item is lent.
 lent_shipped : (state : State) → is_among (Shipped ∷ []) state ≡ true → is_among lent state ≡ true
 lent_shipped state is = search rules
 
--- In OVERDUE the item is out.
+-- In OVERDUE the item is lent.
 lent_overdue : (state : State) → is_among (Overdue ∷ []) state ≡ true → is_among lent state ≡ true
 lent_overdue state is = search rules
 
--- An ILL-Request reopens a Conditional-Reply no and a Cancel alone.
+-- An ILL-Request reopens only a Conditional-Reply no and a Cancel.
 requests_stays : (y : ResponderRecord) (a : Apdu) (expiry : Option Date) (item : List ℕ) (number : ℕ) (body : Body)
     → reopens (types.IllRequest expiry item) body ≡ false
     → has_heard (record y { state = InProcess; request = Some a }) number body ≡ true
@@ -235,7 +236,7 @@ requests_stays y a expiry item number (types.ConditionalReply c true) none = ref
 requests_stays y a expiry item number types.Cancel none = search rules
 requests_stays y a expiry item number body none = refl
 
--- Conditions that are accepted reopen nothing.
+-- A Conditional-Reply yes reopens nothing.
 accepts_stays : (y : ResponderRecord) (c number : ℕ) (body : Body) → is_among undecided y.state ≡ true
     → has_heard y number body ≡ true
     → has_heard (record y { state = InProcess; accepted = Some c }) number body ≡ true
@@ -244,7 +245,7 @@ accepts_stays y c number (types.ConditionalReply n true) waiting h = refl
 accepts_stays y c number types.Cancel waiting h = search rules
 accepts_stays y c number body waiting h = refl
 
--- A no that is answered reopens nothing.
+-- A Conditional-Reply no that is answered reopens nothing.
 declines_stays : (y : ResponderRecord) (number : ℕ) (body : Body)
     → has_heard (issues_to y (types.IllAnswer results.Unfilled) NotSupplied) number body ≡ true
 declines_stays y number (types.ConditionalReply n true) = refl
@@ -290,7 +291,7 @@ returns_stays y number (types.ConditionalReply n false) out h = refl
 returns_stays y number types.Received out h = search (rules, later_lent y.state out)
 returns_stays y number body out h = refl
 
--- A change reopens nothing but what its message reopens.
+-- A change reopens only what its message reopens.
 change_stays : (y new : ResponderRecord) (first : ℕ) (by : Body) (number : ℕ) (body : Body) → Change y first by new
     → reopens by body ≡ false → has_heard y number body ≡ true
     → has_heard new number body ≡ true
@@ -307,7 +308,7 @@ change_stays y _ first _ number body (renews_late wished above here) none h =
     renews_stays y RenewOverdue (Some first) number body (lent_overdue y.state here) refl h
 change_stays y _ first _ number body (returns out) none h = returns_stays y number body out h
 
--- A message that was heard stays heard after the next APDU, unless that reopens it.
+-- If a message would not change a record, it would not change it after APDU `a`, unless `a` reopens it.
 pub takes_stays : (y : ResponderRecord) (a : Apdu) (number : ℕ) (body : Body) → reopens a.body body ≡ false
     → has_heard y number body ≡ true → has_heard (takes y a).1 number body ≡ true
 takes_stays y a number body = change_stays y (takes y a).1 a.number a.body number body (takes_changes y a)

@@ -1,4 +1,5 @@
--- A responder issues an Overdue for the due date, after the grant of it, and the state shows it.
+-- Proves that a responder issues an Overdue for the due date only after the APDU that grants it, and that the state
+-- shows it.
 use Rattle.std.proofs.Common.{rules, arith, ◌≡◌, ◌⊎◌, inl, inr, ℕ, ◌+◌, ◌<◌, ◌≤◌, Bool, true, false, ◌||◌, List, [], ◌∷◌, ◌++◌}
 use Rattle.std.proofs.Common.{length, Option, Some, None, is_some, Ok, if◌then◌else◌, refl, ap, sym, subst, ◌∙◌}
 use Rattle.std.specs.List.{last_or, filter_map}
@@ -37,43 +38,43 @@ use Rattle.ill_core.proofs.ResponderLaws.{not_both}
 use Rattle.ill_core.proofs.ResponderMoves.{Change, takes_changes, leaves, requests, accepts, declines, cancels, arrives, returns}
 use Rattle.ill_core.proofs.ResponderMoves as changes
 
--- The states in which an Overdue for the due date was issued.
+-- Lists the states that require an Overdue for the due date.
 abbrev overdue : List State
 overdue = Overdue ∷ RenewOverdue ∷ []
 
--- The states in which an Overdue for the due date may have been issued.
+-- Lists the states in which an Overdue for the due date may have been issued.
 abbrev reminded : List State
 reminded = Overdue ∷ RenewOverdue ∷ Recall ∷ Returned ∷ CheckedIn ∷ []
 
--- Returns true if an Overdue for this day was issued.
+-- Returns true if the list has an Overdue for this day.
 abbrev has_overdue : Date → List Apdu → Bool
 has_overdue due apdus = has (is_overdue_of due) apdus
 
--- The day is not after the due date.
+-- The list has a due date, and the day is not after it.
 abbrev IsDated : List Apdu → Date → Type 0
 IsDated apdus day = (due : Date) × (last_of granted_day apdus ≡ Some due) × (is_before due day ≡ false)
 
--- P holds of the date of each Overdue.
+-- `P` holds of the date of each Overdue.
 abbrev AllOverdues : (Date → Type 0) → List Apdu → Type 0
 AllOverdues P apdus = (n : ℕ) (a : Apdu) (day : Date) → message apdus n ≡ Some a → a.body ≡ types.Overdue day → P day
 
--- An Overdue has its date and its state, and its place after the grant of its date.
+-- The Overdues of `y` agree with its due date and its state, and each follows the grant of its date.
 abbrev OverduesAreInPlace : ResponderRecord → Type 0
 OverduesAreInPlace y = OverdueFits y × GrantsBeforeOverdue y.issued
 
--- The day is after that of each Overdue.
+-- The day is after the date of each Overdue.
 abbrev IsAfterOverdues : List Apdu → Date → Type 0
 IsAfterOverdues apdus due = AllOverdues (λ day. is_before day due ≡ true) apdus
 
--- ---- what an APDU says of days
+-- ---- days of APDUs
 
--- An Overdue for a day has a date that is equal to it.
+-- If `is_overdue_of due` is true of an APDU, it is an Overdue with a date that equals `due`.
 overdue_day : (due : Date) (body : Body) → is_overdue_of due body ≡ true
     → (day : Date) × (body ≡ types.Overdue day) × (is_same_day day due ≡ true)
 overdue_day due (types.Overdue day) is = (day, refl, is)
 overdue_day due body is = search rules
 
--- An APDU that is no Overdue for any day is none.
+-- If `is_overdue_of` is false of an APDU for every day, the APDU is not an Overdue.
 never_overdue : {P : Type 0} (body : Body) (day : Date) → ((due : Date) → is_overdue_of due body ≡ false)
     → body ≡ types.Overdue day → P
 never_overdue body day other is = not_both _ (other day) (ap (is_overdue_of day) is ∙ same_itself day)
@@ -82,34 +83,34 @@ never_overdue body day other is = not_both _ (other day) (ap (is_overdue_of day)
 overdue_same : (due day : Date) → types.Overdue due ≡ types.Overdue day → due ≡ day
 overdue_same due day is = search rules
 
--- Two days that are the value of one option are equal.
+-- If an option is both `Some d` and `Some e`, `d` equals `e`.
 day_same : (o : Option Date) (d e : Date) → o ≡ Some d → o ≡ Some e → d ≡ e
 day_same o d e one other = search rules
 
--- No day is there if the option is empty.
+-- No option is both `None` and `Some d`.
 none_there : {P : Type 0} (o : Option Date) (d : Date) → o ≡ None → o ≡ Some d → P
 none_there o d none there = search rules
 
--- No APDU is a grant and an Overdue.
+-- No APDU both grants a date and is an Overdue.
 one_type : {P : Type 0} (body : Body) (c : ℕ) (due day : Date) → grant_of body ≡ Some (grant c due) → body ≡ types.Overdue day → P
 one_type body c due day grants is =
     let none : None ≡ Some (grant c due) = sym (ap grant_of is) ∙ grants in
     search rules
 
--- No Overdue is for a day that is after that of each Overdue.
+-- If `due` is after the date of each Overdue, the list has no Overdue for `due`.
 none_for : {P : Type 0} (apdus : List Apdu) (due : Date) → IsAfterOverdues apdus due → has_overdue due apdus ≡ true → P
 none_for apdus due after there =
     let said = says_message (is_overdue_of due) apdus there in
     let day = overdue_day due said.1.body said.3 in
     absurd (not_before_same day.0 due day.2 (after said.0 said.1 day.0 said.2 day.1))
 
--- If a day is before another, the other is not before it.
+-- If `a` is before `b`, `b` is not before `a`.
 not_before_back : (a b : Date) → is_before a b ≡ true → is_before b a ≡ false
 not_before_back a b before = false_from_ne_true (is_before b a) (λ back. not_before_itself a (before_on a b a before back))
 
 -- ---- one more APDU
 
--- With one more APDU each Overdue still follows the grant of its date, if new grants are for later dates.
+-- With one more APDU each Overdue still follows the grant of its date, if a new grant is after each Overdue.
 order_more : (apdus : List Apdu) (a : Apdu) → GrantsBeforeOverdue apdus
     → ((due : Date) → grant_in a.body ≡ Some due → IsAfterOverdues apdus due) → GrantsBeforeOverdue (apdus ++ a ∷ [])
 order_more apdus a h newest m n c b e due day at_m at_n grants is same =
@@ -125,7 +126,7 @@ order_more apdus a h newest m n c b e due day at_m at_n grants is same =
     go (inr new) (inr also) = one_type a.body c due day (ap (λ (x : Apdu). grant_of x.body) new.1 ∙ grants)
         (ap (λ (x : Apdu). x.body) also.1 ∙ is)
 
--- P holds of each Overdue with one more APDU, if it holds of the old ones and the new one.
+-- If `P` holds of the date of each old Overdue and of the new one, it holds of all Overdues.
 overdue_more : (P : Date → Type 0) (apdus : List Apdu) (a : Apdu) → AllOverdues P apdus
     → ((day : Date) → a.body ≡ types.Overdue day → P day) → AllOverdues P (apdus ++ a ∷ [])
 overdue_more P apdus a old newest n b day at is = go (message_more apdus a b n at)
@@ -134,26 +135,26 @@ overdue_more P apdus a old newest n b day at is = go (message_more apdus a b n a
     go (inl older) = old n b day older.0 is
     go (inr new) = newest day (ap (λ (x : Apdu). x.body) new.1 ∙ is)
 
--- One more APDU that is no Overdue leaves those for a day.
+-- If the new APDU is not an Overdue for `due`, `has_overdue due` does not change.
 overdue_stays : (apdus : List Apdu) (a : Apdu) (due : Date) → is_overdue_of due a.body ≡ false
     → has_overdue due (apdus ++ a ∷ []) ≡ has_overdue due apdus
 overdue_stays apdus a due other =
     has_more (is_overdue_of due) apdus a ∙ (ap (λ b. has_overdue due apdus || b) other ∙ or-false (has_overdue due apdus))
 
--- One more APDU that grants no date leaves the due date.
+-- If the new APDU grants no date, the due date does not change.
 due_stays : (apdus : List Apdu) (a : Apdu) → grant_in a.body ≡ None
     → last_of granted_day (apdus ++ a ∷ []) ≡ last_of granted_day apdus
 due_stays apdus a none = ap (last_or None) (found_none granted_day apdus a none)
 
--- A date that is not after the due date stays so if no date is granted.
+-- If the new APDU grants no date, the dates of the Overdues are still not after the due date.
 dated_stays : (apdus : List Apdu) (a : Apdu) → grant_in a.body ≡ None → AllOverdues (IsDated apdus) apdus
     → AllOverdues (IsDated (apdus ++ a ∷ [])) apdus
 dated_stays apdus a none h n b day at is =
     let old = h n b day at is in
     (old.0, due_stays apdus a none ∙ old.1, old.2)
 
--- The APDU that is issued is neither a grant nor an Overdue. Or it grants a date after that of each Overdue, or is an
--- Overdue for the due date.
+-- An APDU with this body may be issued from `y`, and lead to this state. It is neither a grant nor an Overdue, or
+-- grants a date after each Overdue, or is an Overdue for the due date.
 data Notice (y : ResponderRecord) : Body → State → Type 0 where
   says_neither : (body : Body) (next : State) → grant_in body ≡ None → ((due : Date) → is_overdue_of due body ≡ false)
       → (is_among overdue next ≡ true → is_among overdue y.state ≡ true)
@@ -162,7 +163,7 @@ data Notice (y : ResponderRecord) : Body → State → Type 0 where
       → IsAfterOverdues y.issued due → is_among overdue next ≡ false → Notice y body next
   warns : (next : State) (due : Date) → due_of y ≡ Some due → is_among reminded next ≡ true → Notice y (types.Overdue due) next
 
--- An APDU that is neither a grant nor an Overdue keeps the place of an Overdue.
+-- An APDU that neither grants a date nor is an Overdue preserves `OverduesAreInPlace`.
 neither_place : (y : ResponderRecord) (body : Body) (next : State) → grant_in body ≡ None
     → ((due : Date) → is_overdue_of due body ≡ false)
     → (is_among overdue next ≡ true → is_among overdue y.state ≡ true)
@@ -180,7 +181,7 @@ neither_place y body next none other leads stays h order =
       order_more y.issued a order (λ due is. none_there (grant_in body) due none is),
     )
 
--- A grant of a date after that of each Overdue keeps the place of an Overdue.
+-- An APDU that grants a date after each Overdue preserves `OverduesAreInPlace`.
 grants_place : (y : ResponderRecord) (body : Body) (next : State) (due : Date) → grant_in body ≡ Some due
     → ((day : Date) → is_overdue_of day body ≡ false)
     → IsAfterOverdues y.issued due → is_among overdue next ≡ false → OverdueFits y → GrantsBeforeOverdue y.issued
@@ -200,7 +201,7 @@ grants_place y body next due granted other later_day leaves_off h order =
           subst (IsAfterOverdues y.issued) (day_same (grant_in body) due d granted is) later_day),
     )
 
--- An Overdue for the due date has its place.
+-- An Overdue for the due date preserves `OverduesAreInPlace`.
 warns_place : (y : ResponderRecord) (next : State) (due : Date) → due_of y ≡ Some due → is_among reminded next ≡ true
     → OverdueFits y → GrantsBeforeOverdue y.issued → OverduesAreInPlace (issues_to y (types.Overdue due) next)
 warns_place y next due there leads h order =
@@ -222,7 +223,7 @@ warns_place y next due there leads h order =
       order_more y.issued a order (λ d is. none_there None d refl is),
     )
 
--- An APDU of `Notice` keeps the place of an Overdue.
+-- An APDU that satisfies `Notice` preserves `OverduesAreInPlace`.
 notice_place : (y : ResponderRecord) (body : Body) (next : State) → Notice y body next → OverdueFits y
     → GrantsBeforeOverdue y.issued → OverduesAreInPlace (issues_to y body next)
 notice_place y _ _ (says_neither body next none other leads stays) = neither_place y body next none other leads stays
@@ -231,21 +232,21 @@ notice_place y _ _ (warns next due there leads) = warns_place y next due there l
 
 -- ---- deeds
 
--- A day after the due date is after that of each Overdue.
+-- A day after the due date is after the date of each Overdue.
 renewal_after : (y : ResponderRecord) (due : Date) → OverdueFits y → is_after_due due (due_of y) ≡ true
     → IsAfterOverdues y.issued due
 renewal_after y due h after n a day at is =
     let dated = h.dated n a day at is in
     after_granted due (due_of y) dated.0 day dated.1 dated.2 after
 
--- If no date was granted, each day is after that of each Overdue, since there is none.
+-- If no date was granted, there is no Overdue, so each day is after all of them.
 first_after : (y : ResponderRecord) (due : Date) → OverdueFits y → filter_map granted_day y.issued ≡ []
     → IsAfterOverdues y.issued due
 first_after y due h none n a day at is =
     let dated = h.dated n a day at is in
     absurd (last_none y.issued dated.0 none dated.1)
 
--- A day that is there is the day that `unwrap_or` gives.
+-- If an option is not `None`, its value is that of `unwrap_or`.
 there_is : (o : Option Date) → is_some o ≡ true → o ≡ Some (unwrap_or o no_date)
 there_is None there = search rules
 there_is (Some d) there = refl
@@ -256,15 +257,15 @@ due_is y h here =
     let counted = h.issued.shipped ∙ ap (λ b. if b then 1 else 0) here in
     there_is (due_of y) (due_there y.issued (omega (arith, counted)))
 
--- SHIPPED is one of the states SHIPPED or later.
+-- SHIPPED is one of the states from SHIPPED on.
 later_shipped : (state : State) → is_among (Shipped ∷ []) state ≡ true → is_among later state ≡ true
 later_shipped state is = search rules
 
--- RENEW/PENDING is one of the states SHIPPED or later.
+-- RENEW/PENDING is one of the states from SHIPPED on.
 later_renewing : (state : State) → is_among (RenewPending ∷ []) state ≡ true → is_among later state ≡ true
 later_renewing state is = search rules
 
--- A transition issues an APDU of `Notice`, and leads to a state of it.
+-- Each transition of a deed satisfies `Notice`.
 transition_notice : (y : ResponderRecord) (transition : Transition) → IsTransition y transition → ResponderRules y → OverdueFits y
     → Notice y transition.body transition.next
 transition_notice y _ (answers answer is) h fits =
@@ -287,7 +288,7 @@ transition_notice y _ (recalls is) h fits = says_neither _ _ refl (λ due. refl)
 transition_notice y _ (checks_in is) h fits = says_neither _ _ refl (λ due. refl) (λ there. search rules) (λ there. refl)
 transition_notice y _ (expires is) h fits = says_neither _ _ refl (λ due. refl) (λ there. search rules) (λ there. search rules)
 
--- A deed keeps the place of an Overdue.
+-- A deed preserves `OverdueFits` and `GrantsBeforeOverdue`.
 pub acts_overdue : (y new : ResponderRecord) (deed : Deed) (today : Date) → acts y deed today ≡ Ok new → IsResponder y
     → OverdueFits y → GrantsBeforeOverdue y.issued → OverdueFits new × GrantsBeforeOverdue new.issued
 acts_overdue y new deed today done kept h order =
@@ -297,7 +298,7 @@ acts_overdue y new deed today done kept h order =
 
 -- ---- messages
 
--- A change that issues nothing keeps the place of an Overdue, if its states fit.
+-- A change that issues nothing preserves `OverduesAreInPlace`, if its states agree with an Overdue.
 moves_overdue : (y new : ResponderRecord) → new.issued ≡ y.issued
     → (is_among overdue new.state ≡ true → is_among overdue y.state ≡ true)
     → (is_among reminded y.state ≡ true → is_among reminded new.state ≡ true) → OverdueFits y
@@ -312,12 +313,12 @@ moves_overdue y new same leads stays h order = (
   subst GrantsBeforeOverdue (sym same) order,
 )
 
--- The ILL-Answer to a no is an APDU of `Notice`, and leads to a state of it.
+-- The ILL-Answer unfilled to a no satisfies `Notice`.
 declines_notice : (y : ResponderRecord) → is_among undecided y.state ≡ true
     → Notice y (types.IllAnswer results.Unfilled) NotSupplied
 declines_notice y waiting = says_neither _ _ refl (λ due. refl) (λ there. search rules) (λ there. search rules)
 
--- A change keeps the place of an Overdue.
+-- Each change by a message preserves `OverduesAreInPlace`.
 change_overdue : (y new : ResponderRecord) (number : ℕ) (body : Body) → Change y number body new → OverdueFits y
     → GrantsBeforeOverdue y.issued → OverduesAreInPlace new
 change_overdue y _ number _ (leaves body) = λ h order. (h, order)
@@ -331,7 +332,7 @@ change_overdue y _ number _ (changes.renews wished above here) = moves_overdue y
 change_overdue y _ number _ (changes.renews_late wished above here) = moves_overdue y _ refl (λ is. search rules) (λ is. refl)
 change_overdue y _ number _ (returns out) = moves_overdue y _ refl (λ is. search rules) (λ is. refl)
 
--- A message keeps the place of an Overdue.
+-- A message preserves `OverdueFits` and `GrantsBeforeOverdue`.
 pub takes_overdue : (y : ResponderRecord) (a : Apdu) → OverdueFits y → GrantsBeforeOverdue y.issued
     → OverdueFits (takes y a).1 × GrantsBeforeOverdue (takes y a).1.issued
 takes_overdue y a = change_overdue y (takes y a).1 a.number a.body (takes_changes y a)

@@ -1,4 +1,4 @@
--- The questions that a responder was asked, and the answer to the last one, unless it waits.
+-- Proves that a responder's questions come from messages, and that the last one is answered unless it waits.
 use Rattle.std.proofs.Common.{rules, ◌≡◌, ◌⊎◌, inl, inr, ℕ, Bool, true, false, ◌||◌, ◌==◌, List, [], ◌∷◌, ◌++◌, Option, Some}
 use Rattle.std.proofs.Common.{None, is_some, Ok, refl, ap, sym, eq-eqb, ◌∙◌}
 use Rattle.std.specs.List.{list_any, cons_option}
@@ -33,19 +33,19 @@ use Rattle.ill_core.proofs.ResponderLaws.{known, last_same, no_answer, not_both,
 use Rattle.ill_core.proofs.ResponderMoves.{Change, takes_changes, leaves, requests, accepts, declines, cancels, arrives, returns}
 use Rattle.ill_core.proofs.ResponderMoves as changes
 
--- ---- what was asked
+-- ---- questions
 
 -- Returns true if the number is in the list.
 abbrev is_in : ℕ → List ℕ → Bool
 is_in number ns = list_any (λ n. n == number) ns
 
--- If one of two tests holds, the first or the second holds.
+-- If `a || (b || false)` is true, `a` or `b` is true.
 one_of : (a b : Bool) → a || (b || false) ≡ true → (a ≡ true) ⊎ (b ≡ true)
 one_of true b either = inl refl
 one_of false true either = inr refl
 one_of false false either = search rules
 
--- A number in a list that has one more is in the list, or it is the new one.
+-- A number in a list with `m` at the end is in the list, or is `m`.
 in_more : (ns : List ℕ) (m number : ℕ) → is_in number (ns ++ m ∷ []) ≡ true → (is_in number ns ≡ true) ⊎ (m ≡ number)
 in_more ns m number is = go (one_of _ _ (sym (list_any-append (λ n. n == number) ns (m ∷ [])) ∙ is))
   where
@@ -53,20 +53,20 @@ in_more ns m number is = go (one_of _ _ (sym (list_any-append (λ n. n == number
     go (inl old) = inl old
     go (inr new) = inr (eqb-true m number new)
 
--- A question that was answered before or is answered now was asked, if its answer names the last one.
+-- If a question was answered before, or is the last one, it was asked before.
 last_or_before : (last : Option ℕ) (m number : ℕ) (before : Bool) → last ≡ Some m → (before ≡ true) ⊎ (m ≡ number)
     → (last ≡ Some number) ⊎ (before ≡ true)
 last_or_before last m number before is (inl old) = inr old
 last_or_before last m number before is (inr same) = inl (is ∙ ap Some same)
 
--- An APDU that answers no question leaves those answered.
+-- If an APDU answers no question, the answered questions do not change.
 none_answered : (question : Question) (y : ResponderRecord) (body : Body) (next : State) (number : ℕ)
     → answered_number question body ≡ None
     → has_answered question (issues_to y body next) number ≡ has_answered question y number
 none_answered question y body next number none =
     ap (is_in number) (found_none (λ a. answered_number question a.body) y.issued (next_apdu y.txn y.issued body) none)
 
--- A question that was answered after a transition was asked before it.
+-- If a question is answered after a transition, it was asked before it.
 answered_asked : (question : Question) (y : ResponderRecord) (body : Body) (next : State) (number : ℕ) (o : Option ℕ)
     → answered_number question body ≡ o → Issues y body next
     → implies (waits question y.state) (is_some (last_asked question y)) ≡ true
@@ -80,7 +80,7 @@ answered_asked question y body next number (Some m) some how there is =
     (known (last_asked question y) m (waits question y.state) there row.0 row.2)
     (in_more (answers_to question y.issued) m number (sym (ap (is_in number) more) ∙ is))
 
--- A question that was asked after a transition was asked before it.
+-- If a question is asked after a transition, it was asked before it.
 issues_asked : (question : Question) (y : ResponderRecord) (body : Body) (next : State) (number : ℕ) → Issues y body next
     → implies (waits question y.state) (is_some (last_asked question y)) ≡ true
     → WasAsked question (issues_to y body next) number → WasAsked question y number
@@ -88,7 +88,7 @@ issues_asked question y body next number how there (inl last) = inl (sym (last_s
 issues_asked question y body next number how there (inr is) =
     answered_asked question y body next number (answered_number question body) refl how there is
 
--- A deed asks nothing.
+-- A deed adds no question.
 pub acts_asked : (question : Question) (y new : ResponderRecord) (deed : Deed) (today : Date) (number : ℕ)
     → acts y deed today ≡ Ok new
     → implies (waits question y.state) (is_some (last_asked question y)) ≡ true → WasAsked question new number
@@ -97,11 +97,11 @@ acts_asked question y new deed today number done there =
     of_acts (λ r. WasAsked question r number → WasAsked question y number) y new deed today
     (λ transition leads how. issues_asked question y transition.body transition.next number how there) done
 
--- A question was asked, or it is the message that comes.
+-- The question was asked in `y`, or the message that comes asks it.
 abbrev AskedOrComes : Question → ResponderRecord → ℕ → Body → ℕ → Type 0
 AskedOrComes question y came body number = WasAsked question y number ⊎ ((asks question body ≡ true) × (came ≡ number))
 
--- A message that issues nothing asks at most its own question.
+-- A message that issues nothing adds at most the question that it asks.
 moves_asked : (question : Question) (y new : ResponderRecord) (came : ℕ) (body : Body) (number : ℕ)
     → new.issued ≡ y.issued → KeepsLast question y new ⊎ TakesNew question came body y new
     → WasAsked question new number → AskedOrComes question y came body number
@@ -111,7 +111,7 @@ moves_asked question y new came body number same (inl keeps) (inl last) = inl (i
 moves_asked question y new came body number same (inr asked) (inl last) =
     inr (asked.0, same_Some came number (sym asked.2 ∙ last))
 
--- An ILL-Answer asks nothing.
+-- An ILL-Answer unfilled adds no question.
 unfilled_asked : (question : Question) (y : ResponderRecord) (number : ℕ)
     → WasAsked question (issues_to y (types.IllAnswer results.Unfilled) NotSupplied) number
     → WasAsked question y number
@@ -120,7 +120,7 @@ unfilled_asked question y number (inl last) =
 unfilled_asked question y number (inr is) =
     inr (sym (none_answered question y (types.IllAnswer results.Unfilled) NotSupplied number (no_answer question)) ∙ is)
 
--- A question that was asked after a message was asked before it, or is that message.
+-- Each question that was asked after a message was asked before it, or the message asks it.
 pub takes_asked : (question : Question) (y : ResponderRecord) (a : Apdu) (number : ℕ) → WasAsked question (takes y a).1 number
     → WasAsked question y number ⊎ ((asks question a.body ≡ true) × (a.number ≡ number))
 takes_asked question y a number =
@@ -128,9 +128,9 @@ takes_asked question y a number =
     (λ how. moves_asked question y (takes y a).1 a.number a.body number how.issued (how.asked question))
     (λ said how asked. inl (unfilled_asked question y number asked))
 
--- ---- that the last was answered
+-- ---- the last answer
 
--- A question that was answered stays so when one more APDU is issued.
+-- If a question was answered, it is answered in the list with one more APDU.
 answered_more : (question : Question) (apdus : List Apdu) (a : Apdu) (number : ℕ)
     → is_in number (answers_to question apdus) ≡ true → is_in number (answers_to question (apdus ++ a ∷ [])) ≡ true
 answered_more question apdus a number is =
@@ -143,7 +143,7 @@ in_end : (ns : List ℕ) (m number : ℕ) → m ≡ number → is_in number (ns 
 in_end ns m number same = list_any-append (λ n. n == number) ns (m ∷ [])
     ∙ or_right (is_in number ns) _ (or_left _ _ (eq-eqb m number same))
 
--- A question is answered by one more APDU that names it.
+-- If the new APDU answers a question, the question is answered in the list with this APDU.
 answered_now : (question : Question) (apdus : List Apdu) (a : Apdu) (m number : ℕ)
     → answered_number question a.body ≡ Some m → m ≡ number
     → is_in number (answers_to question (apdus ++ a ∷ [])) ≡ true
@@ -181,7 +181,7 @@ transition_answers MayRenew y _ (recalls is) = inr (inl (search rules))
 transition_answers MayRenew y _ (checks_in is) = inl refl
 transition_answers MayRenew y _ (expires is) = inr (inl (search rules))
 
--- If the last question was answered before such a transition, it was after it.
+-- If the last question was answered before such a transition, it is answered after it.
 transition_has_answered : (question : Question) (y : ResponderRecord) (transition : Transition)
     → (is_among (unanswered question) transition.next ≡ true) ⊎
     ((is_among (unanswered question) y.state ≡ false) ⊎
@@ -196,7 +196,7 @@ transition_has_answered question y transition (inr (inr now)) h number last deci
     answered_now question y.issued (next_apdu y.txn y.issued transition.body) (unwrap_or (last_asked question y) 0) number now
     named
 
--- A deed leaves the last question answered, unless it waits or the item came back.
+-- A deed preserves `HasAnsweredLast`.
 pub acts_has_answered : (question : Question) (y new : ResponderRecord) (deed : Deed) (today : Date) → acts y deed today ≡ Ok new
     → implies (waits question y.state) (is_some (last_asked question y)) ≡ true → HasAnsweredLast question y
     → HasAnsweredLast question new
@@ -204,14 +204,14 @@ acts_has_answered question y new deed today done there =
     of_acts (λ r. HasAnsweredLast question y → HasAnsweredLast question r) y new deed today
     (λ transition is how. transition_has_answered question y transition (transition_answers question y transition is)) done
 
--- The last question may have no answer now. Or it is the one before, and needs an answer now only if it did then.
+-- In `new` the last question may have no answer, or it is the last question of `y` and needed an answer there.
 abbrev KeepsAnswer : Question → ResponderRecord → ResponderRecord → Type 0
 KeepsAnswer question y new =
     (is_among (unanswered question) new.state ≡ true)
     ⊎ ((last_asked question new ≡ last_asked question y)
     × (is_among (unanswered question) new.state ≡ false → is_among (unanswered question) y.state ≡ false))
 
--- A change keeps an answer, or leads to a state in which the last question may have none.
+-- Each change by a message satisfies `KeepsAnswer`.
 change_answers : (question : Question) (y new : ResponderRecord) (number : ℕ) (body : Body) → Change y number body new
     → KeepsAnswer question y new
 change_answers MayCancel y _ number _ (leaves body) = inr (refl, λ decided. decided)
@@ -233,7 +233,7 @@ change_answers MayRenew y _ number _ (changes.renews wished above here) = inl re
 change_answers MayRenew y _ number _ (changes.renews_late wished above here) = inl refl
 change_answers MayRenew y _ number _ (returns out) = inl refl
 
--- A question that was answered stays so when a message comes.
+-- If a question was answered, it is answered after a message.
 answered_stays : (question : Question) (y new : ResponderRecord) (body : Body) (number : ℕ)
     → IssuesUnfilled y body new → has_answered question y number ≡ true → has_answered question new number ≡ true
 answered_stays question y new body number (inl same) is = ap (λ apdus. is_in number (answers_to question apdus)) same ∙ is
@@ -241,7 +241,7 @@ answered_stays question y new body number (inr (said, more)) is =
     ap (λ apdus. is_in number (answers_to question apdus)) more
     ∙ answered_more question y.issued (next_apdu y.txn y.issued (types.IllAnswer results.Unfilled)) number is
 
--- If the last question was answered before such a change, it was after it.
+-- A change that satisfies `KeepsAnswer` preserves `HasAnsweredLast`.
 change_has_answered : (question : Question) (y new : ResponderRecord) (body : Body) → KeepsAnswer question y new
     → IssuesUnfilled y body new
     → HasAnsweredLast question y → HasAnsweredLast question new
@@ -249,7 +249,7 @@ change_has_answered question y new body (inl may) issued h number last decided =
 change_has_answered question y new body (inr (same, before)) issued h number last decided =
     answered_stays question y new body number issued (h number (sym same ∙ last) (before decided))
 
--- A message leaves the last question answered, unless it waits or the item came back.
+-- A message preserves `HasAnsweredLast`.
 pub takes_has_answered : (question : Question) (y : ResponderRecord) (a : Apdu) → HasAnsweredLast question y
     → HasAnsweredLast question (takes y a).1
 takes_has_answered question y a =

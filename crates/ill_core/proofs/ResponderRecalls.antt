@@ -1,4 +1,5 @@
--- A responder issues its Recall after its Shipped, and a record with a Recall is in RECALL, RETURNED or CHECKED-IN.
+-- Proves that a responder issues a Recall only after its Shipped, and that the state then is RECALL, RETURNED or
+-- CHECKED-IN.
 use Rattle.std.proofs.Common.{rules, arith, ◌≡◌, ◌⊎◌, inl, inr, ℕ, ◌+◌, ◌<◌, ◌≤◌, true, false, List, [], ◌∷◌, ◌++◌, length, Some}
 use Rattle.std.proofs.Common.{Ok, refl, ap, sym, subst, ◌∙◌}
 use Rattle.std.proofs.lemmas.Bool.{or_cases, or_right, false_from_ne_true}
@@ -27,16 +28,16 @@ use Rattle.ill_core.proofs.ResponderLaws.{not_both}
 use Rattle.ill_core.proofs.ResponderMoves.{Change, takes_changes, leaves, requests, accepts, declines, cancels, arrives, returns}
 use Rattle.ill_core.proofs.ResponderMoves as changes
 
--- The states in which a Recall may have been issued.
+-- Lists the states in which a Recall may have been issued.
 abbrev recalled : List State
 recalled = Recall ∷ Returned ∷ CheckedIn ∷ []
 
--- No APDU is a Shipped and a Recall.
+-- No APDU is both a Shipped and a Recall.
 one_type : {P : Type 0} (body : Body) → is_shipped body ≡ true → is_recall body ≡ true → P
 one_type (types.Shipped due) shipped recall = search rules
 one_type body shipped recall = search rules
 
--- With one more APDU every Recall is after every Shipped, if no Recall was issued before a new Shipped.
+-- If no Recall precedes a new Shipped, every Shipped still precedes every Recall after one more APDU.
 ships_before_more : (apdus : List Apdu) (a : Apdu) → ShipsBeforeRecall apdus
     → (is_shipped a.body ≡ true → has is_recall apdus ≡ false) → ShipsBeforeRecall (apdus ++ a ∷ [])
 ships_before_more apdus a h none m n b c at_m at_n shipped recall =
@@ -51,14 +52,15 @@ ships_before_more apdus a h none m n b c at_m at_n shipped recall =
     go (inr new) (inr also) = one_type a.body (ap (λ (x : Apdu). is_shipped x.body) new.1 ∙ shipped)
         (ap (λ (x : Apdu). is_recall x.body) also.1 ∙ recall)
 
--- The APDU that is issued, and the state to which it leads, fit a Recall.
+-- An APDU with `body`, issued in `state`, leads to a state `next` that agrees with the Recalls in the list. A Recall
+-- leads to RECALL. A Shipped is issued only before a Recall.
 record FitsRecall (state : State) (body : Body) (next : State) : Type 0 where
   leads : is_among (Recall ∷ []) next ≡ true → is_recall body ≡ true
   after : is_recall body ≡ true → is_among recalled next ≡ true
   stays : is_among recalled state ≡ true → is_among recalled next ≡ true
   ships : is_shipped body ≡ true → is_among recalled state ≡ false
 
--- The APDU of each transition, and the state to which it leads, fit a Recall.
+-- Each transition of a deed satisfies `FitsRecall`.
 transition_recall : (y : ResponderRecord) (transition : Transition) → IsTransition y transition
     → FitsRecall y.state transition.body transition.next
 transition_recall y _ (answers answer is) = search rules
@@ -74,11 +76,11 @@ transition_recall y _ (recalls is) = search rules
 transition_recall y _ (checks_in is) = search rules
 transition_recall y _ (expires is) = search rules
 
--- A Recall has its state, and its place after every Shipped.
+-- The state of `y` agrees with its Recalls, and every Shipped precedes every Recall.
 abbrev HasRecallPlace : ResponderRecord → Type 0
 HasRecallPlace y = RecallFits y × ShipsBeforeRecall y.issued
 
--- An APDU that fits a Recall keeps its place.
+-- If an APDU satisfies `FitsRecall`, `HasRecallPlace` still holds after it is issued.
 issues_recall : (y : ResponderRecord) (body : Body) (next : State) → FitsRecall y.state body next → RecallFits y
     → ShipsBeforeRecall y.issued → HasRecallPlace (issues_to y body next)
 issues_recall y body next fits h order =
@@ -96,14 +98,14 @@ issues_recall y body next fits h order =
     either_way (inl old) = fits.stays (h.after old)
     either_way (inr new) = fits.after new
 
--- A deed keeps the place of a Recall.
+-- A deed preserves `RecallFits` and `ShipsBeforeRecall`.
 pub acts_recall : (y new : ResponderRecord) (deed : Deed) (today : Date) → acts y deed today ≡ Ok new
     → RecallFits y → ShipsBeforeRecall y.issued → RecallFits new × ShipsBeforeRecall new.issued
 acts_recall y new deed today done =
     of_acts (λ r. RecallFits y → ShipsBeforeRecall y.issued → HasRecallPlace r) y new deed today
     (λ transition is how. issues_recall y transition.body transition.next (transition_recall y transition is)) done
 
--- A change that issues nothing keeps the place of a Recall, if its states fit.
+-- A change that issues nothing preserves `HasRecallPlace`, if its states agree with a Recall.
 moves_recall : (y new : ResponderRecord) → new.issued ≡ y.issued
     → (is_among (Recall ∷ []) new.state ≡ true → is_among (Recall ∷ []) y.state ≡ true)
     → (is_among recalled y.state ≡ true → is_among recalled new.state ≡ true) → RecallFits y
@@ -116,12 +118,12 @@ moves_recall y new same before after h order = (
   subst ShipsBeforeRecall (sym same) order,
 )
 
--- The ILL-Answer unfilled to a no, and NOT-SUPPLIED, fit a Recall: the item was not recalled.
+-- The ILL-Answer unfilled to a no satisfies `FitsRecall`, because no item was recalled before.
 declines_fits : (y : ResponderRecord) → is_among undecided y.state ≡ true
     → FitsRecall y.state (types.IllAnswer results.Unfilled) NotSupplied
 declines_fits y waiting = search rules
 
--- A change keeps the place of a Recall.
+-- Each change by a message preserves `HasRecallPlace`.
 change_recall : (y new : ResponderRecord) (number : ℕ) (body : Body) → Change y number body new → RecallFits y
     → ShipsBeforeRecall y.issued → HasRecallPlace new
 change_recall y _ number _ (leaves body) = λ h order. (h, order)
@@ -136,7 +138,7 @@ change_recall y _ number _ (changes.renews_late wished above here) =
     moves_recall y _ refl (λ is. search rules) (λ is. search rules)
 change_recall y _ number _ (returns out) = moves_recall y _ refl (λ is. search rules) (λ is. refl)
 
--- A message keeps the place of a Recall.
+-- A message preserves `RecallFits` and `ShipsBeforeRecall`.
 pub takes_recall : (y : ResponderRecord) (a : Apdu) → RecallFits y → ShipsBeforeRecall y.issued
     → RecallFits (takes y a).1 × ShipsBeforeRecall (takes y a).1.issued
 takes_recall y a = change_recall y (takes y a).1 a.number a.body (takes_changes y a)

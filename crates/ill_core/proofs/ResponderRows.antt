@@ -1,4 +1,4 @@
--- The changes that each transition of a responder's two tables makes.
+-- Proves the changes that each transition of a responder's two tables makes.
 use Rattle.std.proofs.Common.{rules, ◌≡◌, ◌⊎◌, inl, inr, ℕ, ◌+◌, ◌≤◌, length, Bool, true, false, not, ◌&&◌, ◌||◌, List, [], ◌∷◌}
 use Rattle.std.proofs.Common.{Option, Some, None, Result, Ok, Err, if◌then◌else◌, refl, ap, sym, subst}
 use Rattle.std.specs.Option.{unwrap_or}
@@ -33,8 +33,8 @@ use Rattle.ill_core.proofs.ResponderTransitions.{IsTransition, is_transition, an
 use Rattle.ill_core.proofs.ResponderTransitions.{renews, refuses_renewal, refuses_late, reminds, reminds_renewing, recalls}
 use Rattle.ill_core.proofs.ResponderTransitions.{checks_in, expires}
 
--- A transition issues `body` and leads to `state`, from neither IDLE nor a final state. It enters the state of an end
--- only by that end. It answers only the last question, while that waits.
+-- A transition from `y` may issue `body` and lead to `state`. The state before is neither IDLE nor final. The
+-- transition enters the state after an end only with this end. It answers only the last question, while that waits.
 pub record Issues (y : ResponderRecord) (body : Body) (state : State) : Type 0 where
   pub begun : is_among (Idle ∷ []) y.state ≡ false
   pub final : is_among (NotSupplied ∷ Cancelled ∷ CheckedIn ∷ []) y.state ≡ false
@@ -51,8 +51,8 @@ pub record Issues (y : ResponderRecord) (body : Body) (state : State) : Type 0 w
   pub replies : (question : Question) (n : ℕ) → answered_number question body ≡ Some n
       → (waits question y.state ≡ true) × (waits question state ≡ false) × (n ≡ unwrap_or (last_asked question y) 0)
 
--- A transition issues nothing, and leads to `new` for message `number` with `body`. It neither enters nor leaves an
--- end, and keeps a request. It shows only facts that were shown before or that the message tells.
+-- Message `number` with `body` changes `y` to `new`, and issues nothing. The change does not enter or leave a state
+-- after an end, and does not change a request. The message is evidence of each new claim.
 pub record Moves (y : ResponderRecord) (number : ℕ) (body : Body) (new : ResponderRecord) : Type 0 where
   pub txn : new.txn ≡ y.txn
   pub issued : new.issued ≡ y.issued
@@ -72,7 +72,7 @@ pub record Moves (y : ResponderRecord) (number : ℕ) (body : Body) (new : Respo
   pub sent_back : is_among (Returned ∷ CheckedIn ∷ []) new.state ≡ true
       → (is_among (Returned ∷ CheckedIn ∷ []) y.state ≡ true) ⊎ IsEvidence number body SentBack
 
--- Each transition of a deed keeps to `Issues`.
+-- Each transition of a deed satisfies `Issues`.
 issues : (txn : Qualifiers) (state : State) (accepted last_cancel last_renew : Option ℕ) (received : Bool) (request : Option Apdu)
     (issued : List Apdu) (transition : Transition)
     → IsTransition (responder_of txn state accepted last_cancel last_renew received request issued) transition
@@ -106,7 +106,7 @@ issues txn InProcess accepted last_cancel last_renew received request issued _ (
 issues txn Conditional accepted last_cancel last_renew received request issued _ (expires is) = search rules
 issues txn state accepted last_cancel last_renew received request issued _ (expires is) = search rules
 
--- In IN-PROCESS and CONDITIONAL, the ILL-Answer unfilled to a no keeps to `Issues`.
+-- In IN-PROCESS and CONDITIONAL, the ILL-Answer unfilled to a no satisfies `Issues`.
 issues_no : (txn : Qualifiers) (state : State) (accepted last_cancel last_renew : Option ℕ) (received : Bool)
     (request : Option Apdu) (issued : List Apdu)
     → is_among (InProcess ∷ Conditional ∷ []) state ≡ true
@@ -115,11 +115,11 @@ issues_no : (txn : Qualifiers) (state : State) (accepted last_cancel last_renew 
 issues_no txn InProcess accepted last_cancel last_renew received request issued waiting = search rules
 issues_no txn state accepted last_cancel last_renew received request issued waiting = search rules
 
--- To leave the record is a move.
+-- The unchanged record satisfies `Moves`.
 left : (y : ResponderRecord) (number : ℕ) (body : Body) → Moves y number body y
 left y number body = search rules
 
--- To keep an ILL-Request in IDLE, and go to IN-PROCESS, is a move.
+-- The change by which IDLE takes an ILL-Request and leads to IN-PROCESS satisfies `Moves`.
 requested : (txn : Qualifiers) (state : State) (accepted last_cancel last_renew : Option ℕ) (received : Bool)
     (request kept : Option Apdu) (issued : List Apdu) (number : ℕ) (expiry : Option Date) (item : List ℕ)
     → is_among (Idle ∷ []) state ≡ true
@@ -128,7 +128,7 @@ requested : (txn : Qualifiers) (state : State) (accepted last_cancel last_renew 
 requested txn Idle accepted last_cancel last_renew received request kept issued number expiry item idle = search rules
 requested txn state accepted last_cancel last_renew received request kept issued number expiry item idle = search rules
 
--- To accept the outstanding conditions, and go to IN-PROCESS, is a move.
+-- The change by which the outstanding conditions are accepted satisfies `Moves`.
 accepts : (txn : Qualifiers) (state : State) (accepted last_cancel last_renew : Option ℕ) (received : Bool)
     (request : Option Apdu) (issued : List Apdu) (number c : ℕ)
     → is_the c (outstanding_number (responder_of txn state accepted last_cancel last_renew received request issued)) ≡ true
@@ -137,7 +137,7 @@ accepts : (txn : Qualifiers) (state : State) (accepted last_cancel last_renew : 
 accepts txn Conditional accepted last_cancel last_renew received request issued number c there = search rules
 accepts txn state accepted last_cancel last_renew received request issued number c there = search rules
 
--- To take a Cancel above the last one in IN-PROCESS or CONDITIONAL, and go to CANCEL-PENDING, is a move.
+-- The change by which IN-PROCESS or CONDITIONAL takes a Cancel above the last one satisfies `Moves`.
 cancel_asked : (txn : Qualifiers) (state : State) (accepted last_cancel last_renew : Option ℕ) (received : Bool)
     (request : Option Apdu) (issued : List Apdu) (number : ℕ)
     → is_at_most number last_cancel ≡ false → is_among (InProcess ∷ Conditional ∷ []) state ≡ true
@@ -146,11 +146,11 @@ cancel_asked : (txn : Qualifiers) (state : State) (accepted last_cancel last_ren
 cancel_asked txn InProcess accepted last_cancel last_renew received request issued number above waiting = search rules
 cancel_asked txn state accepted last_cancel last_renew received request issued number above waiting = search rules
 
--- To set the received mark by a Received is a move.
+-- The change by which a Received sets the received mark satisfies `Moves`.
 arrived : (y : ResponderRecord) (number : ℕ) → Moves y number types.Received (record y { received = true })
 arrived y number = search rules
 
--- To take a Renew above the last one in SHIPPED or OVERDUE, and wait for its answer, is a move.
+-- The change by which SHIPPED or OVERDUE takes a Renew above the last one satisfies `Moves`.
 renew_asked : (txn : Qualifiers) (state next : State) (accepted last_cancel last_renew : Option ℕ) (received : Bool)
     (request : Option Apdu) (issued : List Apdu) (number : ℕ) (wished : Option Date)
     → is_at_most number last_renew ≡ false → is_among (Shipped ∷ Overdue ∷ []) state ≡ true
@@ -161,7 +161,7 @@ renew_asked txn Shipped RenewPending accepted last_cancel last_renew received re
     search rules
 renew_asked txn state next accepted last_cancel last_renew received request issued number wished above here there = search rules
 
--- To take a Returned while the item is out, and go to RETURNED, is a move.
+-- The change by which a Returned leads to RETURNED while the item is lent satisfies `Moves`.
 sent_back : (txn : Qualifiers) (state : State) (accepted last_cancel last_renew : Option ℕ) (received : Bool)
     (request : Option Apdu) (issued : List Apdu) (number : ℕ)
     → is_among (Shipped ∷ RenewPending ∷ Overdue ∷ RenewOverdue ∷ Recall ∷ []) state ≡ true
@@ -170,26 +170,27 @@ sent_back : (txn : Qualifiers) (state : State) (accepted last_cancel last_renew 
 sent_back txn Shipped accepted last_cancel last_renew received request issued number out = search rules
 sent_back txn state accepted last_cancel last_renew received request issued number out = search rules
 
--- A row of deliveries is a move that is taken or leaves the record, or it answers a no.
+-- The answer to a message changes the record as `Moves` says, and is `Taken` or changes nothing. Or the message is a
+-- Conditional-Reply no, and an ILL-Answer unfilled is issued.
 data DeliveryRow (y : ResponderRecord) (number : ℕ) (body : Body) (answer : Result Taking Refusal × ResponderRecord) : Type 0
   where
     moves : (answer.0 ≡ Ok Taken) ⊎ (answer.1 ≡ y) → Moves y number body answer.1 → DeliveryRow y number body answer
     replies_no : declines body ≡ true → answer ≡ (Ok Taken, issues_to y (types.IllAnswer results.Unfilled) NotSupplied)
         → Issues y (types.IllAnswer results.Unfilled) NotSupplied → DeliveryRow y number body answer
 
--- An answer that leaves the record is a row of deliveries.
+-- An answer that does not change the record satisfies `DeliveryRow`.
 left_row : (y : ResponderRecord) (number : ℕ) (body : Body) (answer : Result Taking Refusal)
     → DeliveryRow y number body (answer, y)
 left_row y number body answer = moves (inr refl) (left y number body)
 
--- If each transition that may be the first to fit is a row of deliveries, the answer is one.
+-- If each transition that may be the first to fit satisfies `DeliveryRow`, so does the answer.
 transition : (y : ResponderRecord) (number : ℕ) (body : Body) (fits : Bool)
     (here others : Result Taking Refusal × ResponderRecord)
     → (fits ≡ true → DeliveryRow y number body here) → (fits ≡ false → DeliveryRow y number body others)
     → DeliveryRow y number body (if fits then here else others)
 transition y number body fits here others = cond_both fits here others (DeliveryRow y number body)
 
--- In IN-PROCESS and CONDITIONAL, the answer to a no is a row of deliveries.
+-- In IN-PROCESS and CONDITIONAL, the answer to a no satisfies `DeliveryRow`.
 answers_row : (y : ResponderRecord) (number c : ℕ) (next : Result ℕ Refusal)
     → is_among (InProcess ∷ Conditional ∷ []) y.state ≡ true
     → DeliveryRow y number (types.ConditionalReply c false) (answers_no y next)
@@ -197,7 +198,7 @@ answers_row y number c (Ok n) waiting =
     replies_no refl refl (issues_no y.txn y.state y.accepted y.last_cancel y.last_renew y.received y.request y.issued waiting)
 answers_row y number c (Err refusal) waiting = left_row y number _ _
 
--- The answer to an APDU that is not refused is a row of deliveries.
+-- The answer to an admitted APDU satisfies `DeliveryRow`.
 message_row : (y : ResponderRecord) (a : Apdu) (body : Body) → DeliveryRow y a.number body (take_message y a body)
 message_row y a (types.IllRequest expiry item) =
     transition y _ _ (is_among (Idle ∷ []) y.state) _ _
@@ -238,19 +239,20 @@ message_row y a types.Returned =
     transition y _ _ (is_among (Returned ∷ CheckedIn ∷ []) y.state) _ _ (λ _. left_row y _ _ _) (λ _. left_row y _ _ _))
 message_row y a other = left_row y a.number _ _
 
--- A refusal is a row of deliveries, and the answer to an admitted APDU stays one.
+-- If the answer to an admitted APDU satisfies `DeliveryRow`, so does the answer to one that may be refused.
 by_admission : (y : ResponderRecord) (number : ℕ) (body : Body) (refused : Option Refusal)
     (answer : Result Taking Refusal × ResponderRecord)
     → DeliveryRow y number body answer → DeliveryRow y number body (unless_refused refused y answer)
 by_admission y number body None answer row = row
 by_admission y number body (Some refusal) answer row = left_row y number body (Err refusal)
 
--- The answer to each APDU is a row of deliveries.
+-- The answer to each APDU satisfies `DeliveryRow`.
 delivery_row : (y : ResponderRecord) (a : Apdu) → DeliveryRow y a.number a.body (takes y a)
 delivery_row y a = by_admission y a.number a.body (first_refusal y.txn (not (is_requesters a.body)) a) (take_message y a a.body)
     (message_row y a a.body)
 
--- If P holds after each move, and after an answered no, it holds after a row of deliveries.
+-- If `P` holds after each change that satisfies `Moves`, and after an answered no, it holds after each answer with
+-- `DeliveryRow`.
 of_row : (P : ResponderRecord → Type 0) (y : ResponderRecord) (number : ℕ) (body : Body)
     (answer : Result Taking Refusal × ResponderRecord)
     → DeliveryRow y number body answer
@@ -262,7 +264,7 @@ of_row P y number body answer (moves quiet how) where_moved where_answered = whe
 of_row P y number body answer (replies_no said same how) where_moved where_answered =
     subst (λ r. P r.1) (sym same) (where_answered said how)
 
--- If P holds after each move, and after an answered no, it holds after each message.
+-- If `P` holds after each change that satisfies `Moves`, and after an answered no, it holds after each message.
 pub of_takes : (P : ResponderRecord → Type 0) (y : ResponderRecord) (a : Apdu)
     → (Moves y a.number a.body (takes y a).1 → P (takes y a).1)
     → (declines a.body ≡ true → Issues y (types.IllAnswer results.Unfilled) NotSupplied
@@ -270,13 +272,13 @@ pub of_takes : (P : ResponderRecord → Type 0) (y : ResponderRecord) (a : Apdu)
     → P (takes y a).1
 of_takes P y a = of_row P y a.number a.body (takes y a) (delivery_row y a)
 
--- A row of deliveries is taken, or leaves the record.
+-- An answer that satisfies `DeliveryRow` is `Taken`, or changes nothing.
 row_quiet : (y : ResponderRecord) (number : ℕ) (body : Body) (answer : Result Taking Refusal × ResponderRecord)
     → DeliveryRow y number body answer → (answer.0 ≡ Ok Taken) ⊎ (answer.1 ≡ y)
 row_quiet y number body answer (moves quiet how) = quiet
 row_quiet y number body answer (replies_no said same how) = inl (ap (λ r. r.0) same)
 
--- A message that is not taken leaves the record.
+-- A message that is not `Taken` changes nothing.
 pub takes_quiet : (y : ResponderRecord) (a : Apdu) → ((takes y a).0 ≡ Ok Taken) ⊎ ((takes y a).1 ≡ y)
 takes_quiet y a = row_quiet y a.number a.body (takes y a) (delivery_row y a)
 
@@ -284,7 +286,7 @@ takes_quiet y a = row_quiet y a.number a.body (takes y a) (delivery_row y a)
 ok_is : (x y : ResponderRecord) → ◌≡◌ {A = Result ResponderRecord Refusal} (Ok x) (Ok y) → x ≡ y
 ok_is x y h = search rules
 
--- If P holds after each transition that is found, it holds of the record after a deed.
+-- If `P` holds after each transition found, it holds of the record after a deed.
 by_transition : (P : ResponderRecord → Type 0) (y new : ResponderRecord) (found : Result Transition Refusal)
     (number : Result ℕ Refusal)
     → ((transition : Transition) → found ≡ Ok transition → P (record_after y transition)) → acts_by y found number ≡ Ok new
@@ -294,7 +296,7 @@ by_transition P y new (Ok transition) (Err refusal) leads done = search rules
 by_transition P y new (Ok transition) (Ok n) leads done =
     subst P (ok_is (record_after y transition) new done) (leads transition refl)
 
--- If P holds after each transition that keeps to `Issues`, it holds after a deed.
+-- If `P` holds after each transition that satisfies `Issues`, it holds after a deed.
 pub of_acts : (P : ResponderRecord → Type 0) (y new : ResponderRecord) (deed : Deed) (today : Date)
     → ((transition : Transition) → IsTransition y transition → Issues y transition.body transition.next
     → P (record_after y transition))
@@ -305,7 +307,7 @@ of_acts P y new deed today leads done =
     leads transition is (issues y.txn y.state y.accepted y.last_cancel y.last_renew y.received y.request y.issued transition is))
     done
 
--- After a deed a record has at most 255 messages, since a number was left.
+-- If a transition succeeds, the record after it has at most 255 messages, because a number was left.
 by_few : (y new : ResponderRecord) (found : Result Transition Refusal) (number : Result ℕ Refusal)
     → next_number y.issued ≡ number → acts_by y found number ≡ Ok new → length new.issued ≤ 255
 by_few y new (Err refusal) number next done = search rules
@@ -314,6 +316,6 @@ by_few y new (Ok transition) (Ok n) next done =
     subst (λ (r : ResponderRecord). length r.issued ≤ 255) (ok_is (record_after y transition) new done)
     (few_with_next y.txn y.issued transition.body n next)
 
--- A deed leaves at most 255 messages.
+-- The record after a deed has at most 255 messages.
 pub acts_few : (y new : ResponderRecord) (deed : Deed) (today : Date) → acts y deed today ≡ Ok new → length new.issued ≤ 255
 acts_few y new deed today = by_few y new (transition_of y deed today) (next_number y.issued) refl

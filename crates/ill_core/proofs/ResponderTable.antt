@@ -1,4 +1,4 @@
--- The rows of a responder's two tables give what its definitions give.
+-- Proves that the rows of a responder's two tables agree with its definitions.
 use Rattle.std.proofs.Common.{rules, ◌≡◌, ℕ, ◌+◌, nat_lt, length, IsOk, ◌&&◌, ◌||◌, not, Bool, true, false, List, Option, Some}
 use Rattle.std.proofs.Common.{None, Result, Ok, Err, if◌then◌else◌, refl, ap, subst, sym, ◌∙◌}
 use Rattle.std.specs.List.{list_all}
@@ -45,30 +45,30 @@ use Rattle.ill_core.proofs.ResponderKept.{message_kept, transition_kept}
 use Rattle.ill_core.proofs.ResponderRows.{of_acts}
 use Rattle.ill_core.proofs.TableLemmas.{answer_of, by_tests, found_by_tests, tests_true}
 
--- Returns the answer of a row to an APDU, and the record after it.
+-- Returns the answer that a row gives to an APDU, and the record after it.
 abbrev pub hit : ResponderRecord → Apdu → Body → Row RequesterKind → Result Taking Refusal × ResponderRecord
 hit y a body row = unless_refused (number_refusal row.4 y.issued) y
     (Ok (taking_of row.3 y.state), after_delivery y a row (number_in a body))
 
--- Returns the answer of the rows of a kind, as tests one after another.
+-- Returns the answer of the rows of a kind, computed by one test after another.
 abbrev pub tests_of : ResponderRecord → Apdu → Body → Option RequesterKind → Result Taking Refusal × ResponderRecord
 tests_of y a body None = conflict y.state y
 tests_of y a body (Some kind) =
     by_tests y.state (delivery_guards y (number_in a body)) (hit y a body) (conflict y.state y) (delivery_rows kind)
 
--- The rows of deliveries give what `take_message` gives, for this APDU and this record.
+-- The rows of deliveries agree with `take_message` for this APDU and this record.
 abbrev pub TestsAre : Body → State → Qualifiers → Option ℕ → Option ℕ → Option ℕ → Bool → Option Apdu → List Apdu → Apdu → Type 0
 TestsAre body state txn accepted last_cancel last_renew received request issued a =
     tests_of (responder_of txn state accepted last_cancel last_renew received request issued) a body (requester_kind body)
     ≡ take_message (responder_of txn state accepted last_cancel last_renew received request issued) a body
 
--- A no takes the last number that is left, or is refused.
+-- The row for a no issues the ILL-Answer with the next number, or is refused, as `answers_no` says.
 answered : (y : ResponderRecord) (next : Result ℕ Refusal)
     → unless_refused (refusal_of next) y (taken (issues_to y (types.IllAnswer Unfilled) NotSupplied)) ≡ answers_no y next
 answered y (Ok number) = refl
 answered y (Err refusal) = refl
 
--- The rows of deliveries give what `take_message` gives, for each APDU and each state.
+-- The rows of deliveries agree with `take_message` for each APDU and each state.
 pub tabled : (body : Body) (state : State) (txn : Qualifiers) (accepted last_cancel last_renew : Option ℕ) (received : Bool)
     (request : Option Apdu) (issued : List Apdu) (a : Apdu)
     → TestsAre body state txn accepted last_cancel last_renew received request issued a
@@ -86,29 +86,29 @@ tabled types.Received state txn accepted last_cancel last_renew false request is
 tabled body Idle txn accepted last_cancel last_renew received request issued a = refl
 tabled body state txn accepted last_cancel last_renew received request issued a = refl
 
--- The answer of the first row that fits is what the tests of the rows of its kind give.
+-- The answer of the first row that fits equals the tests of the rows of its kind.
 found : (y : ResponderRecord) (a : Apdu) (body : Body) (kind : Option RequesterKind)
     → answer_of (hit y a body) (conflict y.state y) (delivery_row_of y a body kind) ≡ tests_of y a body kind
 found y a body None = refl
 found y a body (Some kind) = found_by_tests y.state (delivery_guards y (number_in a body)) (hit y a body) (conflict y.state y)
     (delivery_rows kind)
 
--- The first row that fits an APDU gives its answer. If none fits, it is a conflict.
+-- The first row that fits an APDU gives the answer of `take_message`. If no row fits, the answer is a conflict.
 pub takes_row : (y : ResponderRecord) (a : Apdu)
     → answer_of (hit y a a.body) (conflict y.state y) (delivery_row y a) ≡ take_message y a a.body
 takes_row y a = found y a a.body (requester_kind a.body)
     ∙ tabled a.body y.state y.txn y.accepted y.last_cancel y.last_renew y.received y.request y.issued a
 
--- A row that is the first to fit an APDU gives its answer.
+-- If `row` is the first row that fits an APDU, it gives the answer of `take_message`.
 pub takes_this : (y : ResponderRecord) (a : Apdu) (row : Row RequesterKind) → delivery_row y a ≡ Some row
     → hit y a a.body row ≡ take_message y a a.body
 takes_this y a row is = ap (answer_of (hit y a a.body) (conflict y.state y)) (sym is) ∙ takes_row y a
 
--- If no row fits an APDU, it is a conflict.
+-- If no row fits an APDU, `take_message` answers a conflict.
 pub takes_none : (y : ResponderRecord) (a : Apdu) → delivery_row y a ≡ None → conflict y.state y ≡ take_message y a a.body
 takes_none y a is = ap (answer_of (hit y a a.body) (conflict y.state y)) (sym is) ∙ takes_row y a
 
--- If a row is the first to fit, and no number is wanting, it gives the record after it.
+-- If `row` is the first that fits, and no number is lacking, `take_message` gives the answer and the record of the row.
 pub takes_numbered : (y : ResponderRecord) (a : Apdu) (row : Row RequesterKind) → delivery_row y a ≡ Some row
     → number_refusal row.4 y.issued ≡ None
     → (Ok (taking_of row.3 y.state), after_delivery y a row (number_in a a.body)) ≡ take_message y a a.body
@@ -116,7 +116,8 @@ takes_numbered y a row is left =
     sym (ap (λ o. unless_refused o y (Ok (taking_of row.3 y.state), after_delivery y a row (number_in a a.body))) left)
     ∙ takes_this y a row is
 
--- The first row that fits an APDU of the transaction leads to a responder's record, if no number is wanting.
+-- If `row` is the first that fits an APDU of the transaction, and no number is lacking, the record after it satisfies
+-- the rules.
 pub delivery_kept : (y : ResponderRecord) (a : Apdu) (row : Row RequesterKind) → IsResponder y
     → is_same_txn a.txn y.txn ≡ true → delivery_row y a ≡ Some row
     → number_refusal row.4 y.issued ≡ None → IsResponder (after_delivery y a row (number_in a a.body))
@@ -124,7 +125,7 @@ delivery_kept y a row h same is left =
     subst (λ answer. IsResponder answer.1) (sym (takes_numbered y a row is left))
     (is_responder _ (message_kept y a a.body (responder_rules y h) same refl))
 
--- Parts that are those after a row make the record after it.
+-- A record with the parts after a row is the record after the row.
 pub after_is : (y : ResponderRecord) (a : Apdu) (row : Row RequesterKind) (k : ℕ) (txn : Qualifiers) (state : State)
     (accepted last_cancel last_renew : Option ℕ) (received : Bool) (request : Option Apdu) (issued : List Apdu)
     → txn ≡ y.txn → state ≡ next_state row.3 y.state → accepted ≡ number_after ACCEPTS row.4 y.accepted k
@@ -136,29 +137,29 @@ after_is y a row k txn state accepted last_cancel last_renew received request is
 
 -- ---- memory
 
--- Returns true if a row answers Taken: it leads to a state, or stays.
+-- Returns true if a row answers `Taken`: it leads to a state, or does not change it.
 abbrev is_new : Then → Bool
 is_new (To next) = true
 is_new Stay = true
 is_new other = false
 
--- A row that is new answers Taken.
+-- If `is_new` is true of an effect, its answer is `Taken`.
 new_taken : (what : Then) (state : State) → is_new what ≡ true → taking_of what state ≡ Taken
 new_taken (To next) state is = refl
 new_taken Stay state is = refl
 new_taken other state is = search rules
 
--- A row that takes memory is for a message that takes memory, and is news.
+-- Returns true if the row takes no memory, or the message takes memory and the row answers `Taken`.
 abbrev grows_new : ResponderRecord → Body → Row RequesterKind → Bool
 grows_new y body row = implies (grows row.4) (takes_memory y body && is_new row.3)
 
--- Each row of the kind that has the state takes memory only for news that takes it.
+-- Returns true if `grows_new` is true of each row of the kind that contains the state.
 abbrev kind_grows_new : ResponderRecord → Body → Option RequesterKind → Bool
 kind_grows_new y body None = true
 kind_grows_new y body (Some kind) =
     list_all (λ row. implies (has_state row.1 y.state) (grows_new y body row)) (delivery_rows kind)
 
--- The rows of each kind take memory only for news that takes it, in each state.
+-- `kind_grows_new` is true of each APDU and each state.
 grown : (body : Body) (state : State) (txn : Qualifiers) (accepted last_cancel last_renew : Option ℕ) (received : Bool)
     (request : Option Apdu) (issued : List Apdu)
     → kind_grows_new (responder_of txn state accepted last_cancel last_renew received request issued) body (requester_kind body)
@@ -170,7 +171,7 @@ grown (types.ConditionalReply c false) state txn accepted last_cancel last_renew
 grown body Idle txn accepted last_cancel last_renew received request issued = refl
 grown body state txn accepted last_cancel last_renew received request issued = refl
 
--- The first row that fits takes memory only for news that takes it, if the rows of its kind do.
+-- If `kind_grows_new` is true of a kind, `grows_new` is true of the first row that fits.
 found_grown : (y : ResponderRecord) (a : Apdu) (body : Body) (kind : Option RequesterKind) → kind_grows_new y body kind ≡ true
     → answer_of (grows_new y body) true (delivery_row_of y a body kind) ≡ true
 found_grown y a body None h = refl
@@ -179,7 +180,7 @@ found_grown y a body (Some kind) h =
     found_by_tests y.state guards (grows_new y body) true (delivery_rows kind)
     ∙ tests_true y.state guards (grows_new y body) (delivery_rows kind) h
 
--- A row that is the first to fit an APDU takes memory only for news that takes it.
+-- If `row` is the first that fits an APDU, `grows_new` is true of it.
 row_grown : (y : ResponderRecord) (a : Apdu) (row : Row RequesterKind) → delivery_row y a ≡ Some row
     → grows_new y a.body row ≡ true
 row_grown y a row is =
@@ -187,12 +188,12 @@ row_grown y a row is =
     ∙ found_grown y a a.body (requester_kind a.body)
     (grown a.body y.state y.txn y.accepted y.last_cancel y.last_renew y.received y.request y.issued)
 
--- If a implies b, and a holds, then b holds.
+-- If `a` implies `b`, and `a` is true, then `b` is true.
 implied : (a b : Bool) → implies a b ≡ true → a ≡ true → b ≡ true
 implied true b h is = h
 implied false b h is = search rules
 
--- If a row that fits is refused, the definitions allow that refusal.
+-- If `row` is the first that fits and is refused, the definitions allow this refusal.
 pub takes_refused : (y : ResponderRecord) (a : Apdu) (row : Row RequesterKind) (refusal : Refusal)
     → delivery_row y a ≡ Some row → IsRefused row.4 y.issued refusal
     → MayWantMemory (take_message y a a.body) (takes_memory y a.body) y (Err refusal) y
@@ -211,7 +212,8 @@ transition_by state None allowed body = Err (refusals.NotNow state)
 transition_by state (Some row) (Err refusal) body = Err refusal
 transition_by state (Some row) (Ok done) body = leads_to (next_state row.3 state) body
 
--- If the row gives `transition` with its date allowed, and the refusal without, it gives `if_allowed` of both.
+-- If a row gives `transition` when its date is allowed, and the refusal when it is forbidden, it gives `if_allowed` of
+-- both.
 dated : (state : State) (found : Option (Row ResponderKind)) (is_allowed : Bool) (forbids : Refusal)
     (transition : Result Transition Refusal) (body : Body)
     → transition_by state found (Ok tt) body ≡ transition → transition_by state found (Err forbids) body ≡ Err forbids
@@ -219,7 +221,7 @@ dated : (state : State) (found : Option (Row ResponderKind)) (is_allowed : Bool)
 dated state found true forbids transition body here forbidden = here
 dated state found false forbids transition body here forbidden = forbidden
 
--- The row of a deed and its date give its transition, in each state.
+-- The row of a deed and its date give the transition of the deed, in each state.
 deeded : (deed : Deed) (state : State) (y : ResponderRecord) (today : Date)
     → transition_by state (deed_row state deed) (check_date y deed today) (deed_body y deed)
     ≡ transition_of (record y { state = state }) deed today
@@ -282,7 +284,7 @@ state_alone (deeds.RenewAnswer None) state y number body = refl
 state_alone deed Idle y number body = refl
 state_alone deed state y number body = refl
 
--- If no row has the state, the deed is refused with `NotNow`.
+-- If no row of deeds fits, the deed is refused with `NotNow`.
 acts_none : (y : ResponderRecord) (deed : Deed) (today : Date) → deed_row y.state deed ≡ None
     → acts y deed today ≡ Err (refusals.NotNow y.state)
 acts_none y deed today is =
@@ -290,7 +292,7 @@ acts_none y deed today is =
     (sym (deeded deed y.state y today)
     ∙ ap (λ found. transition_by y.state found (check_date y deed today) (deed_body y deed)) is)
 
--- If a row has the state, the transition of the deed is that of the row and the date.
+-- If `row` fits a deed, the transition of the deed is that of the row and the date.
 row_transition : (y : ResponderRecord) (deed : Deed) (today : Date) (row : Row ResponderKind) (allowed : Result Unit Refusal)
     → deed_row y.state deed ≡ Some row → check_date y deed today ≡ allowed
     → transition_of y deed today ≡ transition_by y.state (Some row) allowed (deed_body y deed)
@@ -298,7 +300,7 @@ row_transition y deed today row allowed is date =
     sym (deeded deed y.state y today) ∙ (ap (λ found. transition_by y.state found (check_date y deed today) (deed_body y deed)) is
     ∙ ap (λ found. transition_by y.state (Some row) found (deed_body y deed)) date)
 
--- If a row has the state, the deed goes by the row, the date and the number.
+-- If `row` fits a deed, the row, the date and the number decide the outcome of the deed.
 acts_by_row : (y : ResponderRecord) (deed : Deed) (today : Date) (row : Row ResponderKind) (allowed : Result Unit Refusal)
     (number : Result ℕ Refusal)
     → deed_row y.state deed ≡ Some row → check_date y deed today ≡ allowed → next_number y.issued ≡ number
@@ -307,7 +309,7 @@ acts_by_row y deed today row allowed number is date next =
     ap (λ transition. acts_by y transition (next_number y.issued)) (row_transition y deed today row allowed is date)
     ∙ ap (acts_by y (transition_by y.state (Some row) allowed (deed_body y deed))) next
 
--- If a row, the date and a number allow a deed, it leads to the record after the row.
+-- If `row` fits a deed, the date allows it and a number is left, the deed leads to the record after the row.
 pub acts_this : (y : ResponderRecord) (deed : Deed) (today : Date) (row : Row ResponderKind) (number : ℕ)
     → deed_row y.state deed ≡ Some row → check_date y deed today ≡ Ok tt → next_number y.issued ≡ Ok number
     → acts y deed today ≡ Ok (after_deed y row number (deed_body y deed))
@@ -323,13 +325,13 @@ abbrev is_memory : {T : Type 0} → Result T Refusal → Bool
 is_memory (Err OutOfMemory) = true
 is_memory other = false
 
--- A check whose refusal is not `OutOfMemory` never gives it.
+-- If the refusal of a check is not `OutOfMemory`, the check never returns `OutOfMemory`.
 check_takes_none : (is_allowed : Bool) (refusal : Refusal) → is_memory {T = Unit} (Err refusal) ≡ false
     → is_memory (check is_allowed refusal) ≡ false
 check_takes_none true refusal other = refl
 check_takes_none false refusal other = other
 
--- The check of the dates never gives `OutOfMemory`.
+-- The check of the dates never returns `OutOfMemory`.
 date_takes_none : (y : ResponderRecord) (deed : Deed) (today : Date) → is_memory (check_date y deed today) ≡ false
 date_takes_none y (deeds.Ship due) today = check_takes_none (not (is_before due today)) refusals.DateEarlier refl
 date_takes_none y (deeds.RenewAnswer (Some d)) today = check_takes_none (is_after_due d (due_of y)) refusals.DateNotLater refl
@@ -337,17 +339,17 @@ date_takes_none y deeds.Overdue today = check_takes_none (is_after_due today (du
 date_takes_none y deeds.Expire today = check_takes_none (is_after_due today (expiry_of y.request)) refusals.NotExpired refl
 date_takes_none y deed today = refl
 
--- The next number is never refused with `OutOfMemory`.
+-- The refusal of the next number is never `OutOfMemory`.
 number_takes_none : (is_left : Bool) (number : ℕ) → is_memory (if is_left then Ok number else Err refusals.NumbersUsed) ≡ false
 number_takes_none true number = refl
 number_takes_none false number = refl
 
--- A result that is not `OutOfMemory` is not equal to it.
+-- If `is_memory` is false of a result, the result is not `OutOfMemory`.
 other_refusal : {T : Type 0} (refused : Result T Refusal) → is_memory refused ≡ false → refused ≡ Err OutOfMemory → ⊥
 other_refusal (Err OutOfMemory) other is = search rules
 other_refusal refused other is = search rules
 
--- If a row has the state and a date forbids the deed, the responder answers with that refusal.
+-- If `row` fits a deed and its date forbids it, the responder answers with the refusal of the date.
 pub acts_forbidden : (y : ResponderRecord) (deed : Deed) (today : Date) (row : Row ResponderKind) (refusal : Refusal)
     → deed_row y.state deed ≡ Some row → check_date y deed today ≡ Err refusal → Acts y deed today (Err refusal) y
 acts_forbidden y deed today row OutOfMemory is date =
@@ -355,7 +357,7 @@ acts_forbidden y deed today row OutOfMemory is date =
 acts_forbidden y deed today row refusal is date =
     (acts_by_row y deed today row (Err refusal) (next_number y.issued) is date refl, refl)
 
--- If a row and the date allow a deed and no number is left, the responder answers with that refusal.
+-- If `row` fits a deed, the date allows it and no number is left, the responder answers with the refusal of the number.
 pub acts_numberless : (y : ResponderRecord) (deed : Deed) (today : Date) (row : Row ResponderKind) (refusal : Refusal)
     → deed_row y.state deed ≡ Some row → check_date y deed today ≡ Ok tt → next_number y.issued ≡ Err refusal
     → Acts y deed today (Err refusal) y
@@ -363,20 +365,21 @@ acts_numberless y deed today row OutOfMemory is date next =
     absurd (other_refusal (next_number y.issued) (number_takes_none (nat_lt (length y.issued) 255) (length y.issued + 1)) next)
 acts_numberless y deed today row refusal is date next = (acts_by_row y deed today row (Ok tt) (Err refusal) is date next, refl)
 
--- If a row, the date and a number allow a deed, the responder may answer `OutOfMemory`, and its record stays.
+-- If `row` fits a deed, the date allows it and a number is left, the responder may answer `OutOfMemory`. The record
+-- does not change then.
 pub acts_wanting : (y : ResponderRecord) (deed : Deed) (today : Date) (row : Row ResponderKind) (number : ℕ)
     → deed_row y.state deed ≡ Some row → check_date y deed today ≡ Ok tt → next_number y.issued ≡ Ok number
     → Acts y deed today (Err OutOfMemory) y
 acts_wanting y deed today row number is date next = (subst IsOk (sym (acts_this y deed today row number is date next)) refl, refl)
 
--- A deed leads from a responder's record to a responder's record.
+-- The record after a deed satisfies the rules of a responder.
 pub deed_kept : (y new : ResponderRecord) (deed : Deed) (today : Date) → IsResponder y → acts y deed today ≡ Ok new
     → IsResponder new
 deed_kept y new deed today h done =
     of_acts IsResponder y new deed today
     (λ transition is how. is_responder _ (transition_kept y transition (responder_rules y h) is)) done
 
--- Parts that are those after a row make the record after the deed.
+-- A record with the parts after a row is the record after the deed.
 pub deed_is : (y : ResponderRecord) (row : Row ResponderKind) (k : ℕ) (body : Body) (txn : Qualifiers) (state : State)
     (accepted last_cancel last_renew : Option ℕ) (received : Bool) (issued : List Apdu)
     → txn ≡ y.txn → state ≡ next_state row.3 y.state → accepted ≡ number_after ACCEPTS row.4 y.accepted k

@@ -1,4 +1,4 @@
--- The transitions of a responder's table of actions, one by one.
+-- Lists the transitions of a responder's table of actions, and proves that each deed has one of them.
 use Rattle.std.proofs.Common.{rules, ◌≡◌, Bool, true, false, [], ◌∷◌, Some, None, Ok, refl, subst}
 use Rattle.std.specs.Option.{unwrap_or}
 use Rattle.ill_values.specs.Day.{Date}
@@ -16,7 +16,7 @@ use Rattle.ill_core.specs.Responder.{ResponderRecord, due_of}
 use Rattle.ill_core.specs.ResponderActions.{Transition, after_answer, if_allowed, no_date, transition_of}
 use Rattle.ill_core.proofs.TransitionLemmas.{transition_is, at_transition, is_this, no_more}
 
--- The transitions of a responder's deeds. Each has the states before, the state after and the APDU.
+-- The transition is one of those of a responder's deeds. Each has the states before, the state after and the APDU.
 pub data IsTransition (y : ResponderRecord) : Transition → Type 0 where
   answers : (answer : AnswerResult) → is_among (InProcess ∷ []) y.state ≡ true
       → IsTransition y (record { next = after_answer answer; body = types.IllAnswer answer })
@@ -41,23 +41,23 @@ pub data IsTransition (y : ResponderRecord) : Transition → Type 0 where
   expires : is_among (InProcess ∷ Conditional ∷ []) y.state ≡ true
       → IsTransition y (record { next = NotSupplied; body = types.Expired })
 
--- P holds of a transition that its date allows, if it holds of it whenever the date does.
+-- If `P` holds of a transition whenever its date allows it, `P` holds of each transition that is allowed.
 allowed : (P : Transition → Type 0) (is_allowed : Bool) (refusal : Refusal) (here transition : Transition)
     → (is_allowed ≡ true → P here) → if_allowed is_allowed refusal (Ok here) ≡ Ok transition → P transition
 allowed P true refusal here transition there e = subst P (transition_is here transition e) (there refl)
 allowed P false refusal here transition there e = search rules
 
--- RENEW/PENDING is one of the two states that wait for a renewal.
+-- RENEW/PENDING is one of RENEW/PENDING and RENEW/OVERDUE.
 one_of_renewing : (y : ResponderRecord) → is_among (RenewPending ∷ []) y.state ≡ true
     → is_among (RenewPending ∷ RenewOverdue ∷ []) y.state ≡ true
 one_of_renewing y is = search rules
 
--- RENEW/OVERDUE is one of the two states that wait for a renewal.
+-- RENEW/OVERDUE is one of RENEW/PENDING and RENEW/OVERDUE.
 other_renewing : (y : ResponderRecord) → is_among (RenewOverdue ∷ []) y.state ≡ true
     → is_among (RenewPending ∷ RenewOverdue ∷ []) y.state ≡ true
 other_renewing y is = search rules
 
--- The transition of a deed is one of these.
+-- The transition of each deed satisfies `IsTransition`.
 pub is_transition : (y : ResponderRecord) (deed : Deed) (today : Date) (transition : Transition)
     → transition_of y deed today ≡ Ok transition → IsTransition y transition
 is_transition y (deeds.Answer answer) today transition =

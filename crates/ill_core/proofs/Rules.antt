@@ -1,4 +1,4 @@
--- The tests of the rules of a record say what the rules say, one by one.
+-- Proves that the tests of a record hold if, and only if, each rule of the record holds.
 use Rattle.std.proofs.Common.{rules, ◌≡◌, ℕ, Bool, true, false, not, ◌&&◌, is_some, take, refl}
 use Rattle.std.proofs.lemmas.Bool.{and_from, and_parts, eqb-true, eq-eqb, not-true}
 use Rattle.ill_core.specs.Rules.{are_alike}
@@ -14,12 +14,12 @@ use Rattle.ill_core.proofs.IssuedLemmas.{numbered_prefix}
 use Rattle.ill_core.proofs.ResponderLists.{request_in_is}
 use Rattle.ill_core.specs.ResponderRules.{ResponderRules}
 
--- If two tests are alike, they are equal.
+-- If `are_alike a b` is true, `a` equals `b`.
 alike : (a b : Bool) → are_alike a b ≡ true → a ≡ b
 alike a true h = h
 alike a false h = not-true a h
 
--- Two equal tests are alike.
+-- If `a` equals `b`, `are_alike a b` is true.
 alike_from : (a b : Bool) → a ≡ b → are_alike a b ≡ true
 alike_from true true h = refl
 alike_from false false h = refl
@@ -31,7 +31,7 @@ not_from : (a : Bool) → a ≡ false → not a ≡ true
 not_from true h = search rules
 not_from false h = refl
 
--- A requester's record keeps each rule.
+-- A record that satisfies `IsRequester` satisfies each rule.
 pub requester_rules : (x : RequesterRecord) → IsRequester x → RequesterRules x
 unfolding requester.is_consistent
 requester_rules x h =
@@ -69,7 +69,7 @@ requester_rules x h =
       };
     }
 
--- A record that keeps each rule is a requester's.
+-- A record that satisfies each rule satisfies `IsRequester`.
 pub is_requester : (x : RequesterRecord) → RequesterRules x → IsRequester x
 unfolding requester.is_consistent
 is_requester x h =
@@ -82,7 +82,7 @@ is_requester x h =
     and_from _ _ (alike_from _ _ i.idle) (and_from _ _ (and_from _ _ i.received i.not_received) (
     and_from _ _ i.cancel (and_from _ _ i.renew (and_from _ _ (alike_from _ _ i.returned) i.declined))))))))
 
--- A responder's record keeps each rule.
+-- A record that satisfies `IsResponder` satisfies each rule.
 pub responder_rules : (y : ResponderRecord) → IsResponder y → ResponderRules y
 unfolding responder.is_consistent
 responder_rules y h =
@@ -122,7 +122,7 @@ responder_rules y h =
       ships_first = rising.1;
     }
 
--- A record that keeps each rule is a responder's.
+-- A record that satisfies each rule satisfies `IsResponder`.
 pub is_responder : (y : ResponderRecord) → ResponderRules y → IsResponder y
 unfolding responder.is_consistent
 is_responder y h =
@@ -135,7 +135,7 @@ is_responder y h =
     and_from _ _ (and_from _ _ (eq-eqb _ _ i.shipped) (and_from _ _ (alike_from _ _ i.checked_in) i.conditions)) (
     and_from _ _ h.accepted (and_from _ _ h.rising h.ships_first))))))
 
--- If the parts of standing `s` fit with the first `count` messages, the requester with them keeps its rules.
+-- If standing `s` fits the first `count` messages of `x`, the requester with both satisfies its rules.
 pub requester_back : (x : RequesterRecord) (s : requesters.Standing) (count : ℕ) → IsRequester x
     → (requester.parts_fit s.state (is_some s.held) (is_some s.due) s.checked_in
     && requester.issued_keeps_rules s.state (take count x.issued)) ≡ true
@@ -143,14 +143,14 @@ pub requester_back : (x : RequesterRecord) (s : requesters.Standing) (count : �
 unfolding requester.is_consistent
 requester_back x s count h fits = and_from _ _ (numbered_prefix x.txn 1 count x.issued (and_parts _ _ h).0) fits
 
--- If the requester with the parts of standing `s` and the first `count` messages keeps its rules, these fit together.
+-- If the requester with standing `s` and the first `count` messages satisfies its rules, both fit together.
 pub requester_back_fits : (x : RequesterRecord) (s : requesters.Standing) (count : ℕ) → IsRequester (requester.back_to s count x)
     → (requester.parts_fit s.state (is_some s.held) (is_some s.due) s.checked_in
     && requester.issued_keeps_rules s.state (take count x.issued)) ≡ true
 unfolding requester.is_consistent
 requester_back_fits x s count h = (and_parts _ _ h).1
 
--- If the parts of standing `s` fit with the first `count` messages, the responder with them keeps its rules.
+-- If standing `s` fits the first `count` messages of `y`, the responder with both satisfies its rules.
 pub responder_back : (y : ResponderRecord) (s : responders.Standing) (count : ℕ) → IsResponder y
     → (responder.parts_fit s.state (is_some (responder.request_in s.state y.request)) (is_some s.accepted) (is_some s.last_cancel)
     (is_some s.last_renew) s.received (is_none (take count y.issued))
@@ -162,7 +162,7 @@ responder_back y s count h fits =
     and_from _ _ (numbered_prefix y.txn 1 count y.issued numbered.0) (
     and_from _ _ (request_in_is y.txn s.state y.request (and_parts _ _ numbered.1).0) fits)
 
--- If the responder with the parts of standing `s` and the first `count` messages keeps its rules, these fit together.
+-- If the responder with standing `s` and the first `count` messages satisfies its rules, both fit together.
 pub responder_back_fits : (y : ResponderRecord) (s : responders.Standing) (count : ℕ) → IsResponder (responder.back_to s count y)
     → (responder.parts_fit s.state (is_some (responder.request_in s.state y.request)) (is_some s.accepted) (is_some s.last_cancel)
     (is_some s.last_renew) s.received (is_none (take count y.issued))

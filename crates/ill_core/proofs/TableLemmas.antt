@@ -1,5 +1,5 @@
--- The first row that fits, as a list of tests. Each row that has the state is a test, and within it each guard that it
--- asks for is one.
+-- Turns the first row that fits into a list of tests. Each row that contains the state is a test. Within it, each guard
+-- that the row asks for is a test.
 use Rattle.std.proofs.Common.{◌≡◌, ℕ, Bool, true, false, ◌&&◌, ◌||◌, ◌==◌, bit_and, List, [], ◌∷◌, ◌++◌, Option, Some, None}
 use Rattle.std.proofs.Common.{if◌then◌else◌, refl, ap, sym, ◌∙◌}
 use Rattle.std.specs.List.{find, list_all}
@@ -10,26 +10,27 @@ use Rattle.ill_core.specs.declared.table.Row.{Row}
 use Rattle.ill_core.specs.Rules.{implies}
 use Rattle.ill_core.specs.Tables.{Guard, has_state, are_met, fits}
 
--- Returns the answer of a row, or `miss` if there is none.
+-- Returns `hit` of the row, or `miss` if there is no row.
 abbrev pub answer_of : {K A : Type 0} → (Row K → A) → A → Option (Row K) → A
 answer_of hit miss None = miss
 answer_of hit miss (Some row) = hit row
 
--- Returns `hit` if each guard holds that `asked` has a bit of, and else `miss`. Each guard is a test of its own.
+-- Returns `hit` if each guard whose bit is set in `asked` holds, and else `miss`. Each guard is a separate test.
 abbrev pub where_asked : {A : Type 0} → ℕ → List Guard → A → A → A
 where_asked asked [] hit miss = hit
 where_asked asked (f ∷ guards) hit miss =
     if bit_and asked f.bit == 0 then where_asked asked guards hit miss
     else (if f.holds then where_asked asked guards hit miss else miss)
 
--- Returns `hit` of the first row that has `state` and whose guards hold, or `miss`, test by test.
+-- Returns `hit` of the first row that contains `state` and whose guards hold, or `miss`. Each state and each guard is a
+-- separate test.
 abbrev pub by_tests : {K A : Type 0} → State → List Guard → (Row K → A) → A → List (Row K) → A
 by_tests state guards hit miss [] = miss
 by_tests state guards hit miss (row ∷ rows) =
     if has_state row.1 state then where_asked row.2 guards (hit row) (by_tests state guards hit miss rows)
     else by_tests state guards hit miss rows
 
--- To test a guard and the others at once gives what testing one after the other gives.
+-- The test of a guard and of the others at once equals the test of the guard followed by that of the others.
 guard_met : {A : Type 0} (is_unasked holds others : Bool) (hit miss : A)
     → (if (is_unasked || holds) && others then hit else miss)
     ≡ (if is_unasked then (if others then hit else miss) else (if holds then (if others then hit else miss) else miss))
@@ -37,7 +38,7 @@ guard_met true holds others hit miss = refl
 guard_met false true others hit miss = refl
 guard_met false false others hit miss = refl
 
--- The test of all guards at once gives what the tests of each guard give.
+-- The test of all guards at once equals the separate tests of each guard.
 met_asked : {A : Type 0} (asked : ℕ) (guards : List Guard) (hit miss : A)
     → (if are_met asked guards then hit else miss) ≡ where_asked asked guards hit miss
 met_asked asked [] hit miss = refl
@@ -46,7 +47,7 @@ met_asked asked (f ∷ guards) hit miss =
     ∙ ap (λ others. if bit_and asked f.bit == 0 then others else (if f.holds then others else miss))
     (met_asked asked guards hit miss)
 
--- The test of a row gives what a test of its state gives, and within it one of its guards.
+-- The test of a row equals the test of its state, followed by the test of its guards.
 row_fits : {K A : Type 0} (is_in is_met : Bool) (hit : Row K → A) (miss : A) (row : Row K) (others : Option (Row K))
     → answer_of hit miss (if is_in && is_met then Some row else others)
     ≡ (if is_in then (if is_met then hit row else answer_of hit miss others) else answer_of hit miss others)
@@ -54,7 +55,7 @@ row_fits true true hit miss row others = refl
 row_fits true false hit miss row others = refl
 row_fits false is_met hit miss row others = refl
 
--- The answer of the first row that fits is what the tests of the rows give, one after another.
+-- The answer of the first row that fits equals the separate tests of the rows, one after another.
 pub found_by_tests : {K A : Type 0} (state : State) (guards : List Guard) (hit : Row K → A) (miss : A) (rows : List (Row K))
     → answer_of hit miss (find (fits state guards) rows) ≡ by_tests state guards hit miss rows
 found_by_tests state guards hit miss [] = refl
@@ -65,24 +66,24 @@ found_by_tests state guards hit miss (row ∷ rows) =
     ∙ ap (λ others. if has_state row.1 state then where_asked row.2 guards (hit row) others else others)
     (found_by_tests state guards hit miss rows))
 
--- If no guard is asked for, all guards that are asked for hold.
+-- If `asked` is 0, all guards with a bit in `asked` hold.
 pub none_asked : (guards : List Guard) → are_met 0 guards ≡ true
 none_asked [] = refl
 none_asked (f ∷ guards) = none_asked guards
 
--- The guards of two lists hold together exactly if those of each list do.
+-- The guards of two lists hold together if, and only if, the guards of each list hold.
 pub both_met : (asked : ℕ) (guards others : List Guard) (a b : Bool) → a ≡ are_met asked guards
     → b ≡ are_met asked others → (a && b) ≡ are_met asked (guards ++ others)
 both_met asked guards others a b met met_too =
     ap (λ c. c && b) met ∙ (ap (λ c. are_met asked guards && c) met_too
     ∙ sym (list_all-append (λ f. (bit_and asked f.bit == 0) || f.holds) guards others))
 
--- If both sides of a choice are true, the choice is true.
+-- If both branches of a choice are true, the choice is true.
 either : (b here others : Bool) → here ≡ true → others ≡ true → (if b then here else others) ≡ true
 either true here others h o = h
 either false here others h o = o
 
--- If `here` and `others` are true, the tests of the guards give true.
+-- If `here` and `others` are true, `where_asked` returns true.
 asked_true : (asked : ℕ) (guards : List Guard) (here others : Bool) → here ≡ true → others ≡ true
     → where_asked asked guards here others ≡ true
 asked_true asked [] here others h o = h
@@ -91,13 +92,13 @@ asked_true asked (f ∷ guards) here others h o =
     (if f.holds then where_asked asked guards here others else others) (asked_true asked guards here others h o)
     (either f.holds (where_asked asked guards here others) others (asked_true asked guards here others h o) o)
 
--- If a row that has the state gives true, and the other rows do, then the tests give true.
+-- If a row that contains the state gives true, and the other rows give true, the tests of all rows give true.
 row_true : (is_in : Bool) (asked : ℕ) (guards : List Guard) (here others : Bool) → implies is_in here ≡ true → others ≡ true
     → (if is_in then where_asked asked guards here others else others) ≡ true
 row_true true asked guards here others h o = asked_true asked guards here others h o
 row_true false asked guards here others h o = o
 
--- If `holds` is true of each row that has the state, it is true of the one that is found.
+-- If `holds` is true of each row that contains the state, the tests of the rows give true.
 pub tests_true : {K : Type 0} (state : State) (guards : List Guard) (holds : Row K → Bool) (rows : List (Row K))
     → list_all (λ row. implies (has_state row.1 state) (holds row)) rows ≡ true → by_tests state guards holds true rows ≡ true
 tests_true state guards holds [] h = refl

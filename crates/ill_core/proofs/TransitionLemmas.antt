@@ -1,4 +1,4 @@
--- Transitions of a table of actions, of either role.
+-- Proves statements on the transitions of a table of actions, of either role.
 use Rattle.std.proofs.Common.{rules, arith, ◌≡◌, ℕ, ◌≤◌, Bool, true, false, List, [], ◌∷◌, length, length-append, Result, Ok, Err}
 use Rattle.std.proofs.Common.{if◌then◌else◌, refl, subst}
 use Rattle.ill_values.specs.TxnId.{Qualifiers}
@@ -12,24 +12,24 @@ use Rattle.ill_core.proofs.IssuedLemmas.{next_of}
 pub transition_is : {R : Type 0} (here row : R) → ◌≡◌ {A = Result R Refusal} (Ok here) (Ok row) → here ≡ row
 transition_is here row e = search rules
 
--- P holds of the first transition that fits, if it holds of each transition that may be the first.
+-- `P` holds of the first transition that fits, if it holds of each transition that may be the first.
 pub at_transition : {R : Type 0} (P : R → Type 0) (is_here : Bool) (here others : Result R Refusal) (row : R)
     → (is_here ≡ true → here ≡ Ok row → P row) → (others ≡ Ok row → P row)
     → (if is_here then here else others) ≡ Ok row → P row
 at_transition P true here others row leads after e = leads refl e
 at_transition P false here others row leads after e = after e
 
--- If P holds of the transition `here`, it holds of each `row` that is equal to it as a result.
+-- If `P` holds of the transition `here`, it holds of each `row` that is equal to it as a result.
 pub is_this : {R : Type 0} (P : R → Type 0) (here row : R) → P here → ◌≡◌ {A = Result R Refusal} (Ok here) (Ok row) → P row
 is_this P here row there e = subst P (transition_is here row e) there
 
--- A refusal is no transition, so nothing is left to prove after the last one.
+-- A refusal is not a transition, so any statement holds after the last transition.
 pub no_more : {R : Type 0} (P : R → Type 0) (refusal : Refusal) (row : R) → Err refusal ≡ Ok row → P row
 no_more P refusal row e = search rules
 
 -- ---- numbers
 
--- A list to which a number is left has at most 255 APDUs with the next one.
+-- If a number is left, the list with the next APDU has at most 255 APDUs.
 pub few_with_next : (txn : Qualifiers) (apdus : List Apdu) (body : Body) (number : ℕ) → next_number apdus ≡ Ok number
     → length (with_next txn apdus body) ≤ 255
 few_with_next txn apdus body number left =

@@ -1,4 +1,4 @@
--- A loan that is over stays over.
+-- Proves that a message does not reopen a loan that is over.
 use Rattle.std.proofs.Common.{rules, ◌≡◌, ℕ, true, [], ◌∷◌, ap, sym, refl}
 use Rattle.ill_values.specs.declared.apdu.Apdu.{Apdu}
 use Rattle.ill_values.specs.declared.apdu.Body.{Body}
@@ -15,11 +15,11 @@ use Rattle.ill_core.proofs.RequesterMoves.{Leads, delivery_leads}
 use Rattle.ill_core.proofs.ResponderMoves as changes
 use Rattle.ill_core.proofs.ResponderMoves.{Change, takes_changes}
 
--- A requester in RETURNED that says that it is over knows that the item was checked in.
+-- If the turn of a requester in RETURNED is `Over`, it has the checked-in mark.
 is_marked : (x : RequesterRecord) → is_among (Returned ∷ []) x.state ≡ true → requester_turn x ≡ Over → x.checked_in ≡ true
 is_marked x back over = search rules
 
--- A requester that says that it is over is led nowhere.
+-- If the turn of requester `x` is `Over`, no message changes its record.
 led_nowhere : (x new : RequesterRecord) (number : ℕ) (body : Body) → Leads x number body new → requester_turn x ≡ Over → new ≡ x
 led_nowhere x new number body (moves.nowhere _) over = refl
 led_nowhere x new number body (moves.holds_conditions at) over = search rules
@@ -36,11 +36,11 @@ led_nowhere x new number body (moves.recalls at) over = search rules
 led_nowhere x new number body (moves.checks_in at) over =
     ap (λ marked. record x { checked_in = marked }) (sym (is_marked x at over))
 
--- A message leaves a requester that says that it is over.
+-- If the turn of requester `x` is `Over`, APDU `a` does not change its record.
 pub requester_stays : (x : RequesterRecord) (a : Apdu) → requester_turn x ≡ Over → (requester.takes x a).1 ≡ x
 requester_stays x a = led_nowhere x _ a.number a.body (delivery_leads x a)
 
--- A responder that says that it is over keeps its state.
+-- If the turn of responder `y` is `Over`, a change does not change its state.
 keeps_state : (y new : ResponderRecord) (number : ℕ) (body : Body) → Change y number body new
     → responder_turn y ≡ Over → new.state ≡ y.state
 keeps_state y new number body (changes.leaves _) over = refl
@@ -53,6 +53,6 @@ keeps_state y new number body (changes.renews wished later at) over = search rul
 keeps_state y new number body (changes.renews_late wished later at) over = search rules
 keeps_state y new number body (changes.returns at) over = search rules
 
--- A message leaves the state of a responder that says that it is over.
+-- If the turn of responder `y` is `Over`, APDU `a` does not change its state.
 pub responder_stays : (y : ResponderRecord) (a : Apdu) → responder_turn y ≡ Over → (responder.takes y a).1.state ≡ y.state
 responder_stays y a = keeps_state y _ a.number a.body (takes_changes y a)

@@ -1,4 +1,4 @@
--- Proves the contract of `text::is_item`: the answer of `from_utf8` agrees with `is_utf8`.
+-- Proves the contract of `text::is_item`: the result of `from_utf8` agrees with `is_utf8`.
 use Rattle.std.proofs.Common.{◌∙◌}
 use Rattle.ill_values.proofs.Texts.{is_ok-from_utf8}
 use Rattle.ill_values.proofs.text.is_item.Goals as goal

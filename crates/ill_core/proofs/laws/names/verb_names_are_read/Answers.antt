@@ -1,4 +1,4 @@
--- Answers the contract of `verb_names_are_read` (`src/laws/names.rt`).
+-- Proves the contract of `verb_names_are_read` (`src/laws/names.rt`).
 use Rattle.ill_core.specs.Verbs.{verb_name, all_verbs}
 use Rattle.ill_core.proofs.NameLemmas.{verb_again}
 use Rattle.ill_core.proofs.laws.names.verb_names_are_read.Goals as goal

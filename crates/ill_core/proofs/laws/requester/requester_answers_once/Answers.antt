@@ -1,4 +1,4 @@
--- Answers the contract of `requester_answers_once` (`src/laws/requester.rt`).
+-- Proves the contract of `requester_answers_once` (`src/laws/requester.rt`).
 use Rattle.ill_core.proofs.RequesterLaws.{acts_once, takes_once}
 use Rattle.ill_core.proofs.laws.requester.requester_answers_once.Goals as goal
 

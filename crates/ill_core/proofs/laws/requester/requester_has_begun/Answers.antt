@@ -1,4 +1,4 @@
--- Answers the contract of `requester_has_begun` (`src/laws/requester.rt`).
+-- Proves the contract of `requester_has_begun` (`src/laws/requester.rt`).
 use Rattle.ill_core.proofs.RequesterLaws.{acts_begun, takes_begun}
 use Rattle.ill_core.proofs.laws.requester.requester_has_begun.Goals as goal
 

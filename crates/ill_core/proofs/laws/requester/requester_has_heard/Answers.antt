@@ -1,4 +1,4 @@
--- Answers the contract of `requester_has_heard` (`src/laws/requester.rt`).
+-- Proves the contract of `requester_has_heard` (`src/laws/requester.rt`).
 use Rattle.ill_core.proofs.RequesterHearing.{takes_heard, takes_hearing}
 use Rattle.ill_core.proofs.laws.requester.requester_has_heard.Goals as goal
 

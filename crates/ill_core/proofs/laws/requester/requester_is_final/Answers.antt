@@ -1,4 +1,4 @@
--- Answers the contract of `requester_is_final` (`src/laws/requester.rt`).
+-- Proves the contract of `requester_is_final` (`src/laws/requester.rt`).
 use Rattle.ill_core.proofs.RequesterLaws.{acts_final, takes_final}
 use Rattle.ill_core.proofs.laws.requester.requester_is_final.Goals as goal
 

@@ -1,4 +1,5 @@
--- Answers the contract of `requester_issues` (`src/laws/requester.rt`).
+-- Proves the contract of `requester_issues` (`src/laws/requester.rt`), each clause by the lemma on all wishes or on all
+-- messages.
 use Rattle.ill_core.proofs.RequesterRows.{acts_few}
 use Rattle.ill_core.proofs.RequesterLaws.{acts_issue, takes_issue}
 use Rattle.ill_core.proofs.laws.requester.requester_issues.Goals as goal

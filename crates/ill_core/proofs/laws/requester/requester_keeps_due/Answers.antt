@@ -1,4 +1,4 @@
--- Answers the contract of `requester_keeps_due` (`src/laws/requester.rt`).
+-- Proves the contract of `requester_keeps_due` (`src/laws/requester.rt`).
 use Rattle.ill_core.proofs.RequesterLaws.{acts_due, takes_due}
 use Rattle.ill_core.proofs.laws.requester.requester_keeps_due.Goals as goal
 

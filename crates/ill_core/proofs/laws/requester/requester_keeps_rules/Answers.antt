@@ -1,4 +1,4 @@
--- Answers the contract of `requester_keeps_rules` (`src/laws/requester.rt`).
+-- Proves the contract of `requester_keeps_rules` (`src/laws/requester.rt`).
 use Rattle.ill_core.proofs.RequesterLaws.{acts_kept, takes_kept}
 use Rattle.ill_core.proofs.laws.requester.requester_keeps_rules.Goals as goal
 

@@ -1,4 +1,4 @@
--- Answers the contract of `requester_keeps_txn` (`src/laws/requester.rt`).
+-- Proves the contract of `requester_keeps_txn` (`src/laws/requester.rt`).
 use Rattle.ill_core.proofs.RequesterLaws.{acts_txn, takes_txn}
 use Rattle.ill_core.proofs.laws.requester.requester_keeps_txn.Goals as goal
 

@@ -1,4 +1,4 @@
--- Answers the contract of `requester_reflects` (`src/laws/requester.rt`).
+-- Proves the contract of `requester_reflects` (`src/laws/requester.rt`).
 use Rattle.ill_core.proofs.RequesterReflecting.{acts_reflects, takes_reflects}
 use Rattle.ill_core.proofs.laws.requester.requester_reflects.Goals as goal
 

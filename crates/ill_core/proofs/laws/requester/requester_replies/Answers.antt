@@ -1,4 +1,4 @@
--- Answers the contract of `requester_replies` (`src/laws/requester.rt`).
+-- Proves the contract of `requester_replies` (`src/laws/requester.rt`).
 use Rattle.ill_core.proofs.RequesterLaws.{acts_reply}
 use Rattle.ill_core.proofs.laws.requester.requester_replies.Goals as goal
 

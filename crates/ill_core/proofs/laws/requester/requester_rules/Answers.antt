@@ -1,4 +1,4 @@
--- Answers the contract of `requester_rules` (`src/laws/requester.rt`).
+-- Proves the contract of `requester_rules` (`src/laws/requester.rt`).
 use Rattle.ill_core.proofs.Rules.{requester_rules, is_requester}
 use Rattle.ill_core.proofs.laws.requester.requester_rules.Goals as goal
 

@@ -1,4 +1,4 @@
--- Answers the contract of `requester_shows` (`src/laws/requester.rt`).
+-- Proves the contract of `requester_shows` (`src/laws/requester.rt`).
 use Rattle.ill_core.proofs.RequesterLaws.{acts_shows, takes_shows}
 use Rattle.ill_core.proofs.laws.requester.requester_shows.Goals as goal
 

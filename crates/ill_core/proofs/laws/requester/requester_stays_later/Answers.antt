@@ -1,4 +1,4 @@
--- Answers the contract of `requester_stays_later` (`src/laws/requester.rt`).
+-- Proves the contract of `requester_stays_later` (`src/laws/requester.rt`).
 use Rattle.ill_core.proofs.RequesterLaws.{acts_later, takes_later}
 use Rattle.ill_core.proofs.laws.requester.requester_stays_later.Goals as goal
 

@@ -1,4 +1,4 @@
--- Answers the contract of `responder_answers_last` (`src/laws/responder.rt`).
+-- Proves the contract of `responder_answers_last` (`src/laws/responder.rt`).
 use Rattle.ill_core.proofs.ResponderLaws.{acts_answer_last, takes_answer_last}
 use Rattle.ill_core.proofs.laws.responder.responder_answers_last.Goals as goal
 

@@ -1,4 +1,4 @@
--- Answers the contract of `responder_answers_once` (`src/laws/responder.rt`).
+-- Proves the contract of `responder_answers_once` (`src/laws/responder.rt`).
 use Rattle.ill_core.proofs.ResponderLaws.{acts_once, takes_once}
 use Rattle.ill_core.proofs.laws.responder.responder_answers_once.Goals as goal
 

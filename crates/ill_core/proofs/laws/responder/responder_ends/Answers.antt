@@ -1,4 +1,4 @@
--- Answers the contract of `responder_ends` (`src/laws/responder.rt`).
+-- Proves the contract of `responder_ends` (`src/laws/responder.rt`).
 use Rattle.ill_core.proofs.ResponderLaws.{acts_end, takes_end}
 use Rattle.ill_core.proofs.laws.responder.responder_ends.Goals as goal
 

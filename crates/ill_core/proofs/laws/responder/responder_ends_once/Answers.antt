@@ -1,4 +1,4 @@
--- Answers the contract of `responder_ends_once` (`src/laws/responder.rt`).
+-- Proves the contract of `responder_ends_once` (`src/laws/responder.rt`).
 use Rattle.ill_core.proofs.ResponderLaws.{acts_end_once, takes_end_once}
 use Rattle.ill_core.proofs.laws.responder.responder_ends_once.Goals as goal
 

@@ -1,4 +1,4 @@
--- Answers the contract of `responder_enters_by_end` (`src/laws/responder.rt`).
+-- Proves the contract of `responder_enters_by_end` (`src/laws/responder.rt`).
 use Rattle.ill_core.proofs.ResponderLaws.{acts_enter, takes_enter}
 use Rattle.ill_core.proofs.laws.responder.responder_enters_by_end.Goals as goal
 

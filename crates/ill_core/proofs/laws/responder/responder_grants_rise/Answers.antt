@@ -1,4 +1,4 @@
--- Answers the contract of `responder_grants_rise` (`src/laws/responder.rt`).
+-- Proves the contract of `responder_grants_rise` (`src/laws/responder.rt`).
 use Rattle.ill_core.proofs.ResponderGrants.{acts_rise, takes_rise}
 use Rattle.ill_core.proofs.laws.responder.responder_grants_rise.Goals as goal
 

@@ -1,4 +1,4 @@
--- Answers the contract of `responder_has_answered_last` (`src/laws/responder.rt`).
+-- Proves the contract of `responder_has_answered_last` (`src/laws/responder.rt`).
 use Rattle.ill_core.proofs.ResponderQuestions.{acts_has_answered, takes_has_answered}
 use Rattle.ill_core.proofs.laws.responder.responder_has_answered_last.Goals as goal
 

@@ -1,4 +1,4 @@
--- Answers the contract of `responder_has_begun` (`src/laws/responder.rt`).
+-- Proves the contract of `responder_has_begun` (`src/laws/responder.rt`).
 use Rattle.ill_core.proofs.ResponderLaws.{acts_begun, request_begins}
 use Rattle.ill_core.proofs.laws.responder.responder_has_begun.Goals as goal
 

@@ -1,4 +1,4 @@
--- Answers the contract of `responder_has_heard` (`src/laws/responder.rt`).
+-- Proves the contract of `responder_has_heard` (`src/laws/responder.rt`).
 use Rattle.ill_core.proofs.ResponderMoves.{takes_heard, takes_stays}
 use Rattle.ill_core.proofs.laws.responder.responder_has_heard.Goals as goal
 

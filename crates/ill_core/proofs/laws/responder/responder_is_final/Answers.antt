@@ -1,4 +1,4 @@
--- Answers the contract of `responder_is_final` (`src/laws/responder.rt`).
+-- Proves the contract of `responder_is_final` (`src/laws/responder.rt`).
 use Rattle.ill_core.proofs.ResponderLaws.{acts_final, takes_final}
 use Rattle.ill_core.proofs.laws.responder.responder_is_final.Goals as goal
 

@@ -1,4 +1,4 @@
--- Answers the contract of `responder_is_overdue` (`src/laws/responder.rt`).
+-- Proves the contract of `responder_is_overdue` (`src/laws/responder.rt`).
 use Rattle.ill_core.proofs.ResponderOverdue.{acts_overdue, takes_overdue}
 use Rattle.ill_core.proofs.laws.responder.responder_is_overdue.Goals as goal
 

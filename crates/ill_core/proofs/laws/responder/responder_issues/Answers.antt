@@ -1,4 +1,5 @@
--- Answers the contract of `responder_issues` (`src/laws/responder.rt`).
+-- Proves the contract of `responder_issues` (`src/laws/responder.rt`), each clause by the lemma on all deeds or on all
+-- messages.
 use Rattle.ill_core.proofs.ResponderMoves.{takes_few}
 use Rattle.ill_core.proofs.ResponderRows.{acts_few}
 use Rattle.ill_core.proofs.ResponderLaws.{acts_issue, takes_issue}

@@ -1,4 +1,4 @@
--- Answers the contract of `responder_keeps_last` (`src/laws/responder.rt`).
+-- Proves the contract of `responder_keeps_last` (`src/laws/responder.rt`).
 use Rattle.ill_core.proofs.ResponderLaws.{acts_keep_last, takes_keep_last}
 use Rattle.ill_core.proofs.laws.responder.responder_keeps_last.Goals as goal
 

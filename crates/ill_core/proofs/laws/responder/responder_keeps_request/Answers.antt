@@ -1,4 +1,4 @@
--- Answers the contract of `responder_keeps_request` (`src/laws/responder.rt`).
+-- Proves the contract of `responder_keeps_request` (`src/laws/responder.rt`).
 use Rattle.ill_core.proofs.ResponderLaws.{acts_request, takes_request}
 use Rattle.ill_core.proofs.laws.responder.responder_keeps_request.Goals as goal
 

@@ -1,4 +1,4 @@
--- Answers the contract of `responder_keeps_rules` (`src/laws/responder.rt`).
+-- Proves the contract of `responder_keeps_rules` (`src/laws/responder.rt`).
 use Rattle.ill_core.proofs.ResponderKept.{takes_kept}
 use Rattle.ill_core.proofs.ResponderLaws.{acts_kept}
 use Rattle.ill_core.proofs.laws.responder.responder_keeps_rules.Goals as goal

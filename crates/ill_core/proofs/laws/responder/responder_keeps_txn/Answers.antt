@@ -1,4 +1,4 @@
--- Answers the contract of `responder_keeps_txn` (`src/laws/responder.rt`).
+-- Proves the contract of `responder_keeps_txn` (`src/laws/responder.rt`).
 use Rattle.ill_core.proofs.ResponderLaws.{acts_txn, takes_txn}
 use Rattle.ill_core.proofs.laws.responder.responder_keeps_txn.Goals as goal
 

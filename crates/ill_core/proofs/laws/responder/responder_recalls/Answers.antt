@@ -1,4 +1,4 @@
--- Answers the contract of `responder_recalls` (`src/laws/responder.rt`).
+-- Proves the contract of `responder_recalls` (`src/laws/responder.rt`).
 use Rattle.ill_core.proofs.ResponderRecalls.{acts_recall, takes_recall}
 use Rattle.ill_core.proofs.laws.responder.responder_recalls.Goals as goal
 

@@ -1,4 +1,4 @@
--- Answers the contract of `responder_rules` (`src/laws/responder.rt`).
+-- Proves the contract of `responder_rules` (`src/laws/responder.rt`).
 use Rattle.ill_core.proofs.Rules.{responder_rules, is_responder}
 use Rattle.ill_core.proofs.laws.responder.responder_rules.Goals as goal
 

@@ -1,4 +1,4 @@
--- Answers the contract of `responder_shows` (`src/laws/responder.rt`).
+-- Proves the contract of `responder_shows` (`src/laws/responder.rt`).
 use Rattle.ill_core.proofs.ResponderLaws.{acts_shows, takes_shows}
 use Rattle.ill_core.proofs.laws.responder.responder_shows.Goals as goal
 

@@ -1,4 +1,4 @@
--- Answers the contract of `responder_stays_later` (`src/laws/responder.rt`).
+-- Proves the contract of `responder_stays_later` (`src/laws/responder.rt`).
 use Rattle.ill_core.proofs.ResponderLaws.{acts_later, takes_later}
 use Rattle.ill_core.proofs.laws.responder.responder_stays_later.Goals as goal
 

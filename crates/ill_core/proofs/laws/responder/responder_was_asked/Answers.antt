@@ -1,4 +1,4 @@
--- Answers the contract of `responder_was_asked` (`src/laws/responder.rt`).
+-- Proves the contract of `responder_was_asked` (`src/laws/responder.rt`).
 use Rattle.ill_core.proofs.ResponderQuestions.{acts_asked, takes_asked}
 use Rattle.ill_core.proofs.laws.responder.responder_was_asked.Goals as goal
 

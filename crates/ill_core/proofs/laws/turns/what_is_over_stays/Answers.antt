@@ -1,4 +1,4 @@
--- Answers the contract of `what_is_over_stays` (`src/laws/turns.rt`).
+-- Proves the contract of `what_is_over_stays` (`src/laws/turns.rt`).
 use Rattle.ill_core.proofs.TurnLemmas.{requester_stays, responder_stays}
 use Rattle.ill_core.proofs.laws.turns.what_is_over_stays.Goals as goal
 

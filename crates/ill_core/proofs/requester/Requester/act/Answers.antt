@@ -1,4 +1,5 @@
--- Answers the contract of `Requester::act` (`src/requester.rt`).
+-- Proves the contract of `Requester::act` (`src/requester.rt`). It holds because the first row that fits gives the
+-- record or the refusal of `acts`.
 use Rattle.std.proofs.Common.{rules, ◌≡◌, Ok, Err, Some, sym, subst}
 use Rattle.ill_core.specs.declared.refusal.Refusal.TheVariants as refusals
 use Rattle.ill_core.specs.RequesterActions.{Acts}

@@ -1,4 +1,5 @@
--- Answers the contract of `body_of` (`src/requester/actions.rt`).
+-- Proves that `body_of` (`src/requester/actions.rt`) finds a held number. It holds because a Reply has a transition
+-- only in CONDITIONAL.
 use Rattle.std.proofs.Common.{rules}
 use Rattle.ill_core.specs.Requester.{RequesterRecord, requester_of}
 use Rattle.ill_core.proofs.Rules.{requester_rules}

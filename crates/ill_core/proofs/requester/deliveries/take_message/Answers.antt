@@ -1,4 +1,5 @@
--- Answers the contract of `take_message` (`src/requester/deliveries.rt`).
+-- Proves the contract of `take_message` (`src/requester/deliveries.rt`). It holds because the first row that fits gives
+-- the answer of `take_message`.
 use Rattle.std.proofs.Common.{rules, ◌≡◌, Some, sym, subst}
 use Rattle.ill_core.specs.Requester.{RequesterRecord, requester_of, IsRequester}
 use Rattle.ill_core.specs.RequesterTables.{delivery_row}

@@ -1,4 +1,5 @@
--- Answers the contract of `Responder::act` (`src/responder.rt`).
+-- Proves the contract of `Responder::act` (`src/responder.rt`). It holds because the row, the date and the number give
+-- the record or the refusal of `acts`.
 use Rattle.std.proofs.Common.{rules, ◌≡◌, Some, Ok, sym, subst}
 use Rattle.ill_core.specs.Issued.{next_number, with_next}
 use Rattle.ill_core.specs.Responder.{ResponderRecord, responder_of, IsResponder}

@@ -1,4 +1,4 @@
--- Answers the contract of `Responder::take` (`src/responder.rt`).
+-- Proves the contract of `Responder::take` (`src/responder.rt`).
 use Rattle.std.proofs.Common.{rules}
 use Rattle.ill_core.proofs.ResponderKept.{takes_admitted, admits_none}
 use Rattle.ill_core.proofs.responder.Responder.take.Goals as goal

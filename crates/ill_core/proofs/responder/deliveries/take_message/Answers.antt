@@ -1,4 +1,5 @@
--- Answers the contract of `take_message` (`src/responder/deliveries.rt`).
+-- Proves the contract of `take_message` (`src/responder/deliveries.rt`). It holds because the first row that fits gives
+-- the answer of `take_message`.
 use Rattle.std.proofs.Common.{rules, ◌≡◌, true, Some, sym, subst}
 use Rattle.ill_core.specs.Issued.{is_same_txn}
 use Rattle.ill_core.specs.Responder.{ResponderRecord, responder_of, IsResponder}

@@ -1,4 +1,5 @@
--- Answers the contract of `dates_rise` (`src/responder/rules.rt`).
+-- Proves the contract of `dates_rise` (`src/responder/rules.rt`). It holds because each date is tested against the last
+-- one before it.
 use Rattle.std.proofs.Common.{true, false, refl, sym, ◌∙◌}
 use Rattle.ill_core.proofs.ResponderLists.{rise_at}
 use Rattle.ill_core.proofs.responder.rules.dates_rise.Goals as goal

@@ -1,4 +1,5 @@
--- Answers the contract of `ships_first` (`src/responder/rules.rt`).
+-- Proves the contract of `ships_first` (`src/responder/rules.rt`). It holds because the first Shipped or Renew-Answer
+-- yes decides.
 use Rattle.std.proofs.Common.{true, false, refl, sym, ◌∙◌}
 use Rattle.ill_core.proofs.ResponderLists.{ships_at}
 use Rattle.ill_core.proofs.responder.rules.ships_first.Goals as goal

@@ -1,4 +1,4 @@
--- Proves that the error arm of `Item::as_str` is never reached: an item is UTF-8.
+-- Proves that `Item::as_str` never reaches its error arm, because an item is UTF-8.
 use Rattle.std.proofs.Common.{subst, sym}
 use Rattle.std.specs.Str.{IsUtf8}
 use Rattle.ill_values.proofs.Texts.{item_utf8}

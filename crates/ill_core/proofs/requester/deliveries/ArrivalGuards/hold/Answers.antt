@@ -1,4 +1,5 @@
--- Answers the contract of `ArrivalGuards::hold` (`src/requester/deliveries.rt`).
+-- Proves the contract of `ArrivalGuards::hold` (`src/requester/deliveries.rt`). It holds because `hold` joins the tests
+-- of the four lists of guards.
 use Rattle.std.proofs.Common.{◌++◌}
 use Rattle.ill_core.specs.RequesterTables.{number_guards, cancel_guards, renew_guards, due_guards}
 use Rattle.ill_core.proofs.TableLemmas.{both_met}

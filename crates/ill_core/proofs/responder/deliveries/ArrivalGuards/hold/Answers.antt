@@ -1,4 +1,4 @@
--- Answers the contract of `ArrivalGuards::hold` (`src/responder/deliveries.rt`).
+-- Proves the contract of `ArrivalGuards::hold` (`src/responder/deliveries.rt`).
 use Rattle.ill_core.specs.ResponderTables.{reply_guards, past_guards}
 use Rattle.ill_core.proofs.TableLemmas.{both_met}
 use Rattle.ill_core.proofs.responder.deliveries.ArrivalGuards.hold.Goals as goal

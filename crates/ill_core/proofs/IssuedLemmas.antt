@@ -99,7 +99,7 @@ next_of n number h = search rules
 pub same_txn : (txn : Qualifiers) → is_same_txn txn txn ≡ true
 same_txn txn = search rules
 
--- If a list is numbered and a number is left, the list with the next APDU is numbered, and has at most 255 APDUs.
+-- If a list is numbered and a number is left, the list with the next APDU is numbered. It has at most 255 APDUs.
 pub numbered_issue : (txn : Qualifiers) (apdus : List Apdu) (a : Apdu) (number : ℕ) → are_numbered txn 1 apdus ≡ true
     → next_number apdus ≡ Ok number → a.txn ≡ txn → a.number ≡ number
     → (are_numbered txn 1 (apdus ++ a ∷ []) ≡ true) × (length (apdus ++ a ∷ []) ≤ 255)
@@ -110,7 +110,7 @@ numbered_issue txn apdus a number numbered next same is =
       omega (arith, n.1, length-append apdus (a ∷ [])),
     )
 
--- `says` holds in a list with one more APDU if, and only if, it holds in the old list or of the new APDU.
+-- `says` holds in a list with one more APDU if, and only if, it holds in the list or of this APDU.
 pub has_more : (says : Body → Bool) (apdus : List Apdu) (a : Apdu) → has says (apdus ++ a ∷ []) ≡ (has says apdus || says a.body)
 has_more says apdus a =
     list_any-append (λ (b : Apdu). says b.body) apdus (a ∷ []) ∙ ap (λ b. has says apdus || b) (or-false (says a.body))
@@ -188,7 +188,7 @@ renew_below txn number (a ∷ apdus) o n within numbered found =
     (sym (found_first o (number_of_renew a) (filter_map number_of_renew apdus)) ∙ found) in
     omega (arith, after)
 
--- In a list numbered from 1 on, the number of the last Renew is at most the length of the list.
+-- In a list numbered from 1 on, the number of the last Renew is at most the length.
 pub last_renew_within : (txn : Qualifiers) (apdus : List Apdu) (n : ℕ) → are_numbered txn 1 apdus ≡ true
     → last_of number_of_renew apdus ≡ Some n → n ≤ length apdus
 last_renew_within txn apdus n numbered found = let below : n < 1 + length apdus =
@@ -214,13 +214,13 @@ not_longer old new a same longer =
 
 -- ---- Cancels
 
--- If message n is old or new in a list, so is message n + 1 after one more APDU is put first.
+-- If message n is old or new in a list, so is message n + 1 after an APDU is put first.
 one_further : (says : Bool) (old : Bool) (n size : ℕ) → (old ≡ true) ⊎ ((suc n ≡ size + 1) × (says ≡ true))
     → (old ≡ true) ⊎ ((suc (suc n) ≡ suc size + 1) × (says ≡ true))
 one_further says old n size (inl is) = inl is
 one_further says old n size (inr (at, is)) = inr (omega (arith, at), is)
 
--- If `says` holds of message `c` of a list with one more APDU, message `c` is an old message or the new APDU.
+-- If `says` holds of message `c` of a list with one more APDU, it is an old message or the new one.
 pub was_more : (says : Body → Bool) (apdus : List Apdu) (a : Apdu) (c : ℕ) → was says (apdus ++ a ∷ []) c ≡ true
     → (was says apdus c ≡ true) ⊎ ((c ≡ length apdus + 1) × (says a.body ≡ true))
 was_more says apdus a zero h = search rules

@@ -1,5 +1,5 @@
--- Proves that a message, once delivered to a requester, would change nothing if it came again, until another message
--- reopens it.
+-- Proves that a message, once delivered to a requester, would change nothing if it came again. This holds until another
+-- message reopens it.
 use Rattle.std.proofs.Common.{rules, ◌≡◌, ℕ, Bool, true, false, not, ◌&&◌, ◌||◌, [], ◌∷◌, Some, None, Result, if◌then◌else◌, ap}
 use Rattle.std.proofs.Common.{refl}
 use Rattle.std.proofs.lemmas.Bool.{cond_both}
@@ -56,7 +56,7 @@ message_heard x a types.Recall theirs = search rules
 message_heard x a types.CheckedIn theirs = search rules
 message_heard x a other theirs = refl
 
--- A responder's message of the transaction is admitted, so the record after the answer would not change if it came
+-- A responder's message of the transaction is admitted. So the record after the answer would not change if it came
 -- again.
 admitted_heard : (x : RequesterRecord) (answer : Result Taking Refusal × RequesterRecord) (number : ℕ) (body : Body)
     (is_same is_own : Bool)

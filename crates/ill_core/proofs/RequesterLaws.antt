@@ -102,7 +102,7 @@ takes_final x a = (delivery_row x a).final
 pub takes_later : (x : RequesterRecord) (a : Apdu) → is_among later x.state ≡ true → is_among later (takes x a).1.state ≡ true
 takes_later x a = (delivery_row x a).stays
 
--- A message does not change the due date or raises it, if a due date is there exactly in SHIPPED or later.
+-- If a due date is there exactly in SHIPPED or later, a message raises it or does not change it.
 pub takes_due : (x : RequesterRecord) (a : Apdu) → is_some x.due ≡ is_among later x.state → KeepsDue x.due (takes x a).1.due
 takes_due x a = (delivery_row x a).due
 

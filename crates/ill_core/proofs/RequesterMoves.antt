@@ -1,4 +1,5 @@
--- Lists the changes that a message may make to a requester's record, and proves that each message makes one of them.
+-- Lists the changes that a message may make to a requester's record. Then it proves that each message makes one of
+-- them.
 use Rattle.std.proofs.Common.{rules, ◌≡◌, ℕ, Bool, true, false, not, ◌&&◌, [], ◌∷◌, Option, Some, None, Result, if◌then◌else◌}
 use Rattle.std.proofs.Common.{refl}
 use Rattle.std.proofs.lemmas.Bool.{and_parts, cond_both}
@@ -22,8 +23,7 @@ use Rattle.ill_core.specs.Requester.{RequesterRecord, later, accepted_number, la
 use Rattle.ill_core.specs.RequesterDeliveries.{take_message, takes, take_end, take_cancel_reply}
 use Rattle.ill_core.specs.RequesterNotices.{awaits, undecided, lent}
 
--- A message with `number` and this body changes record `x` to this record by a row of deliveries, or does not change
--- it.
+-- A message with `number` and this body changes record `x` to this record by a row, or does not change it.
 pub data Leads (x : RequesterRecord) (number : ℕ) : Body → RequesterRecord → Type 0 where
   nowhere : (body : Body) → Leads x number body x
   holds_conditions : is_among (Pending ∷ []) x.state ≡ true

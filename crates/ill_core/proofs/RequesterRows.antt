@@ -232,7 +232,7 @@ no_more_idle : (next : State) → is_among (Idle ∷ Cancelled ∷ NotSupplied �
 no_more_idle Idle on = search rules
 no_more_idle next on = refl
 
--- If a row leads to none of IDLE, CANCELLED and NOT-SUPPLIED, it adds no claim, unless it claims a new refusal.
+-- A row to none of IDLE, CANCELLED and NOT-SUPPLIED adds no claim, unless it claims a new refusal.
 goes_on : (x : RequesterRecord) (row : Transition) → is_among (Idle ∷ Cancelled ∷ NotSupplied ∷ []) row.next ≡ false
     → ((c : ℕ) → ClaimsRefusal (record_after x row) c → ClaimsRefusal x c) → (fact : Fact)
     → Claims (record_after x row) fact → Claims x fact

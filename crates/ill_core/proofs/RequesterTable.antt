@@ -193,7 +193,7 @@ used : (x new : RequesterRecord) (found : Result Transition Refusal) (refusal : 
 used x new (Ok transition) refusal is = refl
 used x new (Err other) refusal is = search rules
 
--- If a wish has no transition, it is refused with the refusal of the transition, and the number does not matter.
+-- If a wish has no transition, it is refused with the refusal of the transition, for any number.
 not_now : (x : RequesterRecord) (found : Result Transition Refusal) (refusal : Refusal) (number : Result ℕ Refusal)
     → Err refusal ≡ by_transition x found → acts_by x found number ≡ Err refusal
 not_now x (Err other) refusal number is = sym is

@@ -115,7 +115,7 @@ passes_rest : (p : ℕ → Bool) (found : Option ℕ) (ns : List ℕ) → list_a
 passes_rest p None ns all = all
 passes_rest p (Some m) ns all = (and_parts _ _ all).1
 
--- If all numbers that `f` finds in a list pass a test, the number in each of its APDUs passes it.
+-- If all numbers that `f` finds in a list pass a test, the number in each APDU passes it.
 found_passes : (f : Apdu → Option ℕ) (p : ℕ → Bool) (apdus : List Apdu) (i m : ℕ) (b : Apdu)
     → list_all p (filter_map f apdus) ≡ true → slice_get apdus i ≡ Some b → f b ≡ Some m → p m ≡ true
 found_passes f p [] i m b all at is = search rules

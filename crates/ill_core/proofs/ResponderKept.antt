@@ -301,8 +301,7 @@ sent_back_kept : (txn : Qualifiers) (state : State) (accepted last_cancel last_r
 sent_back_kept txn Shipped accepted last_cancel last_renew received request issued h is = search rules
 sent_back_kept txn state accepted last_cancel last_renew received request issued h is = search rules
 
--- If the record after each transition that may be the first to fit satisfies the rules, so does the record after the
--- answer.
+-- The record after the answer satisfies the rules, if the record after each transition that may be the first does.
 transition : (fits : Bool) (here others : Result Taking Refusal × ResponderRecord) → (fits ≡ true → ResponderRules here.1)
     → (fits ≡ false → ResponderRules others.1)
     → ResponderRules (if fits then here else others).1

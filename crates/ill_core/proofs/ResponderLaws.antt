@@ -75,7 +75,7 @@ message_begins : (y : ResponderRecord) (a : Apdu) (body : Body) → is_ill_reque
 message_begins y a (types.IllRequest expiry item) asks is = asked_begins y a (is_among (Idle ∷ []) y.state) is
 message_begins y a body asks is = search rules
 
--- If an admitted APDU leads out of IDLE when it is taken, so does an APDU that might have been refused.
+-- If an admitted APDU leads out of IDLE when it is taken, so does one that may be refused.
 unless_begins : (refused : Option Refusal) (y : ResponderRecord) (answer : Result Taking Refusal × ResponderRecord)
     → (answer.0 ≡ Ok Taken → is_among (Idle ∷ []) answer.1.state ≡ false)
     → (unless_refused refused y answer).0 ≡ Ok Taken → is_among (Idle ∷ []) (unless_refused refused y answer).1.state ≡ false
@@ -145,18 +145,18 @@ takes_later y a =
     (λ how. (λ is. sym how.shipped ∙ is, λ is. returned_or_later _ (ap (is_among (Returned ∷ [])) (how.returned is) ∙ is)))
     (λ said how. issues_stays y _ _ how)
 
--- A transition that satisfies `Issues` ends the request only while it is open, and leads to the state of this end.
+-- A transition that satisfies `Issues` also satisfies `Ends`.
 issues_ends : (y : ResponderRecord) (body : Body) (next : State) → Issues y body next → Ends y (issues_to y body next)
 issues_ends y body next how a same is =
     let said = issued_body y.txn y.issued body a same in
     subst (λ b. (is_among (InProcess ∷ Conditional ∷ CancelPending ∷ []) y.state ≡ true) × (ends_in b next ≡ true)) said
     (how.ends (ap is_end said ∙ is))
 
--- A deed ends the request only while it is open, and leads to the state of this end.
+-- A deed satisfies `Ends`: it ends the request only while it is open, and leads to the state of this end.
 pub acts_end : (y new : ResponderRecord) (deed : Deed) (today : Date) → acts y deed today ≡ Ok new → Ends y new
 acts_end y new deed today = of_acts (Ends y) y new deed today (λ transition there. issues_ends y transition.body transition.next)
 
--- A message ends the request only while it is open, and leads to the state of this end.
+-- A message satisfies `Ends`: it ends the request only while it is open, and leads to the state of this end.
 pub takes_end : (y : ResponderRecord) (a : Apdu) → Ends y (takes y a).1
 takes_end y a = of_takes (Ends y) y a (λ how b same is. not_longer y.issued _ b how.issued same)
     (λ said how. issues_ends y _ _ how)
@@ -378,8 +378,7 @@ cancels_answered : (c : ℕ) (body : Body) → cancels c body ≡ true → answe
 cancels_answered c (types.CancelReply n true) is = ap Some (eqb-true n c is)
 cancels_answered c other is = search rules
 
--- If a Cancel-Reply yes to `c` was issued before, or is issued now to the last Cancel, the record claims that `c` was
--- asked.
+-- If a Cancel-Reply yes to `c` was issued, or is issued now to the last Cancel, the record claims `CancelAsked c`.
 yes_shown : (y : ResponderRecord) (body : Body) (c : ℕ) → (cancels c body ≡ true → y.last_cancel ≡ Some c)
     → (has (cancels c) y.issued ≡ true) ⊎ (cancels c body ≡ true)
     → Claims y (CancelAsked c)

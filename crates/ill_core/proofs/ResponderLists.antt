@@ -27,7 +27,7 @@ pub count_more : (says : Body → Bool) (apdus : List Apdu) (a : Apdu)
     → count_by (λ b. says b.body) (apdus ++ a ∷ []) ≡ count_by (λ b. says b.body) apdus + (if says a.body then 1 else 0)
 count_more says apdus a = search (rules, sum_by-append (λ (b : Apdu). cond (says b.body) 1 0) apdus (a ∷ []))
 
--- `says` holds of the last message of a list with APDU `a` at the end if, and only if, it holds of `a`.
+-- With APDU `a` at the end, `says` holds of the last message if, and only if, it holds of `a`.
 last_message : (says : Body → Bool) (apdus : List Apdu) (a : Apdu) → was says (apdus ++ a ∷ []) (suc (length apdus)) ≡ says a.body
 last_message says [] a = refl
 last_message says (b ∷ apdus) a = last_message says apdus a
@@ -38,7 +38,7 @@ ends_more apdus a =
     let size : length (apdus ++ a ∷ []) ≡ suc (length apdus) = omega (arith, length-append apdus (a ∷ [])) in
     ap (was names_conditions (apdus ++ a ∷ [])) size ∙ last_message names_conditions apdus a
 
--- If `says` holds of message `c` of a list, it holds of message `c` of the list with one more APDU.
+-- If `says` holds of message `c` of a list, it holds of message `c` after one more APDU.
 pub was_longer : (says : Body → Bool) (apdus : List Apdu) (a : Apdu) (c : ℕ) → was says apdus c ≡ true
     → was says (apdus ++ a ∷ []) c ≡ true
 was_longer says apdus a zero h = search rules
@@ -78,7 +78,7 @@ grant_rises : (last found : Option Date) (dates : List Date)
 grant_rises last None dates = refl
 grant_rises last (Some d) dates = rise_first last d dates
 
--- The dates from index `i` on rise if, and only if, the date there is after `last`, and the later ones rise after it.
+-- The dates from index `i` on rise if, and only if, the first is after `last` and the others rise after it.
 pub rise_at : (last found next : Option Date) (follows : Bool) (apdus : List Apdu) (i : ℕ) (a : Apdu)
     → i < length apdus → a ≡ get_or apdus i a
     → found ≡ granted_day a → follows ≡ rises last found → next ≡ option_or found last
@@ -145,7 +145,7 @@ unfolding ships_first
 ships_renewed [] a first there = search rules
 ships_renewed (b ∷ apdus) a first there = search (rules, ships_renewed apdus a)
 
--- The number of Shipped in a list is 1 or 0 for the first APDU, plus the number in the others.
+-- The number of Shipped in a list is 1 or 0 for the first APDU, plus the others' number.
 count_first : (b : Apdu) (apdus : List Apdu)
     → count_by (λ c. is_shipped c.body) (b ∷ apdus) ≡ cond (is_shipped b.body) 1 0 + count_by (λ c. is_shipped c.body) apdus
 count_first b apdus = sum_by-cons (λ (c : Apdu). cond (is_shipped c.body) 1 0) b apdus

@@ -1,5 +1,5 @@
--- Proves that a responder issues an Overdue for the due date only after the APDU that grants it, and that the state
--- shows it.
+-- Proves that a responder issues an Overdue for the due date only after the APDU that grants it. The state shows such
+-- an Overdue.
 use Rattle.std.proofs.Common.{rules, arith, ◌≡◌, ◌⊎◌, inl, inr, ℕ, ◌+◌, ◌<◌, ◌≤◌, Bool, true, false, ◌||◌, List, [], ◌∷◌, ◌++◌}
 use Rattle.std.proofs.Common.{length, Option, Some, None, is_some, Ok, if◌then◌else◌, refl, ap, sym, subst, ◌∙◌}
 use Rattle.std.specs.List.{last_or, filter_map}
@@ -110,7 +110,7 @@ not_before_back a b before = false_from_ne_true (is_before b a) (λ back. not_be
 
 -- ---- one more APDU
 
--- With one more APDU each Overdue still follows the grant of its date, if a new grant is after each Overdue.
+-- If a new grant is after each Overdue, each Overdue still follows the grant of its date.
 order_more : (apdus : List Apdu) (a : Apdu) → GrantsBeforeOverdue apdus
     → ((due : Date) → grant_in a.body ≡ Some due → IsAfterOverdues apdus due) → GrantsBeforeOverdue (apdus ++ a ∷ [])
 order_more apdus a h newest m n c b e due day at_m at_n grants is same =
@@ -153,8 +153,8 @@ dated_stays apdus a none h n b day at is =
     let old = h n b day at is in
     (old.0, due_stays apdus a none ∙ old.1, old.2)
 
--- An APDU with this body may be issued from `y`, and lead to this state. It is neither a grant nor an Overdue, or
--- grants a date after each Overdue, or is an Overdue for the due date.
+-- An APDU with this body may be issued from `y`, and lead to this state. It may neither grant a date nor be an Overdue.
+-- It may grant a date after each Overdue, or be an Overdue for the due date.
 data Notice (y : ResponderRecord) : Body → State → Type 0 where
   says_neither : (body : Body) (next : State) → grant_in body ≡ None → ((due : Date) → is_overdue_of due body ≡ false)
       → (is_among overdue next ≡ true → is_among overdue y.state ≡ true)

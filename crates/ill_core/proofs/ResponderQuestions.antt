@@ -204,7 +204,7 @@ acts_has_answered question y new deed today done there =
     of_acts (λ r. HasAnsweredLast question y → HasAnsweredLast question r) y new deed today
     (λ transition is how. transition_has_answered question y transition (transition_answers question y transition is)) done
 
--- In `new` the last question may have no answer, or it is the last question of `y` and needed an answer there.
+-- In `new` the last question may have no answer. Or it is the last question of `y`, and needed an answer there.
 abbrev KeepsAnswer : Question → ResponderRecord → ResponderRecord → Type 0
 KeepsAnswer question y new =
     (is_among (unanswered question) new.state ≡ true)

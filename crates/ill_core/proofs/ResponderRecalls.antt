@@ -1,5 +1,4 @@
--- Proves that a responder issues a Recall only after its Shipped, and that the state then is RECALL, RETURNED or
--- CHECKED-IN.
+-- Proves that a responder issues a Recall only after its Shipped. The state then is RECALL, RETURNED or CHECKED-IN.
 use Rattle.std.proofs.Common.{rules, arith, ◌≡◌, ◌⊎◌, inl, inr, ℕ, ◌+◌, ◌<◌, ◌≤◌, true, false, List, [], ◌∷◌, ◌++◌, length, Some}
 use Rattle.std.proofs.Common.{Ok, refl, ap, sym, subst, ◌∙◌}
 use Rattle.std.proofs.lemmas.Bool.{or_cases, or_right, false_from_ne_true}

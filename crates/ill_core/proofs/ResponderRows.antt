@@ -251,8 +251,7 @@ delivery_row : (y : ResponderRecord) (a : Apdu) → DeliveryRow y a.number a.bod
 delivery_row y a = by_admission y a.number a.body (first_refusal y.txn (not (is_requesters a.body)) a) (take_message y a a.body)
     (message_row y a a.body)
 
--- If `P` holds after each change that satisfies `Moves`, and after an answered no, it holds after each answer with
--- `DeliveryRow`.
+-- `P` holds after each `DeliveryRow`, if it holds after each change that satisfies `Moves`, and after an answered no.
 of_row : (P : ResponderRecord → Type 0) (y : ResponderRecord) (number : ℕ) (body : Body)
     (answer : Result Taking Refusal × ResponderRecord)
     → DeliveryRow y number body answer

@@ -108,7 +108,7 @@ takes_this y a row is = ap (answer_of (hit y a a.body) (conflict y.state y)) (sy
 pub takes_none : (y : ResponderRecord) (a : Apdu) → delivery_row y a ≡ None → conflict y.state y ≡ take_message y a a.body
 takes_none y a is = ap (answer_of (hit y a a.body) (conflict y.state y)) (sym is) ∙ takes_row y a
 
--- If `row` is the first that fits, and no number is lacking, `take_message` gives the answer and the record of the row.
+-- If `row` is the first that fits, and no number is lacking, `take_message` gives its answer and its record.
 pub takes_numbered : (y : ResponderRecord) (a : Apdu) (row : Row RequesterKind) → delivery_row y a ≡ Some row
     → number_refusal row.4 y.issued ≡ None
     → (Ok (taking_of row.3 y.state), after_delivery y a row (number_in a a.body)) ≡ take_message y a a.body
@@ -116,8 +116,8 @@ takes_numbered y a row is left =
     sym (ap (λ o. unless_refused o y (Ok (taking_of row.3 y.state), after_delivery y a row (number_in a a.body))) left)
     ∙ takes_this y a row is
 
--- If `row` is the first that fits an APDU of the transaction, and no number is lacking, the record after it satisfies
--- the rules.
+-- If `row` is the first that fits and no number is lacking, the record after it satisfies the rules. The APDU belongs
+-- to the transaction.
 pub delivery_kept : (y : ResponderRecord) (a : Apdu) (row : Row RequesterKind) → IsResponder y
     → is_same_txn a.txn y.txn ≡ true → delivery_row y a ≡ Some row
     → number_refusal row.4 y.issued ≡ None → IsResponder (after_delivery y a row (number_in a a.body))
@@ -212,8 +212,8 @@ transition_by state None allowed body = Err (refusals.NotNow state)
 transition_by state (Some row) (Err refusal) body = Err refusal
 transition_by state (Some row) (Ok done) body = leads_to (next_state row.3 state) body
 
--- If a row gives `transition` when its date is allowed, and the refusal when it is forbidden, it gives `if_allowed` of
--- both.
+-- A row gives `if_allowed` of its transition and its refusal, if it gives one when allowed and the other when
+-- forbidden.
 dated : (state : State) (found : Option (Row ResponderKind)) (is_allowed : Bool) (forbids : Refusal)
     (transition : Result Transition Refusal) (body : Body)
     → transition_by state found (Ok tt) body ≡ transition → transition_by state found (Err forbids) body ≡ Err forbids
@@ -309,7 +309,7 @@ acts_by_row y deed today row allowed number is date next =
     ap (λ transition. acts_by y transition (next_number y.issued)) (row_transition y deed today row allowed is date)
     ∙ ap (acts_by y (transition_by y.state (Some row) allowed (deed_body y deed))) next
 
--- If `row` fits a deed, the date allows it and a number is left, the deed leads to the record after the row.
+-- If `row`, the date and a number allow a deed, it leads to the record after the row.
 pub acts_this : (y : ResponderRecord) (deed : Deed) (today : Date) (row : Row ResponderKind) (number : ℕ)
     → deed_row y.state deed ≡ Some row → check_date y deed today ≡ Ok tt → next_number y.issued ≡ Ok number
     → acts y deed today ≡ Ok (after_deed y row number (deed_body y deed))
@@ -357,7 +357,7 @@ acts_forbidden y deed today row OutOfMemory is date =
 acts_forbidden y deed today row refusal is date =
     (acts_by_row y deed today row (Err refusal) (next_number y.issued) is date refl, refl)
 
--- If `row` fits a deed, the date allows it and no number is left, the responder answers with the refusal of the number.
+-- If `row` and the date allow a deed and no number is left, the responder answers with the refusal of the number.
 pub acts_numberless : (y : ResponderRecord) (deed : Deed) (today : Date) (row : Row ResponderKind) (refusal : Refusal)
     → deed_row y.state deed ≡ Some row → check_date y deed today ≡ Ok tt → next_number y.issued ≡ Err refusal
     → Acts y deed today (Err refusal) y
@@ -365,8 +365,8 @@ acts_numberless y deed today row OutOfMemory is date next =
     absurd (other_refusal (next_number y.issued) (number_takes_none (nat_lt (length y.issued) 255) (length y.issued + 1)) next)
 acts_numberless y deed today row refusal is date next = (acts_by_row y deed today row (Ok tt) (Err refusal) is date next, refl)
 
--- If `row` fits a deed, the date allows it and a number is left, the responder may answer `OutOfMemory`. The record
--- does not change then.
+-- If `row`, the date and a number allow a deed, the responder may answer `OutOfMemory`. The record does not change
+-- then.
 pub acts_wanting : (y : ResponderRecord) (deed : Deed) (today : Date) (row : Row ResponderKind) (number : ℕ)
     → deed_row y.state deed ≡ Some row → check_date y deed today ≡ Ok tt → next_number y.issued ≡ Ok number
     → Acts y deed today (Err OutOfMemory) y

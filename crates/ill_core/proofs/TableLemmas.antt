@@ -30,7 +30,7 @@ by_tests state guards hit miss (row ∷ rows) =
     if has_state row.1 state then where_asked row.2 guards (hit row) (by_tests state guards hit miss rows)
     else by_tests state guards hit miss rows
 
--- The test of a guard and of the others at once equals the test of the guard followed by that of the others.
+-- The test of a guard and of the others at once equals the test of each after the other.
 guard_met : {A : Type 0} (is_unasked holds others : Bool) (hit miss : A)
     → (if (is_unasked || holds) && others then hit else miss)
     ≡ (if is_unasked then (if others then hit else miss) else (if holds then (if others then hit else miss) else miss))
@@ -92,7 +92,7 @@ asked_true asked (f ∷ guards) here others h o =
     (if f.holds then where_asked asked guards here others else others) (asked_true asked guards here others h o)
     (either f.holds (where_asked asked guards here others) others (asked_true asked guards here others h o) o)
 
--- If a row that contains the state gives true, and the other rows give true, the tests of all rows give true.
+-- If a row that contains the state gives true, and the others give true, the tests of all give true.
 row_true : (is_in : Bool) (asked : ℕ) (guards : List Guard) (here others : Bool) → implies is_in here ≡ true → others ≡ true
     → (if is_in then where_asked asked guards here others else others) ≡ true
 row_true true asked guards here others h o = asked_true asked guards here others h o

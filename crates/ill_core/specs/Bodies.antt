@@ -65,8 +65,7 @@ abbrev pub is_cancelled : Body → Bool
 is_cancelled (CancelReply c true) = true
 is_cancelled other = false
 
--- Returns true if the APDU ends the request: the item is not supplied, the request is cancelled, or the item is
--- shipped.
+-- Returns true if the APDU ends the request: not supplied, cancelled or shipped.
 abbrev pub is_end : Body → Bool
 is_end body = is_unsupplied body || (is_cancelled body || is_shipped body)
 

@@ -1,4 +1,4 @@
--- Defines the list of the APDUs that a side has issued in a transaction, and tests on it (this profile's own).
+-- Defines the list of the APDUs that a side has issued, and tests on it (this profile's own).
 use Rattle.std.specs.Prelude.{◌≡◌, ℕ, zero, suc, ◌+◌, Bool, true, false, ◌&&◌, ◌==◌, nat_lt, List, [], ◌∷◌, ◌++◌, length}
 use Rattle.std.specs.Prelude.{slice_get, Option, Some, None, Result, Ok, Err, if◌then◌else◌}
 use Rattle.std.specs.List.{list_any, filter_map, last_or}

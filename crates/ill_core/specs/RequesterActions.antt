@@ -118,8 +118,8 @@ acts_by x (Ok transition) (Ok number) = Ok (record_after x transition)
 abbrev pub acts : RequesterRecord → Wish → Result RequesterRecord Refusal
 acts x wish = acts_by x (transition_of x wish) (next_number x.issued)
 
--- A requester in record `old` answers `wish` with the result, and `new` is the record after it. `OutOfMemory` comes
--- only for a wish that would succeed. A refusal does not change the record.
+-- A requester in record `old` answers `wish` with the result, and has record `new` afterwards. `OutOfMemory` comes only
+-- for a wish that would succeed. A refusal does not change the record.
 abbrev pub Acts : RequesterRecord → Wish → Result Unit Refusal → RequesterRecord → Type 0
 Acts old wish (Ok done) new = acts old wish ≡ Ok new
 Acts old wish (Err refusals.OutOfMemory) new = IsOk (acts old wish) × (new ≡ old)

@@ -73,7 +73,7 @@ Attests number other notice = ⊥
 abbrev pub undecided : List State
 undecided = states.Pending ∷ states.Conditional ∷ states.CancelPending ∷ []
 
--- Lists the states in which the requester has the item, or the item is on its way there, and was not recalled.
+-- Lists the states in which the item is lent: shipped, not returned and not recalled.
 abbrev pub lent : List State
 lent =
     states.Shipped ∷ states.NotReceivedOverdue ∷ states.Received ∷ states.Overdue ∷ states.RenewPending

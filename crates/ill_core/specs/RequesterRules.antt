@@ -12,8 +12,8 @@ use Rattle.ill_core.specs.Bodies.{declines, is_requesters, is_cancel, is_receive
 use Rattle.ill_core.specs.Issued.{is_none, are_numbered, has}
 use Rattle.ill_core.specs.Requester.{RequesterRecord, later, begins_with_request}
 
--- The state is a requester's, and the parts of the record fit it. `is_held` says that conditions are held, `is_due`
--- that there is a due date, and `is_marked` that the checked-in mark is set.
+-- The state is a requester's, and the parts of the record fit it. `is_held` says that conditions are held, and `is_due`
+-- that there is a due date. `is_marked` says that the checked-in mark is set.
 pub record PartsFit (state : State) (is_held is_due is_marked : Bool) : Type 0 where
   pub role : is_among (InProcess ∷ CheckedIn ∷ []) state ≡ false
   pub held : is_held ≡ is_among (Conditional ∷ []) state

@@ -100,7 +100,7 @@ wish_body x wishes.Receive = types.Received
 wish_body x (wishes.Renew wished) = types.Renew wished
 wish_body x wishes.Return = types.Returned
 
--- Returns the guards that rows of wishes may ask for: the conditions were not declined, no Received was issued, a
+-- Returns the guards that rows of wishes may ask for. The conditions were not declined, no Received was issued, or a
 -- Received was issued.
 abbrev pub wish_guards : RequesterRecord → List Guard
 wish_guards x =

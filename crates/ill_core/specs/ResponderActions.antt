@@ -170,12 +170,12 @@ acts_by y (Err refusal) number = Err refusal
 acts_by y (Ok transition) (Err refusal) = Err refusal
 acts_by y (Ok transition) (Ok number) = Ok (record_after y transition)
 
--- Returns the record after a deed on the day `today`, or its refusal: first `NotNow`, then the refusal of its date,
--- then `NumbersUsed`.
+-- Returns the record after a deed on the day `today`, or its refusal. The order of refusals is `NotNow`, the refusal of
+-- its date, `NumbersUsed`.
 abbrev pub acts : ResponderRecord → Deed → Date → Result ResponderRecord Refusal
 acts y deed today = acts_by y (transition_of y deed today) (next_number y.issued)
 
--- A responder in record `old` answers `deed` on the day `today` with the result, and `new` is the record after it.
+-- A responder in record `old` answers `deed` on the day `today` with the result, and has record `new` afterwards.
 -- `OutOfMemory` comes only for a deed that would succeed. A refusal does not change the record.
 abbrev pub Acts : ResponderRecord → Deed → Date → Result Unit Refusal → ResponderRecord → Type 0
 Acts old deed today (Ok done) new = acts old deed today ≡ Ok new

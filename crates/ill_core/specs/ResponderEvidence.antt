@@ -89,7 +89,7 @@ Ends y new =
     → (is_among (InProcess ∷ Conditional ∷ CancelPending ∷ []) y.state ≡ true)
     × (ends_in a.body new.state ≡ true)
 
--- If `new` is in a state after the end and `y` is not, an APDU that leads to this state was issued.
+-- If `new` is in a state of `ended` and `y` is not, an APDU that leads to this state was issued.
 abbrev pub EntersByEnd : ResponderRecord → ResponderRecord → Type 0
 EntersByEnd y new =
     is_among ended new.state ≡ true

@@ -34,8 +34,7 @@ pub fn is_shipped(body: &Body) -> bool
     matches!(body, Body::Shipped { .. })
 }
 
-/// Returns true if `body` ends the request: an ILL-Answer after which the item is not supplied, an Expired, a
-/// Cancel-Reply yes, or a Shipped.
+/// Returns true if `body` ends the request. It is a final ILL-Answer, an Expired, a Cancel-Reply yes, or a Shipped.
 pub fn is_end(body: &Body) -> bool
     ensures { result ≡ is_end body.now }
 {

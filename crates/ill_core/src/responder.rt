@@ -183,7 +183,7 @@ impl Responder {
 
     /// Performs the decision `deed` of the library on the day `today`, and issues the message to the requester.
     ///
-    /// The refusals are `NotNow`, then the refusal of a date, then `NumbersUsed`, then `OutOfMemory`. A refusal changes
+    /// The refusals are `NotNow`, then that of a date, then `NumbersUsed`, then `OutOfMemory`. A refusal changes
     /// nothing.
     pub fn act(&mut self, alloc: Global, deed: &Deed, today: Day) -> Result<(), Refusal>
         ensures { Acts self.old deed.now today result self.new }
@@ -202,7 +202,7 @@ impl Responder {
 
     /// Takes a message of the requester, and returns the answer. A refusal changes nothing.
     ///
-    /// Only two messages take memory: the ILL-Request, which is kept, and a Conditional-Reply no, which is answered
+    /// Two messages take memory: the ILL-Request, which is kept, and a Conditional-Reply no. The latter is answered
     /// with an ILL-Answer unfilled.
     pub fn take(&mut self, alloc: Global, apdu: &Apdu) -> Result<Taking, Refusal>
         ensures { Takes self.old apdu.now result self.new }
@@ -302,9 +302,8 @@ impl Responder {
         self.standing.last_renew
     }
 
-    /// Returns the number of the message that ended the request, or `None`. It is an ILL-Answer after which the item is
-    /// not supplied, an Expired, a Cancel-Reply yes, or a Shipped. One arrival of this message is enough for the
-    /// requester.
+    /// Returns the number of the message that ended the request, or `None`. It is a final ILL-Answer, an Expired, a
+    /// Cancel-Reply yes, or a Shipped. One arrival of this message is enough for the requester.
     pub fn ending(&self) -> Option<Number>
         ensures { result ≡ end_number self.now }
     {

@@ -11,8 +11,8 @@ use std::fmt;
 pub enum State {
     /// No message was issued or taken yet.
     Idle,
-    /// The request was issued, and the responder has neither shipped the item nor ended the request,
-    /// as far as the requester knows. Only a requester has this state.
+    /// The request was issued. As far as the requester knows, the responder has neither shipped the item nor ended the
+    /// request. Only a requester has this state.
     Pending,
     /// The responder has the request and works on it. Only a responder has this state.
     InProcess,

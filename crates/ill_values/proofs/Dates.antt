@@ -64,7 +64,7 @@ four_digits : (a b c e : ℕ) → IsInRange 48 57 a → IsInRange 48 57 b → Is
     (a ≡ 48 + n / 1000 % 10) × (b ≡ 48 + n / 100 % 10) × (c ≡ 48 + n / 10 % 10) × (e ≡ 48 + n % 10)
 four_digits a b c e ha hb hc he = (omega arith, omega arith, omega arith, omega arith)
 
--- If all bytes of `x ∷ rest` are ASCII digits, `x` is from 48 to 57, and all bytes of `rest` are ASCII digits.
+-- If `x ∷ rest` has only ASCII digits, `x` is from 48 to 57, and `rest` has only ASCII digits.
 digit_range : (x : ℕ) (rest : List ℕ) → list_all is_ascii_digit (x ∷ rest) ≡ true
     → IsInRange 48 57 x × (list_all is_ascii_digit rest ≡ true)
 digit_range x rest e =
@@ -107,7 +107,7 @@ none_left (x ∷ rest) e = absurd (omega arith)
 abbrev IsRead : Date → List ℕ → Type 0
 IsRead d text = read_date text ≡ Ok d → IsDate d × (text ≡ date_text d)
 
--- If a text of eight bytes is read as `d`, `d` is in range and the text is its date text.
+-- If a text of eight bytes is read as `d`, `d` is in range, and its date text is the text.
 eight_read : (d : Date) (a b c e f g h i : ℕ) → IsRead d (a ∷ b ∷ c ∷ e ∷ f ∷ g ∷ h ∷ i ∷ [])
 eight_read d a b c e f g h i found =
     let text = a ∷ b ∷ c ∷ e ∷ f ∷ g ∷ h ∷ i ∷ [] in

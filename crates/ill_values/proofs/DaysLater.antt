@@ -62,7 +62,7 @@ next_in_month d is more = record {
   number = omega (arith, signed_arith, days_from_civil-day (pos d.year) d.month d.day (d.day + 1) is.day_in.0 (omega arith));
 }
 
--- If `d` is the last day of a month before December, the first of the next month is one day later.
+-- If `d` is the last day of a month before December, the next month begins one day later.
 next_in_year : (d : Date) → IsDay d → days_in_month d.year d.month ≤ d.day → d.month < 12
     → IsLater 1 d (record { year = d.year; month = d.month + 1; day = 1 })
 next_in_year d is last more = record {
@@ -105,7 +105,7 @@ next_by d false false is e f = next_in_next_year d is (ltb-false d.day (days_in_
 next_later : (d : Date) → IsDay d → IsLater 1 d (next_day d)
 next_later d is = next_by d (nat_lt d.day (days_in_month d.year d.month)) (nat_lt d.month 12) is refl refl
 
--- If `b` is `n` days after `a`, and `c` is one day after `b`, then `c` is `suc n` days after `a`.
+-- If `b` is `n` days after `a`, and `c` one day after `b`, `c` is `suc n` days after `a`.
 later_later : (n : ℕ) (a b c : Date) → IsLater n a b → IsLater 1 b c → IsLater (suc n) a c
 later_later n a b c far near = record { is_day = near.is_day; number = omega (arith, signed_arith, far.number, near.number) }
 
@@ -190,7 +190,7 @@ refused_too_many n d is many =
       far.number,
     )))
 
--- If the number of `later` is higher by `n` than that of `d`, `later` is `days_later n d`, which is in range.
+-- If the number of `later` is that of `d` plus `n`, `later` is `days_later n d`, which is in range.
 reached_same : (n : ℕ) (d : Date) (date later : CivilDate) → IsDate d → IsSame d date
     → epoch_day later ≡ epoch_day date +ℤ pos n → IsDate (days_later n d) × IsSame (days_later n d) later
 unfolding civil_of
@@ -202,14 +202,14 @@ reached_same n d date later is same number =
     let one = epoch_day_injective later (civil_of (days_later n d) found) here in
     (found, (one.0, ap pos one.1, ap pos one.2))
 
--- If the number of `later` is higher by `n` than that of `d`, the year of `later` is not negative.
+-- If the number of `later` is that of `d` plus `n`, the year of `later` is not negative.
 pub reached_year : (n : ℕ) (d : Date) (date later : CivilDate) → IsDate d → IsSame d date
     → epoch_day later ≡ epoch_day date +ℤ pos n → pos 0 ≤ℤ later.year
 reached_year n d date later is same number =
     let there = reached_same n d date later is same number in
     rw there.1.0 (omega (arith, signed_arith))
 
--- If the number of `later` is higher by `n` than that of `d`, `date_of` of its parts returns `day_after n d`.
+-- If the number of `later` is that of `d` plus `n`, `date_of` of its parts returns `day_after n d`.
 pub reached : (n : ℕ) (d : Date) (date later : CivilDate) → IsDate d → IsSame d date
     → epoch_day later ≡ epoch_day date +ℤ pos n
     → date_of (unsigned_abs later.year) later.month later.day ≡ day_after n d

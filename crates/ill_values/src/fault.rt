@@ -15,8 +15,7 @@ pub enum TextFault {
     /// The text has more than 64 bytes (a qualifier) or more than 200 (an item).
     #[error("the text is too long")]
     TooLong,
-    /// A qualifier has a byte other than 0x20 to 0x7E, or an item is not UTF-8 or has a control
-    /// character of ASCII.
+    /// A qualifier has a byte outside 0x20 to 0x7E. Or an item is not UTF-8, or has a control character of ASCII.
     #[error("the text has a byte that may not stand there")]
     BadByte,
     /// The text has no fault, but memory ran out.
@@ -30,7 +29,7 @@ pub enum DayFault {
     /// The text is not exactly eight ASCII digits. Only `Day::read` returns this.
     #[error("a date is eight digits")]
     NotDigits,
-    /// The year is not from 1900 to 9999, or the day that is some days later is after 31 December 9999.
+    /// The year is not from 1900 to 9999, or a later day is after 31 December 9999.
     #[error("the years are 1900 to 9999")]
     OutOfRange,
     /// The calendar has no such day.

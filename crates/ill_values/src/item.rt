@@ -12,7 +12,7 @@ use std::alloc::{AllocError as OutOfMemory, Global};
 use std::marker::Model;
 use std::str;
 
-/// The description of an item that a request asks for: 1 to 200 bytes of UTF-8 without the control characters of ASCII.
+/// The item that a request asks for: 1 to 200 bytes of UTF-8 without the control characters of ASCII.
 #[derive(Debug, Drop)]
 pub struct Item {
     text: Vec<u8>,

@@ -70,15 +70,14 @@ pub fn text_sizes()
     ensures item { (text : List ℕ) → IsItem text → (1 ≤ length text) × (length text ≤ 200) }
 {}
 
-/// The date text of a day is read as that day, and any text that is read as a day is its date text.
+/// The date text of a day is read as that day. Any text that is read as a day is its date text.
 pub fn date_texts()
     ensures spelled { (d : Date) → IsDate d → read_date (date_text d) ≡ Ok d }
     ensures read { (text : List ℕ) (d : Date) → read_date text ≡ Ok d →
         IsDate d × (text ≡ date_text d) }
 {}
 
-/// If each name is read as its value, a text is read as a value if, and only if, it is the name of
-/// that value.
+/// If each name is read as its value, a text is read as a value if, and only if, it is its name.
 pub fn names_are_read<A>()
     ensures { (name_of : A → List ℕ) (all : List A) →
         ((value : A) → named_by name_of all (name_of value) ≡ Some value) →

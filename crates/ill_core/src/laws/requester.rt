@@ -115,7 +115,7 @@ pub fn requester_answers_once()
     ensures takes { (x : RequesterRecord) (a : Apdu) → AnswersOnce x → AnswersOnce (takes x a).1 }
 {}
 
-/// A message of the transaction that ends the request leads to the state of this end, if the request can still end so.
+/// A message of the transaction that ends the request leads to the state of this end, if that is still possible.
 /// Shipped leads to SHIPPED or later, an end without the item to NOT-SUPPLIED. A yes to the last Cancel leads to
 /// CANCELLED.
 pub fn requester_follows()

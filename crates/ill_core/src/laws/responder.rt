@@ -88,7 +88,7 @@ pub fn responder_stays_later()
     ensures takes { (y : ResponderRecord) (a : Apdu) → StaysLater y (takes y a).1 }
 {}
 
-/// An APDU that ends the request is issued only while the request is open, and leads to the state of this end.
+/// An APDU ends the request only while it is open, and leads to the state of this end.
 pub fn responder_ends()
     ensures acts { (y new : ResponderRecord) (deed : Deed) (today : Date) →
         acts y deed today ≡ Ok new → Ends y new }

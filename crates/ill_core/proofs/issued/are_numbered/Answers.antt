@@ -1,5 +1,5 @@
--- Proves the contract of `are_numbered` (`src/issued.rt`). It holds because the test of the list from an index on is
--- that of the APDU there and of the rest.
+-- Proves the contract of `are_numbered` (`src/issued.rt`). It holds because the test of a list is that of its first
+-- APDU and of the rest.
 use Rattle.std.proofs.Common.{arith, true, false, sym, refl, ◌∙◌}
 use Rattle.ill_core.proofs.IssuedLemmas.{numbered_at, numbered_end}
 use Rattle.ill_core.proofs.issued.are_numbered.Goals as goal

@@ -1,5 +1,4 @@
--- Proves the law `laws::apdu_type_names_are_read`: a text is read as a type if, and only if, it is the name of that
--- type.
+-- Proves the law `laws::apdu_type_names_are_read`: the name of a type, and no other text, is read as that type.
 use Rattle.ill_values.specs.Types.{apdu_type_name, all_types}
 use Rattle.ill_values.proofs.Names.{apdu_type_again}
 use Rattle.ill_values.proofs.laws.apdu_type_names_are_read.Goals as goal

@@ -1,4 +1,4 @@
--- Proves the law `laws::date_texts`: the date text of a day is read as that day, and no other text is.
+-- Proves the law `laws::date_texts`: the date text of a day, and no other text, is read as that day.
 use Rattle.ill_values.proofs.Dates.{date_again, date_read}
 use Rattle.ill_values.proofs.laws.date_texts.Goals as goal
 

@@ -1,5 +1,4 @@
--- Proves the law `laws::result_names_are_read`: a text is read as a result if, and only if, it is the name of that
--- result.
+-- Proves the law `laws::result_names_are_read`: the name of a result, and no other text, is read as that result.
 use Rattle.ill_values.specs.Results.{result_name, all_results}
 use Rattle.ill_values.proofs.Names.{result_again}
 use Rattle.ill_values.proofs.laws.result_names_are_read.Goals as goal

@@ -3,6 +3,6 @@ use Rattle.std.specs.List.{list_all}
 use Rattle.ill_values.specs.Text.{is_no_control}
 use Rattle.ill_values.proofs.text.has_no_control.Given as goal
 
--- The test of all bytes is `so_far`, for the bytes before the index, and the test of the bytes from the index on.
+-- The test of all bytes is `so_far` and the test of the bytes from the index on.
 abbrev pub invariant-loop-byte : goal.invariant-loop-byte
 invariant-loop-byte l = list_all is_no_control l.text ≡ (l.so_far && list_all is_no_control (drop l.byte-index l.text))

@@ -110,7 +110,7 @@ numbered_issue txn apdus a number numbered next same is =
       omega (arith, n.1, length-append apdus (a ∷ [])),
     )
 
--- `says` holds in a list with one more APDU if, and only if, it holds in the list or of this APDU.
+-- After one more APDU, `says` holds in the list if, and only if, it did before or holds of this APDU.
 pub has_more : (says : Body → Bool) (apdus : List Apdu) (a : Apdu) → has says (apdus ++ a ∷ []) ≡ (has says apdus || says a.body)
 has_more says apdus a =
     list_any-append (λ (b : Apdu). says b.body) apdus (a ∷ []) ∙ ap (λ b. has says apdus || b) (or-false (says a.body))
@@ -214,13 +214,13 @@ not_longer old new a same longer =
 
 -- ---- Cancels
 
--- If message n is old or new in a list, so is message n + 1 after an APDU is put first.
+-- If message n is old or new, so is message n + 1 after an APDU is put first.
 one_further : (says : Bool) (old : Bool) (n size : ℕ) → (old ≡ true) ⊎ ((suc n ≡ size + 1) × (says ≡ true))
     → (old ≡ true) ⊎ ((suc (suc n) ≡ suc size + 1) × (says ≡ true))
 one_further says old n size (inl is) = inl is
 one_further says old n size (inr (at, is)) = inr (omega (arith, at), is)
 
--- If `says` holds of message `c` of a list with one more APDU, it is an old message or the new one.
+-- If `says` holds of message `c` after one more APDU, message `c` is an old message or the new one.
 pub was_more : (says : Body → Bool) (apdus : List Apdu) (a : Apdu) (c : ℕ) → was says (apdus ++ a ∷ []) c ≡ true
     → (was says apdus c ≡ true) ⊎ ((c ≡ length apdus + 1) × (says a.body ≡ true))
 was_more says apdus a zero h = search rules

@@ -6,7 +6,7 @@ use Rattle.ill_values.specs.declared.apdu.Apdu.{Apdu}
 use Rattle.ill_values.specs.declared.apdu.Body.{Body}
 use Rattle.ill_core.specs.Issued.{message, has}
 
--- If message n + 1 is old or new in a list, so is message n + 2 after an APDU is put first.
+-- If message n + 1 is old or new, so is message n + 2 after an APDU is put first.
 message_further : (apdus : List Apdu) (a b : Apdu) (n : ℕ)
     → ((message apdus (suc n) ≡ Some b) × (suc n ≤ length apdus)) ⊎ ((suc n ≡ length apdus + 1) × (a ≡ b))
     → ((message apdus (suc n) ≡ Some b) × (suc (suc n) ≤ suc (length apdus))) ⊎ ((suc (suc n) ≡ suc (length apdus) + 1) × (a ≡ b))

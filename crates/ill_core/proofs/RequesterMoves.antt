@@ -23,7 +23,7 @@ use Rattle.ill_core.specs.Requester.{RequesterRecord, later, accepted_number, la
 use Rattle.ill_core.specs.RequesterDeliveries.{take_message, takes, take_end, take_cancel_reply}
 use Rattle.ill_core.specs.RequesterNotices.{awaits, undecided, lent}
 
--- A message with `number` and this body changes record `x` to this record by a row, or does not change it.
+-- A message with `number` and this body changes record `x` to this record by a row, or changes nothing.
 pub data Leads (x : RequesterRecord) (number : ℕ) : Body → RequesterRecord → Type 0 where
   nowhere : (body : Body) → Leads x number body x
   holds_conditions : is_among (Pending ∷ []) x.state ≡ true

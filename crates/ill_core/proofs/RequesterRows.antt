@@ -275,7 +275,7 @@ loan_row x next body silent accepts_none declines_not here there =
     silent_row x next body silent accepts_none declines_not (search rules) (search rules) (search rules) (λ _. there)
     (λ c shown. search rules)
 
--- If a record claims after the wish Cancel that Cancel `c` was refused, it claimed so before.
+-- If a record claims after the wish Cancel that Cancel `c` was refused, it made this claim before.
 cancel_refused_before : (x : RequesterRecord) (c : ℕ) → is_among (Pending ∷ []) x.state ≡ true
     → ClaimsRefusal (record_after x (record { next = CancelPending; body = types.Cancel; held = x.held })) c → ClaimsRefusal x c
 cancel_refused_before x c is shown =

@@ -229,7 +229,7 @@ pub transition_there : (x : RequesterRecord) (wish : Wish) (row : Row RequesterK
     → IsOk (transition_of x wish)
 transition_there x wish row is = there x (wished x wish 0 row) (transition_of x wish) (by_this x wish 0 row is)
 
--- If `row` is the first that fits a wish and a number is left, the record after it satisfies the rules.
+-- If `row` fits a wish and a number is left, the record after it satisfies the rules of a requester.
 pub wished_kept : (x : RequesterRecord) (wish : Wish) (row : Row RequesterKind) (k n : ℕ) → IsRequester x
     → wish_row x wish ≡ Some row → next_number x.issued ≡ Ok n
     → IsRequester (wished x wish k row)

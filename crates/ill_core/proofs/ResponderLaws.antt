@@ -152,11 +152,11 @@ issues_ends y body next how a same is =
     subst (λ b. (is_among (InProcess ∷ Conditional ∷ CancelPending ∷ []) y.state ≡ true) × (ends_in b next ≡ true)) said
     (how.ends (ap is_end said ∙ is))
 
--- A deed satisfies `Ends`: it ends the request only while it is open, and leads to the state of this end.
+-- A deed satisfies `Ends`.
 pub acts_end : (y new : ResponderRecord) (deed : Deed) (today : Date) → acts y deed today ≡ Ok new → Ends y new
 acts_end y new deed today = of_acts (Ends y) y new deed today (λ transition there. issues_ends y transition.body transition.next)
 
--- A message satisfies `Ends`: it ends the request only while it is open, and leads to the state of this end.
+-- A message satisfies `Ends`.
 pub takes_end : (y : ResponderRecord) (a : Apdu) → Ends y (takes y a).1
 takes_end y a = of_takes (Ends y) y a (λ how b same is. not_longer y.issued _ b how.issued same)
     (λ said how. issues_ends y _ _ how)
@@ -378,7 +378,7 @@ cancels_answered : (c : ℕ) (body : Body) → cancels c body ≡ true → answe
 cancels_answered c (types.CancelReply n true) is = ap Some (eqb-true n c is)
 cancels_answered c other is = search rules
 
--- If a Cancel-Reply yes to `c` was issued, or is issued now to the last Cancel, the record claims `CancelAsked c`.
+-- If a Cancel-Reply yes to `c` was issued, or answers the last Cancel now, the record claims `CancelAsked c`.
 yes_shown : (y : ResponderRecord) (body : Body) (c : ℕ) → (cancels c body ≡ true → y.last_cancel ≡ Some c)
     → (has (cancels c) y.issued ≡ true) ⊎ (cancels c body ≡ true)
     → Claims y (CancelAsked c)

@@ -78,7 +78,7 @@ grant_rises : (last found : Option Date) (dates : List Date)
 grant_rises last None dates = refl
 grant_rises last (Some d) dates = rise_first last d dates
 
--- The dates from index `i` on rise if, and only if, the first is after `last` and the others rise after it.
+-- The dates from index `i` on rise if, and only if, the first is after `last`, and the rest rise.
 pub rise_at : (last found next : Option Date) (follows : Bool) (apdus : List Apdu) (i : ℕ) (a : Apdu)
     → i < length apdus → a ≡ get_or apdus i a
     → found ≡ granted_day a → follows ≡ rises last found → next ≡ option_or found last

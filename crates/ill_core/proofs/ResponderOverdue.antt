@@ -1,5 +1,5 @@
--- Proves that a responder issues an Overdue for the due date only after the APDU that grants it. The state shows such
--- an Overdue.
+-- Proves that a responder issues an Overdue for the due date only after the APDU that grants it. Its state agrees with
+-- this Overdue.
 use Rattle.std.proofs.Common.{rules, arith, ◌≡◌, ◌⊎◌, inl, inr, ℕ, ◌+◌, ◌<◌, ◌≤◌, Bool, true, false, ◌||◌, List, [], ◌∷◌, ◌++◌}
 use Rattle.std.proofs.Common.{length, Option, Some, None, is_some, Ok, if◌then◌else◌, refl, ap, sym, subst, ◌∙◌}
 use Rattle.std.specs.List.{last_or, filter_map}

@@ -181,7 +181,7 @@ transition_answers MayRenew y _ (recalls is) = inr (inl (search rules))
 transition_answers MayRenew y _ (checks_in is) = inl refl
 transition_answers MayRenew y _ (expires is) = inr (inl (search rules))
 
--- If the last question was answered before such a transition, it is answered after it.
+-- If a transition changes the last question as `transition_answers` says, it preserves `HasAnsweredLast`.
 transition_has_answered : (question : Question) (y : ResponderRecord) (transition : Transition)
     → (is_among (unanswered question) transition.next ≡ true) ⊎
     ((is_among (unanswered question) y.state ≡ false) ⊎

@@ -52,7 +52,7 @@ ships_before_more apdus a h none m n b c at_m at_n shipped recall =
         (ap (λ (x : Apdu). is_recall x.body) also.1 ∙ recall)
 
 -- An APDU with `body`, issued in `state`, leads to a state `next` that agrees with the Recalls in the list. A Recall
--- leads to RECALL. A Shipped is issued only before a Recall.
+-- leads to RECALL. A Shipped is issued only in a state before a Recall.
 record FitsRecall (state : State) (body : Body) (next : State) : Type 0 where
   leads : is_among (Recall ∷ []) next ≡ true → is_recall body ≡ true
   after : is_recall body ≡ true → is_among recalled next ≡ true

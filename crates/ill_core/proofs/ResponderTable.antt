@@ -212,8 +212,8 @@ transition_by state None allowed body = Err (refusals.NotNow state)
 transition_by state (Some row) (Err refusal) body = Err refusal
 transition_by state (Some row) (Ok done) body = leads_to (next_state row.3 state) body
 
--- A row gives `if_allowed` of its transition and its refusal, if it gives one when allowed and the other when
--- forbidden.
+-- A row gives `if_allowed` of `transition` and its refusal. When allowed it gives the first, and when forbidden the
+-- second.
 dated : (state : State) (found : Option (Row ResponderKind)) (is_allowed : Bool) (forbids : Refusal)
     (transition : Result Transition Refusal) (body : Body)
     → transition_by state found (Ok tt) body ≡ transition → transition_by state found (Err forbids) body ≡ Err forbids
@@ -357,7 +357,7 @@ acts_forbidden y deed today row OutOfMemory is date =
 acts_forbidden y deed today row refusal is date =
     (acts_by_row y deed today row (Err refusal) (next_number y.issued) is date refl, refl)
 
--- If `row` and the date allow a deed and no number is left, the responder answers with the refusal of the number.
+-- If `row` and the date allow a deed and no number is left, the responder answers with the number's refusal.
 pub acts_numberless : (y : ResponderRecord) (deed : Deed) (today : Date) (row : Row ResponderKind) (refusal : Refusal)
     → deed_row y.state deed ≡ Some row → check_date y deed today ≡ Ok tt → next_number y.issued ≡ Err refusal
     → Acts y deed today (Err refusal) y

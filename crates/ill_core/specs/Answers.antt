@@ -10,7 +10,7 @@ use Rattle.ill_core.specs.declared.taking.Taking.TheVariants.{Taken, Repeat, Sta
 abbrev pub taken : {R : Type 0} → R → Result Taking Refusal × R
 taken new = (Ok Taken, new)
 
--- Returns the answer `Repeat`: the record shows the message already, and does not change.
+-- Returns the answer `Repeat`: the record has the effect of the message already, and does not change.
 abbrev pub repeat : {R : Type 0} → R → Result Taking Refusal × R
 repeat old = (Ok Repeat, old)
 

@@ -15,8 +15,7 @@ use Rattle.ill_core.specs.declared.kind.RequesterKind.TheVariants as requester
 use Rattle.ill_core.specs.declared.kind.ResponderKind.{ResponderKind}
 use Rattle.ill_core.specs.declared.kind.ResponderKind.TheVariants as responder
 
--- Returns the number by which a row judges an APDU. An answer has the number of the message that it answers, any other
--- APDU its own.
+-- Returns the number by which a row judges an APDU: the number that the APDU answers, or else its own.
 abbrev pub number_in : Apdu → Body → ℕ
 number_in a (types.ConditionalReply answers is_yes) = answers
 number_in a (types.CancelReply answers is_yes) = answers

@@ -100,7 +100,7 @@ has_heard x number types.Recall = not (is_among lent x.state)
 has_heard x number types.CheckedIn = implies (is_among (states.Returned ∷ []) x.state) x.checked_in
 has_heard x number other = true
 
--- Returns true if `first` leads to a state in which `second` changes the record, although it changed nothing before.
+-- Returns true if, after `first`, `second` may change a record that it would not have changed before.
 abbrev pub reopens : Body → Body → Bool
 reopens (types.CancelReply answers false) (types.IllAnswer results.Conditional) = true
 reopens (types.Shipped due) types.Recall = true

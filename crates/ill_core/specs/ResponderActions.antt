@@ -86,7 +86,7 @@ renew_answer_transition y granted =
     else if is_among (RenewOverdue ∷ []) y.state then renewal_transition y Overdue granted
     else not_now y
 
--- Returns a date that stands for an absent date.
+-- Returns the date that replaces an absent date.
 abbrev pub no_date : Date
 no_date = record { year = 0; month = 0; day = 0 }
 

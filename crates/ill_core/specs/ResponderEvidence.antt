@@ -89,14 +89,14 @@ Ends y new =
     → (is_among (InProcess ∷ Conditional ∷ CancelPending ∷ []) y.state ≡ true)
     × (ends_in a.body new.state ≡ true)
 
--- If `new` is in a state of `ended` and `y` is not, an APDU that leads to this state was issued.
+-- If `new` is in a state of `ended` and `y` is not, an APDU that leads there was issued.
 abbrev pub EntersByEnd : ResponderRecord → ResponderRecord → Type 0
 EntersByEnd y new =
     is_among ended new.state ≡ true
     → (is_among ended y.state ≡ true) ⊎ ((a : Apdu) × (new.issued ≡ y.issued ++ a ∷ [])
     × (ends_in a.body new.state ≡ true))
 
--- The responder has issued at most one APDU that ends the request, and the state is the one after it.
+-- The responder has issued at most one APDU that ends the request, and the state agrees with it.
 pub record EndsOnce (y : ResponderRecord) : Type 0 where
   pub unsupplied : has is_unsupplied y.issued ≡ is_among (NotSupplied ∷ []) y.state
   pub cancelled : has is_cancelled y.issued ≡ is_among (Cancelled ∷ []) y.state
@@ -130,7 +130,7 @@ waits MayCancel state = is_among (CancelPending ∷ []) state
 waits MayRenew state = is_among (RenewPending ∷ RenewOverdue ∷ []) state
 
 -- A question is answered only while it waits, and waits no longer afterwards. The answer has the number of the last
--- such question taken.
+-- question taken of this kind.
 abbrev pub AnswersLast : Question → ResponderRecord → ResponderRecord → Type 0
 AnswersLast question y new =
     (a : Apdu) (n : ℕ) → new.issued ≡ y.issued ++ a ∷ [] → answered_number question a.body ≡ Some n

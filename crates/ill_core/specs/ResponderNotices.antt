@@ -121,7 +121,7 @@ has_heard y number (types.Renew wished) =
 has_heard y number types.Returned = not (is_among lent y.state)
 has_heard y number other = true
 
--- Returns true if `first` leads to a state in which `second` changes the record, although it changed nothing before.
+-- Returns true if, after `first`, `second` may change a record that it would not have changed before.
 abbrev pub reopens : Body → Body → Bool
 reopens (types.IllRequest expiry item) (types.ConditionalReply answers false) = true
 reopens (types.IllRequest expiry item) types.Cancel = true

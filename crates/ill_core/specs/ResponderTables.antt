@@ -77,7 +77,7 @@ abbrev pub grows : ℕ → Bool
 grows changes = has changes KEEPS || has changes ENDS
 
 -- A row with `changes` may be refused with this refusal. It is `NumbersUsed` if the row issues a message and no number
--- is left. It is `OutOfMemory` if the row takes memory and needs no further number.
+-- is left. It is `OutOfMemory` if the row takes memory and no number is lacking.
 abbrev pub IsRefused : ℕ → List Apdu → Refusal → Type 0
 IsRefused changes issued refusals.OutOfMemory =
     (grows changes ≡ true) × (number_refusal changes issued ≡ None)

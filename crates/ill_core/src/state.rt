@@ -30,12 +30,12 @@ pub enum State {
     Received,
     /// The requester has the item, and a Renew waits for its Renew-Answer.
     RenewPending,
-    /// The responder has told that the item is overdue.
+    /// The responder has reported that the item is overdue.
     Overdue,
-    /// The responder has told that the item is overdue, and a Renew waits for its Renew-Answer.
+    /// The responder has reported that the item is overdue, and a Renew waits for its Renew-Answer.
     RenewOverdue,
-    /// The responder has told that the item is overdue, and the requester has issued no Received. Only a requester has
-    /// this state.
+    /// The responder has reported that the item is overdue, and the requester has issued no Received. Only a requester
+    /// has this state.
     NotReceivedOverdue,
     /// The responder has asked for the item back.
     Recall,

@@ -21,7 +21,7 @@ pub enum Then {
     To(State),
     /// The action is done, or the message is taken. The state does not change.
     Stay,
-    /// The record shows the message already.
+    /// The record has the effect of the message already.
     Repeat,
     /// The message answers a question that is no longer open, or names another due date.
     Stale,

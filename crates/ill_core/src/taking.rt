@@ -7,7 +7,7 @@ use crate::state::State;
 pub enum Taking {
     /// The message was news, and the record has changed as its row says.
     Taken,
-    /// The record shows the message already. Nothing changes.
+    /// The record has the effect of the message already. Nothing changes.
     Repeat,
     /// The message answers a question that is no longer open, or names another due date. Nothing changes.
     Stale,

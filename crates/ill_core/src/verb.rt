@@ -15,11 +15,11 @@ pub enum Verb {
     Cancel,
     /// A requester accepts or declines conditions.
     Reply,
-    /// A requester tells that the item has arrived.
+    /// A requester reports that the item has arrived.
     Receive,
     /// A requester asks for a later due date.
     Renew,
-    /// A requester tells that the item was sent back.
+    /// A requester reports that the item was sent back.
     Return,
     /// A responder answers the request.
     Answer,
@@ -29,11 +29,11 @@ pub enum Verb {
     Ship,
     /// A responder grants a Renew or refuses it.
     RenewAnswer,
-    /// A responder tells that the due date has passed.
+    /// A responder reports that the due date has passed.
     Overdue,
     /// A responder asks for the item back.
     Recall,
-    /// A responder tells that the item is back.
+    /// A responder reports that the item is back.
     CheckIn,
     /// A responder ends a request whose expiry date has passed.
     Expire,

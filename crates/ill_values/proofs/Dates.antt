@@ -103,11 +103,11 @@ none_left : (text : List ℕ) → length text ≡ 0 → text ≡ []
 none_left [] e = refl
 none_left (x ∷ rest) e = absurd (omega arith)
 
--- If `text` is read as `d`, `d` is in range and `text` is its date text.
+-- If `text` is read as `d`, it is the date text of `d`, which is in range.
 abbrev IsRead : Date → List ℕ → Type 0
 IsRead d text = read_date text ≡ Ok d → IsDate d × (text ≡ date_text d)
 
--- If a text of eight bytes is read as `d`, `d` is in range, and its date text is the text.
+-- If a text of eight bytes is read as `d`, it is the date text of `d`, which is in range.
 eight_read : (d : Date) (a b c e f g h i : ℕ) → IsRead d (a ∷ b ∷ c ∷ e ∷ f ∷ g ∷ h ∷ i ∷ [])
 eight_read d a b c e f g h i found =
     let text = a ∷ b ∷ c ∷ e ∷ f ∷ g ∷ h ∷ i ∷ [] in
@@ -119,7 +119,7 @@ eight_read d a b c e f g h i found =
     let made = date_found year month day d tested.1 in
     (made.0, eight_spelled a b c e f g h i digits.1 ∙ ap date_text made.1)
 
--- If `text` is read as `d`, `d` is in range and `text` is its date text.
+-- If `text` is read as `d`, it is the date text of `d`, which is in range.
 pub date_read : (text : List ℕ) (d : Date) → IsRead d text
 date_read text d found =
     let tested = passed (eight_digits text)

@@ -13,7 +13,7 @@ use Rattle.ill_values.specs.Names.{named_by}
 use Rattle.ill_values.specs.Results.{result_name, result_named}
 use Rattle.ill_values.specs.Types.{apdu_type_name, apdu_type_named}
 
--- If `cond b (Some a) others` is `Some x`, either `b` is true and `a` is `x`, or `others` is `Some x`.
+-- If `cond b (Some a) others` is `Some x`, `b` is true and `a` is `x`, or `others` is `Some x`.
 found_first : {A : Type 0} (b : Bool) (a : A) (others : Option A) (x : A) → cond b (Some a) others ≡ Some x
     → ((b ≡ true) × (a ≡ x)) ⊎ (others ≡ Some x)
 found_first true a others x e = inl (refl, same_Some a x e)
@@ -29,7 +29,7 @@ name_found name_of (a ∷ all) text x e =
       | inr h ↦ name_found name_of all text x h
     ]
 
--- If each name is read as its value, `text` is read as `x` if, and only if, `x` has this name.
+-- If each name is read as its value, `text` is read as `x` if, and only if, it names `x`.
 pub named_exactly : {A : Type 0} (name_of : A → List ℕ) (all : List A) → ((x : A) → named_by name_of all (name_of x) ≡ Some x)
     → (text : List ℕ) (x : A) → (named_by name_of all text ≡ Some x) ↔ (text ≡ name_of x)
 named_exactly name_of all again text x = (

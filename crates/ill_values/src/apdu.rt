@@ -80,13 +80,13 @@ pub enum Body {
     },
     /// The item has reached the requester.
     Received,
-    /// The responder wants the item back at once.
+    /// The responder asks for the item back at once.
     Recall,
     /// The requester has sent the item back.
     Returned,
     /// The item is back at the responder.
     CheckedIn,
-    /// The responder tells that the due date has passed.
+    /// The responder reports that the due date has passed.
     Overdue {
         /// The due date that has passed.
         due: Day,
@@ -165,7 +165,7 @@ pub enum AnswerResult {
     WillSupply,
     /// The item is not free, and the responder holds it for the requester next. The request goes on.
     HoldPlaced,
-    /// The item is not supplied; the answer stands for an estimate of the cost. The request ends.
+    /// The item is not supplied; the answer announces an estimate of the cost. The request ends.
     Estimate,
 }
 

@@ -41,7 +41,7 @@ impl Model for Day {
 impl Day {
     /// Returns the day with this year, month (1 to 12) and day of the month (1 to 31).
     ///
-    /// The fault is `OutOfRange` if the year is not from 1900 to 9999, and `NotADate` if the calendar lacks the day.
+    /// The fault is `OutOfRange` if the year is not from 1900 to 9999. It is `NotADate` if the calendar lacks the day.
     pub fn new(year: u16, month: u8, day: u8) -> Result<Day, DayFault>
         ensures { result ≡ date_of year month day }
     {

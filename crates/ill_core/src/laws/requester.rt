@@ -107,7 +107,8 @@ pub fn requester_holds()
     ensures { (x : RequesterRecord) (a : Apdu) → Holds x a.number (takes x a).1 }
 {}
 
-/// No conditions are answered twice, if conditions are held exactly in CONDITIONAL.
+/// A wish or a message preserves this: no conditions are answered twice. Before a wish, conditions are held exactly in
+/// CONDITIONAL.
 pub fn requester_answers_once()
     ensures acts { (x new : RequesterRecord) (wish : Wish) → acts x wish ≡ Ok new →
         is_some x.held ≡ is_among (states.Conditional ∷ []) x.state →
@@ -115,9 +116,8 @@ pub fn requester_answers_once()
     ensures takes { (x : RequesterRecord) (a : Apdu) → AnswersOnce x → AnswersOnce (takes x a).1 }
 {}
 
-/// A message of the transaction that ends the request leads to the state of this end, if that is still possible.
-/// Shipped leads to SHIPPED or later, an end without the item to NOT-SUPPLIED. A yes to the last Cancel leads to
-/// CANCELLED.
+/// A message of the transaction that ends the request leads to the state of this end, if possible. Shipped leads to
+/// SHIPPED or later, an end without the item to NOT-SUPPLIED. A yes to the last Cancel leads to CANCELLED.
 pub fn requester_follows()
     ensures shipped { (x : RequesterRecord) (a : Apdu) (due : Date) →
         is_same_txn a.txn x.txn ≡ true → a.body ≡ types.Shipped due →

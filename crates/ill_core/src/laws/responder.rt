@@ -88,21 +88,21 @@ pub fn responder_stays_later()
     ensures takes { (y : ResponderRecord) (a : Apdu) → StaysLater y (takes y a).1 }
 {}
 
-/// An APDU ends the request only while it is open, and leads to the state of this end.
+/// An APDU that ends the request is issued only while the request is open. It leads to the state of this end.
 pub fn responder_ends()
     ensures acts { (y new : ResponderRecord) (deed : Deed) (today : Date) →
         acts y deed today ≡ Ok new → Ends y new }
     ensures takes { (y : ResponderRecord) (a : Apdu) → Ends y (takes y a).1 }
 {}
 
-/// NOT-SUPPLIED, CANCELLED, and SHIPPED or later are entered only with the APDU that ends the request so.
+/// NOT-SUPPLIED, CANCELLED, and SHIPPED or later are entered only with the APDU that leads there as the end.
 pub fn responder_enters_by_end()
     ensures acts { (y new : ResponderRecord) (deed : Deed) (today : Date) →
         acts y deed today ≡ Ok new → EntersByEnd y new }
     ensures takes { (y : ResponderRecord) (a : Apdu) → EntersByEnd y (takes y a).1 }
 {}
 
-/// At most one APDU ends the request, and the state is the one after it.
+/// A deed or a message preserves this: at most one APDU ends the request, and the state agrees with it.
 pub fn responder_ends_once()
     ensures acts { (y new : ResponderRecord) (deed : Deed) (today : Date) →
         acts y deed today ≡ Ok new → EndsOnce y → EndsOnce new }
@@ -126,7 +126,7 @@ pub fn responder_keeps_last()
         KeepsLast question y (takes y a).1 ⊎ TakesNew question a.number a.body y (takes y a).1 }
 {}
 
-/// No Cancel and no Renew is answered twice, if the one that waits has a number.
+/// A deed or a message preserves this: no Cancel and no Renew is answered twice. The one that waits has a number.
 pub fn responder_answers_once()
     ensures acts { (question : Question) (y new : ResponderRecord) (deed : Deed) (today : Date) →
         acts y deed today ≡ Ok new →
@@ -154,7 +154,7 @@ pub fn responder_follows()
         LeadsTo (states.Returned ∷ states.CheckedIn ∷ []) (takes y a) }
 {}
 
-/// Each question that was asked after a message was asked before, or the message asks it. A deed adds no question.
+/// Each Cancel or Renew that a record has after a message was there before, or is this message. A deed adds none.
 pub fn responder_was_asked()
     ensures acts { (question : Question) (y new : ResponderRecord) (deed : Deed) (today : Date) (number : ℕ) →
         acts y deed today ≡ Ok new →
@@ -165,7 +165,8 @@ pub fn responder_was_asked()
         WasAsked question y number ⊎ ((asks question a.body ≡ true) × (a.number ≡ number)) }
 {}
 
-/// The last Cancel and the last Renew were answered, unless they wait or the item came back.
+/// A deed or a message preserves this: the last Cancel and the last Renew were answered. They may also wait, or the
+/// item came back.
 pub fn responder_has_answered_last()
     ensures acts { (question : Question) (y new : ResponderRecord) (deed : Deed) (today : Date) →
         acts y deed today ≡ Ok new →
@@ -175,7 +176,8 @@ pub fn responder_has_answered_last()
         HasAnsweredLast question y → HasAnsweredLast question (takes y a).1 }
 {}
 
-/// A Recall is issued after the Shipped. A record that has issued one is in RECALL, RETURNED or CHECKED-IN.
+/// A deed or a message preserves this: each Recall is issued after the Shipped. A record with a Recall is in RECALL,
+/// RETURNED or CHECKED-IN.
 pub fn responder_recalls()
     ensures acts { (y new : ResponderRecord) (deed : Deed) (today : Date) → acts y deed today ≡ Ok new →
         RecallFits y → ShipsBeforeRecall y.issued → RecallFits new × ShipsBeforeRecall new.issued }
@@ -183,8 +185,8 @@ pub fn responder_recalls()
         RecallFits (takes y a).1 × ShipsBeforeRecall (takes y a).1.issued }
 {}
 
-/// An Overdue for the due date is issued after the APDU that grants this date. A record that has issued one is in
-/// OVERDUE, RENEW/OVERDUE, RECALL, RETURNED or CHECKED-IN.
+/// A deed or a message preserves this: each Overdue is issued after the APDU that grants its date. A record with an
+/// Overdue for the due date is in OVERDUE, RENEW/OVERDUE, RECALL, RETURNED or CHECKED-IN.
 pub fn responder_is_overdue()
     ensures acts { (y new : ResponderRecord) (deed : Deed) (today : Date) → acts y deed today ≡ Ok new →
         IsResponder y → OverdueFits y → GrantsBeforeOverdue y.issued →
@@ -193,7 +195,7 @@ pub fn responder_is_overdue()
         OverdueFits (takes y a).1 × GrantsBeforeOverdue (takes y a).1.issued }
 {}
 
-/// If one granted date answers a later Renew than another, it is the later date.
+/// A deed or a message preserves this: the granted dates rise with the numbers of the Renews that they answer.
 pub fn responder_grants_rise()
     ensures acts { (y new : ResponderRecord) (deed : Deed) (today : Date) → acts y deed today ≡ Ok new →
         IsResponder y → AnswersOnce MayRenew y → GrantsRise y.issued → GrantsRise new.issued }

@@ -32,6 +32,7 @@ const NOT_HERE: u16 = 1 << 2; // No Received was issued.
 // Sets of states.
 const KEPT: u16 = RECEIVED | RENEW_PENDING | OVERDUE | RENEW_OVERDUE;
 
+/// Lists the rows of wishes, ordered by kind. Within a kind, the first row that fits decides.
 const ROWS: [Row<Kind>; 11] = [
     Row(Kind::Request, IDLE, NONE, To(Pending), NONE),
     Row(Kind::Yes, CONDITIONAL, UNDECLINED, To(Pending), FREES),

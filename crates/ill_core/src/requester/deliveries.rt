@@ -50,7 +50,7 @@ const RENEWS: u16 = LAST_RENEW | LATER;
 // Sets of states.
 const OPEN: u16 = PENDING | CONDITIONAL | CANCEL_PENDING;
 
-const WAITING: u16 = CANCEL_PENDING; // It waits for the answer to a Cancel.
+const WAITING: u16 = CANCEL_PENDING; // The requester waits for the answer to a Cancel.
 
 const RENEWING: u16 = RENEW_PENDING | RENEW_OVERDUE;
 
@@ -60,6 +60,7 @@ const SHIPPED_OR_LATER: u16 = LENT | RECALL | RETURNED;
 
 const REMINDED: u16 = NOT_RECEIVED_OVERDUE | OVERDUE | RENEW_OVERDUE;
 
+/// Lists the rows of deliveries, ordered by kind. Within a kind, the first row that fits decides.
 const ROWS: [Row<Kind>; 30] = [
     Row(Kind::Conditions, ANY, PASSED, Repeat, NONE),
     Row(Kind::Conditions, CONDITIONAL, HELD, Repeat, NONE),

@@ -25,6 +25,7 @@ const OPEN: u16 = IN_PROCESS | CONDITIONAL;
 
 const RENEWING: u16 = RENEW_PENDING | RENEW_OVERDUE;
 
+/// Lists the rows of deeds, ordered by kind. Within a kind, the first row that fits decides.
 const ROWS: [Row<Kind>; 14] = [
     Row(Kind::Conditions, IN_PROCESS, NONE, To(Conditional), NONE),
     Row(Kind::Promise, IN_PROCESS, NONE, Stay, NONE),

@@ -48,6 +48,7 @@ const BACK: u16 = RETURNED | CHECKED_IN;
 
 const SHIPPED_OR_LATER: u16 = LENT | BACK;
 
+/// Lists the rows of deliveries, ordered by kind. Within a kind, the first row that fits decides.
 const ROWS: [Row<Kind>; 16] = [
     Row(Kind::Request, IDLE, NONE, To(InProcess), KEEPS),
     Row(Kind::Request, ANY, NONE, Repeat, NONE),

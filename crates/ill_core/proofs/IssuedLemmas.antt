@@ -110,7 +110,7 @@ numbered_issue txn apdus a number numbered next same is =
       omega (arith, n.1, length-append apdus (a ∷ [])),
     )
 
--- After one more APDU, `says` holds in the list if, and only if, it did before or holds of this APDU.
+-- With one more APDU, `says` holds in the list if, and only if, it did before or holds of it.
 pub has_more : (says : Body → Bool) (apdus : List Apdu) (a : Apdu) → has says (apdus ++ a ∷ []) ≡ (has says apdus || says a.body)
 has_more says apdus a =
     list_any-append (λ (b : Apdu). says b.body) apdus (a ∷ []) ∙ ap (λ b. has says apdus || b) (or-false (says a.body))

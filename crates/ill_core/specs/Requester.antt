@@ -14,7 +14,7 @@ use Rattle.ill_core.specs.Rules.{implies, are_alike}
 use Rattle.ill_core.specs.Bodies.{declines, is_requesters, is_ill_request, is_cancel, is_received, is_renew, is_returned}
 use Rattle.ill_core.specs.Issued.{is_none, are_numbered, has, last_of, number_of_cancel, number_of_renew, accepted_in}
 
--- Everything that a requester keeps of a transaction.
+-- The record of a requester in a transaction, with all APDUs that it has issued.
 pub record RequesterRecord : Type 0 where
   pub txn : Qualifiers
   pub state : State

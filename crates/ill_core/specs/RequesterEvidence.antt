@@ -63,7 +63,7 @@ abbrev pub is_raised : Option Date → Option Date → Bool
 is_raised old None = false
 is_raised old (Some d) = is_after_due d old
 
--- There was no due date, or it is unchanged, or it was raised.
+-- There was no due date, or the new one equals it, or is after it.
 abbrev pub KeepsDue : Option Date → Option Date → Type 0
 KeepsDue old new = (old ≡ None) ⊎ (new ≡ old) ⊎ (is_raised old new ≡ true)
 
@@ -107,7 +107,7 @@ abbrev pub replies : List Apdu → List ℕ
 replies apdus = filter_map (λ a. replied_number a.body) apdus
 
 -- The requester answers no conditions twice. If it has declined none, the answered numbers are at most the accepted
--- number. In CONDITIONAL they are below the held number as well.
+-- number. In CONDITIONAL they are then also below the held number.
 pub record AnswersOnce (x : RequesterRecord) : Type 0 where
   pub distinct : are_distinct (replies x.issued) ≡ true
   pub above : has declines x.issued ≡ false →

@@ -16,7 +16,7 @@ use Rattle.ill_core.specs.Rules.{implies, are_alike}
 use Rattle.ill_core.specs.Bodies.{is_requesters, is_ill_request, is_shipped, is_checked_in, names_conditions, is_renewal}
 use Rattle.ill_core.specs.Issued.{are_numbered, is_same_txn, has, was, last_of, is_none, granted_day, number_of_end}
 
--- Everything that a responder keeps of a transaction.
+-- The record of a responder in a transaction, with the request and all APDUs that it has issued.
 pub record ResponderRecord : Type 0 where
   pub txn : Qualifiers
   pub state : State

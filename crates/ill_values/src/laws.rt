@@ -77,7 +77,7 @@ pub fn date_texts()
         IsDate d × (text ≡ date_text d) }
 {}
 
-/// If each name is read as its value, a text is read as a value if, and only if, it names it.
+/// If each name is read as its value, a text is read as a value if, and only if, it is its name.
 pub fn names_are_read<A>()
     ensures { (name_of : A → List ℕ) (all : List A) →
         ((value : A) → named_by name_of all (name_of value) ≡ Some value) →

@@ -74,8 +74,8 @@ take_overdue x d =
     else if is_among (NotReceivedOverdue ∷ Overdue ∷ RenewOverdue ∷ []) x.state then repeat x
     else conflict x.state x
 
--- Returns the answer to a Renew-Answer to the open Renew. A yes leads to RECEIVED if its date is after the due date. A
--- no leads to RECEIVED from RENEW/PENDING, and else to OVERDUE.
+-- Returns the answer to a Renew-Answer to the open Renew. A yes leads to RECEIVED if its date is after the due date,
+-- and else is a conflict. A no leads to RECEIVED from RENEW/PENDING, and else to OVERDUE.
 abbrev pub take_renewal : RequesterRecord → Option Date → Result Taking Refusal × RequesterRecord
 take_renewal x (Some d) =
     if is_after_due d x.due then taken (record x { state = Received; due = Some d })

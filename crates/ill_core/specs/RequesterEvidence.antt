@@ -19,7 +19,7 @@ use Rattle.ill_core.specs.declared.taking.Taking.TheVariants.{Taken, Repeat}
 use Rattle.std.specs.Option.{unwrap_or}
 use Rattle.std.specs.List.{list_all, filter_map}
 
--- A fact that a message of the responder may tell.
+-- A fact of which a message of the responder may be evidence.
 pub data Fact : Type 0 where
   Cancelled : Fact  -- A Cancel was accepted.
   Ended : Fact  -- The item is not supplied.

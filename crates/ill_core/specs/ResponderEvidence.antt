@@ -21,7 +21,7 @@ pub use Rattle.ill_core.specs.Bodies.{is_unsupplied, is_cancelled, is_end}
 use Rattle.ill_core.specs.Issued.{has, with_next}
 use Rattle.ill_core.specs.Responder.{ResponderRecord, later}
 
--- A fact that a message of the requester may tell.
+-- A fact of which a message of the requester may be evidence.
 pub data Fact : Type 0 where
   Requested : Fact  -- The requester asked for the item.
   Accepted : (conditions : ℕ) → Fact  -- The requester accepted the conditions with number `conditions`.

@@ -1,16 +1,16 @@
--- A proper prefix of a text that is appended to bytes, one part after another.
+-- Proper prefixes of texts that are appended in several parts.
 use Rattle.std.proofs.Common.{◌≡◌, ℕ, List, [], ◌++◌, ◌<◌, length, Result, Ok, Err, OnErr, refl, sym, ap, ◌∙◌, arith}
 use Rattle.std.proofs.Common.{append_assoc, length-append}
 use Rattle.std.proofs.lemmas.List.{append-nil}
 use Rattle.std.proofs.lemmas.Result.{on_err_weaker}
 use Rattle.ill_der.specs.Adding.{AddsPrefix}
 
--- If `new` is `old` and `text` has a byte, `new` is `old` and a proper prefix of `text`: the empty one.
+-- If `new` is `old` and `text` has a byte, `new` is `old` followed by the empty prefix of `text`, a proper one.
 pub adds_nothing : (old new text : List ℕ) → new ≡ old → 0 < length text → AddsPrefix old new text
 adds_nothing old new text same some =
     record { prefix = []; rest = text; parts = refl; added = same ∙ sym (append-nil old); lacks = some }
 
--- A proper prefix of `first` after `old` is a proper prefix of `first ++ second` after `old`.
+-- If `new` is `old` followed by a proper prefix of `first`, it is `old` followed by one of `first ++ second`.
 pub adds_first : (old new first second : List ℕ) → AddsPrefix old new first → AddsPrefix old new (first ++ second)
 adds_first old new first second is = record {
   prefix = is.prefix;
@@ -20,7 +20,7 @@ adds_first old new first second is = record {
   lacks = omega (arith, is.lacks, length-append is.rest second);
 }
 
--- A proper prefix of `second` after `old ++ first` is a proper prefix of `first ++ second` after `old`.
+-- If `new` is `old ++ first` followed by a proper prefix of `second`, it is `old` followed by one of `first ++ second`.
 pub adds_second : (old middle new first second : List ℕ) → middle ≡ old ++ first → AddsPrefix middle new second
     → AddsPrefix old new (first ++ second)
 adds_second old middle new first second all is = record {
@@ -31,12 +31,12 @@ adds_second old middle new first second all is = record {
   lacks = is.lacks;
 }
 
--- If `P` holds, it holds at an error of `result`.
+-- If `P` holds, it holds if `result` is an error.
 pub at_err : {T E P : Type 0} (result : Result T E) → P → OnErr result P
 at_err (Ok value) holds = tt
 at_err (Err fault) holds = holds
 
--- At an error, a proper prefix of `second` after `old ++ first` is one of `first ++ second` after `old`.
+-- At an error, if a proper prefix of `second` follows `old ++ first`, one of `first ++ second` follows `old`.
 pub adds_last : {T E : Type 0} (result : Result T E) (old middle new first second : List ℕ) → middle ≡ old ++ first
     → OnErr result (AddsPrefix middle new second)
     → OnErr result (AddsPrefix old new (first ++ second))

@@ -1,4 +1,4 @@
--- The consequences of a step of reading, by its result.
+-- The results of readings that are chained by `>>=`.
 use Rattle.std.proofs.Common.{◌≡◌, ℕ, Bool, true, false, cond, Result, Ok, Err, refl, subst, inl, inr, ◌⊎◌}
 use Rattle.ill_der.specs.declared.fault.DerFault.{DerFault}
 use Rattle.ill_der.specs.declared.fault.DerFault.TheVariants.{Short, Tag, Length, Field, OutOfMemory}
@@ -31,7 +31,7 @@ pub chosen : {A : Type 0} (b : Bool) (x y z : A) → cond b x y ≡ z → ((b �
 chosen true x y z e = inl (refl, e)
 chosen false x y z e = inr (refl, e)
 
--- Returns `Ok x`. A statement can give both of its types.
+-- Returns `Ok x`. A statement can name both types of the result, which it cannot do with `Ok`.
 abbrev pub done : {E A : Type 0} → A → Result A E
 done x = Ok x
 
@@ -39,7 +39,7 @@ done x = Ok x
 pub ok_is : {E A : Type 0} (x y : A) → done {E = E} x ≡ done y → x ≡ y
 ok_is x y e = cc
 
--- Returns `Err d`. A statement can give both of its types.
+-- Returns `Err d`. A statement can name both types of the result, which it cannot do with `Err`.
 abbrev pub failed : {E A : Type 0} → E → Result A E
 failed d = Err d
 
@@ -47,7 +47,7 @@ failed d = Err d
 pub no_value : {E A : Type 0} (d : E) (x : A) → done x ≡ failed d → ⊥
 no_value d x e = cc
 
--- Holds of Tag, Length and Field, the faults of the contents of an APDU.
+-- The fault is Tag, Length or Field: one of the faults of the contents of an APDU.
 abbrev pub IsInside : DerFault → Type 0
 IsInside (Short n) = ⊥
 IsInside (Tag at) = Unit {0}

@@ -22,18 +22,18 @@ use Rattle.ill_der.proofs.Chains.{chosen}
 use Rattle.ill_der.specs.Laws.{IsBytes}
 use Rattle.ill_der.proofs.Formats.{IsContents}
 
--- The laws of `ill_values` that the proofs use: a date is read from its text alone, and texts have these sizes.
+-- The laws of `ill_values` that the proofs use: a date is read only from its text, and texts have these sizes.
 pub record Values : Type 0 where
   pub day_spelled : (d : Date) → IsDate d → read_date (date_text d) ≡ Ok d
   pub day_read : (text : List ℕ) (d : Date) → read_date text ≡ Ok d → IsDate d × (text ≡ date_text d)
   pub qualifier_size : (text : List ℕ) → IsQualifier text → (1 ≤ length text) × (length text ≤ 64)
   pub item_size : (text : List ℕ) → IsItem text → (1 ≤ length text) × (length text ≤ 200)
 
--- Holds of each result.
+-- `v` is any result.
 abbrev pub IsAnyResult : AnswerResult → Type 0
 IsAnyResult v = Unit {0}
 
--- Holds of yes and of no.
+-- `v` is yes or no.
 abbrev pub IsYesOrNo : Bool → Type 0
 IsYesOrNo v = Unit {0}
 
@@ -45,7 +45,7 @@ found_first false a o x e = inr e
 
 -- ---- numbers
 
--- A number below 128 is encoded as one octet, itself.
+-- A number `n` below 128 is encoded as one octet, `n`.
 one_octet : (n : ℕ) → n < 128 → number_octets n ≡ n ∷ []
 one_octet n lt = rw (lt-ltb n 128 lt) refl
 
@@ -53,7 +53,7 @@ one_octet n lt = rw (lt-ltb n 128 lt) refl
 two_octets : (n : ℕ) → 128 ≤ n → number_octets n ≡ 0 ∷ n ∷ []
 two_octets n le = rw (le-ltb n 128 le) refl
 
--- If `number_from` reads `v` from octets `bytes`, they are the encoding of `v`, which is 1 to 255.
+-- If `number_from` reads `v` from `bytes`, they are the encoding of `v`, which is 1 to 255.
 number_takes : (bytes : List ℕ) (v : ℕ) → IsBytes bytes → number_from bytes ≡ Some v → (bytes ≡ number_octets v) × IsNumber v
 number_takes [] v fits e = absurd cc
 number_takes (n ∷ []) v fits e =
@@ -94,7 +94,7 @@ number_is = record { takes = number_takes; again = number_again; bound = number_
 
 -- ---- the version
 
--- Holds of the version, which has one value.
+-- `v` is the version, which has one value.
 abbrev pub Always : Unit {0} → Type 0
 Always v = Unit {0}
 
@@ -108,7 +108,7 @@ version_is = record { takes = version_takes; again = λ v p. refl; bound = λ v 
 
 -- ---- texts
 
--- If `r` is no fault, it is `Ok tt`.
+-- If a check `r` succeeds, it is `Ok tt`.
 checked : (r : Result (Unit {0}) TextFault) → is_ok r ≡ true → r ≡ Ok tt
 checked (Ok x) e = refl
 checked (Err f) e = absurd cc

@@ -14,7 +14,7 @@ use Rattle.ill_der.proofs.FeedLemmas.{AgainLaw, ShortLaw, begins_join, begins_mo
 
 -- ---- pieces one after another
 
--- If `prefix` and then `piece` are pushed, one push of `prefix ++ piece` gives all their APDUs and the last feed.
+-- If `prefix` and then `piece` are pushed, one push of `prefix ++ piece` gives all their APDUs and the second feed.
 pub two_pushes : (old middle new : Unread) (prefix piece : List ℕ) (first more : List Apdu) → Feeds old prefix first middle
     → Feeds middle piece more new → Feeds old (prefix ++ piece) (first ++ more) new
 two_pushes (Ok held) (Ok between) new prefix piece first more a b =
@@ -36,12 +36,12 @@ two_pushes (Err fault) middle new prefix piece first more a b =
     let closed : Feeds (Err fault) piece more new = subst (λ (m : Unread). Feeds m piece more new) a.1 b in
     (ap (λ (x : List Apdu). x ++ more) a.0 ∙ closed.0, closed.1)
 
--- Holds of each closed feed, and of an open one that holds unfinished bytes.
+-- The feed is closed, or it is open and holds unfinished bytes.
 abbrev IsFeed : Unread → Type 0
 IsFeed (Ok held) = IsUnfinished held
 IsFeed (Err fault) = Unit {0}
 
--- A feed that a rest leaves is closed or holds unfinished bytes.
+-- If `rest` leaves the feed `new`, `new` is closed or holds unfinished bytes.
 is_left : (rest : List ℕ) (new : Unread) → Leaves rest new → IsFeed new
 is_left rest (Ok held) leaves = subst IsUnfinished (sym leaves.0) leaves.1
 is_left rest (Err fault) leaves = tt
@@ -56,7 +56,7 @@ no_push : (old : Unread) → IsFeed old → Feeds old [] [] old
 no_push (Ok held) is = (held, record { spelled = tt; parts = append-nil held }, (refl, is))
 no_push (Err fault) is = (refl, refl)
 
--- If `pieces` are pushed into `old` one after another, one push of all their bytes gives the APDUs and the feed.
+-- If `pieces` are pushed into `old` one after another, one push of all their bytes gives equal APDUs and an equal feed.
 pub all_pushes : (pieces : List (List ℕ)) (old : Unread) (apdus : List Apdu) (new : Unread) → IsFeed old
     → FeedsAll old pieces apdus new → Feeds old (concat pieces) apdus new
 all_pushes [] old apdus new is all =
@@ -67,21 +67,21 @@ all_pushes (piece ∷ pieces) old apdus new is all =
     subst (λ (x : List Apdu). Feeds old (piece ++ concat pieces) x new) (sym all.5)
     (two_pushes old all.2 new piece (concat pieces) all.0 all.1 all.3 later)
 
--- ---- all cuts agree
+-- ---- equal results of all cuts
 
--- A rest that leaves a feed has a fault.
+-- If `rest` leaves a feed, it has a fault.
 has_fault : (rest : List ℕ) (new : Unread) → Leaves rest new → (d : DerFault) × (apdu_at rest ≡ Err d)
 has_fault rest (Ok held) leaves = (Short (length rest), leaves.1)
 has_fault rest (Err fault) leaves = (fault, leaves.0)
 
--- If `apdu` and then `apdus` begin `bytes`, `apdu_at` reads `apdu` and leaves the encodings of `apdus`, and `rest`.
+-- If `bytes` is `apdu`, `apdus` and then `rest`, `apdu_at` reads `apdu` and leaves the encodings of `apdus` and `rest`.
 first_again : AgainLaw → (bytes rest : List ℕ) (apdu : Apdu) (apdus : List Apdu) → Begins bytes (apdu ∷ apdus) rest
     → apdu_at bytes ≡ Ok (apdu, flat_map spelling apdus ++ rest)
 first_again again bytes rest apdu apdus begins =
     ap apdu_at (begins.parts ∙ append_assoc (spelling apdu) (flat_map spelling apdus) rest)
     ∙ again apdu (flat_map spelling apdus ++ rest) begins.spelled.0
 
--- If `bytes` are all a rest that leaves a feed, no APDU begins them.
+-- If all of `bytes` is a rest that leaves a feed, `bytes` begins with no APDU.
 no_first : AgainLaw → (bytes rest after : List ℕ) (new : Unread) (apdu : Apdu) (apdus : List Apdu) → Begins bytes [] rest
     → Leaves rest new → Begins bytes (apdu ∷ apdus) after → ⊥
 no_first again bytes rest after new apdu apdus none leaves some =
@@ -98,7 +98,7 @@ same_left rest (Err fault) (Ok other) a b =
     absurd (subst (λ (f : DerFault). IfShort f ⊥) (fault_is fault (Short (length rest)) (sym a.0 ∙ b.1)) a.1)
 same_left rest (Err one) (Err other) a b = ap Err (fault_is one other (sym a.0 ∙ b.0))
 
--- If `bytes` are divided into APDUs and a rest in two ways, the APDUs are equal, and the feeds left are.
+-- If `bytes` is divided into APDUs and a rest in two ways, the APDUs are equal, and the rests leave equal feeds.
 one_cut : AgainLaw → (first second : List Apdu) (bytes rest after : List ℕ) (a b : Unread) → Begins bytes first rest
     → Leaves rest a → Begins bytes second after → Leaves after b
     → (first ≡ second) × (a ≡ b)
@@ -120,12 +120,12 @@ one_cut again (apdu ∷ apdus) (one ∷ ones) bytes rest after a b x leaves y ot
     (record { spelled = y.spelled.1; parts = tails }) other in
     (ap (λ (e : Apdu). e ∷ apdus) head ∙ ap (λ (es : List Apdu). one ∷ es) later.0, later.1)
 
--- No bytes at all are unfinished: they are less than an APDU.
+-- The empty list of bytes is unfinished: it is less than an APDU.
 nothing_held : IsUnfinished []
 unfolding apdu_at outer_at header_at
 nothing_held = refl
 
--- If two lists of pieces have equal bytes, an empty feed gives equal APDUs for them and comes to equal ends.
+-- If two lists of pieces have equal bytes, an empty feed gives equal APDUs for both and becomes equal feeds.
 pub any_cut : AgainLaw → (pieces others : List (List ℕ)) (first second : List Apdu) (a b : Unread)
     → concat pieces ≡ concat others → FeedsAll (Ok []) pieces first a → FeedsAll (Ok []) others second b
     → (first ≡ second) × (a ≡ b)

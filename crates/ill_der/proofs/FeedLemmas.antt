@@ -1,4 +1,4 @@
--- APDUs in bytes that come in pieces: handling them, and the bytes that are left.
+-- The handling of APDUs in bytes that come in pieces, and the bytes that a feed holds.
 use Rattle.std.proofs.Common.{◌≡◌, ℕ, ◌+◌, ◌-◌, ◌<◌, ◌≤◌, List, [], ◌∷◌, ◌++◌, length, take, drop, Option, Some, None, Result, Ok}
 use Rattle.std.proofs.Common.{Err, IsOk, inl, inr, refl, sym, ap, subst, ◌∙◌, arith, append_assoc}
 use Rattle.std.specs.List.{flat_map, AllByRecursion}
@@ -28,11 +28,11 @@ pub all_join : (prefix more : List Apdu) → AllByRecursion IsApdu prefix → Al
 all_join [] more all others = others
 all_join (apdu ∷ prefix) more all others = (all.0, all_join prefix more all.1 others)
 
--- `bytes` begins with no APDUs, and all of it is the rest.
+-- `bytes` is the encodings of no APDUs followed by the rest `bytes`.
 pub begins_none : (bytes : List ℕ) → Begins bytes [] bytes
 begins_none bytes = record { spelled = tt; parts = refl }
 
--- If `apdu_at` reads `apdu` from `bytes` and leaves `rest`, `apdu` begins `bytes`, and `rest` is the rest.
+-- If `apdu_at` reads `apdu` from `bytes` and leaves `rest`, `bytes` is the encoding of `apdu` followed by `rest`.
 pub begins_one : ((bytes : List ℕ) → IsBytes bytes → BeginsWithOne bytes (apdu_at bytes))
     → (bytes : List ℕ) (apdu : Apdu) (rest : List ℕ) → IsBytes bytes → apdu_at bytes ≡ Ok (apdu, rest)
     → Begins bytes (apdu ∷ []) rest
@@ -40,7 +40,8 @@ begins_one law bytes apdu rest fits e =
     let is = subst (BeginsWithOne bytes) e (law bytes fits) in
     record { spelled = (is.0.0, tt); parts = is.0.1 ∙ ap (λ (x : List ℕ). x ++ rest) (sym (append-nil (spelling apdu))) }
 
--- If `prefix` begins `bytes` with the rest `middle`, and `more` begins `middle`, `prefix ++ more` begins `bytes`.
+-- If `bytes` is the APDUs `prefix` followed by `middle`, and `middle` is the APDUs `more` followed by `rest`,
+-- `bytes` is the APDUs `prefix ++ more` followed by `rest`.
 pub begins_join : (bytes middle rest : List ℕ) (prefix more : List Apdu) → Begins bytes prefix middle
     → Begins middle more rest → Begins bytes (prefix ++ more) rest
 begins_join bytes middle rest prefix more first second =
@@ -52,7 +53,7 @@ begins_join bytes middle rest prefix more first second =
           ∙ ap (λ (x : List ℕ). x ++ rest) (sym (flat_map-append spelling prefix more));
     }
 
--- If `apdus` begin `bytes` with `rest`, they begin `bytes ++ more` with `rest ++ more`.
+-- If `bytes` is `apdus` followed by `rest`, `bytes ++ more` is `apdus` followed by `rest ++ more`.
 pub begins_more : (bytes rest more : List ℕ) (apdus : List Apdu) → Begins bytes apdus rest
     → Begins (bytes ++ more) apdus (rest ++ more)
 begins_more bytes rest more apdus is = record {
@@ -60,7 +61,7 @@ begins_more bytes rest more apdus is = record {
   parts = ap (λ (x : List ℕ). x ++ more) is.parts ∙ append_assoc (flat_map spelling apdus) rest more;
 }
 
--- If one or more APDUs begin `bytes`, the first of them alone begins `bytes`.
+-- If `bytes` begins with one or more APDUs, it begins with the first of them.
 begins_first : (bytes : List ℕ) (apdus : List Apdu) (apdu : Apdu) (rest : List ℕ)
     → Begins bytes (apdus ++ apdu ∷ []) rest → (first : Apdu) × (later : List ℕ) × Begins bytes (first ∷ []) later
 begins_first bytes [] apdu rest begins = (apdu, rest, begins)
@@ -76,9 +77,9 @@ begins_first bytes (first ∷ apdus) apdu rest begins =
       },
     )
 
--- ---- handling one more, and one before
+-- ---- handling one more APDU
 
--- If `apdus` were handled and then `apdu`, the list of `apdus` with `apdu` at its end was handled.
+-- If `apdus` were handled and then `apdu`, `apdus ++ apdu ∷ []` was handled.
 pub handled_then : {S F : Type 0} (handles : Handles S F) (before now after : S) (apdus : List Apdu) (apdu : Apdu)
     → Handled handles before apdus now → handles now apdu (Ok tt) after
     → Handled handles before (apdus ++ apdu ∷ []) after
@@ -86,7 +87,7 @@ handled_then handles before now after [] apdu so_far next = (after, subst (λ s.
 handled_then handles before now after (first ∷ apdus) apdu so_far next =
     (so_far.0, so_far.1, handled_then handles so_far.0 now after apdus apdu so_far.2 next)
 
--- If the APDUs before the offset `at` were handled, and handling the next failed, handling `bytes` failed.
+-- If the APDUs before the offset `at` were handled, and handling the next APDU failed, handling `bytes` failed.
 pub fails_after : {S F : Type 0} (handles : Handles S F) (bytes : List ℕ) (at : ℕ) (before now after : S) (fault : F)
     → ((apdus : List Apdu) × Begins bytes apdus (drop at bytes) × Handled handles before apdus now)
     → HandlesFirst handles (take (length bytes - at) (drop at bytes)) now (Err fault) after
@@ -102,7 +103,7 @@ fails_after handles bytes at before now after fault so_far next =
       next.3,
     )
 
--- If the APDUs before `at` were handled, and the next, of `size` bytes, then those before `at + size` were.
+-- If the APDUs before `at` and the next, of `size` bytes, were handled, the APDUs before `at + size` were handled.
 pub one_more_handled : {S F : Type 0} (handles : Handles S F) (bytes : List ℕ) (at size : ℕ) (before now after : S)
     → at ≤ length bytes
     → ((apdus : List Apdu) × Begins bytes apdus (drop at bytes) × Handled handles before apdus now)
@@ -177,7 +178,7 @@ holds size buffer prefix few is unfinished = record { most = few; unfinished = s
 abbrev pub ShortLaw : Type 0
 ShortLaw = (bytes : List ℕ) (n : ℕ) → apdu_at bytes ≡ Err (Short n) → (n ≡ length bytes) × (n ≤ 358)
 
--- If a fill ends with `filled` bytes, `new` has that many bytes or more.
+-- If a fill leaves `filled` bytes in use, `new` has at least `filled` bytes.
 pub filled_length : (old new piece : List ℕ) (size filled : ℕ) → Fills old new size piece filled
     → length (take filled new) ≡ filled
 filled_length old new piece size filled fills =
@@ -202,7 +203,7 @@ pub holds_still : (old new piece : List ℕ) (size filled : ℕ) → Fills old n
 holds_still old new piece size filled fills is =
     holds size new (take size old) is.most (still_held old new piece size filled fills) is.unfinished
 
--- If a fill ends with at most 358 bytes, all of `piece` was copied.
+-- If a fill leaves at most 358 bytes in use, all of `piece` was copied.
 pub all_filled : (old new piece : List ℕ) (size filled : ℕ) → Fills old new size piece filled → filled ≤ 358
     → take filled new ≡ take size old ++ piece
 all_filled old new piece size filled fills few =
@@ -210,7 +211,7 @@ all_filled old new piece size filled fills few =
     let all : filled - size ≡ length piece = omega (arith, fills.count, few) in
     fills.parts ∙ ap (λ (n : ℕ). held ++ take n piece) all ∙ ap (λ (x : List ℕ). held ++ x) (take-length piece)
 
--- If `bytes` have a fault that closes no feed, they are unfinished and at most 358.
+-- If `bytes` has a fault that closes no feed, it is unfinished and has at most 358 bytes.
 short_unfinished : ShortLaw → (bytes : List ℕ) (fault : DerFault) → None ≡ closing fault → apdu_at bytes ≡ Err fault
     → IsUnfinished bytes × (length bytes ≤ 358)
 short_unfinished law bytes fault none e =
@@ -219,8 +220,8 @@ short_unfinished law bytes fault none e =
     let is = law bytes short.0 at in
     (at ∙ ap (λ (k : ℕ). Err (Short k)) is.0, omega (arith, is.0, is.1))
 
--- If the filled bytes have a fault that closes no feed, they are held.
--- They are the held bytes and all of `piece`, and unfinished.
+-- If the filled bytes have a fault that closes no feed, the new buffer holds them.
+-- They are unfinished, and they are the old held bytes followed by all of `piece`.
 pub short_held : ShortLaw → (old new piece : List ℕ) (size filled : ℕ) (fault : DerFault)
     → Fills old new size piece filled → None ≡ closing fault → apdu_at (take filled new) ≡ Err fault
     → Holds filled new × (take filled new ≡ take size old ++ piece) × IsUnfinished (take size old ++ piece)
@@ -230,7 +231,7 @@ short_held law old new piece size filled fault fills none e =
     let all = all_filled old new piece size filled fills few in
     (record { most = few; unfinished = short.0 }, all, subst IsUnfinished all short.0)
 
--- If `rest` has a fault that closes no feed, a fill from 0 copies all of it, unfinished and held.
+-- If `rest` has a fault that closes no feed, a fill from 0 copies all of it. The buffer holds it, and it is unfinished.
 pub rest_held : ShortLaw → (old new rest : List ℕ) (filled : ℕ) (fault : DerFault) → Fills old new 0 rest filled
     → None ≡ closing fault → apdu_at rest ≡ Err fault
     → Holds filled new × (take filled new ≡ rest) × IsUnfinished rest
@@ -240,7 +241,8 @@ rest_held law old new rest filled fault fills none e =
     let all : take filled new ≡ rest = all_filled old new rest 0 filled fills few in
     (holds filled new rest few all short.0, all, short.0)
 
--- If `prefix` is `held` and the first `k` bytes of `piece`, `prefix` and its other bytes are `held ++ piece`.
+-- If `prefix` is `held` followed by the first `k` bytes of `piece`, then `prefix` followed by the others is
+-- `held ++ piece`.
 pub whole_piece : (k : ℕ) (held piece prefix : List ℕ) → prefix ≡ held ++ take k piece → prefix ++ drop k piece ≡ held ++ piece
 whole_piece k held piece prefix parts =
     ap (λ (x : List ℕ). x ++ drop k piece) parts ∙ append_assoc held (take k piece) (drop k piece)
@@ -252,7 +254,7 @@ whole_piece k held piece prefix parts =
 abbrev pub AgainLaw : Type 0
 AgainLaw = (apdu : Apdu) (rest : List ℕ) → IsApdu apdu → apdu_at (spelling apdu ++ rest) ≡ Ok (apdu, rest)
 
--- If an APDU begins `prefix`, which begins with the unfinished `held`, the APDU has more bytes than `held`.
+-- If `prefix` begins with an APDU and with the unfinished `held`, the APDU has more bytes than `held`.
 pub ends_after : AgainLaw → (held more prefix : List ℕ) (size : ℕ) (apdu : Apdu) → IsUnfinished held
     → prefix ≡ held ++ more → size ≤ length prefix
     → Begins prefix (apdu ∷ []) (drop size prefix) → length held < size
@@ -273,8 +275,8 @@ ends_after again held more prefix size apdu unfinished parts within begins =
           (sym (again apdu (drop size held) begins.spelled.0) ∙ ap apdu_at (sym is) ∙ unfinished))
     ]
 
--- If `apdu` begins `prefix`, which is `held` and a prefix of `piece`, it begins `held ++ piece`.
--- The rest is `piece` after the bytes that `apdu` took of it.
+-- If `prefix` is `held` followed by a prefix of `piece`, and begins with `apdu`, `held ++ piece` begins with `apdu`.
+-- The rest is `piece` without the bytes that belong to `apdu`.
 begins_held : (held piece prefix : List ℕ) (k size : ℕ) (apdu : Apdu) → k ≤ length piece → prefix ≡ held ++ take k piece
     → length held ≤ size → size ≤ length prefix
     → Begins prefix (apdu ∷ []) (drop size prefix) → Begins (held ++ piece) (apdu ∷ []) (drop (size - length held) piece)
@@ -295,7 +297,7 @@ begins_held held piece prefix k size apdu few parts later within begins =
 
 -- ---- the outcome of a push
 
--- If the first APDU of the filled bytes has `end` bytes, it has all held bytes, and ends within `piece`.
+-- If the filled bytes begin with an APDU of `end` bytes, it contains all held bytes and ends within `piece`.
 pub goes_on_from : {S F : Type 0} (handles : Handles S F) → AgainLaw
     → (old new piece : List ℕ) (size filled end : ℕ) (before now : S) → Fills old new size piece filled → Holds size old
     → HandlesFirst handles (take filled new) before (Ok (Ok end)) now → (size ≤ end) × (end - size ≤ length piece)
@@ -306,7 +308,7 @@ goes_on_from handles again old new piece size filled end before now fills is fir
     let whole = filled_length old new piece size filled fills in
     (omega (arith, later, long), omega (arith, first.1, whole, fills.count))
 
--- If the first APDU of `held ++ piece` was handled, going on with the rest has the outcome of a push.
+-- If the first APDU of `held ++ piece` was handled, handling the rest has the outcome of a push of `piece`.
 on_after : {S F : Type 0} (handles : Handles S F) (held piece later : List ℕ) (apdu : Apdu) (before now after : S)
     (result : Result (Option DerFault) F) (new : Unread)
     → Begins (held ++ piece) (apdu ∷ []) later → handles before apdu (Ok tt) now
@@ -323,7 +325,7 @@ on_after handles held piece later apdu before now after (Ok fault) new begins fi
 on_after handles held piece later apdu before now after (Err fault) new begins first on =
     (on.0, fails_later handles (held ++ piece) later before now after apdu fault begins first on.1)
 
--- If the first APDU of the filled bytes was handled, going on with the rest has the outcome of a push.
+-- If the first APDU of the filled bytes was handled, handling the rest has the outcome of a push of `piece`.
 pub goes_on_after : {S F : Type 0} (handles : Handles S F) → AgainLaw
     → (old new piece : List ℕ) (size filled end : ℕ) (before now after : S) (was : Unread) (result : Result (Option DerFault) F)
     (feed : Unread)
@@ -346,7 +348,7 @@ goes_on_after handles again old new piece size filled end before now after was r
     subst (λ (h : Unread). HandlesEach handles h piece before result feed after) (sym opened)
     (on_after handles held piece (drop (end - size) piece) first.2.0 before now after result feed begun first.2.2 on_held)
 
--- If nothing was held, going on with `piece` has the outcome of a push.
+-- If nothing was held, handling `piece` has the outcome of a push of `piece`.
 on_alone : {S F : Type 0} (handles : Handles S F) (held piece : List ℕ) (before after : S) (result : Result (Option DerFault) F)
     (new : Unread)
     → held ≡ []
@@ -356,7 +358,7 @@ on_alone handles held piece before after (Ok fault) new none on =
 on_alone handles held piece before after (Err fault) new none on =
     (on.0, subst (λ (x : List ℕ). FailsIn handles (x ++ piece) before fault after) (sym none) on.1)
 
--- If `was` is open and holds nothing, going on with `piece` has the outcome of a push.
+-- If `was` is open and holds nothing, handling `piece` has the outcome of a push of `piece`.
 pub goes_on_alone : {S F : Type 0} (handles : Handles S F) (held piece : List ℕ) (before after : S) (was : Unread)
     (result : Result (Option DerFault) F) (new : Unread)
     → was ≡ Ok held → held ≡ []
@@ -366,7 +368,7 @@ goes_on_alone handles held piece before after was result new opened none on =
     (on_alone handles held piece before after result new none
     (subst (λ (h : Unread). GoesOn handles h piece before result new after) opened on))
 
--- If `held ++ piece` is all a rest, which leaves `new`, a push of `piece` handles nothing and keeps the state.
+-- If `held ++ piece` begins with no APDU and leaves `new`, a push of `piece` handles no APDU and keeps the state.
 pub all_left : {S F : Type 0} (handles : Handles S F) (held piece : List ℕ) (before after : S) (was new : Unread)
     → was ≡ Ok held → Leaves (held ++ piece) new → after ≡ before
     → HandlesEach handles was piece before (Ok (fault_of new)) new after
@@ -374,7 +376,7 @@ all_left handles held piece before after was new opened leaves same =
     subst (λ (h : Unread). HandlesEach handles h piece before (Ok (fault_of new)) new after) (sym opened)
     (refl, ([], (held ++ piece, begins_none (held ++ piece), leaves), same))
 
--- A fault of the filled bytes other than Short is the fault of the held bytes and all of `piece`.
+-- A fault of the filled bytes other than Short is the fault of the held bytes followed by all of `piece`.
 pub fault_of_all : (old new piece : List ℕ) (size filled : ℕ) (fault : DerFault) → Fills old new size piece filled
     → IfShort fault ⊥ → apdu_at (take filled new) ≡ Err fault
     → Leaves (take size old ++ piece) (Err fault)
@@ -385,7 +387,7 @@ fault_of_all old new piece size filled fault fills other e =
       other,
     )
 
--- If handling the first APDU of the filled bytes failed, handling failed at an APDU of `was` and `piece`.
+-- If handling the first APDU of the filled bytes failed, a push of `piece` into `was` failed at that APDU.
 pub fails_first : {S F : Type 0} (handles : Handles S F) (old new piece : List ℕ) (size filled : ℕ) (before after : S)
     (was : Unread) (fault : F)
     → Fills old new size piece filled
@@ -401,7 +403,7 @@ fails_first handles old new piece size filled before after was fault fills opene
     let failed : FailsIn handles (held ++ piece) before fault after = ([], first.0, rest, before, begins, refl, first.3) in
     subst (λ (h : Unread). FailsAt handles h piece before fault after) (sym opened) failed
 
--- If handling failed, the feed is open, and an APDU begins its bytes and `piece`.
+-- If handling failed, the feed is open, and its held bytes, followed by `piece`, begin with an APDU.
 pub fails_at_apdu : {S F : Type 0} (handles : Handles S F) (old : Unread) (piece : List ℕ) (before after : S) (fault : F)
     → FailsAt handles old piece before fault after → HasApdu old piece
 fails_at_apdu handles (Ok held) piece before after fault fails = begins_first (held ++ piece) fails.0 fails.1 fails.2 fails.4
@@ -409,7 +411,7 @@ fails_at_apdu handles (Err closed) piece before after fault fails = fails
 
 -- ---- keeping the APDUs
 
--- If `handles` appends each APDU to those kept, handling `apdus` appends all of them in order.
+-- If `handles` appends each APDU to a list, handling `apdus` appends all of them to it, in order.
 pub all_kept : {S F : Type 0} (handles : Handles S F) (kept : S → List Apdu)
     → ((before after : S) (apdu : Apdu) → handles before apdu (Ok tt) after → kept after ≡ kept before ++ apdu ∷ [])
     → (before after : S) (apdus : List Apdu) → Handled handles before apdus after → kept after ≡ kept before ++ apdus

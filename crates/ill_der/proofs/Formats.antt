@@ -1,4 +1,4 @@
--- The laws of a description of fields, which each way to build one from others keeps.
+-- The laws of a `Format`, a description of fields. Each way to build a `Format` from others keeps the laws.
 use Rattle.std.proofs.Common.{Result, ◌≡◌, ℕ, ◌+◌, ◌<◌, ◌≤◌, Bool, false, List, [], ◌++◌, length, Option, Some, None, Ok, Err}
 use Rattle.std.proofs.Common.{refl, sym, ap, subst, ◌∙◌, inl, inr, append_assoc, arith, cond, true}
 use Rattle.std.specs.Prelude.{IfSome}
@@ -15,7 +15,7 @@ use Rattle.ill_der.proofs.Elements.{ended_is}
 
 -- ---- contents
 
--- Holds if `kind` reads exactly the encodings of values in `P`, and these have at most `most` octets.
+-- `kind` reads exactly the encodings of values that satisfy `P`, and these have at most `most` octets.
 pub record IsContents {V : Type 0} (P : V → Type 0) (most : ℕ) (kind : Contents V) : Type 0 where
   pub takes : (bytes : List ℕ) (v : V) → IsBytes bytes → kind.read bytes ≡ Some v → (bytes ≡ kind.spell v) × P v
   pub again : (v : V) → P v → kind.read (kind.spell v) ≡ Some v
@@ -23,15 +23,15 @@ pub record IsContents {V : Type 0} (P : V → Type 0) (most : ℕ) (kind : Conte
 
 -- ---- fields
 
--- Holds if `bytes` is the encoding of `v` and then `rest`, `v` is in `P`, and `rest` are octets.
+-- `bytes` is the encoding of `v` followed by `rest`, `v` satisfies `P`, and `rest` are octets.
 abbrev pub Takes : {V : Type 0} → Format V → (V → Type 0) → List ℕ → V → List ℕ → Type 0
 Takes f P bytes v rest = (bytes ≡ f.spell v ++ rest) × P v × IsBytes rest
 
--- Holds if `f` reads `v` from its encoding at the offset `at`, and leaves `more`.
+-- `f` reads `v` from its encoding at the offset `at`, and leaves the bytes `more` after it.
 abbrev pub ReadsAgain : {V : Type 0} → Format V → V → ℕ → List ℕ → Type 0
 ReadsAgain f v at more = (after : ℕ) × (f.read (cursor_at at (f.spell v ++ more)) ≡ Ok (v, cursor_at after more))
 
--- Holds if `f` reads only encodings of values in `P`, and reads each of them if `Follows` holds of what follows.
+-- `f` reads only encodings of values that satisfy `P`. It reads each of them if the bytes after it satisfy `Follows`.
 -- An encoding has at most `most` bytes, and each fault of reading is Tag, Length or Field.
 pub record IsFormat {V : Type 0} (P : V → Type 0) (Follows : List ℕ → Type 0) (most : ℕ) (f : Format V) : Type 0 where
   pub takes : (left : Cursor) (v : V) (rest : Cursor) → IsBytes left.bytes → f.read left ≡ Ok (v, rest)
@@ -40,11 +40,11 @@ pub record IsFormat {V : Type 0} (P : V → Type 0) (Follows : List ℕ → Type
   pub bound : (v : V) → P v → length (f.spell v) ≤ most
   pub faults : (left : Cursor) (d : DerFault) → f.read left ≡ Err d → IsInside d
 
--- Holds of all bytes.
+-- `more` is any bytes.
 abbrev pub Any : List ℕ → Type 0
 Any more = Unit {0}
 
--- ---- a primitive field that must stand
+-- ---- a required primitive field
 
 -- If `value_of o at` gives `v`, `o` is `Some v`.
 value_found : {V : Type 0} (o : Option V) (at : ℕ) (v : V) → value_of o at ≡ Ok v → o ≡ Some v
@@ -56,7 +56,7 @@ value_faults : {V : Type 0} (o : Option V) (at : ℕ) (d : DerFault) → value_o
 value_faults (Some x) at d e = absurd (no_value d x e)
 value_faults None at d e = field_inside at d e
 
--- If `required` reads `v` from `left`, `left` is the encoding of `v` and then `rest`, and `v` is in `P`.
+-- If `required` reads `v` from `left`, `left` is the encoding of `v` followed by `rest`, and `v` satisfies `P`.
 required_takes : {V : Type 0} (P : V → Type 0) (most : ℕ) (kind : Contents V) (identifier : ℕ) → IsContents P most kind
     → (left : Cursor) (v : V) (rest : Cursor) → IsBytes left.bytes → (required identifier kind).read left ≡ Ok (v, rest)
     → Takes (required identifier kind) P left.bytes v rest.bytes
@@ -72,7 +72,7 @@ required_takes {V} P most kind identifier is left v rest fits e =
     taken.parts ∙ ap (λ (x : List ℕ). element identifier x ++ part.0.1.bytes) value.0 in
     subst (λ (x : V × Cursor). Takes (required identifier kind) P left.bytes x.0 x.1.bytes) both (parts, value.1, taken.rest_fits)
 
--- `required` reads each value in `P` from its encoding, whatever follows, if `most` is below 65536.
+-- If `most` is below 65536, `required` reads each value that satisfies `P` from its encoding, whatever follows.
 required_again : {V : Type 0} (P : V → Type 0) (most : ℕ) (kind : Contents V) (identifier : ℕ) → most < 65536
     → IsContents P most kind
     → (v : V) (at : ℕ) (more : List ℕ) → P v → ReadsAgain (required identifier kind) v at more
@@ -93,7 +93,7 @@ required_faults {V} kind identifier left d e =
       ]
     ]
 
--- If `kind` obeys the laws of contents, in fewer than 65536 octets, its required field obeys those of a format.
+-- If `kind` obeys `IsContents` with `most` below 65536, its required field obeys `IsFormat`.
 pub required_is : {V : Type 0} (P : V → Type 0) (most : ℕ) (kind : Contents V) (identifier : ℕ) → most < 65536
     → IsContents P most kind
     → IsFormat P Any (overhead most + most) (required identifier kind)
@@ -104,13 +104,13 @@ required_is P most kind identifier small is = record {
   faults = required_faults kind identifier;
 }
 
--- ---- a primitive field that may stand
+-- ---- an optional primitive field
 
--- Holds if the test of `more` for `identifier` at its start gives `b`.
+-- `b` is true exactly if `more` begins with `identifier`.
 abbrev pub Begins : Bool → ℕ → List ℕ → Type 0
 Begins b identifier more = begins_with identifier more ≡ b
 
--- If `optional` reads `o` from `left`, `left` is the encoding of `o` and then `rest`, and a value is in `P`.
+-- If `optional` reads `o` from `left`, `left` is the encoding of `o` followed by `rest`. A value in `o` satisfies `P`.
 optional_takes : {V : Type 0} (P : V → Type 0) (most : ℕ) (kind : Contents V) (identifier : ℕ) → IsContents P most kind
     → (left : Cursor) (o : Option V) (rest : Cursor) → IsBytes left.bytes → (optional identifier kind).read left ≡ Ok (o, rest)
     → Takes (optional identifier kind) (λ o. IfSome o P) left.bytes o rest.bytes
@@ -129,7 +129,7 @@ optional_takes {V} P most kind identifier is left o rest fits e =
           (refl, tt, fits)
     ]
 
--- `optional` reads each `o` from its encoding, if what follows does not begin with `identifier`.
+-- `optional` reads each `o` from its encoding, if the bytes after it do not begin with `identifier`.
 optional_again : {V : Type 0} (P : V → Type 0) (most : ℕ) (kind : Contents V) (identifier : ℕ) → most < 65536
     → IsContents P most kind
     → (o : Option V) (at : ℕ) (more : List ℕ) → IfSome o P → Begins false identifier more
@@ -158,7 +158,7 @@ optional_faults {V} kind identifier left d e =
       | inr h ↦ absurd (no_value d (None, left) h.1)
     ]
 
--- If `kind` obeys the laws of contents, in fewer than 65536 octets, its optional field obeys those of a format.
+-- If `kind` obeys `IsContents` with `most` below 65536, its optional field obeys `IsFormat`.
 -- Bytes that follow the field must not begin with `identifier`.
 pub optional_is : {V : Type 0} (P : V → Type 0) (most : ℕ) (kind : Contents V) (identifier : ℕ) → most < 65536
     → IsContents P most kind
@@ -170,13 +170,13 @@ optional_is P most kind identifier small is = record {
   faults = optional_faults kind identifier;
 }
 
--- ---- fields, and then further fields
+-- ---- fields followed by further fields
 
--- Holds of a pair if `P` holds of its first part, and `Q` of its second.
+-- The first part of the pair `v` satisfies `P`, and the second satisfies `Q`.
 abbrev pub Both : {V W : Type 0} → (V → Type 0) → (W → Type 0) → V × W → Type 0
 Both P Q v = P v.0 × Q v.1
 
--- If `followed_by f g` reads `v` from `left`, `left` is the encoding of `v`, in range, and then `rest`.
+-- If `followed_by f g` reads `v` from `left`, `left` is the encoding of `v` followed by `rest`, and `v` is in range.
 followed_takes : {V W : Type 0} (P : V → Type 0) (Q : W → Type 0) (F G : List ℕ → Type 0) (m n : ℕ) (f : Format V) (g : Format W)
     → IsFormat P F m f → IsFormat Q G n g
     → (left : Cursor) (v : V × W) (rest : Cursor) → IsBytes left.bytes → (followed_by f g).read left ≡ Ok (v, rest)
@@ -192,7 +192,7 @@ followed_takes {V} {W} P Q F G m n f g fs gs left v rest fits e =
     subst (λ (x : (V × W) × Cursor). Takes (followed_by f g) (Both P Q) left.bytes x.0 x.1.bytes) both
     (parts, (first.1, second.1), second.2)
 
--- `followed_by f g` reads each pair from its encoding, if `g` may follow `f`, and `more` may follow `g`.
+-- If `g` may follow `f` and `more` may follow `g`, `followed_by f g` reads each pair from its encoding.
 followed_again : {V W : Type 0} (P : V → Type 0) (Q : W → Type 0) (F G : List ℕ → Type 0) (m n : ℕ) (f : Format V) (g : Format W)
     → IsFormat P F m f → IsFormat Q G n g
     → ((w : W) (more : List ℕ) → Q w → F (g.spell w ++ more))
@@ -215,7 +215,7 @@ followed_faults P Q F G m n f g fs gs left d e =
       ]
     ]
 
--- If `f` and `g` obey the laws of a format, and `g` may follow `f`, `followed_by f g` obeys them.
+-- If `f` and `g` obey `IsFormat`, and `g` may follow `f`, `followed_by f g` obeys it.
 pub followed_is : {V W : Type 0} (P : V → Type 0) (Q : W → Type 0) (F G : List ℕ → Type 0) (m n : ℕ) (f : Format V) (g : Format W)
     → IsFormat P F m f → IsFormat Q G n g
     → ((w : W) (more : List ℕ) → Q w → F (g.spell w ++ more)) → IsFormat (Both P Q) G (m + n) (followed_by f g)
@@ -226,9 +226,9 @@ followed_is P Q F G m n f g fs gs joins = record {
   faults = followed_faults P Q F G m n f g fs gs;
 }
 
--- ---- a yes or no, and after a yes a further field
+-- ---- a yes or no, with a further field after a yes
 
--- If `where_yes` reads `o` from `left`, `left` is the encoding of `o` and then `rest`, and a value is in `P`.
+-- If `where_yes` reads `o` from `left`, `left` is the encoding of `o` followed by `rest`. A value in `o` satisfies `P`.
 where_takes : {V : Type 0} (Q : Bool → Type 0) (P : V → Type 0) (F G : List ℕ → Type 0) (m n : ℕ) (yes_no : Format Bool)
     (field : Format V)
     → IsFormat Q F m yes_no → IsFormat P G n field
@@ -261,7 +261,7 @@ where_takes {V} Q P F G m n yes_no field qs fs left o rest fits e =
           (parts, tt, first.2)
     ]
 
--- `where_yes` reads each `o` from its encoding, if yes and no are in range, and `more` may follow `field`.
+-- If yes and no are in range and `more` may follow `field`, `where_yes` reads each `o` from its encoding.
 where_again : {V : Type 0} (Q : Bool → Type 0) (P : V → Type 0) (G : List ℕ → Type 0) (m n : ℕ) (yes_no : Format Bool)
     (field : Format V)
     → IsFormat Q Any m yes_no → IsFormat P G n field
@@ -304,7 +304,7 @@ where_faults {V} Q P F G m n yes_no field qs fs left d e =
           ]
     ]
 
--- If `yes_no` and `field` obey the laws of a format, and yes and no are in range, `where_yes` obeys them.
+-- If `yes_no` and `field` obey `IsFormat`, and yes and no are in range, `where_yes` obeys it.
 pub where_is : {V : Type 0} (Q : Bool → Type 0) (P : V → Type 0) (G : List ℕ → Type 0) (m n : ℕ) (yes_no : Format Bool)
     (field : Format V)
     → IsFormat Q Any m yes_no → IsFormat P G n field
@@ -318,7 +318,7 @@ where_is Q P G m n yes_no field qs fs each = record {
 
 -- ---- a constructed field
 
--- If `constructed` reads `v` from `left`, `left` is the encoding of `v` and then `rest`, and `v` is in `P`.
+-- If `constructed` reads `v` from `left`, `left` is the encoding of `v` followed by `rest`, and `v` satisfies `P`.
 constructed_takes : {V : Type 0} (P : V → Type 0) (F : List ℕ → Type 0) (m : ℕ) (f : Format V) (identifier : ℕ) → IsFormat P F m f
     → (left : Cursor) (v : V) (rest : Cursor) → IsBytes left.bytes → (constructed identifier f).read left ≡ Ok (v, rest)
     → Takes (constructed identifier f) P left.bytes v rest.bytes
@@ -338,7 +338,7 @@ constructed_takes {V} P F m f identifier fs left v rest fits e =
     subst (λ (x : V × Cursor). Takes (constructed identifier f) P left.bytes x.0 x.1.bytes) both
     (parts, inside.1, taken.rest_fits)
 
--- `constructed` reads each value in `P` from its encoding, whatever follows, if `f` may stand last.
+-- If `f` may be the last field, `constructed` reads each value that satisfies `P` from its encoding, whatever follows.
 constructed_again : {V : Type 0} (P : V → Type 0) (F : List ℕ → Type 0) (m : ℕ) (f : Format V) (identifier : ℕ)
     → m < 65536 → IsFormat P F m f → F []
     → (v : V) (at : ℕ) (more : List ℕ) → P v → ReadsAgain (constructed identifier f) v at more
@@ -366,7 +366,7 @@ constructed_faults P F m f identifier fs left d e =
       ]
     ]
 
--- If `f` obeys the laws of a format, in fewer than 65536 bytes, and may stand last, `constructed` obeys them.
+-- If `f` obeys `IsFormat` with `m` below 65536 and may be the last field, `constructed` obeys `IsFormat`.
 pub constructed_is : {V : Type 0} (P : V → Type 0) (F : List ℕ → Type 0) (m : ℕ) (f : Format V) (identifier : ℕ)
     → m < 65536 → IsFormat P F m f → F []
     → IsFormat P Any (overhead m + m) (constructed identifier f)

@@ -1,4 +1,4 @@
--- Length octets: octets that are read as a length are its encoding, and an encoding is read as its length.
+-- Length octets: octets that are read as a length are its encoding, and a length is read from its encoding.
 use Rattle.std.proofs.Common.{◌≡◌, ℕ, zero, suc, ◌+◌, ◌*◌, ◌/◌, ◌%◌, ◌<◌, ◌≤◌, Bool, true, false, cond, eqb, ltb, List, [], ◌∷◌}
 use Rattle.std.proofs.Common.{◌++◌, length, drop, refl, sym, subst, inl, inr, arith}
 use Rattle.std.proofs.lemmas.Bool.{cases_lt, lt-ltb, le-ltb, ltb-true, ltb-false, eqb-true}
@@ -58,11 +58,11 @@ not_zero_is (suc n) e = omega arith
 
 -- ---- octets that are read as a length are its encoding
 
--- Holds if `bytes` begins with the length octets of `n`, and these are `octets` octets.
+-- `bytes` begins with the length octets of `n`, of which there are `octets`.
 abbrev pub IsSpelledLength : List ℕ → ℕ → ℕ → Type 0
 IsSpelledLength bytes n octets = (bytes ≡ length_octets n ++ drop octets bytes) × (length (length_octets n) ≡ octets)
 
--- If `Definite a b` is `Definite n octets`, `IsSpelledLength` holds of `n` and `octets` as of `a` and `b`.
+-- If `Definite a b` is `Definite n octets`, `IsSpelledLength` for `a` and `b` gives it for `n` and `octets`.
 along : (bytes : List ℕ) (a b n octets : ℕ) → Definite a b ≡ Definite n octets → IsSpelledLength bytes a b
     → IsSpelledLength bytes n octets
 along bytes a b n octets e h =
@@ -154,24 +154,24 @@ few_octets n most le =
       ]
     ]
 
--- If `IsFew` holds of `x` and of `y`, it holds of `cond b x y`.
+-- If `x` and `y` satisfy `IsFew`, `cond b x y` satisfies it.
 few_chosen : (b : Bool) (x y : LengthForm) (bytes : ℕ) → IsFew x bytes → IsFew y bytes → IsFew (cond b x y) bytes
 few_chosen true x y bytes hx hy = hx
 few_chosen false x y bytes hx hy = hy
 
--- If 81 and `rest` are a definite length, it has at most three octets; if truncated, they are at most two.
+-- If 81 and `rest` begin with a definite length, it has at most three octets. If it is truncated, they are at most two.
 one_few : (rest : List ℕ) → IsFew (one_octet_length rest) (suc (length rest))
 one_few [] = omega arith
 one_few (n ∷ rest) = few_chosen (nat_lt n 128) Invalid (Definite n 2) (suc (suc (length rest))) tt (omega arith)
 
--- If 82 and `rest` are a definite length, it has at most three octets; if truncated, they are at most two.
+-- If 82 and `rest` begin with a definite length, it has at most three octets. If it is truncated, they are at most two.
 two_few : (rest : List ℕ) → IsFew (two_octet_length rest) (suc (length rest))
 two_few [] = omega arith
 two_few (high ∷ []) = omega arith
 two_few (high ∷ low ∷ rest) =
     few_chosen (eqb high 0) Invalid (Definite (256 * high + low) 3) (suc (suc (suc (length rest)))) tt (omega arith)
 
--- If `bytes` begins with a definite length, it has at most three octets; if truncated, `bytes` has at most two.
+-- If `bytes` begins with a definite length, it has at most three octets. If it is truncated, `bytes` has at most two.
 pub length_few : (bytes : List ℕ) → IsFew (length_of bytes) (length bytes)
 unfolding length_of
 length_few [] = omega arith

@@ -1,4 +1,4 @@
--- The bytes that an APDU lacks at least. Fewer than these leave it short; bytes that lack none are not short.
+-- The least number of bytes that an APDU lacks. With fewer bytes added it is short. If it lacks none, it is not short.
 use Rattle.std.proofs.Common.{◌≡◌, ℕ, ◌+◌, ◌-◌, ◌<◌, ◌≤◌, Bool, true, false, cond, ltb, List, [], ◌∷◌, ◌++◌, length, take, drop}
 use Rattle.std.proofs.Common.{Option, Some, None, is_some, Result, Ok, Err, inl, inr, refl, sym, ap, subst, ◌∙◌, arith}
 use Rattle.std.proofs.lemmas.Bool.{cases_lt, ltb-true, ltb-false, lt-ltb}
@@ -28,7 +28,7 @@ use Rattle.ill_der.proofs.ShortFormLaws.{inside_faults}
 
 -- ---- bytes that are missing after an identifier
 
--- Returns how many more bytes a length and its contents need at least, if `size` bytes follow the identifier.
+-- Returns the least number of bytes that a length and its contents lack, if `size` bytes follow the identifier.
 abbrev missing_after : LengthForm → ℕ → ℕ
 missing_after Truncated size = 1
 missing_after Invalid size = 0
@@ -63,12 +63,12 @@ missing_is first bytes =
     ap (λ (size : ℕ). missing_by (header_of (type_with first) bytes) size)
     (let e : length (first ∷ bytes) ≡ length bytes + 1 = omega arith in e) ∙ missing_from (type_with first) bytes
 
--- No bytes at all lack one byte at least.
+-- The empty list of bytes lacks at least one byte.
 missing_none : missing_of [] ≡ 1
 unfolding missing_of header_at
 missing_none = refl
 
--- ---- bytes that lack some, followed by fewer
+-- ---- bytes that lack some, followed by too few
 
 -- If `more` has fewer bytes than `bytes` lacks by a definite length, `bytes ++ more` is short.
 wanted_is : (apdu_type : ApduType) (n octets : ℕ) (large : Bool) (bytes more : List ℕ) → ltb 355 n ≡ large
@@ -176,7 +176,7 @@ refused values bytes fault other none h =
       | inr e ↦ absurd (other e.0)
     ]
 
--- If `bytes` lacks no byte and its proper prefixes are unfinished, `read_fault` of decoding's fault judges it.
+-- If `bytes` lacks no byte and its proper prefixes are unfinished, `read_fault` of the decoder's fault is its answer.
 judged_fault : Values → (bytes : List ℕ) (fault : DerFault) → IsBytes bytes → AreUnfinished bytes → missing_of bytes ≡ 0
     → Decodes bytes (apdu_at bytes) (Err fault)
     → IsJudged bytes (Err (read_fault fault))
@@ -186,7 +186,8 @@ judged_fault values bytes (Tag at) fits prefixes none h = refused values bytes (
 judged_fault values bytes (Length at) fits prefixes none h = refused values bytes (Length at) (λ e. absurd cc) none h
 judged_fault values bytes (Field at) fits prefixes none h = refused values bytes (Field at) (λ e. absurd cc) none h
 
--- If `bytes` lacks no byte and its proper prefixes are unfinished, a result that hands on decoding's fault judges it.
+-- If `bytes` lacks no byte and its proper prefixes are unfinished, a result that is `read_fault` of the decoder's
+-- fault is its answer.
 pub handed_on : Values → (bytes : List ℕ) (fault : DerFault) (r : Result (Option Apdu) ReadFault) → IsBytes bytes
     → AreUnfinished bytes → missing_of bytes ≡ 0
     → Decodes bytes (apdu_at bytes) (Err fault) → IsErrAnd r (λ handed. handed ≡ read_fault fault) → IsJudged bytes r
@@ -196,25 +197,25 @@ handed_on values bytes fault (Err handed) fits prefixes none h is =
 
 -- ---- no APDU is longer than 359 bytes
 
--- If some of a definite length's contents are missing, those and the `size` bytes before are at most 358.
+-- If contents of a definite length are missing, the missing bytes and the `size` present ones are at most 358.
 most_is : (n octets size : ℕ) (large : Bool) → ltb 355 n ≡ large → octets ≤ 3 → 0 < cond large 0 (octets + n - size)
     → size + cond large 0 (octets + n - size) ≤ 358
 most_is n octets size true e few some = absurd (omega (arith, some))
 most_is n octets size false e few some = omega (arith, few, some, ltb-false 355 n e)
 
--- If bytes are missing by the length `form`, those and the `size` bytes before are at most 358.
+-- If bytes are missing by the length `form`, the missing bytes and the `size` present ones are at most 358.
 most_by : (form : LengthForm) (size : ℕ) → IsFew form size → 0 < missing_after form size → size + missing_after form size ≤ 358
 most_by Truncated size few some = omega (arith, few)
 most_by Invalid size few some = absurd (omega (arith, some))
 most_by (Definite n octets) size few some = most_is n octets size (ltb 355 n) refl few some
 
--- If bytes are missing after an identifier, those and `bytes` are at most 358.
+-- If bytes are missing after an identifier, the missing bytes and `bytes` are at most 358.
 most_of : (o : Option ApduType) (bytes : List ℕ) → 0 < cond (is_some o) (missing_after (length_of bytes) (length bytes)) 0
     → length bytes + cond (is_some o) (missing_after (length_of bytes) (length bytes)) 0 ≤ 358
 most_of None bytes some = absurd (omega (arith, some))
 most_of (Some apdu_type) bytes some = most_by (length_of bytes) (length bytes) (length_few bytes) some
 
--- If `bytes` lacks a byte, `bytes` and the missing bytes are at most 359.
+-- If `bytes` lacks a byte, the missing bytes and `bytes` are at most 359.
 pub most_missing : (bytes : List ℕ) → 0 < missing_of bytes → length bytes + missing_of bytes ≤ 359
 most_missing [] some = omega (arith, missing_none)
 most_missing (first ∷ bytes) some =
@@ -224,7 +225,7 @@ most_missing (first ∷ bytes) some =
       most_of (type_with first) bytes (subst (λ (k : ℕ). 0 < k) (missing_is first bytes) some),
     )
 
--- ---- a read of no more bytes than are missing
+-- ---- a read of at most the missing bytes
 
 -- If `bytes` lacks a byte, it is unfinished.
 pub unfinished_alone : (bytes : List ℕ) → 0 < missing_of bytes → IsUnfinished bytes

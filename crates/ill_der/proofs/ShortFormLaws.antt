@@ -1,4 +1,4 @@
--- The laws of the short form: bytes that are read are an encoding, and an encoding is read as its APDU.
+-- The laws of the short form: bytes that are read as an APDU are its encoding, and an APDU is read from its encoding.
 use Rattle.ill_der.specs.Stream.{IfShort}
 use Rattle.std.proofs.Common.{◌≡◌, ℕ, ◌+◌, ◌-◌, ◌≤◌, false, cond, eqb, ltb, List, [], ◌∷◌, ◌++◌, length, take, drop, Option, Some}
 use Rattle.std.proofs.Common.{None, Result, Ok, Err, refl, sym, ap, subst, ◌∙◌, inl, inr, append_assoc, arith, Bool, true}
@@ -40,11 +40,11 @@ use Rattle.ill_der.proofs.ContentsLaws.{date_is, item_is, result_is, yes_no_is}
 
 -- ---- the fields that each type has
 
--- Holds if both parts of a transaction id are qualifiers.
+-- Both parts of the transaction id are qualifiers.
 abbrev IsId : List ℕ × List ℕ → Type 0
 IsId = Both IsQualifier IsQualifier
 
--- Holds if the transaction id and the number are in range.
+-- The transaction id and the number are in range.
 abbrev IsHead : Unit {0} × ((List ℕ × List ℕ) × ℕ) → Type 0
 IsHead = Both Always (Both IsId IsNumber)
 
@@ -69,7 +69,7 @@ head_is values =
 
 -- ---- the further fields of each type
 
--- Holds if the expiry date, if any, is in range, and the text is an item.
+-- The expiry date, if there is one, is in range, and the text is an item.
 abbrev IsRequest : Option Date × List ℕ → Type 0
 IsRequest = Both (λ o. IfSome o IsDate) IsItem
 
@@ -115,11 +115,11 @@ grant_is values =
     (required_is IsYesOrNo 1 yes_no 0x84 (omega arith) yes_no_is) (due_date_is values) (λ b. tt))
     (λ w more q. tt)
 
--- Holds if `bytes` is the further fields of `body`, of type `apdu_type` and in range, and then `rest`.
+-- `bytes` is the further fields of `body` followed by `rest`, and `body` has type `apdu_type` and is in range.
 abbrev TakesBody : ApduType → List ℕ → Body → List ℕ → Type 0
 TakesBody apdu_type bytes body rest = (bytes ≡ spell_body body ++ rest) × IsBody body × (type_of body ≡ apdu_type) × IsBytes rest
 
--- If `made_of f make` reads `body` from `left`, `left` is the fields of `body`, in range, and then `rest`.
+-- If `made_of f make` reads `body` from `left`, `left` is the fields of `body` followed by `rest`, and `body` is in range.
 made_takes : {V : Type 0} (P : V → Type 0) (F : List ℕ → Type 0) (n : ℕ) (f : Format V) (make : V → Body) (apdu_type : ApduType)
     → IsFormat P F n f
     → ((v : V) → spell_body (make v) ≡ f.spell v) → ((v : V) → P v → IsBody (make v)) → ((v : V) → type_of (make v) ≡ apdu_type)
@@ -134,7 +134,7 @@ made_takes P F n f make apdu_type fs spells ranges types left body rest fits e =
     subst (λ (x : Body × Cursor). TakesBody apdu_type left.bytes x.0 x.1.bytes) both
     (parts, ranges fields.0.0 taken.1, types fields.0.0, taken.2)
 
--- If `make` is in range and has no further fields, reading it takes no bytes: `left` is its fields and `rest`.
+-- If `make` is in range and has no further fields, reading it takes no bytes, so `rest` is `left`.
 plain_takes : (make body : Body) (apdu_type : ApduType) (left rest : Cursor) → spell_body make ≡ [] → IsBody make
     → type_of make ≡ apdu_type → IsBytes left.bytes
     → done {E = DerFault} {A = Body × Cursor} (make, left) ≡ done (body, rest)
@@ -144,7 +144,8 @@ plain_takes make body apdu_type left rest spells is k fits e =
     subst (λ (x : Body × Cursor). TakesBody apdu_type left.bytes x.0 x.1.bytes) both
     (ap (λ (x : List ℕ). x ++ left.bytes) (sym spells), is, k, fits)
 
--- If `read_body` reads `body` from `left`, `left` is the fields of `body`, in range and of its type, then `rest`.
+-- If `read_body` reads `body` from `left`, `left` is the fields of `body` followed by `rest`.
+-- The body is in range and has the type that was read.
 body_takes : Values → (apdu_type : ApduType) (left : Cursor) (body : Body) (rest : Cursor) → IsBytes left.bytes
     → read_body apdu_type left ≡ Ok (body, rest) → TakesBody apdu_type left.bytes body rest.bytes
 body_takes values types.IllRequest =
@@ -175,7 +176,7 @@ body_takes values types.Returned = λ left body rest. plain_takes Returned body 
 body_takes values types.CheckedIn = λ left body rest. plain_takes CheckedIn body types.CheckedIn left rest refl tt refl
 body_takes values types.Expired = λ left body rest. plain_takes Expired body types.Expired left rest refl tt refl
 
--- Holds if `read_body` reads `body` from its further fields at the offset `at`, and leaves no bytes.
+-- `read_body` reads `body` from its further fields at the offset `at`, and leaves no bytes.
 abbrev BodyAgain : Body → ℕ → Type 0
 BodyAgain body at = (after : ℕ) × (read_body (type_of body) (cursor_at at (spell_body body)) ≡ Ok (body, cursor_at after []))
 
@@ -270,7 +271,7 @@ body_faults values types.Expired = λ left d e. absurd (no_value d (Expired, lef
 
 -- ---- the contents of an APDU
 
--- Holds if `bytes` is the further fields of `body`, of type `apdu_type` and in range.
+-- `bytes` is the further fields of `body`, which has type `apdu_type` and is in range.
 abbrev IsBodyOf : ApduType → List ℕ → Body → Type 0
 IsBodyOf apdu_type bytes body = (bytes ≡ spell_body body) × IsBody body × (type_of body ≡ apdu_type)
 
@@ -309,7 +310,7 @@ whole_body_faults values apdu_type left d e =
 abbrev made : (Unit {0} × ((List ℕ × List ℕ) × ℕ)) → Body → Apdu
 made prefix body = record { txn = record { group = prefix.1.0.0; transaction = prefix.1.0.1 }; number = prefix.1.1; body = body }
 
--- Holds if `bytes` is the contents of `apdu`, of type `apdu_type` and in range.
+-- `bytes` is the contents of `apdu`, which has type `apdu_type` and is in range.
 abbrev IsWhole : ApduType → List ℕ → Apdu → Type 0
 IsWhole apdu_type bytes apdu = (bytes ≡ contents_of apdu) × IsApdu apdu × (type_of apdu.body ≡ apdu_type)
 
@@ -342,7 +343,7 @@ inside_again values apdu at is =
     tt in
     rw (first.1, whole_body_again values apdu.body first.0 is.body) refl
 
--- The contents of an APDU in range have at most 142 bytes more than its further fields.
+-- The contents of an APDU in range have at most 142 bytes more than the further fields.
 contents_by_body : Values → (apdu : Apdu) → IsApdu apdu → length (contents_of apdu) ≤ 142 + length (spell_body apdu.body)
 contents_by_body values apdu is =
     let prefix : Unit {0} × ((List ℕ × List ℕ) × ℕ) = (tt, ((apdu.txn.group, apdu.txn.transaction), apdu.number)) in
@@ -375,7 +376,7 @@ inside_faults values apdu_type left d e =
 
 -- ---- the identifier and the length of an APDU
 
--- If the type with `identifier` is `apdu_type`, `identifier` is the octet of `apdu_type`.
+-- If `type_with` finds `apdu_type` by `identifier`, that is the identifier octet of `apdu_type`.
 identifier_with : (identifier : ℕ) (apdu_type : ApduType) → type_with identifier ≡ Some apdu_type
     → identifier ≡ identifier_of apdu_type
 identifier_with identifier apdu_type e = found_with identifier_of identifier all_types apdu_type e
@@ -397,7 +398,7 @@ type_again types.Renew = refl
 type_again types.RenewAnswer = refl
 type_again types.Expired = refl
 
--- Holds if `bytes` begins with the element of the type and the contents of `outer`, of `outer.size` bytes.
+-- `bytes` begins with the element that has the type and the contents of `outer`, and this has `outer.size` bytes.
 record IsOuter (bytes : List ℕ) (outer : Outer) : Type 0 where
   parts : bytes ≡ element (identifier_of outer.apdu_type) outer.inside.bytes ++ drop outer.size bytes
   inside_fits : IsBytes outer.inside.bytes
@@ -407,7 +408,7 @@ abbrev pub outer_with : ApduType → ℕ → ℕ → List ℕ → Outer
 outer_with apdu_type n octets bytes =
     record { apdu_type = apdu_type; inside = cursor_at (1 + octets) (take n (drop octets bytes)); size = 1 + (octets + n) }
 
--- Reads the contents of an APDU of a known type, by its length, from the bytes after the identifier.
+-- Reads the contents of an APDU of a known type and length, from the bytes after the identifier.
 abbrev pub outer_after : ApduType → LengthForm → List ℕ → Result Outer DerFault
 outer_after apdu_type (Definite n octets) bytes =
     cond (ltb 355 n) (Err (Length 1))
@@ -415,12 +416,12 @@ outer_after apdu_type (Definite n octets) bytes =
 outer_after apdu_type Truncated bytes = Err (Short (length bytes + 1))
 outer_after apdu_type Invalid bytes = Err (Length 1)
 
--- Reads the length and the contents of an APDU from the bytes after the identifier, if that has a type.
+-- Reads the length and the contents of an APDU from the bytes after the identifier, if the identifier has a type.
 abbrev pub outer_of : Option ApduType → List ℕ → Result Outer DerFault
 outer_of None bytes = Err (Tag 0)
 outer_of (Some apdu_type) bytes = outer_after apdu_type (length_of bytes) bytes
 
--- For a definite length, reading the header and then the contents agrees with `outer_after`.
+-- For a definite length, reading the header and then the contents gives what `outer_after` gives.
 outer_in : (first : ℕ) (apdu_type : ApduType) (n octets : ℕ) (large : Bool) (bytes : List ℕ)
     → (cond large (Err (Length 1)) (Ok (record { apdu_type = apdu_type; start = 1 + octets; size = 1 + (octets + n) })) >>=
     λ header. outer_by header (first ∷ bytes))
@@ -439,7 +440,7 @@ outer_in first apdu_type n octets false bytes =
     let many : 1 + (octets + n) - (1 + octets) ≡ n = omega arith in
     rw (fewer, count, later, many) refl
 
--- For a known type, reading the header and then the contents agrees with `outer_after`.
+-- For a known type, reading the header and then the contents gives what `outer_after` gives.
 outer_cases : (first : ℕ) (apdu_type : ApduType) (form : LengthForm) (bytes : List ℕ)
     → (header_by apdu_type form (length bytes + 1) >>= λ header. outer_by header (first ∷ bytes))
     ≡ outer_after apdu_type form bytes
@@ -447,13 +448,13 @@ outer_cases first apdu_type Truncated bytes = refl
 outer_cases first apdu_type Invalid bytes = refl
 outer_cases first apdu_type (Definite n octets) bytes = outer_in first apdu_type n octets (ltb 355 n) bytes
 
--- Reading the header and then the contents agrees with `outer_of`.
+-- Reading the header and then the contents gives what `outer_of` gives.
 outer_from : (first : ℕ) (o : Option ApduType) (bytes : List ℕ)
     → (header_of o bytes >>= λ header. outer_by header (first ∷ bytes)) ≡ outer_of o bytes
 outer_from first None bytes = refl
 outer_from first (Some apdu_type) bytes = outer_cases first apdu_type (length_of bytes) bytes
 
--- `outer_at (first ∷ bytes)` is `outer_of`, of the type with `first`, and `bytes`.
+-- `outer_at (first ∷ bytes)` is `outer_of` for `bytes` and the type that has the identifier `first`.
 pub outer_is : (first : ℕ) (bytes : List ℕ) → outer_at (first ∷ bytes) ≡ outer_of (type_with first) bytes
 unfolding outer_at header_at
 outer_is first bytes = outer_from first (type_with first) bytes
@@ -463,7 +464,7 @@ pub outer_none : outer_at [] ≡ Err (Short 0)
 unfolding outer_at header_at
 outer_none = refl
 
--- If `outer_after` gives `outer`, and `first` is the octet of the type, `first ∷ bytes` begins with its element.
+-- If `outer_after` gives `outer`, and `first` is the octet of the type, `first ∷ bytes` begins with the element of `outer`.
 outer_by_takes : (first : ℕ) (apdu_type : ApduType) (form : LengthForm) (bytes : List ℕ) (outer : Outer) → IsBytes bytes
     → first ≡ identifier_of apdu_type → length_of bytes ≡ form → outer_after apdu_type form bytes ≡ Ok outer
     → IsOuter (first ∷ bytes) outer
@@ -491,20 +492,20 @@ outer_by_takes first apdu_type (Definite n octets) bytes outer fits k f e =
     subst (λ (x : Outer). IsOuter (first ∷ bytes) x) is
     (record { parts = parts; inside_fits = IsBytes-take n taken (IsBytes-drop octets bytes fits) })
 
--- If `outer_of` gives `outer`, and `o` is the type with `first`, `first ∷ bytes` begins with its element.
+-- If `outer_of` gives `outer`, and `first` is the octet of the type `o`, `first ∷ bytes` begins with the element of `outer`.
 outer_of_takes : (first : ℕ) (o : Option ApduType) (bytes : List ℕ) (outer : Outer) → IsBytes bytes
     → type_with first ≡ o → outer_of o bytes ≡ Ok outer → IsOuter (first ∷ bytes) outer
 outer_of_takes first None bytes outer fits k e = absurd cc
 outer_of_takes first (Some apdu_type) bytes outer fits k e =
     outer_by_takes first apdu_type (length_of bytes) bytes outer fits (identifier_with first apdu_type k) refl e
 
--- If `outer_at bytes` gives `outer`, `bytes` begins with its element.
+-- If `outer_at bytes` gives `outer`, `bytes` begins with the element of `outer`.
 outer_takes : (bytes : List ℕ) (outer : Outer) → IsBytes bytes → outer_at bytes ≡ Ok outer → IsOuter bytes outer
 outer_takes [] outer fits e = absurd (no_value (Short 0) outer (sym e ∙ outer_none))
 outer_takes (first ∷ bytes) outer fits e =
     outer_of_takes first (type_with first) bytes outer (IsBytes-drop 1 (first ∷ bytes) fits) refl (sym (outer_is first bytes) ∙ e)
 
--- Holds if `outer_at` reads the element of `apdu_type` and `contents`, with its size, before `more`.
+-- `outer_at` reads the element of `apdu_type` and `contents`, with its size, from bytes that `more` follows.
 abbrev OuterAgain : ApduType → List ℕ → List ℕ → Type 0
 OuterAgain apdu_type contents more =
     (at : ℕ) × (outer_at (element (identifier_of apdu_type) contents ++ more)
@@ -514,7 +515,7 @@ OuterAgain apdu_type contents more =
       size = length (element (identifier_of apdu_type) contents);
     }))
 
--- `outer_after` reads `contents` after the length octets, whatever follows, if they are at most 355.
+-- If `contents` has at most 355 octets, `outer_after` reads it after the length octets, whatever follows.
 outer_by_again : (apdu_type : ApduType) (octets contents more : List ℕ) → length contents ≤ 355
     → outer_after apdu_type (Definite (length contents) (length octets)) (octets ++ (contents ++ more))
     ≡ Ok (record {
@@ -551,7 +552,7 @@ outer_again apdu_type contents more small =
     (rw (← size) (outer_by_again apdu_type octets contents more small)) in
     (1 + length octets, outer_is identifier later ∙ read)
 
--- If `outer_after` is `Short n`, `n` is the number of `bytes` and the identifier, and `bytes` are at most 357.
+-- If `outer_after` is `Short n`, `n` is one more than the number of `bytes`, which is at most 357.
 outer_by_short : (apdu_type : ApduType) (form : LengthForm) (bytes : List ℕ) (n : ℕ) → IsFew form (length bytes)
     → outer_after apdu_type form bytes ≡ Err (Short n) → (n ≡ length bytes + 1) × (length bytes ≤ 357)
 outer_by_short apdu_type Truncated bytes n few e = (sym (short_is (length bytes + 1) n e), omega arith)
@@ -571,7 +572,7 @@ outer_by_short apdu_type (Definite m octets) bytes n few e =
           ]
     ]
 
--- If `outer_of` is `Short n`, `n` is the number of `bytes` and the identifier, and `bytes` are at most 357.
+-- If `outer_of` is `Short n`, `n` is one more than the number of `bytes`, which is at most 357.
 outer_of_short : (o : Option ApduType) (bytes : List ℕ) (n : ℕ) → outer_of o bytes ≡ Err (Short n)
     → (n ≡ length bytes + 1) × (length bytes ≤ 357)
 outer_of_short None bytes n e = absurd (tag_inside 0 (Short n) e)
@@ -586,11 +587,11 @@ outer_short (first ∷ bytes) n e =
 
 -- ---- whole APDUs
 
--- Holds if `bytes` is the encoding of `apdu`, which is in range, and then `rest`.
+-- `apdu` is in range, and `bytes` is its encoding followed by `rest`.
 abbrev IsAtPrefix : List ℕ → Apdu → List ℕ → Type 0
 IsAtPrefix bytes apdu rest = IsApdu apdu × (bytes ≡ spelling apdu ++ rest)
 
--- If `apdu_at` reads `apdu` from `bytes`, `bytes` is the encoding of `apdu`, which is in range, and then `rest`.
+-- If `apdu_at` reads `apdu` from `bytes`, `apdu` is in range, and `bytes` is its encoding followed by `rest`.
 pub apdu_takes : Values → (bytes : List ℕ) (apdu : Apdu) (rest : List ℕ) → IsBytes bytes
     → apdu_at bytes ≡ Ok (apdu, rest) → IsApdu apdu × (bytes ≡ spelling apdu ++ rest)
 unfolding apdu_at spelling
@@ -673,13 +674,13 @@ apdu_memory values bytes e =
 
 -- ---- bytes followed by anything
 
--- Holds of a length that is not truncated: further bytes cannot change it.
+-- The length is not truncated, so further bytes cannot change it.
 abbrev pub IsFinal : LengthForm → Type 0
 IsFinal Truncated = ⊥
 IsFinal Invalid = Unit {0}
 IsFinal (Definite n octets) = Unit {0}
 
--- A choice that is final with Truncated for its cases `one` and `two` stays when these become `y` and `z`.
+-- If a choice is final with Truncated in its cases `one` and `two`, it is equal with `y` and `z` in these cases.
 form_of_one : (short one two : Bool) (x y z w : LengthForm)
     → IsFinal (cond short x (cond one Truncated (cond two Truncated w)))
     → cond short x (cond one y (cond two z w)) ≡ cond short x (cond one Truncated (cond two Truncated w))
@@ -688,7 +689,7 @@ form_of_one false true two x y z w final = absurd final
 form_of_one false false true x y z w final = absurd final
 form_of_one false false false x y z w final = refl
 
--- A choice that is final with Truncated for its case `two` stays when this becomes `z`.
+-- If a choice is final with Truncated in its case `two`, it is equal with `z` in this case.
 form_of_two : (short one two : Bool) (x y z w : LengthForm) → IsFinal (cond short x (cond one y (cond two Truncated w)))
     → cond short x (cond one y (cond two z w)) ≡ cond short x (cond one y (cond two Truncated w))
 form_of_two true one two x y z w final = refl
@@ -696,7 +697,7 @@ form_of_two false true two x y z w final = refl
 form_of_two false false true x y z w final = absurd final
 form_of_two false false false x y z w final = refl
 
--- If the length that begins `bytes` is final, it begins `bytes ++ more` too.
+-- If `bytes` begins with a final length, `bytes ++ more` begins with an equal one.
 pub length_more : (bytes more : List ℕ) → IsFinal (length_of bytes) → length_of (bytes ++ more) ≡ length_of bytes
 unfolding length_of
 length_more [] more final = absurd final
@@ -708,7 +709,7 @@ length_more (first ∷ second ∷ []) more final =
     (two_octet_length (second ∷ more)) Invalid final
 length_more (first ∷ second ∷ third ∷ rest) more final = refl
 
--- If `bytes` has all `n` contents octets after `octets` length octets, they stay, whatever follows.
+-- If `bytes` has all `n` contents octets after `octets` length octets, `bytes ++ more` has equal ones there.
 same_contents : (n octets : ℕ) (bytes more : List ℕ) → octets + n ≤ length bytes
     → take n (drop octets (bytes ++ more)) ≡ take n (drop octets bytes)
 same_contents n octets bytes more enough =

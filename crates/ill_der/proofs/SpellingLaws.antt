@@ -64,7 +64,7 @@ spelled_shorter values apdu is other =
 
 -- ---- bytes of any kind
 
--- If `apdu_at bytes` is `read`, `bytes` begins with the one APDU of `read`, or with none if `read` is a fault.
+-- If `apdu_at bytes` is `read`, `bytes` begins with exactly the APDU of `read`, or with none if `read` is a fault.
 begins_with_one : Values → (bytes : List ℕ) (read : Result (Apdu × List ℕ) DerFault) → IsBytes bytes
     → apdu_at bytes ≡ read → BeginsWithOne bytes read
 begins_with_one values bytes (Ok found) fits e =
@@ -78,13 +78,13 @@ begins_with_one values bytes (Err fault) fits e = (
   λ apdu rest begins. no_value fault (apdu, rest) (sym (apdu_again values apdu rest begins.0) ∙ ap apdu_at (sym begins.1) ∙ e),
 )
 
--- `bytes` begins with the one APDU that `apdu_at` reads, or with none if there is a fault.
+-- `bytes` begins with exactly the APDU that `apdu_at` reads, or with none if `apdu_at` returns a fault.
 pub prefix_or_fault : Values → (bytes : List ℕ) → IsBytes bytes → BeginsWithOne bytes (apdu_at bytes)
 prefix_or_fault values bytes fits = begins_with_one values bytes (apdu_at bytes) fits refl
 
 -- ---- a longest APDU
 
--- An item of 200 bytes, the most that one has.
+-- An item of 200 bytes, the maximum of an item.
 longest_item : List ℕ
 longest_item = replicate 200 0x4D
 
@@ -100,7 +100,7 @@ unfolding longest_item
 longest_item_is = let text : is_utf8 (replicate 200 0x4D) ≡ true =
     is_utf8-from_IsUtf8 (replicate 200 0x4D) (IsUtf8-from_ascii (replicate 200 0x4D) (same_ascii 200)) in rw text refl
 
--- A transaction id with two qualifiers of 64 bytes, the most that one has.
+-- A transaction id with two qualifiers of 64 bytes, the maximum of a qualifier.
 abbrev longest_txn : Qualifiers
 longest_txn = record { group = replicate 64 0x47; transaction = replicate 64 0x54 }
 
@@ -119,7 +119,7 @@ last_day_is = record {
   to_last = omega arith;
 }
 
--- An ILL-Request whose fields all have their greatest size.
+-- An ILL-Request whose fields all have their maximum size.
 longest_apdu : Apdu
 longest_apdu = record { txn = longest_txn; number = 255; body = bodies.IllRequest (Some last_day) longest_item }
 
@@ -137,7 +137,7 @@ pub longest_reached : (apdu : Apdu) × IsApdu apdu × (length (spelling apdu) �
 unfolding longest_apdu longest_item spelling element length_octets
 longest_reached = (longest_apdu, longest_is, refl)
 
--- A Renew-Answer whose fields all have their greatest size.
+-- A Renew-Answer whose fields all have their maximum size.
 longest_other : Apdu
 longest_other = record { txn = longest_txn; number = 255; body = bodies.RenewAnswer 255 (Some last_day) }
 

@@ -1,4 +1,4 @@
--- Reading one byte after another.
+-- The results of decoding, and reads that follow one another.
 use Rattle.std.proofs.Common.{◌≡◌, ℕ, ◌<◌, List, [], ◌∷◌, length, take, drop, Option, Result, Ok, Err, ◌⊎◌, inl, inr, refl, sym}
 use Rattle.std.proofs.Common.{ap, subst, ◌∙◌, arith}
 use Rattle.std.specs.Io.KnownBytes.{Consumes}
@@ -23,7 +23,7 @@ decodes_ok : (bytes : List ℕ) (read : Result (Apdu × List ℕ) DerFault) (fou
 decodes_ok bytes (Ok x) found h = ap Ok h.1
 decodes_ok bytes (Err fault) found h = absurd cc
 
--- If decoding has `fault`, either `read` has it, or memory ran out and `read` has an APDU.
+-- If decoding has `fault`, either `read` has it, or memory ran out for the APDU of `read`.
 pub decodes_err : (bytes : List ℕ) (read : Result (Apdu × List ℕ) DerFault) (fault : DerFault) → Decodes bytes read (Err fault)
     → (read ≡ Err fault) ⊎ ((fault ≡ OutOfMemory) × ((x : Apdu × List ℕ) × (read ≡ Ok x)))
 decodes_err bytes (Ok x) fault h = inr (h, (x, refl))
@@ -61,7 +61,7 @@ spelled_without_memory values bytes fits prefixes h =
 
 -- ---- reads one after another
 
--- If a reader gives `prefix` and then no bytes, it gives `prefix` in all.
+-- If a reader gives `prefix` and then no bytes, it gives exactly `prefix`.
 pub consumes_nothing : (old middle new : Option (List ℕ)) (prefix : List ℕ) → Consumes old middle prefix
     → Consumes middle new [] → Consumes old new prefix
 consumes_nothing old middle new prefix first second =

@@ -1,11 +1,11 @@
--- Writing bytes, one part after another.
+-- Writing bytes in several parts.
 use Rattle.std.proofs.Common.{◌≡◌, ℕ, ◌+◌, ◌-◌, List, length, take, drop, Option, sym, ap, subst, ◌∙◌}
 use Rattle.std.specs.Io.KnownBytes.{Appends}
 use Rattle.std.proofs.KnownBytes.{Appends-trans}
 use Rattle.std.proofs.Math.Seq.{take-add, take-length}
 use Rattle.std.proofs.lemmas.List.{length-drop}
 
--- The slice of `bytes` from `written` on, up to its end, is all bytes after the first `written`.
+-- The slice of `bytes` from `written` to the end is all bytes after the first `written`.
 pub whole_rest : (written : ℕ) (bytes : List ℕ) → take (length bytes - written) (drop written bytes) ≡ drop written bytes
 whole_rest written bytes =
     ap (λ (n : ℕ). take n (drop written bytes)) (sym (length-drop written bytes)) ∙ take-length (drop written bytes)

@@ -1,7 +1,7 @@
--- A text that is appended to bytes in part.
+-- The bytes after a part of a text was appended to them.
 use Rattle.std.specs.Prelude.{◌≡◌, ℕ, ◌<◌, List, ◌++◌, length}
 
--- Holds if `new` is `old` and a proper prefix of `text`, which may be empty.
+-- `new` is `old` followed by a proper prefix of `text`, which may be empty.
 pub record AddsPrefix (old new text : List ℕ) : Type 0 where
   pub prefix : List ℕ
   pub rest : List ℕ

@@ -19,7 +19,7 @@ pub record Contents (V : Type 0) : Type 0 where
 abbrev pub number_octets : ℕ → List ℕ
 number_octets n = if nat_lt n 128 then n ∷ [] else 0 ∷ n ∷ []
 
--- Returns the number from 1 to 255 that the octets are, if they are its minimal INTEGER.
+-- Returns the number from 1 to 255 of which the octets are the minimal INTEGER, if there is one.
 abbrev pub number_from : List ℕ → Option ℕ
 number_from [] = None
 number_from (n ∷ []) = if nat_le 1 n && nat_lt n 128 then Some n else None
@@ -30,7 +30,7 @@ number_from (high ∷ n ∷ more ∷ rest) = None
 abbrev pub number : Contents ℕ
 number = record { spell = number_octets; read = number_from }
 
--- Returns the version if `bytes` is the one octet 01: this profile has version 1 alone.
+-- Returns the version if `bytes` is the one octet 01. This profile has no other version.
 abbrev pub version_from : List ℕ → Option (Unit {0})
 version_from bytes = if bytes_eq bytes (1 ∷ []) then Some tt else None
 
@@ -58,7 +58,7 @@ item = record { spell = λ text. text; read = item_from }
 abbrev pub date : Contents Date
 date = record { spell = date_text; read = λ bytes. result_ok (read_date bytes) }
 
--- Returns the octet of a result (this profile's own).
+-- Returns the octet that encodes a result (this profile's own).
 abbrev pub code_of : AnswerResult → ℕ
 code_of Conditional = 1
 code_of Retry = 2
@@ -68,7 +68,7 @@ code_of WillSupply = 5
 code_of HoldPlaced = 6
 code_of Estimate = 7
 
--- Returns the result with this one octet, if there is one.
+-- Returns the result that the octets encode, if they are one octet that encodes a result.
 abbrev pub result_from : List ℕ → Option AnswerResult
 result_from [] = None
 result_from (code ∷ []) = find (λ result. code == code_of result) all_results
@@ -78,7 +78,7 @@ result_from (code ∷ more ∷ rest) = None
 abbrev pub answer_result : Contents AnswerResult
 answer_result = record { spell = λ result. code_of result ∷ []; read = result_from }
 
--- Returns the value of a BOOLEAN: no for the one octet 00, and yes for FF (X.690 8.2, 11.1).
+-- Returns the value of a BOOLEAN: no for the one octet 00, and yes for the one octet FF (X.690 8.2, 11.1).
 abbrev pub yes_no_from : List ℕ → Option Bool
 yes_no_from [] = None
 yes_no_from (octet ∷ []) =

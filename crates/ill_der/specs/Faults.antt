@@ -1,4 +1,4 @@
--- The places of faults.
+-- The offsets of faults in bytes.
 use Rattle.std.specs.Prelude.{ℕ, Option, Some, None}
 use Rattle.ill_der.specs.declared.fault.DerFault.{DerFault}
 use Rattle.ill_der.specs.declared.fault.DerFault.TheVariants.{Short, Tag, Length, Field, OutOfMemory}

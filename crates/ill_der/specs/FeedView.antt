@@ -1,4 +1,4 @@
--- A feed in its code: a buffer whose first bytes are held, and the fault that closed it. Also, the steps of a push.
+-- The feed of the code: a buffer whose first bytes are held, and the fault that closed it. Also, the parts of a push.
 use Rattle.std.specs.Prelude.{◌≡◌, ℕ, ◌+◌, ◌-◌, ◌<◌, ◌≤◌, min, List, [], ◌∷◌, ◌++◌, length, take, drop, Option, Some, None}
 use Rattle.std.specs.Prelude.{Result, Ok, Err, OnOk}
 use Rattle.std.specs.declared.alloc.AllocError.{AllocError}
@@ -16,25 +16,25 @@ abbrev pub held_of : Option DerFault → List ℕ → Unread
 held_of None bytes = Ok bytes
 held_of (Some fault) bytes = Err fault
 
--- Returns the fault that closes a feed whose rest has this fault; Short closes none.
+-- Returns the fault that closes a feed, if its unread bytes have this fault. Short closes no feed.
 abbrev pub closing : DerFault → Option DerFault
 closing (Short n) = None
 closing fault = Some fault
 
--- Holds if the first `size` bytes of `buffer` are unfinished, and at most 358.
+-- The first `size` bytes of `buffer` are an unfinished APDU, and `size` is at most 358.
 pub record Holds (size : ℕ) (buffer : List ℕ) : Type 0 where
   pub most : size ≤ 358
   pub unfinished : IsUnfinished (take size buffer)
 
--- Holds if `piece` was copied into the buffer after its first `size` bytes, as far as there is room for 359.
--- The buffer then has `filled` bytes.
+-- `piece` was copied into a buffer of 359 bytes after its first `size` bytes, as far as there is room.
+-- The first `filled` bytes of the buffer are then in use.
 pub record Fills (old new : List ℕ) (size : ℕ) (piece : List ℕ) (filled : ℕ) : Type 0 where
   pub few : size ≤ 359
   pub room : length old ≡ 359
   pub count : filled ≡ min 359 (size + length piece)
   pub parts : take filled new ≡ take size old ++ take (filled - size) piece
 
--- Holds if the first APDU of `bytes` was handled, and has this size, or `bytes` has this fault, or handling failed.
+-- The first APDU of `bytes` was handled and has this size, or `bytes` has this fault, or handling failed.
 abbrev pub HandlesFirst : {S F : Type 0} → Handles S F → List ℕ → S → Result (Result ℕ DerFault) F → S → Type 0
 HandlesFirst handles bytes before (Ok (Ok size)) after =
     (0 < size) × (size ≤ length bytes)
@@ -45,15 +45,14 @@ HandlesFirst handles bytes before (Err fault) after =
     (apdu : Apdu) × (rest : List ℕ) × Begins bytes (apdu ∷ []) rest
     × handles before apdu (Err fault) after
 
--- Holds if the APDUs of `bytes` were handled, up to a rest that has a fault, or handling failed.
--- The number is the offset of the rest.
+-- The APDUs of `bytes` were handled up to the offset `at`, where the rest has `fault`, or handling failed.
 abbrev pub HandlesAll : {S F : Type 0} → Handles S F → List ℕ → S → Result (ℕ × DerFault) F → S → Type 0
 HandlesAll handles bytes before (Ok (at, fault)) after =
     (at ≤ length bytes) × (apdu_at (drop at bytes) ≡ Err fault)
     × ((apdus : List Apdu) × Begins bytes apdus (drop at bytes) × Handled handles before apdus after)
 HandlesAll handles bytes before (Err fault) after = FailsIn handles bytes before fault after
 
--- Holds if an open feed dropped its held bytes, and `bytes` were pushed. If handling failed, the feed stays.
+-- An open feed dropped its held bytes, and then `bytes` were pushed. If handling failed, the feed is unchanged.
 abbrev pub GoesOn : {S F : Type 0} → Handles S F → Unread → List ℕ → S → Result (Option DerFault) F → Unread → S
     → Type 0
 GoesOn handles old bytes before (Ok fault) new after =
@@ -61,6 +60,6 @@ GoesOn handles old bytes before (Ok fault) new after =
 GoesOn handles old bytes before (Err fault) new after =
     (new ≡ old) × FailsIn handles bytes before fault after
 
--- Handles an APDU: a success appends it to the list of the collector.
+-- If the collector handles an APDU with success, the APDU is appended to its list.
 abbrev pub Keeps : Handles (Collector × Unit {0}) AllocError
 Keeps old apdu result new = OnOk result (new.0.apdus.items ≡ old.0.apdus.items ++ apdu ∷ [])

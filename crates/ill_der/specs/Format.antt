@@ -7,7 +7,7 @@ use Rattle.ill_der.specs.declared.length.LengthForm.{LengthForm}
 use Rattle.ill_der.specs.declared.length.LengthForm.TheVariants.{Truncated, Invalid, Definite}
 use Rattle.ill_der.specs.Contents.{Contents}
 
--- Passes the value of a step to `next`; the first fault stays.
+-- Passes the value of a result to the function on the right. A fault is returned as it is.
 infixl 10 ◌>>=◌
 abbrev pub ◌>>=◌ : {E A B : Type 0} → Result A E → (A → Result B E) → Result B E
 (Ok value) >>= next = next value
@@ -21,19 +21,19 @@ length_octets n =
     if nat_lt n 128 then n ∷ []
     else (if nat_lt n 256 then 0x81 ∷ n ∷ [] else 0x82 ∷ n / 256 ∷ n % 256 ∷ [])
 
--- Returns the length that the octets after 81 give: one octet, from 128 on.
+-- Returns the length after the octet 81: one octet, whose value is at least 128.
 abbrev pub one_octet_length : List ℕ → LengthForm
 one_octet_length [] = Truncated
 one_octet_length (n ∷ rest) = if nat_lt n 128 then Invalid else Definite n 2
 
--- Returns the length that the octets after 82 give: two octets, from 256 on.
+-- Returns the length after the octet 82: two octets, whose value is at least 256.
 abbrev pub two_octet_length : List ℕ → LengthForm
 two_octet_length [] = Truncated
 two_octet_length (high ∷ []) = Truncated
 two_octet_length (high ∷ low ∷ rest) = if high == 0 then Invalid else Definite (256 * high + low) 3
 
--- Returns the length with which octets begin, and the number of its octets.
--- It is Invalid if it has none of the three shortest forms, and Truncated if the octets end within it.
+-- Returns the length with which the octets begin, and the number of its octets.
+-- It is Invalid if it is not in its shortest form, and Truncated if the octets end within it.
 unfoldable pub length_of : List ℕ → LengthForm
 length_of [] = Truncated
 length_of (first ∷ rest) =
@@ -41,7 +41,7 @@ length_of (first ∷ rest) =
     else (if first == 0x81 then one_octet_length rest
     else (if first == 0x82 then two_octet_length rest else Invalid))
 
--- Holds if a truncated length has at most two bytes, and a definite one at most three octets.
+-- A truncated length ends after at most two `bytes`, and a definite length has at most three octets.
 abbrev pub IsFew : LengthForm → ℕ → Type 0
 IsFew Truncated bytes = bytes ≤ 2
 IsFew Invalid bytes = Unit {0}
@@ -58,11 +58,11 @@ pub record Cursor : Type 0 where
   pub at : ℕ
   pub bytes : List ℕ
 
--- Returns the cursor over `bytes`, the first of which has the offset `at`.
+-- Returns the cursor over `bytes`. The first of them has the offset `at`.
 abbrev pub cursor_at : ℕ → List ℕ → Cursor
 cursor_at at bytes = record { at = at; bytes = bytes }
 
--- Splits the bytes after an identifier into the contents of its element and the bytes after it.
+-- Splits the bytes after an identifier into the contents of its element and the bytes after the element.
 abbrev pub contents_by : LengthForm → Cursor → Result (Cursor × Cursor) DerFault
 contents_by (Definite n octets) left =
     if nat_lt (length left.bytes) (octets + n) then Err (Length left.at)
@@ -78,14 +78,14 @@ abbrev pub begins_with : ℕ → List ℕ → Bool
 begins_with identifier [] = false
 begins_with identifier (first ∷ rest) = first == identifier
 
--- Splits off the element with `identifier`, which must stand here: returns its contents and the bytes after it.
+-- Splits off the next element, which must have `identifier`. Returns its contents and the bytes after it.
 unfoldable pub element_at : ℕ → Cursor → Result (Cursor × Cursor) DerFault
 element_at identifier left =
     if begins_with identifier left.bytes
     then contents_by (length_of (drop 1 left.bytes)) (cursor_at (left.at + 1) (drop 1 left.bytes))
     else Err (Tag left.at)
 
--- Checks that no bytes are left. Otherwise the fault is Tag at the first.
+-- Checks that no bytes are left. Otherwise the fault is Tag at the first of them.
 abbrev pub ended : Cursor → Result (Unit {0}) DerFault
 ended left = if length left.bytes == 0 then Ok tt else Err (Tag left.at)
 
@@ -96,12 +96,12 @@ pub record Format (V : Type 0) : Type 0 where
   pub spell : V → List ℕ
   pub read : Cursor → Result (V × Cursor) DerFault
 
--- Returns the value of contents, or the fault Field at `at`, the offset of their first octet.
+-- Returns the value of contents, or, if they have none, the fault Field at their offset `at`.
 abbrev pub value_of : {V : Type 0} → Option V → ℕ → Result V DerFault
 value_of (Some value) at = Ok value
 value_of None at = Err (Field at)
 
--- Describes a primitive field that must stand.
+-- Describes a primitive field that must be present.
 abbrev pub required : {V : Type 0} → ℕ → Contents V → Format V
 required identifier kind = record {
   spell = λ value. element identifier (kind.spell value);
@@ -114,7 +114,7 @@ abbrev pub spell_some : {V : Type 0} → (V → List ℕ) → Option V → List 
 spell_some spell None = []
 spell_some spell (Some value) = spell value
 
--- Describes a primitive field that may stand.
+-- Describes a primitive field that may be absent.
 abbrev pub optional : {V : Type 0} → ℕ → Contents V → Format (Option V)
 optional identifier kind = record {
   spell = spell_some (required identifier kind).spell;
@@ -130,7 +130,7 @@ followed_by first second = record {
   read = λ left. first.read left >>= λ a. second.read a.1 >>= λ b. Ok ((a.0, b.0), b.1);
 }
 
--- Describes a yes or no, and after a yes a further field.
+-- Describes a yes or no, followed by a further field if it is yes.
 abbrev pub where_yes : {V : Type 0} → Format Bool → Format V → Format (Option V)
 where_yes yes_no field = record {
   spell = λ o. yes_no.spell (is_some o) ++ spell_some field.spell o;
@@ -143,7 +143,7 @@ where_yes yes_no field = record {
 abbrev pub nothing : Format (Unit {0})
 nothing = record { spell = λ _. []; read = λ left. Ok (tt, left) }
 
--- Describes a constructed field that must stand, with the fields of `inside` and nothing else in it.
+-- Describes a constructed field that must be present. It contains exactly the fields of `inside`.
 abbrev pub constructed : {V : Type 0} → ℕ → Format V → Format V
 constructed identifier inside = record {
   spell = λ value. element identifier (inside.spell value);
@@ -153,7 +153,7 @@ constructed identifier inside = record {
 
 -- ---- the results of the code
 
--- Holds if a reader gave the value of `read`, seen by `view`, and left the cursor there, or gave its fault.
+-- A reader of the code gives the fault of `read`, or its value through `view` and the cursor `left` after it.
 abbrev pub Reads : {X V : Type 0} → (X → V) → Result X DerFault → Cursor → Result (V × Cursor) DerFault →
     Type 0
 Reads view (Ok value) left read = read ≡ Ok (view value, left)

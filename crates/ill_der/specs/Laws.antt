@@ -6,16 +6,16 @@ use Rattle.ill_der.specs.declared.fault.DerFault.{DerFault}
 use Rattle.ill_der.specs.declared.fault.DerFault.TheVariants.{OutOfMemory}
 use Rattle.ill_der.specs.ShortForm.{spelling}
 
--- Holds if each element of `bytes` is an octet.
+-- Each element of `bytes` is an octet, that is, below 256.
 abbrev pub IsBytes : List ℕ → Type 0
 IsBytes bytes = (i : ℕ) → get_or bytes i 0 < 256
 
--- Holds if `bytes` is the encoding of `apdu`, which is in range, and then `rest`.
+-- `apdu` is in range, and `bytes` is its encoding followed by `rest`.
 abbrev pub BeginsWith : List ℕ → Apdu → List ℕ → Type 0
 BeginsWith bytes apdu rest = IsApdu apdu × (bytes ≡ spelling apdu ++ rest)
 
--- Holds if `bytes` begins with the APDU found and with no other.
--- If there is a fault, `bytes` begins with no APDU, and the fault is never OutOfMemory.
+-- `bytes` begins with the APDU that was found and with no other.
+-- If there is a fault, `bytes` begins with no APDU, and the fault is not OutOfMemory.
 abbrev pub BeginsWithOne : List ℕ → Result (Apdu × List ℕ) DerFault → Type 0
 BeginsWithOne bytes (Ok found) =
     BeginsWith bytes found.0 found.1 × ((apdu : Apdu) (rest : List ℕ) → BeginsWith bytes apdu rest →

@@ -40,11 +40,11 @@ head = followed_by (required 0x80 version) (followed_by txn_id (required 0x82 nu
 abbrev pub request : Format (Option Date × List ℕ)
 request = followed_by (optional 0x85 date) (required 0x86 item)
 
--- Describes the further field of a Shipped and of an Overdue: the due date.
+-- Describes the one further field of a Shipped and of an Overdue: the due date.
 abbrev pub due_date : Format Date
 due_date = required 0x85 date
 
--- Describes the further field of an ILL-Answer: the result.
+-- Describes the one further field of an ILL-Answer: the result.
 abbrev pub answer : Format AnswerResult
 answer = required 0x84 answer_result
 
@@ -58,7 +58,7 @@ abbrev pub wish : Format (Option Date)
 wish = optional 0x85 date
 
 -- Describes the further fields of a Renew-Answer: the number of the message answered, and yes or no.
--- A yes has the new due date after it.
+-- The new due date follows a yes.
 abbrev pub grant : Format (ℕ × Option Date)
 grant = followed_by (required 0x83 number) (where_yes (required 0x84 yes_no) (required 0x85 date))
 
@@ -79,7 +79,7 @@ spell_body Returned = []
 spell_body CheckedIn = []
 spell_body Expired = []
 
--- Reads `fields`, and returns the body that `make` makes of their value.
+-- Reads `fields`, and returns the body that `make` returns for their value.
 abbrev pub made_of : {V : Type 0} → Format V → (V → Body) → Cursor → Result (Body × Cursor) DerFault
 made_of fields make left = fields.read left >>= λ found. Ok (make found.0, found.1)
 
@@ -102,7 +102,7 @@ read_body types.Expired left = Ok (Expired, left)
 
 -- ---- whole APDUs
 
--- Returns the encoding of the fields of `apdu` that each type has.
+-- Returns the encoding of the fields that each APDU has, for `apdu`.
 abbrev pub head_of : Apdu → List ℕ
 head_of apdu = head.spell (tt, ((apdu.txn.group, apdu.txn.transaction), apdu.number))
 
@@ -114,8 +114,8 @@ contents_of apdu = head_of apdu ++ spell_body apdu.body
 unfoldable pub spelling : Apdu → List ℕ
 spelling apdu = element (identifier_of (type_of apdu.body)) (contents_of apdu)
 
--- Returns the header of an APDU of this type, by its length. More than 355 contents octets are the fault Length.
--- A truncated length is Short with `size`, the number of bytes of the APDU that are there.
+-- Returns the header of an APDU of this type and length. More than 355 contents octets are the fault Length.
+-- A truncated length is the fault Short with `size`, the number of bytes that are present.
 abbrev pub header_by : ApduType → LengthForm → ℕ → Result Header DerFault
 header_by apdu_type (Definite n octets) size =
     if nat_lt 355 n then Err (Length 1)
@@ -123,12 +123,12 @@ header_by apdu_type (Definite n octets) size =
 header_by apdu_type Truncated size = Err (Short size)
 header_by apdu_type Invalid size = Err (Length 1)
 
--- Returns the header by the type of the identifier, if it has one, and the bytes after it.
+-- Returns the header of an APDU, from the type of its identifier and the bytes after it. No type is the fault Tag.
 abbrev pub header_of : Option ApduType → List ℕ → Result Header DerFault
 header_of None bytes = Err (Tag 0)
 header_of (Some apdu_type) bytes = header_by apdu_type (length_of bytes) (length bytes + 1)
 
--- Returns the header, which is the identifier and the length, with which the bytes begin, or their fault.
+-- Returns the header with which the bytes begin, or their fault. A header is an identifier and a length.
 unfoldable pub header_at : List ℕ → Result Header DerFault
 header_at [] = Err (Short 0)
 header_at (first ∷ bytes) = header_of (type_with first) bytes
@@ -139,7 +139,7 @@ pub record Outer : Type 0 where
   pub inside : Cursor
   pub size : ℕ
 
--- Splits off the contents that `header` asks for. If some are missing, the fault is Short with the number of all bytes.
+-- Splits off the contents of the APDU with this `header`. If some are missing, the fault is Short.
 abbrev pub outer_by : Header → List ℕ → Result Outer DerFault
 outer_by header bytes =
     if nat_lt (length bytes) header.size then Err (Short (length bytes))
@@ -153,11 +153,11 @@ outer_by header bytes =
 unfoldable pub outer_at : List ℕ → Result Outer DerFault
 outer_at bytes = header_at bytes >>= λ header. outer_by header bytes
 
--- Returns the body whose further fields are all of `left`.
+-- Returns the body whose further fields are all of `left`, or the first fault.
 unfoldable pub body_of : ApduType → Cursor → Result Body DerFault
 body_of apdu_type left = read_body apdu_type left >>= λ body. ended body.1 >>= λ _. Ok body.0
 
--- Returns the APDU whose contents are all of `left`.
+-- Returns the APDU whose contents are all of `left`, or the first fault.
 unfoldable pub inside_of : ApduType → Cursor → Result Apdu DerFault
 inside_of apdu_type left =
     head.read left >>= λ prefix. body_of apdu_type prefix.1 >>= λ body.
@@ -175,23 +175,23 @@ apdu_at bytes =
 
 -- ---- the results of the code
 
--- Returns the complete APDU of the definitions for that of the code.
+-- Returns the `Outer` of these definitions for an `Outer` of the code.
 abbrev pub outer_view : decoding.Outer → Outer
 outer_view outer = record { apdu_type = outer.apdu_type; inside = outer.inside; size = outer.size }
 
--- Holds if a step of decoding gave the value of `read`, seen by `view`, or its fault.
+-- A function of the decoder gives the value of `read`, through `view`, or the fault of `read`.
 abbrev pub Finds : {X V : Type 0} → (X → V) → Result X DerFault → Result V DerFault → Type 0
 Finds view (Ok value) read = read ≡ Ok (view value)
 Finds view (Err fault) read = read ≡ Err fault
 
--- Holds if viewing gave the APDU of `read` and the number of its bytes, or the fault of `read`.
+-- Viewing gives the APDU of `read` and the number of its bytes, or the fault of `read`.
 abbrev pub Views : List ℕ → Result (Apdu × List ℕ) DerFault → Result (Apdu × ℕ) DerFault → Type 0
 Views bytes read (Ok found) =
     (found.1 ≤ length bytes) × (read ≡ Ok (found.0, drop found.1 bytes))
 Views bytes read (Err fault) = read ≡ Err fault
 
--- Holds if decoding gave the fault of `read`, or the APDU of `read` and the number of its bytes.
--- Instead of an APDU there may be OutOfMemory.
+-- Decoding gives the fault of `read`, or the APDU of `read` and the number of its bytes.
+-- OutOfMemory may come instead of the APDU.
 abbrev pub Decodes : List ℕ → Result (Apdu × List ℕ) DerFault → Result (Apdu × ℕ) DerFault → Type 0
 Decodes bytes (Err fault) result = result ≡ Err fault
 Decodes bytes (Ok read) result =

@@ -12,19 +12,19 @@ use Rattle.ill_values.specs.Apdu.{IsApdu}
 use Rattle.ill_der.specs.declared.header.Header.{Header}
 use Rattle.ill_der.specs.ShortForm.{spelling, header_at, apdu_at}
 
--- Holds if `bytes` is less than an APDU, and further bytes may complete one.
+-- `bytes` is less than an APDU, and further bytes may complete one.
 abbrev pub IsUnfinished : List ℕ → Type 0
 IsUnfinished bytes = apdu_at bytes ≡ Err (Short (length bytes))
 
--- Holds if each proper prefix of `bytes` is unfinished.
+-- Each proper prefix of `bytes` is unfinished.
 abbrev pub AreUnfinished : List ℕ → Type 0
 AreUnfinished bytes = (size : ℕ) → size < length bytes → IsUnfinished (take size bytes)
 
--- Holds if `bytes` is the encoding of one APDU in range.
+-- `bytes` is the encoding of one APDU in range.
 abbrev pub SpellsOne : List ℕ → Type 0
 SpellsOne bytes = (apdu : Apdu) × IsApdu apdu × (bytes ≡ spelling apdu)
 
--- Holds if `P` does, or if the fault is not Short.
+-- If the fault is Short, `P` holds.
 abbrev pub IfShort : DerFault → Type 0 → Type 0
 IfShort (Short at) P = P
 IfShort (Tag at) P = Unit {0}
@@ -32,10 +32,10 @@ IfShort (Length at) P = Unit {0}
 IfShort (Field at) P = Unit {0}
 IfShort OutOfMemory P = Unit {0}
 
--- Holds if the result answers for `bytes`, which were taken, and for those that are `left`.
--- It is the APDU of `bytes`, none at the end of the input, or the fault of `bytes`. Short comes at that end alone.
--- If there is a fault, each proper prefix of `bytes` is unfinished.
--- Otherwise a read failed while `bytes` was unfinished, or memory ran out for the APDU of `bytes`.
+-- The result is right if `bytes` were taken from the reader, and `left` are the bytes after them.
+-- It is the APDU of `bytes`, none at the end of the input, or the fault of `bytes`. Short comes only at the end.
+-- If `bytes` has a fault, each proper prefix of `bytes` is unfinished.
+-- If a read failed, `bytes` is unfinished. If memory ran out, `bytes` is the encoding of one APDU.
 abbrev pub IsAnswer : List ℕ → Option (List ℕ) → Result (Option Apdu) ReadFault → Type 0
 IsAnswer bytes left (Ok (Some apdu)) = IsApdu apdu × (bytes ≡ spelling apdu)
 IsAnswer bytes left (Ok None) = (bytes ≡ []) × IsAtEnd left
@@ -44,16 +44,16 @@ IsAnswer bytes left (Err (faults.Bytes fault)) =
 IsAnswer bytes left (Err faults.Read) = IsUnfinished bytes
 IsAnswer bytes left (Err faults.OutOfMemory) = SpellsOne bytes
 
--- Holds if a reader that had `old` has `new` left, and `result` is the answer for the bytes taken.
+-- A reader that had the bytes `old` has `new` left, and `result` is the answer for the bytes between.
 abbrev pub ReadsApdu : Option (List ℕ) → Option (List ℕ) → Result (Option Apdu) ReadFault → Type 0
 ReadsApdu old new result = (bytes : List ℕ) × Consumes old new bytes × IsAnswer bytes new result
 
--- Returns the fault of reading for a fault of bytes. OutOfMemory stays OutOfMemory.
+-- Returns the fault of a read for a fault of bytes. OutOfMemory becomes the read's own OutOfMemory.
 abbrev pub read_fault : DerFault → ReadFault
 read_fault OutOfMemory = faults.OutOfMemory
 read_fault other = faults.Bytes other
 
--- Holds if the result is the APDU of `bytes`, a fault of `bytes` other than Short, or OutOfMemory for its APDU.
+-- The result is the APDU of `bytes`, a fault of `bytes` other than Short, or OutOfMemory for its APDU.
 abbrev pub IsJudged : List ℕ → Result (Option Apdu) ReadFault → Type 0
 IsJudged bytes (Ok (Some apdu)) = IsApdu apdu × (bytes ≡ spelling apdu)
 IsJudged bytes (Ok None) = ⊥
@@ -61,18 +61,18 @@ IsJudged bytes (Err (faults.Bytes fault)) = (apdu_at bytes ≡ Err fault) × IfS
 IsJudged bytes (Err faults.Read) = ⊥
 IsJudged bytes (Err faults.OutOfMemory) = SpellsOne bytes
 
--- Returns how many more bytes an APDU needs at least, by its header or the fault, if it has `size` bytes.
+-- Returns the least number of bytes that an APDU of `size` bytes lacks, from its header or the fault.
 abbrev pub missing_by : Result Header DerFault → ℕ → ℕ
 missing_by (Ok header) size = header.size - size
 missing_by (Err (Short at)) size = 1
 missing_by (Err other) size = 0
 
--- Returns how many more bytes the APDU needs at least: 0 if it is complete or already invalid.
+-- Returns the least number of bytes that the APDU lacks: 0 if it is complete or already invalid.
 unfoldable pub missing_of : List ℕ → ℕ
 missing_of bytes = missing_by (header_at bytes) (length bytes)
 
--- Holds if a writer that held `before` holds `after`, to which all of `bytes` were appended.
--- If the writer failed, a prefix of `bytes` was appended; if memory ran out, nothing was.
+-- A writer that held `before` holds `after`: `before` with all of `bytes` appended.
+-- If the writer failed, a prefix of `bytes` was appended. If memory ran out, nothing was appended.
 abbrev pub Writes : Option (List ℕ) → Option (List ℕ) → List ℕ → Result (Unit {0}) WriteFault → Type 0
 Writes before after bytes (Ok done) = Appends before after bytes
 Writes before after bytes (Err writing.Write) = (size : ℕ) × Appends before after (take size bytes)

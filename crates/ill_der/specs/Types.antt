@@ -24,6 +24,6 @@ identifier_of Renew = 0x6D
 identifier_of RenewAnswer = 0x6E
 identifier_of Expired = 0x74
 
--- Returns the type with an identifier octet, if there is one.
+-- Returns the type that has this identifier octet, if there is one.
 abbrev pub type_with : ℕ → Option ApduType
 type_with identifier = find (λ apdu_type. identifier == identifier_of apdu_type) all_types

@@ -1,4 +1,4 @@
--- An APDU in bytes: its parts, with the texts borrowed.
+-- The APDU that an `ApduView` shows. The texts of a view are borrowed from the bytes.
 use Rattle.std.specs.Prelude.{ℕ, List}
 use Rattle.ill_values.specs.declared.apdu.Apdu.{Apdu}
 use Rattle.ill_values.specs.declared.apdu.Body.{Body}
@@ -17,7 +17,7 @@ apdu_of group transaction number body = record {
   body = body;
 }
 
--- Returns the body that a view shows.
+-- Returns the body that a `BodyView` shows.
 abbrev pub body_in : BodyView → Body
 body_in (views.IllRequest expiry item) = IllRequest expiry item.now
 body_in (views.Shipped due) = Shipped due
@@ -34,7 +34,7 @@ body_in (views.Renew wished) = Renew wished
 body_in (views.RenewAnswer answers granted) = RenewAnswer answers granted
 body_in views.Expired = Expired
 
--- Holds if the text of an ILL-Request is an item, and of each other body.
+-- If the body is an ILL-Request, its text is an item.
 abbrev pub HasItem : Body → Type 0
 HasItem (IllRequest expiry item) = IsItem item
 HasItem other = Unit {0}

@@ -1,4 +1,4 @@
-//! APDUs whose texts stay in the bytes from which they were read.
+//! Views of APDUs. The texts stay in the bytes from which they were read.
 
 ghost use Rattle.std.specs.Prelude.{◌≡◌, IfOk};
 ghost use Rattle.ill_values.specs.declared.apdu.Apdu.{Apdu};
@@ -10,7 +10,7 @@ use ill_values::{AnswerResult, Apdu, ApduType, Body, Day, Item, Number, OutOfMem
 use std::alloc::Global;
 use std::marker::Model;
 
-/// An APDU in bytes. Its texts are borrowed from them, so that it allocates nothing.
+/// A view of an APDU in bytes. Its texts are borrowed from the bytes, so a view allocates nothing.
 #[derive(Debug, Drop)]
 pub struct ApduView<'a> {
     pub(crate) group: &'a [u8],
@@ -28,12 +28,12 @@ impl<'a> Model for ApduView<'a> {
         × HasItem (body_in v.body) };
 }
 
-/// The body of an APDU in bytes: `Body`, with its text borrowed.
+/// A view of the body of an APDU: `Body`, with its text borrowed.
 #[derive(Clone, Copy, Debug)]
 pub enum BodyView<'a> {
     /// `Body::IllRequest`.
     IllRequest {
-        /// The last day of the request.
+        /// The last day of the request, if it has one.
         expiry: Option<Day>,
         /// The bytes of the item that is asked for: 1 to 200 bytes of UTF-8.
         item: &'a [u8],
@@ -115,14 +115,14 @@ impl<'a> ApduView<'a> {
         self.number
     }
 
-    /// Returns the type of the message, with the fields of that type.
+    /// Returns the body: the type of the message, with the fields of that type.
     pub fn body(&self) -> &BodyView<'a>
         ensures { body_in result.now ≡ self.now.body }
     {
         &self.body
     }
 
-    /// Returns the APDU, with its texts on their own memory.
+    /// Returns the APDU, with its texts copied to memory of their own.
     pub fn to_apdu(&self, alloc: Global) -> Result<Apdu, OutOfMemory>
         ensures { IfOk result (λ apdu. apdu ≡ self.now) }
     {
@@ -159,14 +159,14 @@ impl BodyView<'_> {
         }
     }
 
-    /// Returns the name of the type of the message, as `ILL-Request`.
+    /// Returns the name of the type of the message, such as `ILL-Request`.
     pub fn type_name(&self) -> &'static str
         ensures { result.now ≡ type_name (body_in self.now) }
     {
         self.apdu_type().name()
     }
 
-    /// Returns the body, with its text on its own memory.
+    /// Returns the body, with its text copied to memory of its own.
     fn to_body(&self, alloc: Global) -> Result<Body, OutOfMemory>
         ensures { IfOk result (λ body. body ≡ body_in self.now) }
     {

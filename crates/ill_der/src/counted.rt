@@ -1,4 +1,4 @@
-//! Streams for the loops of this crate: each call of one is counted, and there is no other call.
+//! Readers and writers whose only call is counted. The loops of this crate use no others.
 
 ghost use Rattle.std.specs.Prelude.{◌≡◌, ◌+◌, List, Option, ℕ};
 ghost use Rattle.std.specs.Io.{ReadsAtMost, WritesAtMost};
@@ -14,7 +14,7 @@ pub trait CountedRead {
     /// The bytes that are left to read, if they are known.
     ghost remaining: { Self → Option (List ℕ) };
 
-    /// Reads once, and counts it.
+    /// Reads once, and counts the read.
     fn read_once<L: Ledger>(&mut self, buffer: &mut [u8], steps: &mut Steps<L>) -> io::Result<usize>
         ensures count { steps.new ≡ steps.old + 1 }
         ensures bound { ReadsAtMost result buffer.new }
@@ -39,7 +39,7 @@ pub trait CountedWrite {
     /// The bytes that the writer holds, if they are known.
     ghost contents: { Self → Option (List ℕ) };
 
-    /// Writes once, and counts it.
+    /// Writes once, and counts the write.
     fn write_once<L: Ledger>(&mut self, bytes: &[u8], steps: &mut Steps<L>) -> io::Result<usize>
         ensures count { steps.new ≡ steps.old + 1 }
         ensures bound { WritesAtMost result bytes.now }

@@ -27,7 +27,7 @@ impl<'a> Model for Cursor<'a> {
 }
 
 impl<'a> Cursor<'a> {
-    /// Returns a cursor over `bytes`, the first of which has the offset `at` in the APDU.
+    /// Returns a cursor over `bytes`. The first of them has the offset `at` in the APDU.
     pub fn new(at: u16, bytes: &'a [u8]) -> Cursor<'a>
         requires { at + length bytes.now ≤ 359 }
         ensures { result ≡ cursor_at at bytes.entry.now }
@@ -155,7 +155,7 @@ impl<'a> Cursor<'a> {
         }
     }
 
-    /// Reads a date, if the next element is one.
+    /// Reads a date if the next element has `identifier`, and otherwise returns `None`.
     pub fn optional_date(&mut self, identifier: u8) -> Result<Option<Day>, DerFault>
         ensures { Reads (λ d. d) result self.new ((optional identifier date).read self.old) }
     {
@@ -167,7 +167,7 @@ impl<'a> Cursor<'a> {
     }
 }
 
-/// Returns the message number that `contents` of an INTEGER encode, if they encode one (X.690 8.3).
+/// Returns the message number of which `contents` are the minimal INTEGER, if there is one (X.690 8.3).
 fn number_from(contents: &[u8]) -> Option<Number>
     ensures { result ≡ number_from contents.now }
 {
@@ -178,7 +178,7 @@ fn number_from(contents: &[u8]) -> Option<Number>
     }
 }
 
-/// Returns the result that `contents` encode in one octet, if they encode one.
+/// Returns the result that `contents` encode, if they are one octet that encodes a result.
 fn result_from(contents: &[u8]) -> Option<AnswerResult>
     ensures { result ≡ result_from contents.now }
 {

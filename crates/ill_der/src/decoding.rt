@@ -23,7 +23,7 @@ struct Outer<'a> {
     size: usize,
 }
 
-/// Decodes the APDU with which `bytes` begins, and returns it with its size in bytes. Reads no byte
+/// Decodes the APDU with which `bytes` begins, and returns it with its size in bytes. Ignores the bytes
 /// after it.
 ///
 /// The fault is the first in `bytes`. All checks come before memory is taken, so `OutOfMemory` means
@@ -36,8 +36,8 @@ pub fn decode(alloc: Global, bytes: &[u8]) -> Result<(Apdu, usize), DerFault>
     Ok((apdu.to_apdu(alloc)?, size))
 }
 
-/// Views the APDU with which `bytes` begins, and returns it with its size in bytes, at most 359. Reads
-/// no byte after it. Checks all that `decode` checks, and allocates nothing.
+/// Returns a view of the APDU with which `bytes` begins, and its size in bytes, at most 359. Ignores the
+/// bytes after it. Checks everything that `decode` checks, and allocates nothing.
 ///
 /// The fault is the first in `bytes`, and never `OutOfMemory`.
 #[tactic(auto, unfolding(crate::specs::ShortForm::apdu_at))]
@@ -57,7 +57,7 @@ pub fn view(bytes: &[u8]) -> Result<(ApduView<'_>, usize), DerFault>
     }
 }
 
-/// Splits off the identifier and the length, and checks that all contents are there.
+/// Splits off the identifier and the length, and checks that all contents are present.
 #[tactic(auto, unfolding(crate::specs::ShortForm::outer_at))]
 fn outer_at(bytes: &[u8]) -> Result<Outer<'_>, DerFault>
     ensures read { Finds outer_view result (outer_at bytes.now) }
@@ -78,7 +78,7 @@ fn outer_at(bytes: &[u8]) -> Result<Outer<'_>, DerFault>
     })
 }
 
-/// Views the contents of an APDU of this type, to their end.
+/// Returns a view of the APDU of this type whose contents are all of `inside`.
 #[tactic(auto, unfolding(crate::specs::ShortForm::inside_of))]
 fn inside_of<'a>(apdu_type: ApduType, inside: &mut Cursor<'a>) -> Result<ApduView<'a>, DerFault>
     ensures { Finds (λ apdu. apdu) result (inside_of apdu_type inside.old) }
@@ -100,7 +100,7 @@ fn inside_of<'a>(apdu_type: ApduType, inside: &mut Cursor<'a>) -> Result<ApduVie
     }
 }
 
-/// Views the further fields of an APDU of this type, to the end of the contents.
+/// Returns a view of the body of this type whose further fields are all of `inside`.
 #[tactic(auto, unfolding(crate::specs::ShortForm::body_of))]
 fn body_of<'a>(apdu_type: ApduType, inside: &mut Cursor<'a>) -> Result<BodyView<'a>, DerFault>
     ensures read { Finds body_in result (body_of apdu_type inside.old) }
@@ -115,7 +115,7 @@ fn body_of<'a>(apdu_type: ApduType, inside: &mut Cursor<'a>) -> Result<BodyView<
     }
 }
 
-/// Views the further fields of an APDU of this type.
+/// Reads the further fields of an APDU of this type, and returns a view of its body.
 fn read_body<'a>(apdu_type: ApduType, inside: &mut Cursor<'a>) -> Result<BodyView<'a>, DerFault>
     ensures read { Reads body_in result inside.new (read_body apdu_type inside.old) }
     ensures item { IfOk result (λ body. HasItem (body_in body)) }

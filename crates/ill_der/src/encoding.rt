@@ -1,4 +1,4 @@
-//! Encoding of one APDU. An APDU has one encoding.
+//! Encoding of one APDU. Each APDU has exactly one encoding.
 
 ghost use Rattle.std.specs.Prelude.{◌≡◌, ◌<◌, ◌≤◌, ◌++◌, ◌∷◌, [], length, IfOk, OnOk, OnErr, IfSome};
 ghost use Rattle.ill_values.specs.Day.{IsDate};
@@ -15,7 +15,7 @@ use crate::tags;
 use ill_values::{AnswerResult, Apdu, ApduType, Body, Day, Number, OutOfMemory, TxnId};
 use std::alloc::Global;
 
-/// Returns the one encoding of `apdu`, at most 359 bytes. Allocates once.
+/// Returns the encoding of `apdu`: at most 359 bytes. Allocates once.
 pub fn encode(alloc: Global, apdu: &Apdu) -> Result<Vec<u8>, OutOfMemory>
     ensures spelled { IfOk result (λ bytes. bytes.items ≡ spelling apdu.now) }
     ensures most { IfOk result (λ bytes. length bytes.items ≤ 359) }
@@ -26,8 +26,8 @@ pub fn encode(alloc: Global, apdu: &Apdu) -> Result<Vec<u8>, OutOfMemory>
     Ok(bytes)
 }
 
-/// Appends the encoding of `apdu` to `bytes`. If memory runs out, `bytes` keeps its content, and may
-/// end with a proper prefix of the encoding.
+/// Appends the encoding of `apdu` to `bytes`. If memory runs out, a proper prefix of the encoding may
+/// have been appended.
 #[tactic(auto, unfolding(crate::specs::ShortForm::spelling, crate::specs::Format::element))]
 pub fn encode_onto(bytes: &mut Vec<u8>, apdu: &Apdu) -> Result<(), OutOfMemory>
     ensures spelled { OnOk result (bytes.new.items ≡ bytes.old.items ++ spelling apdu.now) }
@@ -54,6 +54,7 @@ fn push_head(bytes: &mut Vec<u8>, apdu: &Apdu) -> Result<(), OutOfMemory>
     push_number(bytes, tags::NUMBER, apdu.number)
 }
 
+/// Appends a transaction id.
 #[tactic(auto, unfolding(crate::specs::Format::element))]
 fn push_id(bytes: &mut Vec<u8>, id: &TxnId) -> Result<(), OutOfMemory>
     ensures bytes { OnOk result (bytes.new.items ≡ bytes.old.items
@@ -94,6 +95,7 @@ fn push_body(bytes: &mut Vec<u8>, body: &Body) -> Result<(), OutOfMemory>
     }
 }
 
+/// Appends the further fields of a Renew-Answer.
 fn push_grant(bytes: &mut Vec<u8>, answers: Number, granted: Option<Day>) -> Result<(), OutOfMemory>
     ensures bytes { OnOk result (bytes.new.items ≡ bytes.old.items
         ++ grant.spell (answers, granted)) }
@@ -105,6 +107,7 @@ fn push_grant(bytes: &mut Vec<u8>, answers: Number, granted: Option<Day>) -> Res
     push_optional_date(bytes, granted)
 }
 
+/// Appends the number of the message that is answered, and yes or no.
 fn push_reply(bytes: &mut Vec<u8>, answers: Number, yes: bool) -> Result<(), OutOfMemory>
     ensures bytes { OnOk result (bytes.new.items ≡ bytes.old.items ++ reply.spell (answers, yes)) }
     ensures prefix { OnErr result (AddsPrefix bytes.old.items bytes.new.items
@@ -115,6 +118,7 @@ fn push_reply(bytes: &mut Vec<u8>, answers: Number, yes: bool) -> Result<(), Out
     push_element(bytes, tags::YES_NO, &[if yes { 0xFF } else { 0 }])
 }
 
+/// Appends a date, if there is one.
 fn push_optional_date(bytes: &mut Vec<u8>, day: Option<Day>) -> Result<(), OutOfMemory>
     ensures bytes { OnOk result (bytes.new.items ≡ bytes.old.items
         ++ (optional 0x85 date).spell day) }
@@ -128,6 +132,7 @@ fn push_optional_date(bytes: &mut Vec<u8>, day: Option<Day>) -> Result<(), OutOf
     }
 }
 
+/// Appends a date.
 fn push_date(bytes: &mut Vec<u8>, day: Day) -> Result<(), OutOfMemory>
     ensures bytes { OnOk result (bytes.new.items ≡ bytes.old.items ++ due_date.spell day) }
     ensures prefix { OnErr result (AddsPrefix bytes.old.items bytes.new.items (due_date.spell day)) }
@@ -185,7 +190,7 @@ fn push_start(bytes: &mut Vec<u8>, identifier: u8, contents: usize) -> Result<()
     Ok(())
 }
 
-/// Returns the octet of `answer`.
+/// Returns the octet that encodes `answer`.
 fn code_of(answer: AnswerResult) -> u8
     ensures { result ≡ code_of answer }
 {

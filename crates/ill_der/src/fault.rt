@@ -14,16 +14,16 @@ use thiserror::Error;
 /// of the APDU.
 #[derive(Clone, Copy, Debug, PartialEq, Eq, Hash, Error)]
 pub enum DerFault {
-    /// The bytes end before the APDU does. The number is that of the bytes.
+    /// The bytes end before the APDU does. The field is the number of the bytes.
     #[error("short at {0}")]
     Short(u16),
-    /// An unexpected identifier at this offset, or a missing field.
+    /// The identifier at this offset is not the expected one, or a field is missing there.
     #[error("tag at {0}")]
     Tag(u16),
-    /// The length at this offset is not in its shortest form, or reaches too far.
+    /// The length at this offset is not in its shortest form, or is too large.
     #[error("length at {0}")]
     Length(u16),
-    /// The contents at this offset are no value of their field.
+    /// The contents at this offset encode no value of their field.
     #[error("field at {0}")]
     Field(u16),
     /// The bytes begin with an APDU, but memory ran out.

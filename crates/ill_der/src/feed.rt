@@ -18,8 +18,8 @@ use std::marker::Model;
 
 /// Takes the bytes of APDUs, one after another, in pieces that are cut anywhere.
 ///
-/// It holds the bytes of an APDU until the last has come: at most 358. The first fault of the bytes
-/// closes it.
+/// It holds the bytes of an unfinished APDU, at most 358, until the other bytes have come. The first
+/// fault of the bytes closes it.
 #[derive(Debug, Drop)]
 pub struct Feed {
     alloc: Global,
@@ -58,10 +58,10 @@ impl Feed {
         }
     }
 
-    /// Pushes `piece`, and returns each APDU that it completes before the first fault, and that fault.
+    /// Pushes `piece`. Returns each APDU that it completes before the first fault, and that fault.
     ///
-    /// After a fault, each push returns no APDU and that fault. Memory can run out only if the bytes of an
-    /// open feed and `piece` begin with an APDU. The feed then stays.
+    /// After a fault, each push returns no APDU and that fault. Memory can run out only if the held bytes of
+    /// an open feed, followed by `piece`, begin with an APDU. The feed is then unchanged.
     pub fn push(&mut self, piece: &[u8]) -> Result<Pushed, OutOfMemory>
         ensures { Pushes self.old piece.now result self.new }
     {
@@ -78,12 +78,11 @@ impl Feed {
         }
     }
 
-    /// Pushes `piece`, and hands each APDU that it completes before the first fault to `handler`, one
-    /// after another. Then returns that fault. Allocates nothing of its own, and copies no APDU that is
-    /// whole in `piece`.
+    /// Pushes `piece`. Hands each APDU that it completes before the first fault to `handler`, one after
+    /// another, and returns that fault. Allocates nothing itself. Copies no APDU that lies wholly in `piece`.
     ///
-    /// After a fault, hands nothing on and returns that fault. If handling fails, the feed stays: a second
-    /// push of `piece` would hand its APDUs on again.
+    /// After a fault, hands on no APDU and returns that fault. If handling fails, the feed is unchanged. A
+    /// second push of `piece` would then hand on its first APDUs again.
     pub fn each<C, H: Handler<C>>(
         &mut self,
         piece: &[u8],
@@ -99,8 +98,8 @@ impl Feed {
         }
     }
 
-    /// Returns `Ok` between two APDUs, where the bytes may end. Within one, the fault is `Short` with the
-    /// number of bytes held. A closed feed returns its fault.
+    /// Returns `Ok` if the feed is open and holds no bytes, so that the input may end here. If it holds
+    /// bytes, the fault is `Short` with their number. A closed feed returns the fault that closed it.
     pub fn end(&self) -> Result<(), DerFault>
         ensures end { result ≡ end_of self.now }
         ensures most { IfOk self.now (λ held. length held ≤ 358) }
@@ -112,8 +111,8 @@ impl Feed {
         }
     }
 
-    /// Pushes `piece` into an open feed. Completes the APDU whose bytes are held, if any, and goes on
-    /// after it.
+    /// Pushes `piece` into an open feed. Completes the APDU whose bytes are held, if any, and then handles
+    /// the APDUs after it.
     fn complete<C, H: Handler<C>>(
         &mut self,
         piece: &[u8],
@@ -150,7 +149,7 @@ impl Feed {
     }
 
     /// Hands on the APDUs with which `bytes` begins, and then replaces the held bytes by the rest. If
-    /// handling fails, the feed stays.
+    /// handling fails, the feed is unchanged.
     fn go_on<C, H: Handler<C>>(
         &mut self,
         bytes: &[u8],
@@ -189,7 +188,7 @@ impl Feed {
     }
 }
 
-/// Returns the fault that closes a feed whose rest has `fault`. `Short` closes none: the rest is held.
+/// Returns the fault that closes a feed, if its unread bytes have `fault`. `Short` closes no feed.
 fn closing(fault: DerFault) -> Option<DerFault>
     ensures { result ≡ closing fault }
 {
@@ -210,7 +209,7 @@ fn fill(buffer: &mut [u8; APDU_LIMIT], size: usize, piece: &[u8]) -> usize
     size + count
 }
 
-/// Appends each APDU to a list.
+/// A handler that appends each APDU to a list.
 #[derive(Drop)]
 struct Collector {
     apdus: Vec<Apdu>,

@@ -10,17 +10,16 @@ use crate::fault::DerFault;
 use crate::laws;
 use std::alloc::Global;
 
-/// Handles each APDU of some bytes. Beside itself it has a context that the caller lends, such as a
-/// writer, or `()`.
+/// Handles APDUs, one after another. The caller lends it a context, such as a writer, or `()`.
 pub trait Handler<C> {
-    /// The fault of an APDU that was not handled.
+    /// The fault of a failed handling.
     type Fault;
 
-    /// The relation of one APDU: of the handler and the context before, the APDU, the result, and the
-    /// handler and the context after.
+    /// Relates the handler and the context before, the APDU, the result, and the handler and the context
+    /// after.
     ghost handles: { Self × C → Apdu → Result (Unit {0}) Self.Fault → Self × C → Type 0 };
 
-    /// Handles `apdu`. After a fault, no further APDU of its bytes is handed on.
+    /// Handles `apdu`. After a fault, the caller hands on no further APDU of these bytes.
     fn handle(
         &mut self,
         alloc: Global,
@@ -50,8 +49,8 @@ pub fn handle_first<C, H: Handler<C>>(
     }
 }
 
-/// Handles the APDUs with which `bytes` begins, one after another. Returns the offset of the rest, and
-/// its fault.
+/// Handles the APDUs with which `bytes` begins, one after another. Returns the offset after the last of
+/// them, and the fault of the bytes from there on.
 pub fn handle_all<C, H: Handler<C>>(
     alloc: Global,
     bytes: &[u8],

@@ -9,10 +9,10 @@ use crate::identifier::type_with;
 use crate::length::{LengthForm, length_of};
 use ill_values::ApduType;
 
-/// The largest number of contents octets of an APDU.
+/// The maximum number of contents octets of an APDU.
 const MAX_CONTENTS: u16 = 355;
 
-/// The most bytes of an APDU.
+/// The maximum number of bytes of an APDU.
 pub const APDU_LIMIT: usize = 359;
 
 /// The header of an APDU: the type that its identifier gives, and the sizes that its length gives.
@@ -43,7 +43,7 @@ pub fn header_at(bytes: &[u8]) -> Result<Header, DerFault>
     }
 }
 
-/// Returns the header of an APDU of `apdu_type`. `bytes` starts after the identifier.
+/// Returns the header of an APDU of `apdu_type`, or its fault. `bytes` are the bytes after the identifier.
 fn header_by(apdu_type: ApduType, bytes: &[u8]) -> Result<Header, DerFault>
     ensures read { result ≡ header_by apdu_type (length_of bytes.now) (length bytes.now + 1) }
     ensures some { IfOk result (λ header. 1 ≤ header.start) }

@@ -13,8 +13,8 @@ ghost use Rattle.std.specs.List.{concat};
 ghost use Rattle.ill_der.specs.Feed.{Unread, Feeds, FeedsAll};
 ghost use Rattle.ill_der.specs.Laws.{IsBytes, BeginsWithOne};
 
-/// An APDU is read from its encoding, whatever follows. So `decode` returns the APDU that `encode`
-/// encoded.
+/// Each APDU in range is read from its encoding, whatever bytes follow. So `decode` returns the APDU that
+/// `encode` encoded.
 pub fn read_again()
     ensures { (apdu : Apdu) (rest : List ℕ) → IsApdu apdu →
         apdu_at (spelling apdu ++ rest) ≡ Ok (apdu, rest) }
@@ -23,7 +23,7 @@ pub fn read_again()
     ill_values::laws::text_sizes();
 }
 
-/// No bytes are the encoding of two APDUs.
+/// Two APDUs in range with equal encodings are equal.
 pub fn one_apdu()
     ensures { (a b : Apdu) → IsApdu a → IsApdu b → spelling a ≡ spelling b → a ≡ b }
 {
@@ -58,7 +58,7 @@ pub fn shorter()
     ill_values::laws::text_sizes();
 }
 
-/// Bytes begin with the encoding of exactly one APDU, or they begin with none and have a fault.
+/// Bytes either begin with the encoding of exactly one APDU, or begin with none and have a fault.
 pub fn prefix_or_fault()
     ensures { (bytes : List ℕ) → IsBytes bytes → BeginsWithOne bytes (apdu_at bytes) }
 {
@@ -66,13 +66,13 @@ pub fn prefix_or_fault()
     ill_values::laws::text_sizes();
 }
 
-/// A fault other than Short is the fault of the bytes followed by anything.
+/// If bytes have a fault other than Short, they have it whatever bytes follow.
 pub fn fault_stays()
     ensures { (bytes more : List ℕ) (fault : DerFault) → IfShort fault ⊥ →
         apdu_at bytes ≡ Err fault → apdu_at (bytes ++ more) ≡ Err fault }
 {}
 
-/// The number of Short is that of the bytes, which is below 359.
+/// The number in Short is the number of the bytes, which is below 359.
 pub fn short_has_the_size()
     ensures { (bytes : List ℕ) (n : ℕ) → apdu_at bytes ≡ Err (Short n) →
         (n ≡ length bytes) × (n ≤ 358) }
@@ -81,14 +81,14 @@ pub fn short_has_the_size()
     ill_values::laws::text_sizes();
 }
 
-/// Two pushes, one after the other, give the APDUs and the feed of one push of both pieces.
+/// Two pushes, one after the other, give the APDUs and the feed that one push of both pieces gives.
 pub fn two_pushes()
     ensures { (old middle new : Unread) (prefix piece : List ℕ) (first more : List Apdu) →
         Feeds old prefix first middle → Feeds middle piece more new →
         Feeds old (prefix ++ piece) (first ++ more) new }
 {}
 
-/// A feed gives equal APDUs for all ways to cut bytes into pieces, and comes to equal ends.
+/// For all ways to cut bytes into pieces, an empty feed gives equal APDUs and becomes equal feeds.
 pub fn any_cut()
     ensures { (pieces others : List (List ℕ)) (a b : List Apdu) (x y : Unread) →
         concat pieces ≡ concat others → FeedsAll (Ok []) pieces a x → FeedsAll (Ok []) others b y →
@@ -97,7 +97,7 @@ pub fn any_cut()
     read_again();
 }
 
-/// A feed holds fewer bytes than the longest APDU has.
+/// A feed holds at most 358 bytes, fewer than the longest APDU has.
 pub fn few_are_held()
     ensures { (pieces : List (List ℕ)) (apdus : List Apdu) (held : List ℕ) →
         FeedsAll (Ok []) pieces apdus (Ok held) → length held ≤ 358 }

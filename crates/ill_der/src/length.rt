@@ -3,12 +3,12 @@
 ghost use Rattle.std.specs.Prelude.{◌≡◌, ◌≤◌, ◌<◌, ◌^◌, length};
 ghost use Rattle.ill_der.specs.Format.{IsFew, length_of, one_octet_length, two_octet_length};
 
-/// The length that a prefix of some bytes encodes.
+/// The length with which bytes begin.
 #[derive(Clone, Copy, Debug, PartialEq, Eq, Hash)]
 pub enum LengthForm {
-    /// The bytes end within the length.
+    /// The bytes end within the length octets.
     Truncated,
-    /// The octets are no length in its shortest form.
+    /// The octets are not a length in its shortest form.
     Invalid,
     /// The number of contents octets, and the number of length octets that give it.
     Definite(u16, u16),

@@ -14,7 +14,7 @@ use std::io::Read;
 use std::marker::Brand;
 use std::sync::ledger::{Blank, Ledger};
 
-/// A read for each byte, and one that finds the end.
+/// The maximum number of reads for an APDU: one for each byte, and one that finds the end of the input.
 const READS: usize = APDU_LIMIT + 1;
 
 /// Reads one APDU, or returns `None` at the end of the input.
@@ -22,14 +22,15 @@ const READS: usize = APDU_LIMIT + 1;
 /// It takes no byte after the APDU. If the bytes are no APDU, it takes the shortest prefix that shows
 /// the fault. A later call begins a new APDU.
 ///
-/// It calls `read_apdu_counted`, and so makes at most 360 reads. Its own contract counts none of them:
-/// a further read that gave no byte would take nothing from the reader.
+/// It calls `read_apdu_counted`, and so makes at most 360 reads. Its own contract does not count reads,
+/// since a read that gives no byte leaves no trace in the reader.
 pub fn read_apdu<R: Read>(alloc: Global, reader: &mut R) -> Result<Option<Apdu>, ReadFault>
     ensures { ReadsApdu (R.remaining reader.old) (R.remaining reader.new) result }
 {
     read_uncounted::<Brand, R>(alloc, reader, Blank::new(1))
 }
 
+/// Reads one APDU as `read_apdu` does. `blank` gives the ledger for the count of reads.
 fn read_uncounted<L: Ledger, R: Read>(
     alloc: Global,
     reader: &mut R,
@@ -55,7 +56,7 @@ pub fn read_apdu_counted<R: Read, L: Ledger>(
     read_counted(alloc, reader, steps)
 }
 
-/// Reads one APDU from a reader whose every read is counted.
+/// Reads one APDU from a reader whose reads are all counted: at most 360.
 fn read_counted<R: CountedRead, L: Ledger>(
     alloc: Global,
     reader: &mut R,
@@ -81,7 +82,7 @@ fn read_counted<R: CountedRead, L: Ledger>(
     unreachable!()
 }
 
-/// Returns how many more bytes the APDU needs at least: 0 if it is complete or already invalid.
+/// Returns the least number of bytes that the APDU lacks: 0 if it is complete or already invalid.
 #[tactic(auto, unfolding(crate::specs::Stream::missing_of))]
 fn missing(bytes: &[u8]) -> usize
     ensures { result ≡ missing_of bytes.now }
@@ -93,7 +94,7 @@ fn missing(bytes: &[u8]) -> usize
     }
 }
 
-/// Returns the APDU or the fault of `bytes`, which are not short.
+/// Returns the APDU of `bytes`, or their fault. `bytes` must lack no byte.
 fn judge(alloc: Global, bytes: &[u8]) -> Result<Option<Apdu>, ReadFault>
     requires unfinished { AreUnfinished bytes.now }
     requires enough { missing_of bytes.now ≡ 0 }

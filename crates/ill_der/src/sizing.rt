@@ -55,7 +55,7 @@ pub fn contents_size(apdu: &Apdu) -> usize
     head_size(apdu) + body_size(&apdu.body)
 }
 
-/// Returns the number of bytes of the fields that each APDU has.
+/// Returns the number of bytes of the fields that each APDU has, for `apdu`.
 #[tactic(auto, using(crate::proofs::Sizes::element_length))]
 fn head_size(apdu: &Apdu) -> usize
     ensures value { result ≡ length (head_of apdu.now) }
@@ -91,6 +91,7 @@ fn number_size(number: Number) -> usize
     if number.get() < 0x80 { 3 } else { 4 }
 }
 
+/// The number of bytes of the element of the version.
 const VERSION_SIZE: usize = 3;
 
 /// Returns the number of bytes of the further fields of `body`.
@@ -125,6 +126,7 @@ const DATE_SIZE: usize = 10;
 /// The number of bytes of the element of a result, or of a yes or no.
 const CODE_SIZE: usize = 3;
 
+/// Returns the number of bytes of the element of a date, or 0 if there is no date.
 #[tactic(auto, unfolding(crate::specs::Format::element, crate::specs::Format::length_octets))]
 fn optional_date_size(day: Option<Day>) -> usize
     ensures value { result ≡ length ((optional 0x85 date).spell day) }

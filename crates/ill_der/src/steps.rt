@@ -1,11 +1,11 @@
-//! A count of reads or writes, which takes no bytes and no time.
+//! A count of reads or writes, which exists in proofs alone. It takes no memory and no time.
 
 ghost use Rattle.std.specs.Prelude.{◌≡◌, ◌+◌, ◌<◌, ℕ};
 
 use std::marker::Model;
 use std::sync::ledger::{Blank, Book, Ledger, Share};
 
-/// A count of the reads or writes that this crate has made of a stream. It exists in proofs alone.
+/// A count of the reads or writes that this crate has made on a stream. It exists in proofs alone.
 #[derive(Drop)]
 pub struct Steps<L: Ledger> {
     book: Book<L>,
@@ -21,7 +21,7 @@ impl<L: Ledger> Model for Steps<L> {
 }
 
 impl<L: Ledger> Steps<L> {
-    /// Returns a count of 0, on the blank for which the ledger `L` is named.
+    /// Returns a count of 0. The ledger `L` must have the name and the parts of `blank`.
     pub fn new(blank: Blank) -> Steps<L>
         requires name { blank.name ≡ L.name }
         requires parts { blank.parts ≡ L.parts }

@@ -1,5 +1,5 @@
-//! The identifier octets of the fields: context-specific tags, of which only the transaction id's has
-//! the constructed form (X.690 8.1.2).
+//! The identifier octets of the fields: context-specific tags. Only that of the transaction id has the
+//! constructed form (X.690 8.1.2).
 
 /// The version of the protocol.
 pub const VERSION: u8 = 0x80;

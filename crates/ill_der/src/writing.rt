@@ -15,7 +15,7 @@ use std::io::Write;
 use std::marker::Brand;
 use std::sync::ledger::{Blank, Ledger};
 
-/// Writes one APDU. If the writer fails, a prefix of its encoding may have been written. If memory
+/// Writes one APDU. If the writer fails, a prefix of the encoding may have been written. If memory
 /// runs out, nothing was written.
 ///
 /// It makes at most 359 writes. A write that takes no byte counts as a failure.
@@ -25,6 +25,7 @@ pub fn write_apdu<W: Write>(alloc: Global, writer: &mut W, apdu: &Apdu) -> Resul
     write_uncounted::<Brand, W>(alloc, writer, apdu, Blank::new(1))
 }
 
+/// Writes one APDU as `write_apdu` does. `blank` gives the ledger for the count of writes.
 fn write_uncounted<L: Ledger, W: Write>(
     alloc: Global,
     writer: &mut W,
@@ -63,6 +64,7 @@ pub fn write_bytes<W: Write>(writer: &mut W, bytes: &[u8]) -> Result<(), WriteFa
     write_bytes_uncounted::<Brand, W>(writer, bytes, Blank::new(1))
 }
 
+/// Writes all of `bytes` as `write_bytes` does. `blank` gives the ledger for the count of writes.
 fn write_bytes_uncounted<L: Ledger, W: Write>(
     writer: &mut W,
     bytes: &[u8],
@@ -77,7 +79,7 @@ fn write_bytes_uncounted<L: Ledger, W: Write>(
     write_bytes_counted(writer, bytes, &mut Steps::<L>::new(blank))
 }
 
-/// Writes all of `bytes` to a writer whose every write is counted.
+/// Writes all of `bytes` to a writer whose writes are all counted. Makes at most one write for each byte.
 fn write_bytes_counted<W: CountedWrite, L: Ledger>(
     writer: &mut W,
     bytes: &[u8],

@@ -1,4 +1,4 @@
--- Elements: bytes that are read are their encoding, and an encoding is read as its element.
+-- Elements: bytes that are read as an element are its encoding, and an element is read from its encoding.
 use Rattle.std.proofs.Common.{◌≡◌, ℕ, ◌+◌, ◌<◌, ◌≤◌, true, false, eqb, ltb, List, [], ◌∷◌, ◌++◌, length, take, drop, Ok, Err}
 use Rattle.std.proofs.Common.{refl, sym, ap, subst, ◌∙◌, inl, inr, eq-eqb, append_assoc, arith}
 use Rattle.std.proofs.lemmas.Bool.{ltb-false, le-ltb, eqb-true}
@@ -17,13 +17,12 @@ use Rattle.ill_der.proofs.Lengths.{length_again, length_takes, overhead, few_oct
 
 -- ---- bytes that are read are an encoding
 
--- If `bytes` begins with `identifier`, it is `identifier` and the bytes after the first.
+-- If `bytes` begins with `identifier`, it is `identifier` followed by the bytes after the first.
 begins_true : (identifier : ℕ) (bytes : List ℕ) → begins_with identifier bytes ≡ true → bytes ≡ identifier ∷ drop 1 bytes
 begins_true identifier [] e = absurd cc
 begins_true identifier (first ∷ rest) e = ap (λ (x : ℕ). x ∷ rest) (eqb-true first identifier e)
 
--- Holds if `bytes` begins with the definite length `n`, of `octets` octets, and has the `n` octets `inside`, then
--- `rest`.
+-- `bytes` begins with the definite length `n`, of `octets` octets. The `n` octets `inside` follow it, and then `rest`.
 record TakesContents (bytes inside rest : List ℕ) : Type 0 where
   n : ℕ
   octets : ℕ
@@ -32,7 +31,7 @@ record TakesContents (bytes inside rest : List ℕ) : Type 0 where
   inside-is : take n (drop octets bytes) ≡ inside
   rest-is : drop (octets + n) bytes ≡ rest
 
--- If `contents_by` gives `inside` and `rest`, `left` begins with a definite length, its contents `inside`, and `rest`.
+-- If `contents_by` gives `inside` and `rest`, `left` is a definite length, its contents `inside`, and `rest`.
 contents_found : (form : LengthForm) (left inside rest : Cursor) → length_of left.bytes ≡ form
     → contents_by form left ≡ Ok (inside, rest) → TakesContents left.bytes inside.bytes rest.bytes
 contents_found Truncated left inside rest f e = absurd cc
@@ -51,13 +50,13 @@ contents_found (Definite n octets) left inside rest f e =
       rest-is = ap (λ (p : Cursor × Cursor). p.1.bytes) both;
     }
 
--- Holds if `bytes` is the element of `identifier` and `inside`, then `rest`, and both are octets.
+-- `bytes` is the element of `identifier` and `inside`, followed by `rest`, and `inside` and `rest` are octets.
 pub record TakesElement (identifier : ℕ) (bytes inside rest : List ℕ) : Type 0 where
   pub parts : bytes ≡ element identifier inside ++ rest
   pub inside_fits : IsBytes inside
   pub rest_fits : IsBytes rest
 
--- If `bytes` is `identifier`, the length octets of `inside`, `inside` and `rest`, it is that element and `rest`.
+-- If `bytes` is `identifier`, the length octets of `inside`, `inside` and `rest`, it is an element and `rest`.
 pub assembled : (identifier n octets : ℕ) (bytes later inside rest : List ℕ) → bytes ≡ identifier ∷ later
     → later ≡ length_octets n ++ drop octets later
     → drop octets later ≡ inside ++ rest → length inside ≡ n → bytes ≡ element identifier inside ++ rest
@@ -66,7 +65,7 @@ assembled identifier n octets bytes later inside rest first second third size =
     first ∙ ap (λ (x : List ℕ). identifier ∷ x) (second ∙ ap (λ (x : List ℕ). length_octets n ++ x) third
     ∙ sym (append_assoc (length_octets n) inside rest) ∙ ap (λ (k : ℕ). (length_octets k ++ inside) ++ rest) (sym size))
 
--- If `element_at` gives `inside` and `rest`, `left` is the element of `identifier` and `inside`, and then `rest`.
+-- If `element_at` gives `inside` and `rest`, `left` is the element of `identifier` and `inside`, followed by `rest`.
 pub element_takes : (identifier : ℕ) (left inside rest : Cursor) → IsBytes left.bytes
     → element_at identifier left ≡ Ok (inside, rest) → TakesElement identifier left.bytes inside.bytes rest.bytes
 unfolding element_at
@@ -93,7 +92,8 @@ element_takes identifier left inside rest fits e =
 
 -- ---- an encoding is read as its element
 
--- `contents_by` splits `octets ++ (contents ++ more)` into `contents` and `more`, by the lengths of the first two.
+-- By the lengths of `octets` and `contents`, `contents_by` splits `octets ++ (contents ++ more)` into `contents` and
+-- `more`.
 contents_again : (at : ℕ) (octets contents more : List ℕ)
     → contents_by (Definite (length contents) (length octets)) (cursor_at at (octets ++ (contents ++ more)))
     ≡ Ok (cursor_at (at + length octets) contents, cursor_at (at + (length octets + length contents)) more)
@@ -109,12 +109,12 @@ contents_again at octets contents more =
     ∙ drop_at (octets ++ contents) more (length octets + length contents) (length-append octets contents) in
     rw (enough, inside, later) refl
 
--- Holds if `element_at` reads the element of `identifier` and `contents` from `left`, and leaves `more`.
+-- `element_at` reads the element of `identifier` and `contents` from its encoding, and leaves `more`.
 abbrev pub ReadsElement : ℕ → Cursor → List ℕ → List ℕ → Type 0
 ReadsElement identifier left contents more =
     (inside_at : ℕ) × (after : ℕ) × (element_at identifier left ≡ Ok (cursor_at inside_at contents, cursor_at after more))
 
--- `element_at` reads an element from its encoding, whatever follows, if it has fewer than 65536 contents octets.
+-- If an element has fewer than 65536 contents octets, `element_at` reads it from its encoding, whatever follows.
 pub element_again : (identifier at : ℕ) (contents more : List ℕ) → length contents < 65536
     → ReadsElement identifier (cursor_at at (element identifier contents ++ more)) contents more
 unfolding element element_at
@@ -138,7 +138,7 @@ element_begins identifier contents more = eq-eqb identifier identifier refl
 
 -- ---- the size of an element
 
--- If `contents` has at most `most` octets, its element has at most `overhead most + most`.
+-- If `contents` has at most `most` octets, its element has at most `overhead most + most` octets.
 pub element_bound : (identifier most : ℕ) (contents : List ℕ) → length contents ≤ most
     → length (element identifier contents) ≤ overhead most + most
 unfolding element
@@ -178,7 +178,7 @@ ended_faults left d e =
       | inr h ↦ tag_inside left.at d h.1
     ]
 
--- If `ended left` is no fault, `left` has no bytes.
+-- If `ended left` succeeds, `left` has no bytes.
 pub ended_is : (left : Cursor) (x : Unit {0}) → ended left ≡ Ok x → left.bytes ≡ []
 ended_is left x e =
     nil_from_length left.bytes (eqb-true (length left.bytes) 0 (passed (eqb (length left.bytes) 0) (Ok tt) (Tag left.at) x e).0)

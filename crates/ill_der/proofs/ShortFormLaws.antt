@@ -119,7 +119,8 @@ grant_is values =
 abbrev TakesBody : ApduType → List ℕ → Body → List ℕ → Type 0
 TakesBody apdu_type bytes body rest = (bytes ≡ spell_body body ++ rest) × IsBody body × (type_of body ≡ apdu_type) × IsBytes rest
 
--- If `made_of f make` reads `body` from `left`, `left` is the fields of `body` followed by `rest`, and `body` is in range.
+-- If `made_of f make` reads `body` from `left`, `left` is the fields of `body` followed by `rest`.
+-- The body is in range and has the type `apdu_type`.
 made_takes : {V : Type 0} (P : V → Type 0) (F : List ℕ → Type 0) (n : ℕ) (f : Format V) (make : V → Body) (apdu_type : ApduType)
     → IsFormat P F n f
     → ((v : V) → spell_body (make v) ≡ f.spell v) → ((v : V) → P v → IsBody (make v)) → ((v : V) → type_of (make v) ≡ apdu_type)
@@ -464,7 +465,7 @@ pub outer_none : outer_at [] ≡ Err (Short 0)
 unfolding outer_at header_at
 outer_none = refl
 
--- If `outer_after` gives `outer`, and `first` is the octet of the type, `first ∷ bytes` begins with the element of `outer`.
+-- If `outer_after` gives `outer`, and `first` is the octet of its type, `first ∷ bytes` begins with its element.
 outer_by_takes : (first : ℕ) (apdu_type : ApduType) (form : LengthForm) (bytes : List ℕ) (outer : Outer) → IsBytes bytes
     → first ≡ identifier_of apdu_type → length_of bytes ≡ form → outer_after apdu_type form bytes ≡ Ok outer
     → IsOuter (first ∷ bytes) outer
@@ -492,7 +493,7 @@ outer_by_takes first apdu_type (Definite n octets) bytes outer fits k f e =
     subst (λ (x : Outer). IsOuter (first ∷ bytes) x) is
     (record { parts = parts; inside_fits = IsBytes-take n taken (IsBytes-drop octets bytes fits) })
 
--- If `outer_of` gives `outer`, and `first` is the octet of the type `o`, `first ∷ bytes` begins with the element of `outer`.
+-- If `outer_of` gives `outer`, and `first` is the octet of the type `o`, `first ∷ bytes` begins with its element.
 outer_of_takes : (first : ℕ) (o : Option ApduType) (bytes : List ℕ) (outer : Outer) → IsBytes bytes
     → type_with first ≡ o → outer_of o bytes ≡ Ok outer → IsOuter (first ∷ bytes) outer
 outer_of_takes first None bytes outer fits k e = absurd cc

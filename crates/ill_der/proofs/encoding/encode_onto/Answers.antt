@@ -1,4 +1,5 @@
 -- Proves the clause `prefix` of `encoding::encode_onto`: at an error, a proper prefix of the encoding was appended.
+-- Complete parts followed by a proper prefix of the next part are a proper prefix of the encoding.
 use Rattle.std.proofs.Common.{rules, ◌≡◌, ℕ, List, ◌∷◌, ◌++◌, length}
 use Rattle.ill_values.specs.declared.apdu.Apdu.{Apdu}
 use Rattle.ill_der.specs.Adding.{AddsPrefix}

@@ -1,4 +1,5 @@
 -- Proves the clause `prefix` of `encoding::push_element`: at an error, a proper prefix of the element was appended.
+-- A proper prefix of the identifier and the length is a proper prefix of the element.
 use Rattle.std.proofs.Common.{◌∷◌, length}
 use Rattle.ill_der.specs.Format.{element, length_octets}
 use Rattle.ill_der.proofs.AddingLemmas.{adds_first, at_err}

@@ -1,4 +1,5 @@
--- Proves the clause `prefix` of `encoding::push_grant`: at an error, a proper prefix of both fields was appended.
+-- Proves the clause `prefix` of `encoding::push_grant`: at an error, a proper prefix of the fields was appended.
+-- The reply followed by a proper prefix of the date is a proper prefix of all fields.
 use Rattle.std.proofs.Common.{rules, ◌≡◌, ◌++◌, OnErr, is_some, subst, append_assoc}
 use Rattle.ill_der.specs.Adding.{AddsPrefix}
 use Rattle.ill_der.specs.Contents.{number_octets, yes_no, date}

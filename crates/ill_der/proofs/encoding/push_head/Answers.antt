@@ -1,4 +1,5 @@
 -- Proves the clause `prefix` of `encoding::push_head`: at an error, a proper prefix of the head was appended.
+-- Complete fields followed by a proper prefix of the next field are a proper prefix of the head.
 use Rattle.std.proofs.Common.{ℕ, List, [], ◌∷◌, ◌++◌}
 use Rattle.ill_values.specs.declared.apdu.Apdu.{Apdu}
 use Rattle.ill_der.specs.Contents.{number_octets}

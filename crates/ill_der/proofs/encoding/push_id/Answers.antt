@@ -1,4 +1,5 @@
 -- Proves the clause `prefix` of `encoding::push_id`: at an error, a proper prefix of the id was appended.
+-- Complete parts followed by a proper prefix of the next part are a proper prefix of the id.
 use Rattle.std.proofs.Common.{rules, ◌≡◌, ℕ, List, ◌∷◌, ◌++◌, length, OnErr}
 use Rattle.ill_values.specs.TxnId.{Qualifiers}
 use Rattle.ill_der.specs.Adding.{AddsPrefix}

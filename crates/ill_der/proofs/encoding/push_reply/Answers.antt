@@ -1,4 +1,5 @@
 -- Proves the clause `prefix` of `encoding::push_reply`: at an error, a proper prefix of both fields was appended.
+-- The number followed by a proper prefix of the yes or no is a proper prefix of both fields.
 use Rattle.std.proofs.Common.{rules, OnErr}
 use Rattle.ill_der.specs.Adding.{AddsPrefix}
 use Rattle.ill_der.specs.Contents.{number_octets, yes_no}

@@ -1,4 +1,5 @@
--- Proves the contract of `handling::handle_all`: the APDUs up to the rest were handled, or handling failed.
+-- Proves the contract of `handling::handle_all`: the APDUs before the returned offset were handled, or handling failed.
+-- Each turn of the loop handles the next APDU and adds its size to the offset.
 use Rattle.std.proofs.Common.{Result, ℕ, Ok, length, ◌-◌, take, drop, subst}
 use Rattle.ill_der.specs.declared.fault.DerFault.{DerFault}
 use Rattle.ill_der.specs.FeedView.{HandlesFirst}

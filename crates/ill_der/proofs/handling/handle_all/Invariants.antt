@@ -12,6 +12,6 @@ invariant-loop-size g l = record {
       × Handled g.H.Handler.handles (l.initial.handler, l.initial.context) apdus (l.handler, l.context);
 }
 
--- The number of bytes from the offset `at` on becomes smaller.
+-- The number of bytes from the offset `at` on. Each turn of the loop makes it smaller.
 abbrev pub decreases-loop-size : goal.decreases-loop-size
 decreases-loop-size g l = length l.bytes - l.at

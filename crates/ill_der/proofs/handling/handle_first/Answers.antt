@@ -1,4 +1,5 @@
--- Proves the contract of `handling::handle_first`: the first APDU was handled, and has this size.
+-- Proves the contract of `handling::handle_first`: the first APDU was handled and has the returned size.
+-- The view of the bytes gives the APDU and its size.
 use Rattle.std.proofs.Common.{arith}
 use Rattle.ill_der.proofs.FeedLemmas.{begins_one}
 use Rattle.ill_der.proofs.handling.handle_first.Goals as goal

@@ -1,4 +1,4 @@
--- Proves the law `laws::any_cut`: all cuts of bytes into pieces give equal APDUs and equal ends.
+-- Proves the law `laws::any_cut`: all cuts of bytes into pieces give equal APDUs and equal feeds.
 use Rattle.ill_der.proofs.CutLemmas.{any_cut}
 use Rattle.ill_der.proofs.laws.any_cut.Goals as goal
 

@@ -1,4 +1,4 @@
--- Proves the law `laws::fault_stays`: a fault other than Short stays, whatever follows.
+-- Proves the law `laws::fault_stays`: if bytes have a fault other than Short, they have it whatever bytes follow.
 use Rattle.ill_der.proofs.ShortFormLaws.{fault_stays}
 use Rattle.ill_der.proofs.laws.fault_stays.Goals as goal
 

@@ -1,4 +1,5 @@
--- Proves the law `laws::longest`: an encoding has at most 359 bytes, and one has 359.
+-- Proves the law `laws::longest`: an encoding has at most 359 bytes, and one encoding has 359.
+-- Each field has at most the size of the corresponding field in `longest_apdu`.
 use Rattle.ill_der.proofs.SpellingLaws.{spelled_most, longest_reached}
 use Rattle.ill_der.proofs.laws.longest.Goals as goal
 

@@ -1,4 +1,5 @@
 -- Proves the law `laws::prefix_or_fault`: bytes begin with exactly one APDU, or have a fault.
+-- Bytes that are read as an APDU are its encoding, and each encoding is read as its APDU.
 use Rattle.ill_der.proofs.SpellingLaws.{prefix_or_fault}
 use Rattle.ill_der.proofs.laws.prefix_or_fault.Goals as goal
 

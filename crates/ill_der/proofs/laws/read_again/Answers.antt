@@ -1,4 +1,5 @@
 -- Proves the law `laws::read_again`: an APDU is read from its encoding, whatever follows.
+-- Each field is read from its encoding, and the next field or the end follows it.
 use Rattle.ill_der.proofs.ShortFormLaws.{apdu_again}
 use Rattle.ill_der.proofs.laws.read_again.Goals as goal
 

@@ -1,4 +1,5 @@
--- Proves the law `laws::short_has_the_size`: the number of Short is that of the bytes, at most 358.
+-- Proves the law `laws::short_has_the_size`: the number in Short is the number of the bytes, at most 358.
+-- Only the header and the check of its size return Short, and an APDU has at most 359 bytes.
 use Rattle.std.proofs.Common.{arith}
 use Rattle.ill_der.proofs.ContentsLaws.{Values}
 use Rattle.ill_der.proofs.ShortFormLaws.{apdu_short}

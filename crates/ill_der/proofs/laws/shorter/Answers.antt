@@ -1,4 +1,5 @@
--- Proves the law `laws::shorter`: an encoding of no ILL-Request has at most 162 bytes, and one has 162.
+-- Proves the law `laws::shorter`: the encoding of an APDU that is no ILL-Request has at most 162 bytes.
+-- Each field has at most the size of the corresponding field in `longest_other`, whose encoding has 162 bytes.
 use Rattle.ill_der.proofs.SpellingLaws.{spelled_shorter, shorter_reached}
 use Rattle.ill_der.proofs.laws.shorter.Goals as goal
 

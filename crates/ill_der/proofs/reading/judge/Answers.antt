@@ -1,4 +1,5 @@
--- Proves the contract of `reading::judge`: the result is the APDU or the fault of bytes that are not short.
+-- Proves the contract of `reading::judge`: the result is the APDU of bytes that lack no byte, or their fault.
+-- The proper prefixes are unfinished, so an APDU with which the bytes begin has all of them.
 use Rattle.std.proofs.Common.{arith}
 use Rattle.ill_der.proofs.ContentsLaws.{Values}
 use Rattle.ill_der.proofs.StreamLemmas.{spelled_exactly}

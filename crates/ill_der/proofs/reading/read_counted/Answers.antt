@@ -1,4 +1,5 @@
 -- Proves the contract of `reading::read_counted`: it reads one APDU, in at most 360 reads.
+-- It never asks for more bytes than the APDU lacks, and each read but the last gives at least one byte.
 use Rattle.std.proofs.Common.{◌≡◌, ℕ, ◌≤◌, ◌+◌, ◌-◌, length, take, Err, sym, ap, subst, ◌∙◌, arith, rules}
 use Rattle.std.specs.Io.KnownBytes.{Consumes}
 use Rattle.std.proofs.lemmas.List.{length-take-le}

@@ -3,8 +3,8 @@ use Rattle.std.specs.Io.KnownBytes.{Consumes}
 use Rattle.ill_der.specs.Stream.{AreUnfinished}
 use Rattle.ill_der.proofs.reading.read_counted.Given as goal
 
--- The bytes read are the first `size` of the buffer, and each proper prefix of them is unfinished.
--- Each turn has read a byte or more.
+-- The bytes read are the first `size` bytes of the buffer, and each proper prefix of them is unfinished.
+-- Each turn of the loop has read at least one byte.
 abbrev pub invariant-loop : goal.invariant-loop
 invariant-loop g l = record {
   room : length l.bytes ≡ 359;

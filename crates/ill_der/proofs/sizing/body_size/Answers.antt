@@ -1,4 +1,5 @@
--- Proves the clause `value` of `sizing::body_size`: the size is that of the encoding of the further fields.
+-- Proves the clause `value` of `sizing::body_size`: the size is the length of the encoding of the further fields.
+-- The length of the encoding is the sum of the sizes of its elements.
 use Rattle.ill_der.proofs.Sizes.{request_length, reply_length, grant_length}
 use Rattle.ill_der.proofs.sizing.body_size.Goals as goal
 

@@ -1,4 +1,4 @@
--- Proves the clause `value` of `sizing::head_size`: the size is that of the encoding of the head.
+-- Proves the clause `value` of `sizing::head_size`: the size is the length of the encoding of the head.
 use Rattle.ill_der.proofs.Sizes.{head_length}
 use Rattle.ill_der.proofs.sizing.head_size.Goals as goal
 

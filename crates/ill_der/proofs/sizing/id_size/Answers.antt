@@ -1,4 +1,4 @@
--- Proves the clause `value` of `sizing::id_size`: the size is that of the encoding of the transaction id.
+-- Proves the clause `value` of `sizing::id_size`: the size is the length of the encoding of the transaction id.
 use Rattle.ill_der.proofs.Sizes.{id_length}
 use Rattle.ill_der.proofs.sizing.id_size.Goals as goal
 

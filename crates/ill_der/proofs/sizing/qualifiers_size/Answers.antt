@@ -1,4 +1,4 @@
--- Proves the clause `value` of `sizing::qualifiers_size`: the size is that of the encoding of both qualifiers.
+-- Proves the clause `value` of `sizing::qualifiers_size`: the size is the length of the encoding of both qualifiers.
 use Rattle.ill_der.proofs.Sizes.{qualifiers_length}
 use Rattle.ill_der.proofs.sizing.qualifiers_size.Goals as goal
 

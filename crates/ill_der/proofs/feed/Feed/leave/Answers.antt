@@ -1,4 +1,5 @@
--- Proves the contract of `Feed::leave`: a rest that is short is held.
+-- Proves the contract of `Feed::leave`: the feed holds a rest whose fault is Short.
+-- Such a rest has at most 358 bytes, so all of it fits into the buffer.
 use Rattle.std.proofs.Common.{take, Option, sym, subst}
 use Rattle.ill_der.specs.declared.fault.DerFault.{DerFault}
 use Rattle.ill_der.specs.Feed.{Leaves}

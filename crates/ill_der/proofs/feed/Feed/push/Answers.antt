@@ -1,4 +1,5 @@
--- Proves the contract of `Feed::push`: it returns the APDUs of the held bytes and the piece, or the feed stays.
+-- Proves the contract of `Feed::push`: it returns the APDUs of the push, or the feed is unchanged.
+-- The collector appends each APDU that it handles to its list.
 use Rattle.std.proofs.Common.{◌≡◌, List, ◌++◌, ap, sym, subst, ◌∙◌}
 use Rattle.ill_values.specs.declared.apdu.Apdu.{Apdu}
 use Rattle.ill_der.specs.declared.feed.Collector.{Collector}

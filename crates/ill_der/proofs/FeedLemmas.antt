@@ -22,7 +22,7 @@ use Rattle.ill_der.proofs.ShortFormLaws.{fault_stays}
 
 -- ---- APDUs one after another
 
--- If each APDU of `prefix` and of `more` is in range, so is each of `prefix ++ more`.
+-- If each APDU of `prefix` and of `more` is in range, each APDU of `prefix ++ more` is in range.
 pub all_join : (prefix more : List Apdu) → AllByRecursion IsApdu prefix → AllByRecursion IsApdu more
     → AllByRecursion IsApdu (prefix ++ more)
 all_join [] more all others = others
@@ -40,8 +40,8 @@ begins_one law bytes apdu rest fits e =
     let is = subst (BeginsWithOne bytes) e (law bytes fits) in
     record { spelled = (is.0.0, tt); parts = is.0.1 ∙ ap (λ (x : List ℕ). x ++ rest) (sym (append-nil (spelling apdu))) }
 
--- If `bytes` is the APDUs `prefix` followed by `middle`, and `middle` is the APDUs `more` followed by `rest`,
--- `bytes` is the APDUs `prefix ++ more` followed by `rest`.
+-- Let `bytes` be the APDUs `prefix` followed by `middle`, and `middle` the APDUs `more` followed by `rest`.
+-- Then `bytes` is the APDUs `prefix ++ more` followed by `rest`.
 pub begins_join : (bytes middle rest : List ℕ) (prefix more : List Apdu) → Begins bytes prefix middle
     → Begins middle more rest → Begins bytes (prefix ++ more) rest
 begins_join bytes middle rest prefix more first second =

@@ -422,7 +422,7 @@ abbrev pub outer_of : Option ApduType → List ℕ → Result Outer DerFault
 outer_of None bytes = Err (Tag 0)
 outer_of (Some apdu_type) bytes = outer_after apdu_type (length_of bytes) bytes
 
--- For a definite length, reading the header and then the contents gives what `outer_after` gives.
+-- For a definite length, reading the header and then the contents gives the result of `outer_after`.
 outer_in : (first : ℕ) (apdu_type : ApduType) (n octets : ℕ) (large : Bool) (bytes : List ℕ)
     → (cond large (Err (Length 1)) (Ok (record { apdu_type = apdu_type; start = 1 + octets; size = 1 + (octets + n) })) >>=
     λ header. outer_by header (first ∷ bytes))
@@ -441,7 +441,7 @@ outer_in first apdu_type n octets false bytes =
     let many : 1 + (octets + n) - (1 + octets) ≡ n = omega arith in
     rw (fewer, count, later, many) refl
 
--- For a known type, reading the header and then the contents gives what `outer_after` gives.
+-- For a known type, reading the header and then the contents gives the result of `outer_after`.
 outer_cases : (first : ℕ) (apdu_type : ApduType) (form : LengthForm) (bytes : List ℕ)
     → (header_by apdu_type form (length bytes + 1) >>= λ header. outer_by header (first ∷ bytes))
     ≡ outer_after apdu_type form bytes
@@ -449,7 +449,7 @@ outer_cases first apdu_type Truncated bytes = refl
 outer_cases first apdu_type Invalid bytes = refl
 outer_cases first apdu_type (Definite n octets) bytes = outer_in first apdu_type n octets (ltb 355 n) bytes
 
--- Reading the header and then the contents gives what `outer_of` gives.
+-- Reading the header and then the contents gives the result of `outer_of`.
 outer_from : (first : ℕ) (o : Option ApduType) (bytes : List ℕ)
     → (header_of o bytes >>= λ header. outer_by header (first ∷ bytes)) ≡ outer_of o bytes
 outer_from first None bytes = refl

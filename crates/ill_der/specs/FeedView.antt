@@ -45,7 +45,7 @@ HandlesFirst handles bytes before (Err fault) after =
     (apdu : Apdu) × (rest : List ℕ) × Begins bytes (apdu ∷ []) rest
     × handles before apdu (Err fault) after
 
--- The APDUs of `bytes` were handled up to the offset `at`, where the rest has `fault`, or handling failed.
+-- The APDUs of `bytes` before the offset `at` were handled, and the rest has `fault`, or handling failed.
 abbrev pub HandlesAll : {S F : Type 0} → Handles S F → List ℕ → S → Result (ℕ × DerFault) F → S → Type 0
 HandlesAll handles bytes before (Ok (at, fault)) after =
     (at ≤ length bytes) × (apdu_at (drop at bytes) ≡ Err fault)

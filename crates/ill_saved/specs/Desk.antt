@@ -1,4 +1,4 @@
--- A desk: what it holds, with its store (this profile's own).
+-- A desk: the sides that it holds in memory, and their store (this profile's own).
 use Rattle.std.specs.Prelude.{◌≡◌, ◌⊎◌, ℕ, ◌≤◌, List, [], ◌∷◌, Bool, Option, Some, None, Result, Ok, Err, true}
 use Rattle.ill_values.specs.declared.apdu.Apdu.{Apdu}
 use Rattle.ill_der.specs.declared.fault.DerFault.{DerFault}
@@ -12,16 +12,16 @@ use Rattle.ill_saved.specs.Holdings.{Effects, DeskTakesApdu, IsReadFault}
 use Rattle.ill_saved.specs.Records.{Decodes}
 use Rattle.ill_saved.specs.Store.{Allows, LandsAtFailure, HasRisen, StoreState, spent}
 
--- A desk: what it holds in memory, and its store.
+-- A desk: the sides that it holds in memory, and their store.
 pub record DeskOf (L S : Type 0) : Type 0 where
   pub live : L
   pub store : S
 
 -- ---- answers
 
--- States the answer to bytes and the sides after them, from the APDU that a prefix encodes, or its fault.
+-- The desk answers bytes that begin with the APDU that was read, or that have its fault.
 -- If the APDU is all of the bytes, the desk takes it. If bytes follow it, the answer is `Trailing`.
--- If memory runs out for an APDU that was read, nothing changes.
+-- After a fault of the bytes, `Trailing` or `OutOfMemory`, nothing changes.
 abbrev pub DeskTakes : {L K : Type 0} → Effects L K → L → Result (Apdu × List ℕ) DerFault → Result Taking DeskFault → L →
     Type 0
 DeskTakes effects old (Err fault) answer new = (answer ≡ Err (Bytes fault)) × (new ≡ old)
@@ -29,7 +29,8 @@ DeskTakes effects old (Ok found) (Err OutOfMemory) new = new ≡ old
 DeskTakes effects old (Ok (a, [])) answer new = DeskTakesApdu effects old a answer new
 DeskTakes effects old (Ok (a, byte ∷ rest)) answer new = (answer ≡ Err Trailing) × (new ≡ old)
 
--- The answer is the APDU that is all of the bytes, or its fault. Each APDU that is read can run out of memory.
+-- The answer is the APDU that is all of the bytes, or the fault of the bytes. If bytes follow it, it is `Trailing`.
+-- Memory can run out for each APDU that is read.
 abbrev pub IsOneApdu : Result (Apdu × List ℕ) DerFault → Result Apdu DeskFault → Type 0
 IsOneApdu (Err fault) answer = answer ≡ Err (Bytes fault)
 IsOneApdu (Ok found) (Err OutOfMemory) = Unit {0}
@@ -37,8 +38,9 @@ IsOneApdu (Ok (a, [])) (Ok found) = found ≡ a
 IsOneApdu (Ok (a, byte ∷ rest)) (Err Trailing) = Unit {0}
 IsOneApdu (Ok found) answer = ⊥
 
--- States the bytes that have landed after a save by a desk with an honest store.
--- A done save lands `bytes`. If memory runs out, nothing lands. After `Failed`, the old or the new bytes have landed.
+-- A desk with an honest store has saved `bytes`, and `new` are the landed bytes.
+-- If the save is done, `bytes` have landed. If memory ran out, nothing has changed.
+-- After `Failed`, the old or the new bytes have landed.
 abbrev pub SaveLands : Option NextCall → List ℕ → Result (Unit {0}) DeskFault → Option (List ℕ) →
     Option (List ℕ) → Type 0
 SaveLands plan bytes (Ok done) old new = (new ≡ Some bytes) × Allows {X = Unit {0}} plan (Ok tt)
@@ -47,17 +49,17 @@ SaveLands plan bytes (Err (Store stores.Failed)) old new =
 SaveLands plan bytes (Err OutOfMemory) old new = new ≡ old
 SaveLands plan bytes (Err other) old new = ⊥
 
--- Unless memory ran out, the live sides are consistent and in range.
+-- If the answer is not `OutOfMemory`, the live sides satisfy `in_range`: they were encoded.
 abbrev pub WasSpelled : {L : Type 0} → (L → Type 0) → Result (Unit {0}) DeskFault → L → Type 0
 WasSpelled in_range (Err OutOfMemory) live = Unit {0}
 WasSpelled in_range answer live = in_range live
 
--- The call spends the plan. If memory ran out, the store may not have been called, and then the plan stays.
+-- A call of the store spends its plan. If memory ran out before the call, the plan is unchanged.
 abbrev pub PlanAfter : Result (Unit {0}) DeskFault → Option NextCall → Option NextCall → Type 0
 PlanAfter (Err OutOfMemory) old new = (new ≡ spent old) ⊎ (new ≡ old)
 PlanAfter answer old new = new ≡ spent old
 
--- A save is done, or the store failed, or memory ran out.
+-- The answer to a save is that it is done, that the store failed, or that memory ran out.
 abbrev pub IsSaveFault : Result (Unit {0}) DeskFault → Type 0
 IsSaveFault (Ok done) = Unit {0}
 IsSaveFault (Err (Store stores.Failed)) = Unit {0}
@@ -66,8 +68,8 @@ IsSaveFault (Err other) = ⊥
 
 -- ---- loading
 
--- States the answer of a load from an honest store: the landed value, `None`, or a fault.
--- The fault comes from the plan of the store, from reading the bytes, or from memory.
+-- The answer of a load from an honest store is the landed value, `None` if nothing has landed, or a fault.
+-- The fault comes from the store as planned, from reading the bytes, or from a lack of memory.
 abbrev pub Loads : {V : Type 0} → (List ℕ → Result V RecordFault) → (List ℕ → Bool) → Option (List ℕ) →
     Option NextCall → Result (Option V) DeskFault → Type 0
 Loads read begins None plan (Ok None) = Allows {X = Unit {0}} plan (Ok tt)
@@ -79,13 +81,14 @@ Loads read begins (Some bytes) plan (Err (Saved fault)) =
 Loads read begins landed plan (Err OutOfMemory) = Unit {0}
 Loads read begins landed plan answer = ⊥
 
--- The fault can come from loading: of the store, of the record, or of memory.
+-- The fault is one that loading can have: of the store, of the record, or a lack of memory.
 abbrev pub IsLoadFault : Bool → DeskFault → Type 0
 IsLoadFault has_digest (Store stores.Failed) = Unit {0}
 IsLoadFault has_digest (Store stores.TooLarge) = Unit {0}
 IsLoadFault has_digest fault = IsReadFault has_digest fault
 
--- States the answer of a restart with an honest store. If it is done, the live value is the one that has landed.
+-- A desk restarts from an honest store. If the restart is done, the live value is the landed one.
+-- It can fail as the store plans, or if memory runs out.
 abbrev pub Restarts : {V : Type 0} → Result V RecordFault → Option NextCall → Result (Unit {0}) DeskFault →
     V → Type 0
 Restarts landed plan (Ok done) new = (landed ≡ Ok new) × Allows {X = Unit {0}} plan (Ok tt)
@@ -93,34 +96,34 @@ Restarts landed plan (Err (Store fault)) new = Allows {X = Unit {0}} plan (Err f
 Restarts landed plan (Err OutOfMemory) new = Unit {0}
 Restarts landed plan (Err other) new = ⊥
 
--- All messages that the sides have issued are released.
+-- All messages that the live sides have issued are released.
 abbrev pub IsWhole : {L K : Type 0} → Effects L K → L → Type 0
 IsWhole effects live = live ≡ effects.saves live
 
--- After a restart that is done, all messages are released. After a fault, the sides and their counts stay.
+-- After a restart that is done, all messages are released. After a fault, the sides are unchanged.
 abbrev pub RestartLeaves : {L K : Type 0} → Effects L K → Result (Unit {0}) DeskFault → L → L → Type 0
 RestartLeaves effects (Ok done) old new = IsWhole effects new
 RestartLeaves effects (Err fault) old new = (new ≡ old) × IsLoadFault effects.has_digest fault
 
--- If the desk answers that its store failed, the count of failures has risen, or is at its maximum.
+-- If the desk answers that its store failed, the count of failures has risen or is at its maximum.
 abbrev pub DeskFailsCounted : {X : Type 0} → Result X DeskFault → ℕ → ℕ → Type 0
 DeskFailsCounted (Err (Store stores.Failed)) old new = HasRisen old new
 DeskFailsCounted answer old new = Unit {0}
 
--- The count of the store's failures never falls. If the desk answers `Failed`, it has risen, or is at its maximum.
+-- The store's count of failures has not fallen. If the desk answers `Failed`, it has risen or is at its maximum.
 abbrev pub CountsDeskFailure : {X : Type 0} → Result X DeskFault → ℕ → ℕ → Type 0
 CountsDeskFailure answer old new = (old ≤ new) × DeskFailsCounted answer old new
 
 -- ---- the store of a desk
 
--- States the store of a desk after a call that only loads. If the store is honest, its landed bytes stay.
+-- The store of a desk is in state `new` after a call that only loads. If it is honest, its landed bytes are unchanged.
 pub record DeskLoads {X : Type 0} (old : StoreState) (answer : Result X DeskFault) (new : StoreState) : Type 0 where
   pub landed : old.is_honest ≡ true → new.landed ≡ old.landed
   pub counted : CountsDeskFailure answer old.failures new.failures
   pub honest : new.is_honest ≡ old.is_honest
   pub plan : new.plan ≡ spent old.plan
 
--- States the store of a desk after a save of `bytes`. If the store is honest, `SaveLands` states the landed bytes.
+-- The store of a desk is in state `new` after a save of `bytes`. If it is honest, `SaveLands` gives its landed bytes.
 pub record DeskSaves (bytes : List ℕ) (old : StoreState) (answer : Result (Unit {0}) DeskFault) (new : StoreState)
     : Type 0 where
   pub landed : old.is_honest ≡ true → SaveLands old.plan bytes answer old.landed new.landed
@@ -130,7 +133,7 @@ pub record DeskSaves (bytes : List ℕ) (old : StoreState) (answer : Result (Uni
 
 -- ---- beginning
 
--- Returns the answer of a call that returns the store together with a fault.
+-- Returns the answer alone of a call that returns the store together with a fault.
 abbrev pub answer_of : {D S F : Type 0} → Result D (F × S) → Result (Unit {0}) F
 answer_of (Ok desk) = Ok tt
 answer_of (Err fault) = Err fault.0
@@ -144,8 +147,8 @@ store_after store (Err fault) = fault.1
 abbrev pub store_of : {L S F : Type 0} → Result (DeskOf L S) (F × S) → S
 store_of answer = store_after (λ desk. desk.store) answer
 
--- States the answer of creating a desk over an honest store. It is done if nothing has landed, and else `Exists`.
--- The store may fail as its plan says, and memory can run out.
+-- The answer of creating a desk over an honest store: done if nothing has landed, and otherwise `Exists`.
+-- The store may also fail as planned, and memory can run out.
 abbrev pub Creates : Option (List ℕ) → Option NextCall → Result (Unit {0}) DeskFault → Type 0
 Creates None plan (Ok done) = Allows {X = Unit {0}} plan (Ok tt)
 Creates (Some bytes) plan (Err Exists) = Allows {X = Unit {0}} plan (Ok tt)
@@ -153,7 +156,7 @@ Creates landed plan (Err (Store fault)) = Allows {X = Unit {0}} plan (Err fault)
 Creates landed plan (Err OutOfMemory) = Unit {0}
 Creates landed plan answer = ⊥
 
--- Creating a desk is done, or answers `Exists`, a fault of the store, or that memory ran out.
+-- The answer of creating a desk is that it is done, `Exists`, a fault of the store, or that memory ran out.
 abbrev pub IsCreateAnswer : Result (Unit {0}) DeskFault → Type 0
 IsCreateAnswer (Ok done) = Unit {0}
 IsCreateAnswer (Err Exists) = Unit {0}
@@ -162,8 +165,8 @@ IsCreateAnswer (Err (Store stores.TooLarge)) = Unit {0}
 IsCreateAnswer (Err OutOfMemory) = Unit {0}
 IsCreateAnswer (Err other) = ⊥
 
--- States the answer of starting a desk over an honest store. The live value of the desk is read from the landed bytes.
--- If nothing has landed, the answer is `NoRecord`. A fault comes from the store, the bytes or memory.
+-- A desk that starts over an honest store has the live value that is read from the landed bytes.
+-- If nothing has landed, the answer is `NoRecord`. Other faults come from the store, the bytes or a lack of memory.
 abbrev pub Begins : {V D S : Type 0} → (List ℕ → Result V RecordFault) → (List ℕ → Bool) → (D → V) →
     Option (List ℕ) → Option NextCall → Result D (DeskFault × S) → Type 0
 Begins read begins live (Some bytes) plan (Ok desk) =
@@ -175,7 +178,7 @@ Begins read begins live (Some bytes) plan (Err (Saved fault, store)) =
 Begins read begins live landed plan (Err (OutOfMemory, store)) = Unit {0}
 Begins read begins live landed plan answer = ⊥
 
--- Starting a desk is done, or answers `NoRecord` or a fault of loading.
+-- The answer of starting a desk is that it is done, `NoRecord`, or a fault of loading.
 abbrev pub IsStartAnswer : Bool → Result (Unit {0}) DeskFault → Type 0
 IsStartAnswer has_digest (Ok done) = Unit {0}
 IsStartAnswer has_digest (Err NoRecord) = Unit {0}

@@ -1,4 +1,4 @@
--- The fault of a desk for each fault of a lower layer (this profile's own). Also the place of a fault of a record.
+-- The fault of a desk for each fault of a lower layer (this profile's own). Also, the offset of a fault of a record.
 use Rattle.std.specs.Prelude.{ℕ, Option, Some, None}
 use Rattle.ill_der.specs.declared.fault.DerFault.{DerFault}
 use Rattle.ill_der.specs.declared.fault.DerFault.TheVariants as ders
@@ -16,7 +16,7 @@ abbrev pub of_bytes : DerFault → DeskFault
 of_bytes ders.OutOfMemory = OutOfMemory
 of_bytes other = Bytes other
 
--- Returns the fault of a desk for a refusal. A lack of memory becomes the desk's own `OutOfMemory`.
+-- Returns the fault of a desk for a refusal of a side. A lack of memory becomes the desk's own `OutOfMemory`.
 abbrev pub of_core : Refusal → DeskFault
 of_core refusals.OutOfMemory = OutOfMemory
 of_core other = Core other

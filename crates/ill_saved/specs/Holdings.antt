@@ -1,4 +1,4 @@
--- What a desk holds: one side, or the sides of many transactions (this profile's own).
+-- The sides that a desk holds: one side, or the sides of many transactions (this profile's own).
 use Rattle.std.specs.Prelude.{◌≡◌, ℕ, ◌≤◌, nat_le, List, length, Bool, true, false, Option, None, Some, is_ok, Result, Ok, Err}
 use Rattle.std.specs.Prelude.{MatchResult}
 use Rattle.ill_values.specs.declared.apdu.Apdu.{Apdu}
@@ -18,7 +18,7 @@ use Rattle.ill_saved.specs.declared.fault.RecordFault.TheVariants as records
 use Rattle.ill_saved.specs.Side.{issued_of, takes_memory, IsConsistent, Follows}
 use Rattle.ill_saved.specs.Records.{Decodes}
 
--- A held side, and the number of its messages that are released.
+-- A side that a desk holds, and the number of its messages that are released.
 pub record DeskEntry : Type 0 where
   pub side : Side
   pub released : ℕ
@@ -27,50 +27,50 @@ pub record DeskEntry : Type 0 where
 abbrev pub whole : Side → DeskEntry
 whole side = record { side = side; released = length (issued_of side) }
 
--- The effects of the calls on what a desk holds. `L` is the type of what it holds, and `K` names one side of it.
+-- The effects of a desk's calls on the sides that it holds. `L` is the type of the sides, and a `K` names one side.
 pub record Effects (L K : Type 0) : Type 0 where
-  -- the role of all sides
+  -- Returns the role of all sides.
   pub role : L → Role
-  -- the sides after an action, or the fault that refuses it
+  -- Returns the sides after an action of the named side, or the fault that refuses it.
   pub acts : L → K → Action → Result L DeskFault
-  -- the answer to an APDU, and the sides after it
+  -- Returns the answer to an APDU, and the sides after it.
   pub takes : L → Apdu → Result Taking DeskFault × L
-  -- the name of the side that an APDU is for
+  -- Returns the name of the side that an APDU is for.
   pub key_of : Apdu → K
-  -- a side, if it is held
+  -- Returns the named side, if it is held.
   pub found : K → L → Option DeskEntry
-  -- a side, held or not
+  -- Returns the named side, or an idle one if it is not held.
   pub side_for : K → L → DeskEntry
-  -- the name of the side that is there from the beginning, if there is one
+  -- The name of the side that a new desk holds, if there is one.
   pub first_key : Option K
-  -- the sides with all of their messages released
+  -- Returns the sides with all of their messages released.
   pub saves : L → L
-  -- the sides if nothing has landed
+  -- Returns the sides to which the desk goes back if nothing has landed.
   pub unsaved : L → L
-  -- the record of the sides
+  -- Returns the bytes of the record of the sides.
   pub spelling : L → List ℕ
-  -- the sides that a record encodes, with all of their messages released, or its fault
+  -- Returns the sides that a record encodes, with all of their messages released, or the fault of the record.
   pub read : List ℕ → Result L RecordFault
-  -- true if the bytes begin as a record
+  -- Returns true if the bytes begin as a record, so that reading takes memory.
   pub begins : List ℕ → Bool
-  -- true if a record ends with a digest
+  -- Is true if a record ends with a digest.
   pub has_digest : Bool
 
--- Returns the value of a result, changed by `f`, or the fault.
+-- Returns the result with `f` applied to its value. A fault is returned as it is.
 abbrev pub map_ok : {V L F : Type 0} → (V → L) → Result V F → Result L F
 map_ok f (Ok value) = Ok (f value)
 map_ok f (Err fault) = Err fault
 
 -- ---- answers
 
--- Returns true if the fault is one of those with which a desk refuses an action or an APDU.
+-- Returns true if the fault is a refusal of an action or of an APDU.
 abbrev pub is_refusal : DeskFault → Bool
 is_refusal (Core refusal) = true
 is_refusal NoSuchTransaction = true
 is_refusal DeskFull = true
 is_refusal other = false
 
--- States the answer to an action, and the sides after it. A fault changes nothing.
+-- The desk with the sides `old` answers an action, and has the sides `new` after it. A fault changes nothing.
 -- Memory can run out only for an action that would be done.
 abbrev pub DeskActs : {L K : Type 0} → Effects L K → L → K → Action → Result (Unit {0}) DeskFault → L → Type 0
 DeskActs effects old key action (Ok done) new = effects.acts old key action ≡ Ok new
@@ -78,51 +78,54 @@ DeskActs effects old key action (Err OutOfMemory) new = (is_ok (effects.acts old
 DeskActs effects old key action (Err fault) new =
     (effects.acts old key action ≡ Err fault) × (is_refusal fault ≡ true) × (new ≡ old)
 
--- The APDU is to be taken, and its side takes memory for it.
+-- The desk would take the APDU `a`, and the side of `a` needs memory for it.
 abbrev pub WantsMemory : {L K : Type 0} → Effects L K → L → Apdu → Type 0
 WantsMemory effects live a =
     ((effects.takes live a).0 ≡ Ok Taken) × (takes_memory (effects.side_for (effects.key_of a) live).side a ≡ true)
 
--- States the answer to an APDU, and the sides after it.
--- Memory can run out only if the side takes memory for the APDU, and then nothing changes.
+-- The desk with the sides `old` answers the APDU `a`, and has the sides `new` after it.
+-- Memory can run out only if the side needs memory for `a`, and then nothing changes.
 abbrev pub DeskTakesApdu : {L K : Type 0} → Effects L K → L → Apdu → Result Taking DeskFault → L → Type 0
 DeskTakesApdu effects old a (Ok taking) new = effects.takes old a ≡ (Ok taking, new)
 DeskTakesApdu effects old a (Err OutOfMemory) new = WantsMemory effects old a × (new ≡ old)
 DeskTakesApdu effects old a (Err fault) new = (effects.takes old a ≡ (Err fault, new)) × (is_refusal fault ≡ true)
 
--- Returns the sides after a save, or after one that failed.
+-- Returns the sides after a save. If the save failed, they are unchanged.
 abbrev pub held_after : {L K : Type 0} → Effects L K → Result (Unit {0}) DeskFault → L → L
 held_after effects (Ok done) live = effects.saves live
 held_after effects (Err fault) live = live
 
--- States the answer to a call that asks for a message: its encoding, if it is issued and released.
--- If it is not issued, the answer is `NoSuchMessage`; if it is not released, `NotSaved`. Memory can run out.
+-- The answer to a call that asks for a message is its encoding, if it is issued and released.
+-- If it is not issued, the answer is `NoSuchMessage`. If it is not released, the answer is `NotSaved`.
+-- Memory can run out for a released message.
 abbrev pub Sends : {X : Type 0} → (X → List ℕ) → Option Apdu → Bool → Result X DeskFault → Type 0
 Sends view None is_released answer = answer ≡ Err NoSuchMessage
 Sends view (Some a) false answer = answer ≡ Err NotSaved
 Sends view (Some a) true answer =
     MatchResult answer (λ bytes. IsApdu a × (view bytes ≡ spelling a)) (λ fault. fault ≡ OutOfMemory)
 
--- States the answer to a call that asks for message `number` of a held side. No side is `NoSuchTransaction`.
+-- The answer to a call that asks for message `number` of a side is as `Sends` says, if the side is held.
+-- If it is not held, the answer is `NoSuchTransaction`.
 abbrev pub SendsHeld : {X : Type 0} → (X → List ℕ) → Option DeskEntry → ℕ → Result X DeskFault → Type 0
 SendsHeld view None number answer = answer ≡ Err NoSuchTransaction
 SendsHeld view (Some held) number answer =
     Sends view (message (issued_of held.side) number) (nat_le number held.released) answer
 
--- ---- the sides that back others
+-- ---- landed sides that back live ones
 
--- `side` is consistent and has issued at least `released` messages. The live side follows from it by rows.
+-- `side` backs the live side: it is consistent and has issued at least the `released` messages.
+-- Transitions lead from `side` to the live side.
 pub record IsBackedBy (side live : Side) (released : ℕ) : Type 0 where
   pub consistent : IsConsistent side
   pub follows : Follows side live
   pub has-released : released ≤ length (issued_of side)
 
--- Returns the sides that the landed bytes encode, or a fault. If nothing has landed, those are `unsaved`.
+-- Returns the sides that the landed bytes encode, or a fault. If nothing has landed, it returns the `unsaved` sides.
 abbrev pub landed_live : {L K : Type 0} → Effects L K → Option (List ℕ) → L → Result L RecordFault
 landed_live effects None live = Ok (effects.unsaved live)
 landed_live effects (Some bytes) live = effects.read bytes
 
--- Reading gave sides that back the live ones. No fault backs them.
+-- Reading gave sides that back the live ones, and no fault.
 abbrev pub IsBackedByRead : {L : Type 0} → (L → L → Type 0) → Result L RecordFault → L → Type 0
 IsBackedByRead backs (Ok landed) live = backs landed live
 IsBackedByRead backs (Err fault) live = ⊥
@@ -131,14 +134,15 @@ IsBackedByRead backs (Err fault) live = ⊥
 abbrev pub IsBacked : {L K : Type 0} → Effects L K → (L → L → Type 0) → Option (List ℕ) → L → Type 0
 IsBacked effects backs landed live = IsBackedByRead backs (landed_live effects landed live) live
 
--- All bytes that back the old sides back the new ones.
+-- All landed bytes that back the old sides back the new ones.
 abbrev pub StaysBacked : {L K : Type 0} → Effects L K → (L → L → Type 0) → L → L → Type 0
 StaysBacked effects backs old new =
     (landed : Option (List ℕ)) → IsBacked effects backs landed old → IsBacked effects backs landed new
 
 -- ---- records
 
--- `bytes` are the record of the live sides. It is read as these sides with all messages released, and backs them.
+-- `bytes` are the record of the live sides. They are read as these sides with all messages released.
+-- The sides that are read back the live ones and themselves.
 pub record IsRecordOf {L K : Type 0} (effects : Effects L K) (backs : L → L → Type 0) (bytes : List ℕ) (live : L)
     : Type 0 where
   pub spelled : bytes ≡ effects.spelling live
@@ -146,7 +150,7 @@ pub record IsRecordOf {L K : Type 0} (effects : Effects L K) (backs : L → L �
   pub backed : backs (effects.saves live) live
   pub saved : backs (effects.saves live) (effects.saves live)
 
--- The fault can come from reading a record, or from memory. Only a record with a digest can have a wrong one.
+-- The fault is one that reading a record can have, or a lack of memory. A record without a digest has no `Digest`.
 abbrev pub IsReadFault : Bool → DeskFault → Type 0
 IsReadFault has_digest (Saved records.OutOfMemory) = ⊥
 IsReadFault has_digest (Saved records.Digest) = has_digest ≡ true
@@ -154,14 +158,15 @@ IsReadFault has_digest (Saved fault) = Unit {0}
 IsReadFault has_digest OutOfMemory = Unit {0}
 IsReadFault has_digest other = ⊥
 
--- States the sides that `bytes` encode, with all of their messages released, or the fault. Memory can run out.
+-- The answer is the sides that `bytes` encode, with all of their messages released, or the fault of `bytes`.
+-- Memory can run out.
 abbrev pub ReadsRecord : {L K : Type 0} → Effects L K → List ℕ → Result L DeskFault → Type 0
 ReadsRecord effects bytes (Ok live) = effects.read bytes ≡ Ok live
 ReadsRecord effects bytes (Err (Saved fault)) = Decodes (effects.read bytes) (effects.begins bytes) (Err fault)
 ReadsRecord effects bytes (Err OutOfMemory) = Unit {0}
 ReadsRecord effects bytes (Err other) = ⊥
 
--- States the sides after going back to the landed bytes. A fault changes nothing.
+-- The sides `new` are those that the landed bytes encode. A fault of the bytes or of memory changes nothing.
 abbrev pub GoesBackToLanded : {L K : Type 0} → Effects L K → Option (List ℕ) → L → Result (Unit {0}) DeskFault → L → Type 0
 GoesBackToLanded effects landed old (Ok done) new = landed_live effects landed old ≡ Ok new
 GoesBackToLanded effects (Some bytes) old (Err (Saved fault)) new =

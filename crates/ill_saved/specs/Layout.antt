@@ -30,7 +30,7 @@ abbrev pub value_at : {V : Type 0} → ℕ → Option V → Result V LayoutFault
 value_at at (Some value) = Ok value
 value_at at None = Err (Bad at)
 
--- Returns the field of `n` bytes with these contents. Bad contents are a fault at the first of them.
+-- Returns the field of `n` bytes with these contents. Invalid contents are a fault at their first byte.
 abbrev pub sized : {V : Type 0} → ℕ → Contents V → Field V
 sized n contents = record {
   spell = contents.spell;
@@ -38,7 +38,7 @@ sized n contents = record {
       value_at left.at (contents.read part.0) >>= λ value. Ok (value, part.1);
 }
 
--- Returns the value of the only octet in the list. A list of another length has none.
+-- Returns the value of the only octet in the list. A list of another length has no value.
 abbrev pub one_octet : {V : Type 0} → (ℕ → Option V) → List ℕ → Option V
 one_octet value_of [] = None
 one_octet value_of (n ∷ []) = value_of n
@@ -68,7 +68,7 @@ abbrev pub number_octet : Option ℕ → ℕ
 number_octet None = 0
 number_octet (Some n) = n
 
--- The field of the number of a message, or of none, in one octet.
+-- The field of an optional number of a message, in one octet.
 abbrev pub optional_number : Field (Option ℕ)
 optional_number = octet number_octet (λ n. Some (if n == 0 then None else Some n))
 
@@ -82,7 +82,7 @@ mark =
 abbrev pub text_size : Field ℕ
 text_size = octet (λ n. n) (λ n. if nat_le 1 n && nat_le n 64 then Some n else None)
 
--- The field of a qualifier after its length.
+-- The field of a qualifier, preceded by its length.
 abbrev pub counted_text : Field (List ℕ)
 counted_text = record {
   spell = λ text. text_size.spell (length text) ++ text;
@@ -109,12 +109,12 @@ ill_request = record {
       if is_ill_request found.0.body then Ok found else Err (Bad left.at);
 }
 
--- Returns the mark of an optional value, and after a mark of true the encoding of the value.
+-- Returns the encoding of an optional value: a mark, followed by the encoding of the value if there is one.
 abbrev pub spell_marked : {V : Type 0} → (V → List ℕ) → Option V → List ℕ
 spell_marked spell None = mark.spell false
 spell_marked spell (Some value) = mark.spell true ++ spell value
 
--- Returns the field of an optional value: a mark, and after a mark of true the field of the value.
+-- Returns the field of an optional value: a mark, followed by the field of the value if the mark is true.
 abbrev pub marked : {V : Type 0} → Field V → Field (Option V)
 marked field = record {
   spell = spell_marked field.spell;
@@ -128,29 +128,29 @@ unfoldable pub spell_all : {V : Type 0} → (V → List ℕ) → List V → List
 spell_all spell [] = []
 spell_all spell (v ∷ values) = spell v ++ spell_all spell values
 
--- Returns the `n` values that stand next, and the cursor after them, or the first fault.
+-- Returns the next `n` values and the cursor after them, or the first fault.
 unfoldable pub read_all : {V : Type 0} → Field V → ℕ → Cursor → Result (List V × Cursor) LayoutFault
 read_all field zero left = Ok ([], left)
 read_all field (suc n) left =
     field.read left >>= λ first. read_all field n first.1 >>= λ others.
     Ok (first.0 ∷ others.0, others.1)
 
--- Returns the field of a list: its length, in the field `size`, and then each value.
+-- Returns the field of a list: its length in the field `size`, followed by each value.
 abbrev pub counted_by : {V : Type 0} → Field ℕ → Field V → Field (List V)
 counted_by size field = record {
   spell = λ values. size.spell (length values) ++ spell_all field.spell values;
   read = λ left. size.read left >>= λ n. read_all field n.0 n.1;
 }
 
--- Returns the field of a list of at most 255 values: its length in one octet, and then each value.
+-- Returns the field of a list of at most 255 values: its length in one octet, followed by each value.
 abbrev pub counted : {V : Type 0} → Field V → Field (List V)
 counted = counted_by count
 
--- Returns done at the end of the bytes, or else a fault at the cursor.
+-- Checks that no byte is left. Otherwise the fault is `Bad` at the cursor.
 abbrev pub ended : Cursor → Result (Unit {0}) LayoutFault
 ended left = if length left.bytes == 0 then Ok tt else Err (Bad left.at)
 
--- A reader answers as `read` says. `view` gives the value, and `left` is the cursor after it.
+-- A reader of the code gives the fault of `read`, or its value through `view` and the cursor `left` after it.
 abbrev pub Reads : {X V : Type 0} → (X → V) → Result X LayoutFault → Cursor →
     Result (V × Cursor) LayoutFault → Type 0
 Reads view (Ok value) left read = read ≡ Ok (view value, left)
@@ -161,7 +161,8 @@ abbrev pub record_fault : LayoutFault → RecordFault
 record_fault Short = faults.Short
 record_fault (Bad at) = faults.Bad at
 
--- A reader answers as `read` says, or that memory ran out. `view` gives the value, and `left` is the cursor after it.
+-- A reader of the code gives the fault of `read`, or its value through `view` and the cursor `left` after it.
+-- It may also answer that memory ran out.
 abbrev pub ReadsInMemory : {X V : Type 0} → (X → V) → Result X RecordFault → Cursor →
     Result (V × Cursor) LayoutFault → Type 0
 ReadsInMemory view (Ok value) left read = read ≡ Ok (view value, left)

@@ -1,4 +1,4 @@
--- One side, as a desk holds it (this profile's own).
+-- The desk of one side (this profile's own).
 use Rattle.std.specs.Prelude.{◌≡◌, List, ℕ, false, Option, None, Some, Result, Ok, Err}
 use Rattle.ill_core.specs.declared.refusal.Refusal.{Refusal}
 use Rattle.ill_core.specs.declared.taking.Taking.{Taking}
@@ -9,25 +9,25 @@ use Rattle.ill_saved.specs.Side.{role_of, idle_of, acts, takes}
 use Rattle.ill_saved.specs.Records.{record_at, begins_as_record, record_spelling}
 use Rattle.ill_saved.specs.Holdings.{DeskEntry, Effects, ReadsRecord, whole, map_ok, IsBackedBy}
 
--- Returns a side of which no message may be sent.
+-- Returns the side with none of its messages released.
 abbrev pub alone : Side → DeskEntry
 alone side = record { side = side; released = 0 }
 
--- Returns `held` with the side `side`. The released count stays.
+-- Returns `held` with the side `side`. The released count is unchanged.
 abbrev pub with_side : DeskEntry → Side → DeskEntry
 with_side held side = record held { side = side }
 
--- Returns the answer of an action on one side alone.
+-- Returns the answer of a desk of one side to an action, from the answer of the side.
 abbrev pub one_acts : DeskEntry → Result Side Refusal → Result DeskEntry DeskFault
 one_acts held (Ok side) = Ok (with_side held side)
 one_acts held (Err refusal) = Err (Core refusal)
 
--- Returns the answer of an APDU to one side alone.
+-- Returns the answer of a desk of one side to an APDU, from the answer of the side.
 abbrev pub one_answers : Result Taking Refusal → Result Taking DeskFault
 one_answers (Ok taking) = Ok taking
 one_answers (Err refusal) = Err (Core refusal)
 
--- Returns the effects on one side alone, which has no name.
+-- Returns the effects on a desk of one side. The side needs no name.
 abbrev pub one_side : Effects DeskEntry (Unit {0})
 one_side = record {
   role = λ held. role_of held.side;
@@ -49,7 +49,7 @@ one_side = record {
 abbrev pub OneBacks : DeskEntry → DeskEntry → Type 0
 OneBacks landed live = IsBackedBy landed.side live.side live.released
 
--- States the side that the bytes encode, or the fault. Without bytes, it is the idle side of `live`.
+-- The answer is the side that the bytes encode, or the fault. Without bytes, it is the idle side of `live`.
 abbrev pub ReadsOrIdle : Option (List ℕ) → Side → Result DeskEntry DeskFault → Type 0
 ReadsOrIdle (Some bytes) live answer = ReadsRecord one_side bytes answer
 ReadsOrIdle None live (Ok held) = held ≡ whole (idle_of live)

@@ -9,12 +9,12 @@ use Rattle.ill_saved.specs.declared.side.Side.{Side}
 use Rattle.ill_saved.specs.declared.side.Side.TheVariants as sides
 use Rattle.ill_saved.specs.Side.{issued_of, IsConsistent}
 
--- `P` holds of each value in the list.
+-- Each value in the list satisfies `P`.
 unfoldable pub Each : {V : Type 0} → (V → Type 0) → List V → Type 0
 Each P [] = Unit {0}
 Each P (v ∷ values) = P v × Each P values
 
--- The parts of a requester are in range. A record may otherwise have any number at all.
+-- The parts of a requester are in range: its transaction, its held number and its due date.
 pub record RequesterInRange (x : RequesterRecord) : Type 0 where
   pub txn : AreQualifiers x.txn
   pub held : IfSome x.held IsNumber

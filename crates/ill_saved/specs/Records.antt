@@ -42,13 +42,13 @@ state_code Recall = 12
 state_code Returned = 13
 state_code CheckedIn = 14
 
--- The states of a requester.
+-- All states of a requester.
 abbrev pub requester_states : List State
 requester_states =
     Idle ∷ Pending ∷ Conditional ∷ CancelPending ∷ Cancelled ∷ NotSupplied ∷ Shipped ∷ Received
     ∷ RenewPending ∷ Overdue ∷ RenewOverdue ∷ NotReceivedOverdue ∷ Recall ∷ Returned ∷ []
 
--- The states of a responder.
+-- All states of a responder.
 abbrev pub responder_states : List State
 responder_states =
     Idle ∷ InProcess ∷ Conditional ∷ CancelPending ∷ Cancelled ∷ NotSupplied ∷ Shipped
@@ -62,7 +62,7 @@ state_with states n = find (λ state. n == state_code state) states
 abbrev pub state_in : List State → Field State
 state_in states = octet state_code (state_with states)
 
--- Eight zeros, the text of an absent date.
+-- Eight digits 0, the text of an absent date.
 abbrev pub no_date : List ℕ
 no_date = 48 ∷ 48 ∷ 48 ∷ 48 ∷ 48 ∷ 48 ∷ 48 ∷ 48 ∷ []
 
@@ -71,12 +71,12 @@ abbrev pub due_octets : Option Date → List ℕ
 due_octets None = no_date
 due_octets (Some due) = date_text due
 
--- Returns the date as a due date, or nothing if no date was read.
+-- Returns the date as a due date, if a date was read.
 abbrev pub found_date : Option Date → Option (Option Date)
 found_date None = None
 found_date (Some due) = Some (Some due)
 
--- Reads the text of a due date. Eight zeros are no date, and any other text that is no date is a fault.
+-- Returns the due date of a text. Eight zeros are no due date, and any other text without a date is a fault.
 abbrev pub due_from : List ℕ → Option (Option Date)
 due_from text = if bytes_eq text no_date then Some None else found_date (result_ok (read_date text))
 
@@ -88,13 +88,12 @@ due = sized 8 (record { spell = due_octets; read = due_from })
 abbrev pub heading : List State → Field (State × (List ℕ × List ℕ))
 heading states = followed_by (state_in states) (followed_by counted_text counted_text)
 
--- The rest of a requester's record. It has the number of the ILL-Answer whose conditions stand, the mark, the due
--- date, and the issued APDUs.
+-- The rest of a requester's record. It is the held number, the checked-in mark, the due date, and the issued APDUs.
 abbrev pub requester_rest : Field (Option ℕ × (Bool × (Option Date × List Apdu)))
 requester_rest = followed_by optional_number (followed_by mark (followed_by due (counted apdu)))
 
--- The rest of a responder's record. It has the number accepted, those of the last Cancel and the last Renew, the
--- mark, the request, and the issued APDUs.
+-- The rest of a responder's record. It is the accepted number, the last Cancel, the last Renew, the received mark,
+-- the request, and the issued APDUs.
 abbrev pub responder_rest : Field (Option ℕ
     × (Option ℕ × (Option ℕ × (Bool × (Option Apdu × List Apdu)))))
 responder_rest =
@@ -116,7 +115,7 @@ role_with n =
 abbrev pub role : Field Role
 role = octet role_octet role_with
 
--- The four octets `ILL1`.
+-- The field of the version: the four octets `ILL1`.
 abbrev pub version : Field (Unit {0} × (Unit {0} × (Unit {0} × Unit {0})))
 version =
     followed_by (constant 73) (followed_by (constant 76) (followed_by (constant 76) (constant 49)))
@@ -160,7 +159,7 @@ abbrev pub spell_fields : Side → List ℕ
 spell_fields (sides.Requester x) = spell_requester x
 spell_fields (sides.Responder y) = spell_responder y
 
--- Returns the encoding of a side: the version, the role and its fields. A side has only this one.
+-- Returns the encoding of a side: the version, the role and its fields. A side has no other encoding.
 unfoldable pub record_spelling : Side → List ℕ
 record_spelling side = spell_start (role_of side) ++ spell_fields side
 
@@ -201,11 +200,11 @@ all_of read = read >>= λ found. ended found.1 >>= λ _. Ok found.0
 abbrev pub side_at : Role → Cursor → Result Side LayoutFault
 side_at role left = all_of (read_fields role left)
 
--- Returns the side that all of the bytes encode, or the first fault. It need not keep the rules of its role.
+-- Returns the side that all of the bytes encode, or the first fault. The side need not be consistent.
 unfoldable pub side_spelled : List ℕ → Result Side LayoutFault
 side_spelled bytes = start.read (cursor_at 0 bytes) >>= λ start. side_at start.0.1 start.1
 
--- Returns a side that was read, if it is consistent, and otherwise `Inconsistent`.
+-- Returns the side that was read, if it is consistent, and otherwise `Inconsistent`.
 abbrev pub judged : Result Side LayoutFault → Result Side RecordFault
 judged (Ok side) = if is_consistent side then Ok side else Err faults.Inconsistent
 judged (Err fault) = Err (record_fault fault)
@@ -219,21 +218,21 @@ abbrev pub states_of : Role → List State
 states_of roles.Requester = requester_states
 states_of roles.Responder = responder_states
 
--- Returns true if a state of this role and two qualifiers stand next. Decoding then takes its first memory.
+-- Returns true if a state of this role and two qualifiers come next. After these, decoding first takes memory.
 abbrev pub has_prefix : Role → Cursor → Bool
 has_prefix role left = is_ok ((heading (states_of role)).read left)
 
--- Returns true if a version and a role were read, and a state and two qualifiers stand after them.
+-- Returns true if a version and a role were read, and a state and two qualifiers follow them.
 abbrev pub has_prefix_after : Result (((Unit {0} × (Unit {0} × (Unit {0} × Unit {0}))) × Role) × Cursor)
     LayoutFault → Bool
 has_prefix_after (Ok start) = has_prefix start.0.1 start.1
 has_prefix_after (Err fault) = false
 
--- Returns true if the bytes begin as a record, up to its qualifiers. Decoding then takes its first memory.
+-- Returns true if the bytes begin as a record, up to its qualifiers. After these, decoding first takes memory.
 unfoldable pub begins_as_record : List ℕ → Bool
 begins_as_record bytes = has_prefix_after (start.read (cursor_at 0 bytes))
 
--- The answer of decoding is `read`. Memory can run out only if `begins` is true.
+-- The answer of decoding is `read`, or that memory ran out. Memory can run out only if `begins` is true.
 abbrev pub Decodes : {X : Type 0} → Result X RecordFault → Bool → Result X RecordFault → Type 0
 Decodes read begins (Err faults.OutOfMemory) = begins ≡ true
 Decodes read begins answer = answer ≡ read

@@ -1,5 +1,5 @@
--- The bytes of the saved record of many sides, version 2, which a digest closes (this profile's own).
--- The digest is the SHA-256 of FIPS 180-4.
+-- The bytes of the saved record of many sides, version 2 (this profile's own).
+-- A record ends with a digest, the SHA-256 of FIPS 180-4.
 use Rattle.std.specs.Prelude.{◌≡◌, ℕ, ◌≤◌, ◌-◌, Bool, true, false, not, nat_eq, nat_lt, nat_le, if◌then◌else◌, List, [], ◌∷◌}
 use Rattle.std.specs.Prelude.{◌++◌, length, take, drop, Option, Some, None, Result, Ok, Err}
 use Rattle.std.specs.Int.{w16, to_be_bytes, from_be_bytes}
@@ -33,7 +33,7 @@ version_2 = 73 ∷ 76 ∷ 76 ∷ 50 ∷ []
 abbrev pub two_octets : Field ℕ
 two_octets = sized 2 (record { spell = to_be_bytes w16; read = λ bytes. Some (from_be_bytes w16 bytes) })
 
--- Returns `n` if a desk may hold that many sides.
+-- Returns `n` if a desk may hold `n` sides.
 abbrev pub few_sides : ℕ → Option ℕ
 few_sides n = if nat_le n most_sides then Some n else None
 
@@ -42,16 +42,16 @@ abbrev pub side_count : Field ℕ
 side_count =
     sized 2 (record { spell = to_be_bytes w16; read = λ bytes. few_sides (from_be_bytes w16 bytes) })
 
--- Returns the result, with every fault at offset `at`.
+-- Returns the result with its fault replaced by one at the offset `at`.
 abbrev pub bad_at : {X : Type 0} → ℕ → Result X LayoutFault → Result X LayoutFault
 bad_at at (Ok value) = Ok value
 bad_at at (Err fault) = Err (Bad at)
 
--- The contents of a part: the record of one side, version 1.
+-- The contents of a part: the record of one side in version 1.
 abbrev pub one_record : Contents Side
 one_record = record { spell = record_spelling; read = λ bytes. result_ok (record_at bytes) }
 
--- The field of a side: the length of its record, and the record. Each fault in the record is at its first byte.
+-- The field of a side: the length of its record, and the record. A fault in the record is at its first byte.
 abbrev pub part : Field Side
 part = record {
   spell = λ side. two_octets.spell (length (record_spelling side)) ++ record_spelling side;
@@ -67,15 +67,15 @@ role_and_sides = followed_by role (counted_by side_count part)
 abbrev pub body_of : SidesOf → List ℕ
 body_of held = version_2 ++ role_and_sides.spell (held.role, held.sides)
 
--- Returns the encoding of the sides, closed by the digest of all before it. They have only this one.
+-- Returns the encoding of the sides, followed by its digest. The sides have no other encoding.
 unfoldable pub sides_spelling : SidesOf → List ℕ
 sides_spelling held = body_of held ++ sha256 (body_of held)
 
--- Returns all bytes but the last 32.
+-- Returns all bytes but the last 32, which are the digest.
 abbrev pub body : List ℕ → List ℕ
 body bytes = take (length bytes - 32) bytes
 
--- Returns the bytes between the version and the digest, if both are right, or else the first fault.
+-- Returns the bytes between the version and the digest, or the first fault if one of these is wrong.
 unfoldable pub unsealed : List ℕ → Result (List ℕ) RecordFault
 unsealed bytes =
     if nat_lt (length bytes) 39 then Err faults.Short else
@@ -83,24 +83,24 @@ unsealed bytes =
     (if bytes_eq (drop (length bytes - 32) bytes) (sha256 (body bytes)) then Ok (drop 4 (body bytes))
     else Err faults.Digest))
 
--- Returns the sides, if they may be held together, and otherwise `Inconsistent`.
+-- Returns the sides if one desk may hold them together, and otherwise `Inconsistent`.
 abbrev pub together : SidesOf → Result SidesOf RecordFault
 together held = if may_be_held held then Ok held else Err faults.Inconsistent
 
--- Returns the role and the sides that were read, if they may be held together, or the first fault.
+-- Returns the role and the sides that were read, if one desk may hold them together, or the first fault.
 abbrev pub judged_together : Result (Role × List Side) LayoutFault → Result SidesOf RecordFault
 judged_together (Ok found) = together (record { role = found.0; sides = found.1 })
 judged_together (Err fault) = Err (record_fault fault)
 
--- Returns the sides that all of `octets` encode, after the version, or the first fault.
+-- Returns the sides that all of `octets` encode, or the first fault. `octets` are the bytes after the version.
 abbrev pub sides_at : List ℕ → Result SidesOf RecordFault
 sides_at octets = judged_together (all_of (role_and_sides.read (cursor_at 4 octets)))
 
--- Returns a desk's sides with this side alone, or with none if it is idle.
+-- Returns the sides of a desk with only this side, or with none if this side is idle.
 abbrev pub alone : Side → SidesOf
 alone side = record { role = role_of side; sides = if is_idle side then [] else side ∷ [] }
 
--- Returns a side that was read as a desk's only side, or its fault.
+-- Returns the sides of a desk with only the side that was read, or the fault.
 abbrev pub read_alone : Result Side RecordFault → Result SidesOf RecordFault
 read_alone (Ok side) = Ok (alone side)
 read_alone (Err fault) = Err fault
@@ -123,25 +123,25 @@ counts_any (Err fault) = false
 abbrev pub has_sides : List ℕ → Bool
 has_sides octets = counts_any ((followed_by role side_count).read (cursor_at 4 octets))
 
--- Returns true if version and digest are right, with a role and a number of sides above 0 between.
+-- Returns true if a role and a number of sides above 0 follow the version. Version and digest must be right.
 abbrev pub has_sides_after : Result (List ℕ) RecordFault → Bool
 has_sides_after (Ok octets) = has_sides octets
 has_sides_after (Err fault) = false
 
--- Returns true if the bytes begin so that decoding takes memory: up to a number of sides above 0.
--- In version 1, they begin as a record, up to its qualifiers.
+-- Returns true if decoding takes memory: if the bytes begin as a record up to a number of sides above 0.
+-- In version 1, the bytes must begin as a record up to its qualifiers.
 unfoldable pub begins_as_records : List ℕ → Bool
 begins_as_records bytes =
     if is_version_1 bytes then begins_as_record bytes else has_sides_after (unsealed bytes)
 
--- The sides may be held together, each is consistent and in range, and they are within the limit.
+-- One desk may hold the sides together. Each is consistent and in range, and they are at most 1,000.
 pub record AreSides (all : SidesOf) : Type 0 where
   pub held : may_be_held all ≡ true
   pub each : Each IsSide all.sides
   pub few : length all.sides ≤ most_sides
 
--- States the answer of putting a side that was read, and the sides after it.
--- The side is put, or may not stand with the others, or memory runs out.
+-- A side that was read is put after the sides `old`, which gives `new`, or putting it fails.
+-- It fails if the desk may not hold it with the others, or if memory runs out.
 abbrev pub PutsRead : SidesOf → Side → Result (Unit {0}) RecordFault → SidesOf → Type 0
 PutsRead old side (Ok done) new = (put_refusal old side ≡ None) × (new ≡ put_last old side)
 PutsRead old side (Err faults.Inconsistent) new = put_refusal old side ≡ None → ⊥

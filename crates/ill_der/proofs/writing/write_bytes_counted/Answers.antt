@@ -1,5 +1,5 @@
 -- Proves the invariant of the loop of `writing::write_bytes_counted`: each turn writes at least one byte.
--- A write appends the next bytes to those that were appended before.
+-- Each write appends the next bytes after the first `written` bytes.
 use Rattle.std.proofs.Common.{ℕ, List, length, take, ap, subst, arith}
 use Rattle.std.specs.Io.KnownBytes.{Appends}
 use Rattle.std.proofs.lemmas.List.{length-drop}

@@ -20,7 +20,7 @@ pub record RequesterInRange (x : RequesterRecord) : Type 0 where
   pub held : IfSome x.held IsNumber
   pub due : IfSome x.due IsDate
 
--- The parts of a responder are in range.
+-- The parts of a responder are in range: its transaction, its numbers and its request.
 pub record ResponderInRange (y : ResponderRecord) : Type 0 where
   pub txn : AreQualifiers y.txn
   pub accepted : IfSome y.accepted IsNumber

@@ -1,5 +1,5 @@
 -- A side of a transaction in either role: its actions, and the APDUs that it takes (this profile's own).
--- Definitions here tell the roles apart, and a desk does not.
+-- These definitions distinguish the roles, so that those of a desk need not.
 use Rattle.std.specs.Prelude.{◌≡◌, ◌↔◌, ℕ, Bool, not, if◌then◌else◌, List, length, [], ◌∷◌, ◌++◌, Option, Some, None, true, false}
 use Rattle.std.specs.Prelude.{is_ok, Result, Ok, Err}
 use Rattle.ill_values.specs.declared.apdu.Apdu.{Apdu}
@@ -63,7 +63,7 @@ state_of (sides.Responder y) = y.state
 abbrev pub is_idle : Side → Bool
 is_idle side = is_among (Idle ∷ []) (state_of side)
 
--- Returns the due date that the side has on record, if there is one.
+-- Returns the due date in the record of the side, if there is one.
 abbrev pub due_date_of : Side → Option Date
 due_date_of (sides.Requester x) = x.due
 due_date_of (sides.Responder y) = due_of y
@@ -82,7 +82,7 @@ abbrev pub standing_of : Side → Standing
 standing_of (sides.Requester x) = standings.Requester (requesters.standing_of x)
 standing_of (sides.Responder y) = standings.Responder (responders.standing_of y)
 
--- Returns the side with this standing and the first `count` of its messages. A standing of the other role gives none.
+-- Returns the side with this standing and the first `count` of its messages, if the standing has the role of the side.
 abbrev pub back_to : Standing → ℕ → Side → Option Side
 back_to (standings.Requester s) count (sides.Requester x) =
     Some (sides.Requester (requesters.back_to s count x))
@@ -90,13 +90,14 @@ back_to (standings.Responder s) count (sides.Responder y) =
     Some (sides.Responder (responders.back_to s count y))
 back_to standing count side = None
 
--- The side goes back exactly if the result is a consistent side. Otherwise nothing changes.
+-- `went` is true exactly if there is a consistent side to go back to, and `new` is then this side.
+-- Otherwise `new` is `old`.
 abbrev pub GoesBack : Option Side → Bool → Side → Side → Type 0
 GoesBack None went old new = (went ≡ false) × (new ≡ old)
 GoesBack (Some back) went old new =
     ((went ≡ true) ↔ IsConsistent back) × (new ≡ (if went then back else old))
 
--- Returns true if the side is a responder that was asked: its state is not IDLE.
+-- Returns true if the side is a responder that has taken a request: its state is not IDLE.
 abbrev pub is_asked : Side → Bool
 is_asked (sides.Requester x) = false
 is_asked (sides.Responder y) = not (is_among (Idle ∷ []) y.state)
@@ -106,7 +107,7 @@ abbrev pub request_of : Side → Option Apdu
 request_of (sides.Requester x) = None
 request_of (sides.Responder y) = y.request
 
--- If the old side was asked, the new one is asked too, and has its request.
+-- If the old side is a responder that has taken a request, the new side has taken it, too.
 abbrev pub KeepsRequest : Side → Side → Type 0
 KeepsRequest old new =
     is_asked old ≡ true → (is_asked new ≡ true) × (request_of new ≡ request_of old)
@@ -116,7 +117,7 @@ abbrev pub role_for : Action → Role
 role_for (actions.Wish wish) = roles.Requester
 role_for (actions.Deed deed today) = roles.Responder
 
--- Returns true if the action may begin a transaction: only the wish Request does.
+-- Returns true if the action may begin a transaction. Only the wish Request may.
 abbrev pub begins : Action → Bool
 begins (actions.Wish (wishes.Request expiry item)) = true
 begins action = false
@@ -126,7 +127,7 @@ abbrev pub verb_of : Action → Verb
 verb_of (actions.Wish wish) = wish_verb wish
 verb_of (actions.Deed deed today) = deed_verb deed
 
--- Returns the verbs of the actions that the side may take now.
+-- Returns the verbs of the actions that the side may perform in its state.
 abbrev pub verbs_of : Side → List Verb
 verbs_of (sides.Requester x) = requester_verbs x
 verbs_of (sides.Responder y) = responder_verbs y
@@ -145,12 +146,12 @@ idle_side roles.Responder txn = sides.Responder (responder_of txn Idle None None
 abbrev pub idle_of : Side → Side
 idle_of side = idle_side (role_of side) (txn_of side)
 
--- Returns the result as a side, or its refusal.
+-- Returns the side of a result, or its refusal.
 abbrev pub done_by : {R : Type 0} → (R → Side) → Result R Refusal → Result Side Refusal
 done_by make (Ok new) = Ok (make new)
 done_by make (Err refusal) = Err refusal
 
--- Returns the side after the action, or the refusal. A deed of a requester or a wish of a responder is `WrongRole`.
+-- Returns the side after the action, or the refusal. An action of the other role is `WrongRole`.
 abbrev pub acts : Side → Action → Result Side Refusal
 acts (sides.Requester x) (actions.Wish wish) = done_by sides.Requester (requester_actions.acts x wish)
 acts (sides.Responder y) (actions.Deed deed today) =
@@ -164,35 +165,36 @@ takes (sides.Requester x) a =
 takes (sides.Responder y) a =
     ((responder_deliveries.takes y a).0, sides.Responder (responder_deliveries.takes y a).1)
 
--- States the answer of a side to an action, and the side after it. A refusal changes nothing.
--- Only an action that would be done can run out of memory, and then nothing changes.
+-- The side `old` answers an action, and is `new` after it. A refusal changes nothing.
+-- Memory can run out only for an action that would be done, and then nothing changes.
 abbrev pub Acts : Side → Action → Result (Unit {0}) Refusal → Side → Type 0
 Acts old action (Ok done) new = acts old action ≡ Ok new
 Acts old action (Err refusals.OutOfMemory) new = (is_ok (acts old action) ≡ true) × (new ≡ old)
 Acts old action (Err refusal) new = (acts old action ≡ Err refusal) × (new ≡ old)
 
--- Returns true if a responder needs memory for an APDU: to keep it, or to issue an answer.
--- A requester needs none.
+-- Returns true if the side is a responder that needs memory for an APDU: to store it, or to issue an answer.
+-- A requester needs no memory.
 abbrev pub takes_memory : Side → Apdu → Bool
 takes_memory (sides.Requester x) a = false
 takes_memory (sides.Responder y) a = responder_deliveries.takes_memory y a.body
 
--- The side would take APDU `a` and needs memory for it, memory ran out, and nothing has changed.
+-- The side `old` would take the APDU `a` and needs memory for it, and nothing has changed.
 abbrev pub WantsMemoryFor : Side → Apdu → Side → Type 0
 WantsMemoryFor old a new =
     ((takes old a).0 ≡ Ok Taken) × (takes_memory old a ≡ true) × (new ≡ old)
 
--- States the answer of a side to an APDU, and the side after it.
+-- The side `old` answers the APDU `a`, and is `new` after it.
+-- Memory can run out only if the side needs memory for `a`, and then nothing changes.
 abbrev pub Takes : Side → Apdu → Result Taking Refusal → Side → Type 0
 Takes old a (Err refusals.OutOfMemory) new = WantsMemoryFor old a new
 Takes old a answer new = takes old a ≡ (answer, new)
 
--- One row leads from the old side to the new one: an action that is done, or an APDU.
+-- One transition leads from the old side to the new one: an action that is done, or the delivery of an APDU.
 pub data IsStep (old new : Side) : Type 0 where
   acted : (action : Action) → acts old action ≡ Ok new → IsStep old new
   took : (a : Apdu) → (takes old a).1 ≡ new → IsStep old new
 
--- Any number of rows, one after another, lead from the old side to the new one.
+-- Transitions, one after another, lead from the old side to the new one. There may be none.
 pub data Follows (old : Side) : Side → Type 0 where
   same : Follows old old
   further : (between new : Side) → Follows old between → IsStep between new → Follows old new
@@ -201,11 +203,11 @@ pub data Follows (old : Side) : Side → Type 0 where
 abbrev pub IsPrefix : {X : Type 0} → List X → List X → Type 0
 IsPrefix prefix all = (more : List _) × (all ≡ prefix ++ more)
 
--- The new side keeps the role and the transaction. The messages of the old one are a prefix of its own.
+-- The new side has the role and the transaction of the old one. The old issued messages are a prefix of the new ones.
 abbrev pub Grows : Side → Side → Type 0
 Grows old new = (idle_of new ≡ idle_of old) × IsPrefix (issued_of old) (issued_of new)
 
--- Returns the parts of a side that a line shows. `released` counts its released messages.
+-- Returns the parts of a side that a line of output shows. `released` is the number of its released messages.
 abbrev pub shown_of : Side → ℕ → Shown
 shown_of side released = record {
   state = state_of side;

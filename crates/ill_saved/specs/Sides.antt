@@ -21,17 +21,17 @@ pub record SidesOf : Type 0 where
 abbrev pub most_sides : ℕ
 most_sides = 1000
 
--- Returns the first item whose transaction, by `key`, is `txn`. Both qualifiers must be equal.
+-- Returns the first item whose transaction, given by `key`, is `txn`. Both qualifiers must be equal.
 abbrev pub found_by : {X : Type 0} → (X → Qualifiers) → Qualifiers → List X → Option X
 found_by key txn items = find (λ item. is_same_txn txn (key item)) items
 
--- Returns the items with `new` instead of the item of its transaction, or after all if there is none.
+-- Returns the items with `new` in place of the item of its transaction. If there is none, `new` comes last.
 unfoldable pub put_by : {X : Type 0} → (X → Qualifiers) → X → List X → List X
 put_by key new [] = new ∷ []
 put_by key new (item ∷ items) =
     if is_same_txn (key new) (key item) then new ∷ items else item ∷ put_by key new items
 
--- Returns the side of transaction `txn`.
+-- Returns the side of transaction `txn`, if there is one.
 unfoldable pub side_with : Qualifiers → List Side → Option Side
 side_with txn sides = found_by txn_of txn sides
 
@@ -45,22 +45,22 @@ is_same_role role of_another = false
 abbrev pub is_begun : Role → Side → Bool
 is_begun role side = is_same_role role (role_of side) && not (is_idle side)
 
--- Returns true if no two sides are of one transaction.
+-- Returns true if the transactions of the sides differ.
 unfoldable pub are_apart : List Side → Bool
 are_apart [] = true
 are_apart (side ∷ sides) = is_none (side_with (txn_of side) sides) && are_apart sides
 
--- Returns true if all sides have the role, none is idle, and no two are of one transaction.
+-- Returns true if all sides have the role, none is idle, and their transactions differ.
 abbrev pub may_be_held : SidesOf → Bool
 may_be_held held = list_all (is_begun held.role) held.sides && are_apart held.sides
 
--- Each side is filed under its own transaction. They may be held together and are within the limit.
+-- Each side has its own transaction as its key. One desk may hold the sides together, and they are at most 1,000.
 pub record AreFiled (under : List Qualifiers) (all : SidesOf) : Type 0 where
   pub keys : under ≡ map txn_of all.sides
   pub held : may_be_held all ≡ true
   pub few : length all.sides ≤ most_sides
 
--- Returns the first reason to refuse a side: the other role, an idle side, a held transaction, or the limit.
+-- Returns the first reason to refuse a side: the other role, an idle side, a held transaction, or 1,000 sides.
 abbrev pub put_refusal : SidesOf → Side → Option SidesFault
 put_refusal held side =
     if not (is_same_role held.role (role_of side)) then Some faults.OtherRole else
@@ -72,7 +72,7 @@ put_refusal held side =
 abbrev pub put_last : SidesOf → Side → SidesOf
 put_last held side = record { role = held.role; sides = held.sides ++ side ∷ [] }
 
--- States the answer of putting a side, and the sides after it. A side that is not put is returned, and nothing changes.
+-- `side` is put after the sides `old`, which gives `new`, or it is returned with a fault and nothing changes.
 -- Memory can run out only for a side that is not refused.
 abbrev pub Puts : SidesOf → Side → Result (Unit {0}) (SidesFault × Side) → SidesOf → Type 0
 Puts old side (Ok done) new = (put_refusal old side ≡ None) × (new ≡ put_last old side)
@@ -81,7 +81,7 @@ Puts old side (Err (faults.OutOfMemory, back)) new =
 Puts old side (Err (fault, back)) new =
     (put_refusal old side ≡ Some fault) × (back ≡ side) × (new ≡ old)
 
--- If the side of `txn` is held, `Does` states its answer and the side after it, and the others stay.
+-- If the side of `txn` is held, `Does` relates it to the answer and to the side after. The others are unchanged.
 -- If none is held, nothing changes, and there is no answer.
 abbrev pub OnlyThat : {A : Type 0} → (Side → A → Side → Type 0) → Qualifiers → SidesOf → Option A → SidesOf →
     Type 0
@@ -90,8 +90,8 @@ OnlyThat Does txn old (Some answer) new =
     (side : Side) × (after : Side) × (side_with txn old.sides ≡ Some side) × Does side answer after
     × (new ≡ record { role = old.role; sides = put_by txn_of after old.sides })
 
--- If an entry is filed under `txn`, `Does` states the answer and the side after it, and the others stay.
--- If none is filed, nothing changes, and there is no answer.
+-- If there is an entry with the key `txn`, `Does` relates its side to the answer and to the side after.
+-- The others are unchanged. If there is no such entry, nothing changes, and there is no answer.
 abbrev pub OnlyThatEntry : {A : Type 0} → (Side → A → Side → Type 0) → Qualifiers → List (Qualifiers × Side) →
     Option A → List (Qualifiers × Side) → Type 0
 OnlyThatEntry Does txn old None new = (lookup (is_same_txn txn) old ≡ None) × (new ≡ old)

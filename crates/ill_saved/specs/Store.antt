@@ -8,7 +8,8 @@ use Rattle.ill_saved.specs.declared.store.NextCall.{NextCall}
 use Rattle.ill_saved.specs.declared.store.NextCall.TheVariants.{Works, FailsOld, FailsNew}
 
 -- The plan of a store allows this answer to its next call.
--- A store that is to work fails only if memory runs out. One that is to fail answers `Failed` or `OutOfMemory`.
+-- If the plan is to work, the call fails only if memory runs out.
+-- If the plan is to fail, the call answers `Failed` or `OutOfMemory`.
 abbrev pub Allows : {X : Type 0} → Option NextCall → Result X StoreFault → Type 0
 Allows (Some Works) (Err Failed) = ⊥
 Allows (Some Works) (Err TooLarge) = ⊥
@@ -18,13 +19,14 @@ Allows (Some FailsNew) (Ok value) = ⊥
 Allows (Some FailsNew) (Err TooLarge) = ⊥
 Allows plan answer = Unit {0}
 
--- States the landed bytes after a save that failed: the old bytes or the new ones. A plan to fail says which.
+-- After a save of `bytes` that failed, the landed bytes `new` are `old` or `bytes`. A plan to fail says which.
 abbrev pub LandsAtFailure : Option NextCall → List ℕ → Option (List ℕ) → Option (List ℕ) → Type 0
 LandsAtFailure (Some FailsOld) bytes old new = new ≡ old
 LandsAtFailure (Some FailsNew) bytes old new = new ≡ Some bytes
 LandsAtFailure plan bytes old new = (new ≡ old) ⊎ (new ≡ Some bytes)
 
--- States the landed bytes after a save. A done save lands `bytes`; if memory runs out, nothing lands.
+-- `new` are the landed bytes after a save of `bytes`.
+-- If the save is done, `bytes` have landed. If memory ran out, nothing has changed.
 abbrev pub LandsAtSave : Option NextCall → List ℕ → Result (Unit {0}) StoreFault → Option (List ℕ) →
     Option (List ℕ) → Type 0
 LandsAtSave plan bytes (Ok done) old new = new ≡ Some bytes
@@ -32,7 +34,7 @@ LandsAtSave plan bytes (Err Failed) old new = LandsAtFailure plan bytes old new
 LandsAtSave plan bytes (Err TooLarge) old new = ⊥
 LandsAtSave plan bytes (Err OutOfMemory) old new = new ≡ old
 
--- Returns the plan after a call. A planned store works next; one without a plan has none.
+-- Returns the plan after a call. A store with a plan works at its next call. A store without a plan gets none.
 abbrev pub spent : Option NextCall → Option NextCall
 spent None = None
 spent (Some plan) = Some Works
@@ -45,16 +47,16 @@ most_failures = 18446744073709551615
 abbrev pub one_more : ℕ → ℕ
 one_more count = if nat_lt count most_failures then count + 1 else count
 
--- The count of failures has risen, or is at its maximum.
+-- The count of failures has risen or is at its maximum.
 abbrev pub HasRisen : ℕ → ℕ → Type 0
 HasRisen old new = (old < new) ⊎ (most_failures ≤ new)
 
--- If the call answers `Failed`, the count of failures has risen, or is at its maximum.
+-- If the call answers `Failed`, the count of failures has risen or is at its maximum.
 abbrev pub FailsCounted : {X : Type 0} → Result X StoreFault → ℕ → ℕ → Type 0
 FailsCounted (Err Failed) old new = HasRisen old new
 FailsCounted answer old new = Unit {0}
 
--- The count of failures never falls. If the call answers `Failed`, it has risen, or is at its maximum.
+-- The count of failures has not fallen. If the call answers `Failed`, it has risen or is at its maximum.
 abbrev pub CountsFailure : {X : Type 0} → Result X StoreFault → ℕ → ℕ → Type 0
 CountsFailure answer old new = (old ≤ new) × FailsCounted answer old new
 
@@ -66,15 +68,15 @@ IsNotTooLarge answer = Unit {0}
 -- ---- the calls
 
 -- The state of a store: its landed bytes, the number of failed calls, and the plan of its next call.
--- `is_honest` is true if the store does what it answers.
+-- `is_honest` is true if the store does as it answers.
 pub record StoreState : Type 0 where
   pub landed : Option (List ℕ)
   pub failures : ℕ
   pub is_honest : Bool
   pub plan : Option NextCall
 
--- States the answer of a load and the store after it.
--- An honest store gives the landed bytes, keeps them, and follows its plan.
+-- The store answers a load, and is in the state `new` after it.
+-- An honest store gives the landed bytes, does not change them, and follows its plan.
 pub record StoreLoads {X : Type 0} (bytes_of : X → List ℕ) (old : StoreState) (answer : Result (Option X) StoreFault)
     (new : StoreState) : Type 0 where
   pub loaded : old.is_honest ≡ true → IfOk answer (λ found. option_map bytes_of found ≡ old.landed)
@@ -84,7 +86,7 @@ pub record StoreLoads {X : Type 0} (bytes_of : X → List ℕ) (old : StoreState
   pub honest : new.is_honest ≡ old.is_honest
   pub plan : new.plan ≡ spent old.plan
 
--- States the answer of a save and the store after it.
+-- The store answers a save of `bytes`, and is in the state `new` after it.
 -- In an honest store the bytes land as it answers, and it follows its plan.
 pub record StoreSaves (bytes : List ℕ) (old : StoreState) (answer : Result (Unit {0}) StoreFault) (new : StoreState)
     : Type 0 where
@@ -97,7 +99,7 @@ pub record StoreSaves (bytes : List ℕ) (old : StoreState) (answer : Result (Un
 
 -- ---- a store that fails from a call on
 
--- A fuse: the inner store, the number of calls that it still passes on, and its count of failures.
+-- A fuse: its inner store, the number of calls that it still passes on to it, and its own count of failures.
 pub record FuseOf (S : Type 0) : Type 0 where
   pub inner : S
   pub calls : ℕ
@@ -107,19 +109,19 @@ pub record FuseOf (S : Type 0) : Type 0 where
 abbrev pub failures_together : ℕ → ℕ → ℕ
 failures_together here there = min most_failures (here + there)
 
--- Returns the state of a fuse: that of its inner store, with the failures of both, and without a plan.
+-- Returns the state of a fuse: the state of its inner store, with the failures of both, and without a plan.
 abbrev pub fuse_state : {S : Type 0} → (S → StoreState) → FuseOf S → StoreState
 fuse_state state fuse = record (state fuse.inner) {
   failures = failures_together fuse.failures (state fuse.inner).failures;
   plan = None;
 }
 
--- Returns the fuse after a call that failed here and is counted.
+-- Returns the fuse after a call that the fuse itself failed and counted.
 abbrev pub blown : {S : Type 0} → FuseOf S → FuseOf S
 blown fuse = record fuse { failures = one_more fuse.failures }
 
--- If calls are left, the inner store answers, and one call less is left.
--- If none is left, the call answers `Failed`, and the inner store is unchanged.
+-- If the fuse has calls left, the inner store answers, and the fuse has one call less left.
+-- If it has none left, the call answers `Failed`, and the inner store is unchanged.
 abbrev pub FuseCalls : {S A : Type 0} → (S → StoreState) → (StoreState → Result A StoreFault → StoreState → Type 0) →
     FuseOf S → Result A StoreFault → FuseOf S → Type 0
 FuseCalls state calls old answer new =
@@ -138,12 +140,12 @@ pub record MemoryStoreState : Type 0 where
 abbrev pub called : MemoryStoreState → MemoryStoreState
 called store = record store { next = Works }
 
--- Returns the store after a call that failed as planned and is counted.
+-- Returns the store after a call that failed as planned and was counted.
 abbrev pub failed : MemoryStoreState → MemoryStoreState
 failed store = record store { failures = one_more store.failures; next = Works }
 
--- States the answer of a load by its plan, and the store after it.
--- Memory can run out only if the load works and bytes have landed.
+-- The store answers a load as planned, and is in the state `new` after it.
+-- Memory can run out only if the load is planned to work and bytes have landed.
 abbrev pub MemoryLoads : {X : Type 0} → (X → List ℕ) → NextCall → MemoryStoreState →
     Result (Option X) StoreFault →
     MemoryStoreState → Type 0
@@ -154,8 +156,8 @@ MemoryLoads bytes_of Works old (Err other) new = ⊥
 MemoryLoads bytes_of FailsOld old answer new = (answer ≡ Err Failed) × (new ≡ failed old)
 MemoryLoads bytes_of FailsNew old answer new = (answer ≡ Err Failed) × (new ≡ failed old)
 
--- States the answer of a save by its plan, and the store after it.
--- A save that fails and keeps the old bytes takes no memory.
+-- The store answers a save of `bytes` as planned, and is in the state `new` after it.
+-- A save that is planned to fail and to leave the old bytes takes no memory.
 abbrev pub MemorySaves : NextCall → List ℕ → MemoryStoreState → Result (Unit {0}) StoreFault → MemoryStoreState → Type 0
 MemorySaves Works bytes old (Ok done) new = new ≡ called (record old { landed = Some bytes })
 MemorySaves Works bytes old (Err OutOfMemory) new = new ≡ called old
@@ -173,24 +175,25 @@ pub record FileStoreState : Type 0 where
   pub limit : ℕ
   pub failures : ℕ
 
--- Returns the store after a call that failed and is counted.
+-- Returns the store after a call that failed and was counted.
 abbrev pub failed_file : FileStoreState → FileStoreState
 failed_file store = record store { failures = one_more store.failures }
 
--- States the answer of a load, and the store after it. No record is longer than the limit, and each failure is counted.
+-- The store answers a load, and is in the state `new` after it. A loaded record has at most `limit` bytes.
+-- Each failure is counted.
 abbrev pub FileLoads : {X : Type 0} → (X → List ℕ) → FileStoreState → Result (Option X) StoreFault → FileStoreState →
     Type 0
 FileLoads bytes_of old (Ok (Some found)) new = (length (bytes_of found) ≤ old.limit) × (new ≡ old)
 FileLoads bytes_of old (Err Failed) new = new ≡ failed_file old
 FileLoads bytes_of old answer new = new ≡ old
 
--- States the answer of a save, and the store after it: it is done, or fails and is counted.
+-- The store answers a save, and is in the state `new` after it. The save is done, or it fails and is counted.
 abbrev pub FileSaves : FileStoreState → Result (Unit {0}) StoreFault → FileStoreState → Type 0
 FileSaves old (Ok done) new = new ≡ old
 FileSaves old (Err Failed) new = new ≡ failed_file old
 FileSaves old (Err other) new = ⊥
 
--- Returns the folder, or `.` if there is none or if it is empty.
+-- Returns the folder, or `.` if there is none or if its name is empty.
 abbrev pub folder_named : Option (List ℕ) → List ℕ
 folder_named None = codes "."
 folder_named (Some []) = codes "."

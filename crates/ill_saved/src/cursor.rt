@@ -40,7 +40,7 @@ impl<'a> Cursor<'a> {
         Cursor { at: 0, bytes }
     }
 
-    /// Returns the cursor at offset `at` of a record, whose rest is `bytes`.
+    /// Returns the cursor at offset `at` of a record. `bytes` are the rest of the record from there on.
     pub fn after(at: u32, bytes: &'a [u8]) -> Cursor<'a>
         ensures { result ≡ cursor_at at bytes.entry.now }
     {
@@ -139,7 +139,7 @@ impl<'a> Cursor<'a> {
         }
     }
 
-    /// Reads a yes or no.
+    /// Reads a truth value.
     pub fn mark(&mut self) -> Result<bool, LayoutFault>
         requires room { self.old.at ≤ 100000000 }
         ensures read { Reads (λ b. b) result self.new (mark.read self.old) }
@@ -227,7 +227,7 @@ impl<'a> Cursor<'a> {
         }
     }
 
-    /// Reads a qualifier after its length.
+    /// Reads the length of a qualifier, and then the qualifier.
     pub fn counted_text(&mut self) -> Result<&'a [u8], LayoutFault>
         requires room { self.old.at ≤ 1000000 }
         ensures read { Reads (λ text. text.now) result self.new (counted_text.read self.old) }

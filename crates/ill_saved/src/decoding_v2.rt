@@ -24,8 +24,8 @@ const SMALLEST: usize = 39;
 
 /// Decodes a saved record of many sides, or returns the first fault. The record must take up all of the bytes.
 ///
-/// Bytes that begin with `ILL1` are a record of one side. It is the only side, or there is none if it is idle.
-/// Decoding allocates step by step: from a count above 0 on, and in version 1 from the qualifiers on.
+/// Bytes that begin with `ILL1` are a record of one side. It gives that side alone, or no side if it is idle.
+/// Decoding allocates as it reads: from a count above 0 on, and in version 1 from the qualifiers on.
 #[tactic(auto, unfolding(crate::specs::RecordsV2::records_at, crate::specs::RecordsV2::begins_as_records))]
 pub fn decode_record2(alloc: Global, bytes: &[u8]) -> Result<Sides, RecordFault>
     ensures { Decodes (records_at bytes.now) (begins_as_records bytes.now) result }
@@ -49,7 +49,7 @@ fn one_side(alloc: Global, bytes: &[u8]) -> Result<Sides, RecordFault>
     Ok(sides)
 }
 
-/// Returns the octets between the version and the digest, if both are right.
+/// Returns the octets between the version and the digest, or a fault if one of these is wrong.
 #[tactic(auto, unfolding(crate::specs::RecordsV2::unsealed))]
 fn unsealed(bytes: &[u8]) -> Result<&[u8], RecordFault>
     ensures octets { IfOk result (λ octets. unsealed bytes.now ≡ Ok octets.now) }
@@ -81,7 +81,7 @@ fn many_sides(alloc: Global, octets: &[u8]) -> Result<Sides, RecordFault>
     held_together(alloc, role, sides)
 }
 
-/// Reads `count` records, each after its length.
+/// Reads `count` records. The length of each precedes it.
 #[tactic(auto, using(crate::proofs::Lists::after_none))]
 fn parts(alloc: Global, cursor: &mut Cursor<'_>, count: u16) -> Result<Vec<Side>, RecordFault>
     requires room { cursor.old.at ≤ 7 }
@@ -98,7 +98,7 @@ fn parts(alloc: Global, cursor: &mut Cursor<'_>, count: u16) -> Result<Vec<Side>
     Ok(sides)
 }
 
-/// Reads a record after its length. Each fault in the record is at its first byte.
+/// Reads the length of a record, and then the record. A fault in the record is at its first byte.
 fn part(alloc: Global, cursor: &mut Cursor<'_>) -> Result<Side, RecordFault>
     requires room { cursor.old.at ≤ 70000000 }
     ensures read { ReadsInMemory (λ side. side) result cursor.new (part.read cursor.old) }
@@ -119,7 +119,7 @@ fn part(alloc: Global, cursor: &mut Cursor<'_>) -> Result<Side, RecordFault>
     }
 }
 
-/// Returns the sides of `read`, if they may be held together, and otherwise `Inconsistent`.
+/// Returns the sides of `read`, if a desk may hold them together, and otherwise `Inconsistent`.
 fn held_together(alloc: Global, role: Role, read: Vec<Side>) -> Result<Sides, RecordFault>
     requires few { length read.items ≤ most_sides }
     ensures { Decodes (together (record { role = role; sides = read.items })) (nat_lt 0 (length read.items)) result }
@@ -131,7 +131,7 @@ fn held_together(alloc: Global, role: Role, read: Vec<Side>) -> Result<Sides, Re
     Ok(sides)
 }
 
-/// Puts `side` after the others, or answers `Inconsistent` if it may not stand with them.
+/// Puts `side` after the others, or answers `Inconsistent` if a desk may not hold it with them.
 fn put(alloc: Global, sides: &mut Sides, side: Side) -> Result<(), RecordFault>
     ensures { PutsRead sides.old side result sides.new }
 {

@@ -25,7 +25,7 @@ use ill_values::{Apdu, Number, TxnId};
 use std::alloc::Global;
 use std::marker::Model;
 
-/// Sides in memory and in a store. A message may be sent only once it is saved.
+/// Sides in memory and in a store. A message may be sent only after it was saved.
 #[derive(Debug, Drop)]
 pub struct AnyDesk<H: Holdings, S: Store> {
     held: H,
@@ -48,7 +48,7 @@ impl<H: Holdings, S: Store> Model for AnyDesk<H, S> {
 }
 
 impl<H: Holdings, S: Store> AnyDesk<H, S> {
-    /// Begins a desk over a store without a record (else `Exists`). Saves nothing yet. A fault returns the store.
+    /// Begins a desk over a store without a record (otherwise `Exists`). Saves nothing. A fault returns the store.
     pub fn begin(alloc: Global, store: S, first: H::First) -> Result<AnyDesk<H, S>, (DeskFault, S)>
         ensures creates { (S.state store).is_honest ≡ true →
             Creates (S.state store).landed (S.state store).plan (answer_of result) }
@@ -59,7 +59,7 @@ impl<H: Holdings, S: Store> AnyDesk<H, S> {
         AnyDesk::over(alloc, store, H::begin(alloc, first))
     }
 
-    /// Returns a desk of sides that begin, over a store without a record (else `Exists`). A fault returns the store.
+    /// Returns a desk of new sides, over a store without a record (otherwise `Exists`). A fault returns the store.
     fn over(alloc: Global, store: S, held: H) -> Result<AnyDesk<H, S>, (DeskFault, S)>
         requires backed { H.backs (H.effects.unsaved held) held }
         ensures creates { (S.state store).is_honest ≡ true →
@@ -76,8 +76,8 @@ impl<H: Holdings, S: Store> AnyDesk<H, S> {
         }
     }
 
-    /// Starts a desk with the sides whose record `store` has (else `NoRecord`). All their messages may be sent. A fault
-    /// returns the store.
+    /// Starts a desk with the sides whose record `store` has (otherwise `NoRecord`). All their messages may be sent.
+    /// A fault returns the store.
     pub fn start(alloc: Global, store: S) -> Result<AnyDesk<H, S>, (DeskFault, S)>
         ensures starts { (S.state store).is_honest ≡ true →
             Begins H.effects.read H.effects.begins (λ desk. desk.live) (S.state store).landed (S.state store).plan result }
@@ -111,7 +111,7 @@ impl<H: Holdings, S: Store> AnyDesk<H, S> {
         self.take(alloc, &apdu)
     }
 
-    /// Takes a message that was read already.
+    /// Takes a message that was already decoded.
     pub fn take(&mut self, alloc: Global, apdu: &Apdu) -> Result<Taking, DeskFault>
         ensures takes { DeskTakesApdu H.effects self.old.live apdu.now result self.new.live }
         ensures store { self.new.store ≡ self.old.store }
@@ -119,8 +119,8 @@ impl<H: Holdings, S: Store> AnyDesk<H, S> {
         self.held.take(alloc, apdu)
     }
 
-    /// Saves all sides, so that all their messages may be sent. A fault leaves the sides and the released messages
-    /// as they were. The desk allocates all its memory before it calls the store.
+    /// Saves all sides, so that all their messages may be sent. A fault changes neither the sides nor the released
+    /// messages. The desk allocates all its memory before it calls the store.
     pub fn save(&mut self, alloc: Global) -> Result<(), DeskFault>
         ensures live { self.new.live ≡ held_after H.effects result self.old.live }
         ensures store { DeskSaves (H.effects.spelling self.old.live) (S.state self.old.store) result
@@ -134,8 +134,8 @@ impl<H: Holdings, S: Store> AnyDesk<H, S> {
         Ok(())
     }
 
-    /// Goes back to the sides in the store, or to those of a beginning if the store has none. All their messages may be
-    /// sent. A fault leaves the sides and the released messages as they were.
+    /// Goes back to the sides in the store, or to those of a new desk if the store has no record. All their messages may
+    /// be sent. A fault changes neither the sides nor the released messages.
     pub fn restart(&mut self, alloc: Global) -> Result<(), DeskFault>
         ensures restarts { (S.state self.old.store).is_honest ≡ true →
             Restarts (landed_live H.effects (S.state self.old.store).landed self.old.live)
@@ -166,14 +166,14 @@ impl<H: Holdings, S: Store> AnyDesk<H, S> {
         self.held.role()
     }
 
-    /// Returns the name of the side that is there from the beginning, if there is one.
+    /// Returns the name of the side that a new desk holds, if there is one.
     pub fn first_key(&self) -> Option<&H::Key>
         ensures { option_copied result ≡ H.effects.first_key }
     {
         self.held.first_key()
     }
 
-    /// Returns the parts of the side `key` that a line shows. A side that is not held is idle.
+    /// Returns the parts of the side `key` that a line of output shows. A side that is not held counts as idle.
     pub fn shown(&self, key: &H::Key) -> Shown
         ensures { result ≡ shown_of (H.effects.side_for key.now self.now.live).side
             (H.effects.side_for key.now self.now.live).released }
@@ -199,7 +199,7 @@ impl<H: Holdings> AnyDesk<H, MemoryStore> {
 }
 
 impl<S: Store> Desk1<S> {
-    /// Creates a desk for the idle side `first`, over a store without a record (else `Exists`). Saves nothing yet.
+    /// Creates a desk for the idle side `first`, over a store without a record (otherwise `Exists`). Saves nothing.
     /// A fault returns the store.
     pub fn create(alloc: Global, store: S, first: Side) -> Result<Desk1<S>, (DeskFault, S)>
         requires idle { first ≡ idle_of first }
@@ -221,7 +221,7 @@ impl<S: Store> Desk1<S> {
     }
 
     /// Returns the bytes of message `number`, to send it: a copy of those in the landed record. The message must
-    /// be issued (else `NoSuchMessage`) and saved (else `NotSaved`).
+    /// be issued (otherwise `NoSuchMessage`) and saved (otherwise `NotSaved`).
     pub fn message(&self, alloc: Global, number: Number) -> Result<Vec<u8>, DeskFault>
         ensures { SendsHeld (λ bytes. bytes.items) (one_side.found tt self.now.live) number result }
     {
@@ -238,7 +238,7 @@ impl<S: Store> Desk1<S> {
         self.held.side()
     }
 
-    /// Returns the number of released messages. Those with numbers up to it may be sent.
+    /// Returns the number of released messages. Messages with numbers up to it may be sent.
     pub fn released(&self) -> u8
         ensures { result ≡ self.now.live.released }
     {
@@ -247,8 +247,8 @@ impl<S: Store> Desk1<S> {
 }
 
 impl<S: Store> Desk<S> {
-    /// Creates a desk of this role that holds no side, over a store without a record (else `Exists`). Saves nothing
-    /// yet. A fault returns the store.
+    /// Creates a desk of this role that holds no side, over a store without a record (otherwise `Exists`). Saves
+    /// nothing. A fault returns the store.
     pub fn create(alloc: Global, store: S, role: Role) -> Result<Desk<S>, (DeskFault, S)>
         ensures creates { (S.state store).is_honest ≡ true →
             Creates (S.state store).landed (S.state store).plan (answer_of result) }
@@ -260,8 +260,8 @@ impl<S: Store> Desk<S> {
     }
 
     /// Performs `action` in transaction `txn`. If `txn` is not held, a request begins it, or answers `DeskFull` if
-    /// 1,000 are held. Any other action answers `NoSuchTransaction` then. The message that is issued may be sent
-    /// after the next `save`.
+    /// 1,000 transactions are held. Any other action then answers `NoSuchTransaction`. The message that is issued may
+    /// be sent after the next `save`.
     pub fn act(&mut self, alloc: Global, txn: &TxnId, action: &Action) -> Result<(), DeskFault>
         ensures acts { DeskActs many_sides self.old.live txn.now action.now result self.new.live }
         ensures store { self.new.store ≡ self.old.store }
@@ -269,8 +269,8 @@ impl<S: Store> Desk<S> {
         self.act_on(alloc, txn, action)
     }
 
-    /// Returns the bytes of message `number` of `txn`, to send it. The transaction must be held (else
-    /// `NoSuchTransaction`), and the message issued (else `NoSuchMessage`) and saved (else `NotSaved`).
+    /// Returns the bytes of message `number` of `txn`, to send it. The transaction must be held (otherwise
+    /// `NoSuchTransaction`), and the message issued (otherwise `NoSuchMessage`) and saved (otherwise `NotSaved`).
     pub fn message(&self, alloc: Global, txn: &TxnId, number: Number) -> Result<Vec<u8>, DeskFault>
         ensures { SendsHeld (λ bytes. bytes.items) (found_by txn_held txn.now self.now.live.held) number result }
     {
@@ -286,7 +286,7 @@ impl<S: Store> Desk<S> {
         self.held.sides()
     }
 
-    /// Returns the number of released messages of `txn`, or 0 if it is not held. Those with numbers up to it may be
+    /// Returns the number of released messages of `txn`, or 0 if it is not held. Messages with numbers up to it may be
     /// sent.
     pub fn released(&self, txn: &TxnId) -> u8
         ensures value { result ≡ (held_for txn.now self.now.live).released }
@@ -296,7 +296,7 @@ impl<S: Store> Desk<S> {
     }
 }
 
-/// Loads the sides that are durable in `store`, if there are any.
+/// Loads the sides whose record has landed in `store`, if there is a record.
 fn load<H: Holdings, S: Store>(alloc: Global, store: &mut S) -> Result<Option<H>, DeskFault>
     ensures loads { (S.state store.old).is_honest ≡ true →
         Loads H.effects.read H.effects.begins (S.state store.old).landed (S.state store.old).plan
@@ -312,7 +312,7 @@ fn load<H: Holdings, S: Store>(alloc: Global, store: &mut S) -> Result<Option<H>
     }
 }
 
-/// Reads the one APDU that takes up all of the bytes.
+/// Decodes the one APDU that takes up all of the bytes.
 fn one_apdu(alloc: Global, bytes: &[u8]) -> Result<Apdu, DeskFault>
     ensures { IsOneApdu (apdu_at bytes.now) result }
 {

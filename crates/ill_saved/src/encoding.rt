@@ -19,7 +19,7 @@ use ill_der::encode_onto;
 use ill_values::{Apdu, Day, Number, OutOfMemory, TxnId};
 use std::alloc::Global;
 
-/// Encodes `side` as a saved record. A side has only one encoding.
+/// Encodes `side` as a saved record. Each side has exactly one encoding.
 pub fn encode_record(alloc: Global, side: &Side) -> Result<Vec<u8>, OutOfMemory>
     ensures bytes { IfOk result (λ bytes. bytes.items ≡ record_spelling side.now) }
     ensures side { OnOk result (IsSide side.now) }
@@ -115,7 +115,7 @@ fn push_heading(bytes: &mut Vec<u8>, state: State, txn: &TxnId) -> Result<(), Ou
     push_text(bytes, txn.transaction())
 }
 
-/// Appends a qualifier after its length.
+/// Appends the length of a qualifier, and then the qualifier.
 fn push_text(bytes: &mut Vec<u8>, text: &[u8]) -> Result<(), OutOfMemory>
     requires few { length text.now ≤ 64 }
     ensures { OnOk result (bytes.new.items ≡ bytes.old.items ++ counted_text.spell text.now) }
@@ -166,7 +166,7 @@ fn push_apdus(bytes: &mut Vec<u8>, apdus: &[Apdu]) -> Result<(), OutOfMemory>
     Ok(())
 }
 
-/// Returns the octet of a number, or 0 if there is none.
+/// Returns the octet of a number, or 0 if there is no number.
 fn number_octet(number: Option<Number>) -> u8
     ensures bytes { result ≡ number_octet number }
     ensures range { IfSome number IsNumber }

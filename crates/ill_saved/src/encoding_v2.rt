@@ -15,9 +15,9 @@ use ill_values::OutOfMemory;
 use sha2::{Digest, Sha256};
 use std::alloc::Global;
 
-/// Encodes the sides as one saved record, of version 2. The SHA-256 of all before it closes the record.
+/// Encodes the sides as one saved record of version 2. The record ends with the SHA-256 of its other bytes.
 ///
-/// Encodes each side into one buffer, and copies it from there after its length.
+/// Encodes each side into a buffer, and then appends its length and the buffer.
 #[tactic(auto, unfolding(crate::specs::RecordsV2::sides_spelling))]
 pub fn encode_record2(alloc: Global, sides: &Sides) -> Result<Vec<u8>, OutOfMemory>
     ensures bytes { IfOk result (λ bytes. bytes.items ≡ sides_spelling sides.now) }
@@ -33,7 +33,7 @@ pub fn encode_record2(alloc: Global, sides: &Sides) -> Result<Vec<u8>, OutOfMemo
     Ok(bytes)
 }
 
-/// Appends the records of the sides, each after its length.
+/// Appends the length and the record of each side.
 fn push_parts(alloc: Global, bytes: &mut Vec<u8>, sides: &Sides) -> Result<(), OutOfMemory>
     ensures bytes { OnOk result (bytes.new.items ≡ bytes.old.items
         ++ spell_all part.spell sides.now.sides) }
@@ -48,7 +48,7 @@ fn push_parts(alloc: Global, bytes: &mut Vec<u8>, sides: &Sides) -> Result<(), O
     Ok(())
 }
 
-/// Appends the record of `side` after its length. Clears the buffer `record` first, and encodes `side` there.
+/// Appends the length and the record of `side`. Clears the buffer `record` first, and encodes `side` into it.
 fn push_part(bytes: &mut Vec<u8>, record: &mut Vec<u8>, side: &Side) -> Result<(), OutOfMemory>
     ensures bytes { OnOk result (bytes.new.items ≡ bytes.old.items ++ part.spell side.now) }
     ensures side { OnOk result (IsSide side.now) }

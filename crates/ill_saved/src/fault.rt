@@ -14,22 +14,22 @@ use ill_der::DerFault;
 use std::alloc::{AllocError, AllocFailed};
 use thiserror::Error;
 
-/// The first fault of bytes that are no saved record. Offsets are in bytes from the record's first.
+/// The first fault of bytes that are no saved record. Offsets are in bytes from the first byte of the record.
 #[derive(Clone, Copy, Debug, PartialEq, Eq, Hash, Error)]
 pub enum RecordFault {
-    /// The bytes end within a field, or before one that must follow.
+    /// The bytes end within a field, or before a field that must follow.
     #[error("short")]
     Short,
-    /// The bytes at this offset are no value of their field, or stand after the record.
+    /// The bytes at this offset encode no value of their field, or they follow the end of the record.
     #[error("bad at {0}")]
     Bad(u32),
-    /// Each field is good by itself, but no side has them together.
+    /// Each field has a value, but no side has all these values together.
     #[error("inconsistent")]
     Inconsistent,
-    /// Memory ran out, before the checks that would follow.
+    /// Memory ran out. Later checks were not made.
     #[error("memory")]
     OutOfMemory,
-    /// The last 32 octets are not the digest of all before them: the record was damaged. Only a record of
+    /// The last 32 octets are not the digest of the octets before them: the record was damaged. Only a record of
     /// many sides has a digest.
     #[error("digest")]
     Digest,
@@ -47,12 +47,12 @@ impl RecordFault {
     }
 }
 
-/// The first fault of bytes that have not the layout of a record.
+/// The first fault of bytes without the layout of a record.
 #[derive(Clone, Copy)]
 pub enum LayoutFault {
-    /// The bytes end within a field, or before one that must follow.
+    /// The bytes end within a field, or before a field that must follow.
     Short,
-    /// The bytes at this offset are no value of their field.
+    /// The bytes at this offset encode no value of their field.
     Bad(u32),
 }
 
@@ -83,19 +83,19 @@ impl<T: Drop> From<AllocFailed<T>> for RecordFault {
     }
 }
 
-/// The reason not to put a side among others. The reasons are checked in this order.
+/// The reason to refuse a side that was to be put among others. The reasons are checked in this order.
 #[derive(Clone, Copy, Debug, PartialEq, Eq, Hash, Error)]
 pub enum SidesFault {
-    /// It is of the other role.
+    /// The side is of the other role.
     #[error("other-role")]
     OtherRole,
-    /// It is idle: nothing has begun in its transaction.
+    /// The side is idle: it has issued and taken nothing.
     #[error("idle")]
     Idle,
-    /// Its transaction is held already.
+    /// A side of this transaction is already held.
     #[error("twice")]
     Twice,
-    /// 1,000 sides are held already.
+    /// 1,000 sides are already held.
     #[error("full")]
     Full,
     /// Memory ran out.
@@ -119,7 +119,7 @@ impl<T: Drop> From<AllocFailed<T>> for SidesFault {
     }
 }
 
-/// Gives the fault of a `put`, without the side that comes with it.
+/// Returns the fault of a `put`, without the side that comes with it.
 impl From<(SidesFault, Side)> for SidesFault {
     ghost from_gives = { λ refused fault. fault ≡ refused.0 };
 
@@ -143,7 +143,7 @@ pub enum DeskFault {
     /// The side has issued no message with this number.
     #[error("no-such-message")]
     NoSuchMessage,
-    /// The message was issued but is not saved yet, so that it may not be sent.
+    /// The message was issued but not saved, so it may not be sent.
     #[error("not-saved")]
     NotSaved,
     /// A new desk was asked for, but the store has a record.
@@ -229,7 +229,7 @@ impl<T: Drop> From<AllocFailed<T>> for DeskFault {
     }
 }
 
-/// Gives the fault of a desk that did not begin, without the store that comes with it.
+/// Returns the fault of a desk that did not begin, without the store that comes with it.
 impl<S: Drop> From<(DeskFault, S)> for DeskFault {
     ghost from_gives = { λ refused fault. fault ≡ refused.0 };
 

@@ -13,10 +13,10 @@ use std::rt::Files;
 use std::time::Duration;
 use std::{fs, io, thread};
 
-/// Files of which one may be locked, and a way to wait.
+/// Files that can be locked, and a way to wait.
 pub trait LockFiles: Files {
-    /// Locks an open file, and returns true if it is locked now. It is not if another opening of it holds the
-    /// lock. The lock ends with the opening, however the program ends.
+    /// Tries to lock an open file, and returns true if it succeeds. It fails if the file is locked through another
+    /// opening. The lock ends with the opening, however the program ends.
     fn try_lock(&self, file: &Self::File) -> io::Result<bool>;
 
     /// Waits a tenth of a second.
@@ -40,23 +40,24 @@ impl LockFiles for HostRuntime {
 /// The number of attempts at a lock, with a pause between: ten seconds in all.
 const TRIES: u32 = 100;
 
-/// The lock of the file at a path. As long as it is held, no other one is taken.
+/// The lock of the file at a path. While it is held, nobody else can take it.
 ///
-/// It is the lock on a file beside that one, with `.lck` after its name. The program that takes the lock creates that
-/// file, and removes it at the end. A program that is killed leaves the file and no lock.
+/// It is the lock on a second file beside the first, whose name is the name of the first followed by `.lck`. The
+/// program that takes the lock creates the second file, and removes it at the end. A program that is killed leaves
+/// this file without a lock.
 pub struct FileLock<'a, R: LockFiles> {
     rt: &'a R,
     path: String,
-    /// The file that is locked, or none in a folder in which nothing can be saved.
+    /// The file that is locked, or `None` in a folder in which nothing can be saved.
     file: Option<R::File>,
 }
 
 impl<'a, R: LockFiles> FileLock<'a, R> {
-    /// Takes the lock of the file at `path`, which need not exist. While another holds it, waits, ten seconds at most,
-    /// and then answers `Failed`.
+    /// Takes the lock of the file at `path`, which need not exist. While another program holds it, waits, ten seconds
+    /// at most, and then answers `Failed`.
     ///
-    /// In a folder that does not exist, or in which no file may be created, takes the lock at once. Its holder cannot
-    /// save there.
+    /// In a folder that does not exist, or in which no file may be created, succeeds at once without a lock. Its holder
+    /// cannot save there.
     pub fn take(rt: &'a R, alloc: Global, path: &str) -> Result<FileLock<'a, R>, StoreFault>
         ensures { IfErr result (λ fault. (fault ≡ Failed) ⊎ (fault ≡ OutOfMemory)) }
     {
@@ -79,7 +80,7 @@ impl<'a, R: LockFiles> FileLock<'a, R> {
 }
 
 impl<R: LockFiles> Drop for FileLock<'_, R> {
-    /// Removes the file of the lock, if it is still there, and then releases the lock.
+    /// Removes the file of the lock, if it still exists, and then releases the lock.
     fn drop(self) {
         let FileLock { rt, path, file } = self;
         if let Some(file) = &file
@@ -94,15 +95,15 @@ impl<R: LockFiles> Drop for FileLock<'_, R> {
 /// The result of an attempt to take a lock.
 #[derive(Drop)]
 enum Attempt<F> {
-    /// This file is open, and then locked.
+    /// This file is open and locked.
     Taken(F),
-    /// No file can be created there, so none is locked.
+    /// No file can be created in the folder, so no lock is needed.
     Needless,
-    /// Another one has the lock.
+    /// Another program holds the lock.
     Busy,
 }
 
-/// Tries to take a lock until it is taken, or was tried often enough.
+/// Tries to take a lock until it is taken, at most `TRIES` times.
 fn wait<R: LockFiles>(rt: &R, path: &str, lock_path: &str) -> io::Result<Attempt<R::File>> {
     regular_file::refuse_reserved(path)?;
     if path.is_empty() {
@@ -117,8 +118,8 @@ fn wait<R: LockFiles>(rt: &R, path: &str, lock_path: &str) -> io::Result<Attempt
     Ok(Attempt::Busy)
 }
 
-/// Takes a lock, if no other holds it. A holder removes its file at the end. So a lock on a file that is no longer at
-/// its path counts as none.
+/// Takes a lock, if nobody holds it. A holder removes its file at the end. So a lock on a file that is no longer at
+/// its path does not count.
 fn try_take<R: LockFiles>(rt: &R, path: &str, lock_path: &str) -> io::Result<Attempt<R::File>> {
     let record = regular_file::find(rt, path)?;
     match regular_file::create(rt, lock_path, record.as_ref()) {
@@ -133,8 +134,8 @@ fn try_take<R: LockFiles>(rt: &R, path: &str, lock_path: &str) -> io::Result<Att
     }
 }
 
-/// Locks the file that was created for it, and lets those open that file who may open the record. If another has locked
-/// and removed the file meanwhile, the lock is tried again.
+/// Locks the file that was created for the lock, and lets the users of the record open it. If another program has
+/// locked and removed the file meanwhile, the caller tries again.
 fn lock_created<R: LockFiles>(
     rt: &R,
     lock_path: &str,
@@ -151,7 +152,7 @@ fn lock_created<R: LockFiles>(
     lock(rt, lock_path, file)
 }
 
-/// Locks the file that another has created for it.
+/// Locks the file that another program has created for the lock.
 fn lock_existing<R: LockFiles>(rt: &R, lock_path: &str) -> io::Result<Attempt<R::File>> {
     match open(rt, lock_path)? {
         Some(file) => lock(rt, lock_path, file),
@@ -159,7 +160,7 @@ fn lock_existing<R: LockFiles>(rt: &R, lock_path: &str) -> io::Result<Attempt<R:
     }
 }
 
-/// Opens the file of a lock. There is none if its holder has just removed it, or is about to give it its permissions.
+/// Opens the file of a lock. Returns `None` if its holder has just removed it, or has not yet set its permissions.
 fn open<R: LockFiles>(rt: &R, lock_path: &str) -> io::Result<Option<R::File>> {
     if regular_file::find(rt, lock_path)?.is_none() {
         return Ok(None);
@@ -173,7 +174,7 @@ fn open<R: LockFiles>(rt: &R, lock_path: &str) -> io::Result<Option<R::File>> {
     }
 }
 
-/// Locks the file that was opened or created at a path, if no other holds its lock and it is still there.
+/// Locks the file that was opened or created at a path, if nobody holds its lock and it is still at its path.
 fn lock<R: LockFiles>(rt: &R, lock_path: &str, file: R::File) -> io::Result<Attempt<R::File>> {
     let is_held = rt.try_lock(&file)? && is_at(rt, lock_path, &file)?;
     if is_held {

@@ -16,19 +16,19 @@ use std::path::Path;
 use std::rt::Files;
 use std::{fs, io};
 
-/// A limit for `FileStore::at` within which every record of a desk is loaded again. None has more than
-/// 41,813,039 bytes (`laws::sides_record_is_short`).
+/// A limit for `FileStore::at` with which every record of a desk can be loaded. A record has at most 41,813,039
+/// bytes (`laws::sides_record_is_short`).
 pub const RECORD_LIMIT: u32 = 67_108_864;
 
 /// A store in a file, for a record that outlives the program.
 ///
 /// No contract states the content of a file. A load gives the bytes of the last save that was done, or of one
-/// that failed after it. That holds after a crash too, if the disk gives back the written bytes and nobody
-/// else writes the file. The file with `.new` after the name belongs to the store, so both calls refuse a
-/// path that ends so.
+/// that failed after it. It does so even after a crash, if the disk gives back the written bytes and nobody
+/// else writes the file. The file whose name ends with `.new` belongs to the store, so both calls refuse a
+/// path with this ending.
 ///
-/// A save fails if another has replaced or changed the file since this store loaded or saved it. It finds most
-/// such changes, but may miss one of that moment. So hold a `FileLock` if you share a file.
+/// A save fails if another program has replaced or changed the file since this store loaded or saved it. It finds
+/// most such changes, but may miss a change during the save. So hold a `FileLock` if you share a file.
 #[derive(Drop)]
 pub struct FileStore<'a, R: Files> {
     rt: &'a R,
@@ -39,19 +39,19 @@ pub struct FileStore<'a, R: Files> {
     known: Known,
 }
 
-/// The file that a store knows.
+/// The file that a store has last loaded or saved.
 #[derive(Clone, Copy, PartialEq, Eq)]
 enum Known {
-    /// Nothing, since it has neither loaded nor saved.
+    /// The store has neither loaded nor saved.
     Nothing,
-    /// No file was there.
+    /// There was no file.
     Absent,
     /// This file was loaded or saved.
     File(Identity),
 }
 
 impl Known {
-    /// Returns true if the file that is found now, if there is one, may be the one that is known.
+    /// Returns true if `found` may be the known file, or if there is no file and none was known.
     fn fits(self, found: Option<&Metadata>) -> bool {
         match (self, found) {
             (Known::Nothing, _) | (Known::Absent, None) => true,
@@ -77,8 +77,8 @@ impl<'a, R: Files> FileStore<'a, R> {
     /// Returns the store in the file at `path`, which need not exist, for records of `limit` bytes at most. Touches
     /// no file.
     ///
-    /// The limit is that of a load alone. A save may write a longer record, which is `TooLarge` for the next load.
-    /// With `RECORD_LIMIT` every record of a desk is loaded again, and 65,535 is enough for those of one side
+    /// The limit is checked by a load alone. A save may write a longer record, which is `TooLarge` for the next load.
+    /// With `RECORD_LIMIT` every record of a desk can be loaded. For a desk of one side, 65,535 is enough
     /// (`laws::record_is_short`).
     pub fn at(
         rt: &'a R,
@@ -110,7 +110,7 @@ impl<'a, R: Files> FileStore<'a, R> {
         StoreFault::Failed
     }
 
-    /// Returns the store's fault for a fault of a read: `OutOfMemory`, or a failure, which is counted.
+    /// Returns the store's fault for a fault of a read: `OutOfMemory`, or `Failed`, which is counted.
     fn read_fault(&mut self, error: &io::Error) -> StoreFault
         ensures { FileLoads {X = List ℕ} (λ b. b) self.old (Err result) self.new }
     {
@@ -120,7 +120,7 @@ impl<'a, R: Files> FileStore<'a, R> {
         }
     }
 
-    /// Reads the bytes of the record, at most one byte past the limit. The disk has them before this returns.
+    /// Reads the bytes of the record, up to one byte past the limit. They are durable before this returns.
     fn read(&mut self, alloc: Global, file: R::File) -> Result<Option<Vec<u8>>, StoreFault>
         ensures { FileLoads (λ b. b.items) self.old result self.new }
     {
@@ -136,7 +136,7 @@ impl<'a, R: Files> FileStore<'a, R> {
         }
     }
 
-    /// Waits until the disk has the record that was opened, and has it under its name.
+    /// Waits until the opened record and its name in the folder are durable.
     fn flush_record(&self, file: R::File) -> io::Result<()> {
         flush(Some(file))?;
         flush(self.open_folder()?)
@@ -159,8 +159,8 @@ impl<'a, R: Files> FileStore<'a, R> {
         }
     }
 
-    /// Writes the bytes beside the record, and then puts them in its place. Each step waits until the disk has its
-    /// bytes. An empty path names no file, and touches nothing.
+    /// Writes the bytes to a new file beside the record, and then replaces the record by it. Waits after each part until
+    /// it is durable. An empty path names no file, and touches nothing.
     fn replace(&mut self, bytes: &[u8]) -> io::Result<()>
         ensures { self.new ≡ self.old }
     {
@@ -180,7 +180,7 @@ impl<'a, R: Files> FileStore<'a, R> {
         flush(folder)
     }
 
-    /// Looks up the record, if there is one. A file that is not the one that was loaded or saved last is a fault.
+    /// Looks up the record, if there is one. A file other than the one that was last loaded or saved is a fault.
     fn find_known(&self) -> io::Result<Option<Metadata>> {
         regular_file::refuse_reserved(self.path.as_str())?;
         let found = regular_file::find(self.rt, self.path.as_str())?;
@@ -190,14 +190,14 @@ impl<'a, R: Files> FileStore<'a, R> {
         Ok(found)
     }
 
-    /// Puts the bytes in the place of the record, and returns the identity of their file.
+    /// Replaces the record by a new file with the bytes, and returns the identity of the file.
     fn place(&self, bytes: &[u8], old: Option<Metadata>) -> io::Result<Identity> {
         let written = self.write_new(bytes, old)?;
         fs::rename(self.rt, self.new_path.as_str(), self.path.as_str())?;
         Ok(written)
     }
 
-    /// Removes the file that this save or an earlier one has left, so that no link there is written through.
+    /// Removes the `.new` file that this save or an earlier one has left, so that no write follows a link at its path.
     fn remove_new(&self) -> io::Result<()> {
         match fs::remove_file(self.rt, self.new_path.as_str()) {
             Err(error) if error.kind() != ErrorKind::NotFound => Err(error),
@@ -205,8 +205,8 @@ impl<'a, R: Files> FileStore<'a, R> {
         }
     }
 
-    /// Writes the bytes to a new file. It gets the group, the permissions and the owner of the record, as far as the
-    /// system lets it. The first record is as the system makes a new file.
+    /// Writes the bytes to a new file. The file gets the group, the permissions and the owner of the record, as far as
+    /// the system allows. The first record is created with the defaults of the system.
     fn write_new(&self, bytes: &[u8], old: Option<Metadata>) -> io::Result<Identity> {
         let new_path = self.new_path.as_str();
         let mut file = regular_file::create(self.rt, new_path, old.as_ref())?;
@@ -218,7 +218,7 @@ impl<'a, R: Files> FileStore<'a, R> {
         Ok(Identity::of(&file.metadata()?))
     }
 
-    /// Opens the folder that holds the record. One that may not be read is passed over.
+    /// Opens the folder that holds the record. Returns `None` if this user may not read it.
     fn open_folder(&self) -> io::Result<Option<R::File>> {
         match fs::open(self.rt, folder_of(self.path.as_str())) {
             Ok(folder) => Ok(Some(folder)),
@@ -228,8 +228,8 @@ impl<'a, R: Files> FileStore<'a, R> {
     }
 }
 
-/// Waits until the disk has the bytes of an opened file, or the names in an opened folder. A file system that has no
-/// such flush is passed over.
+/// Waits until the bytes of an opened file, or the names in an opened folder, are durable. Does nothing if the file
+/// system has no such call.
 fn flush<F: OpenFile + Drop>(opened: Option<F>) -> io::Result<()> {
     let Some(opened) = opened else {
         return Ok(());
@@ -250,7 +250,7 @@ fn folder_of(path: &str) -> &str
     }
 }
 
-/// `load` takes memory for the bytes alone. `save` takes none.
+/// `load` takes memory for the bytes alone. `save` takes no memory.
 impl<'a, R: Files> Store for FileStore<'a, R> {
     ghost state = { λ f. record {
       landed = None;

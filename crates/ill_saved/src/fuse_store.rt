@@ -8,8 +8,8 @@ use crate::store::{Store, StoreFault};
 use std::alloc::Global;
 use std::marker::Model;
 
-/// A store that passes its first calls of `load` and `save` on to another one. Each later call fails, and
-/// never reaches it.
+/// A store that passes its first calls of `load` and `save` on to an inner store. Each later call fails, and
+/// never reaches the inner store.
 #[derive(Debug, Drop)]
 pub struct FuseStore<S: Store> {
     inner: S,
@@ -52,8 +52,8 @@ impl<S: Store> FuseStore<S> {
     }
 }
 
-/// The landed bytes and the honesty are those of the inner store. The failures are its own and the inner
-/// store's together. It names no plan.
+/// The landed bytes and the honesty are those of the inner store. The failures are the sum of its own and
+/// those of the inner store. It has no plan.
 impl<S: Store> Store for FuseStore<S> {
     ghost state = { fuse_state S.state };
 

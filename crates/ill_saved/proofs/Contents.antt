@@ -1,4 +1,4 @@
--- The content of a desk of many transactions.
+-- The contents of a desk of many transactions.
 use Rattle.std.proofs.Common.{rules, arith, ◌≡◌, ◌⊎◌, inl, inr, ℕ, zero, suc, ◌+◌, ◌<◌, ◌≤◌, nat_lt, length, map, Bool, true}
 use Rattle.std.proofs.Common.{false, not, cond, List, [], ◌∷◌, ◌++◌, Option, Some, None, is_some, Result, Ok, Err, is_ok, refl}
 use Rattle.std.proofs.Common.{ap, sym, subst, ◌∙◌, true≢false, slice_index_or, drop, append_assoc}
@@ -54,13 +54,13 @@ use Rattle.ill_saved.proofs.DeskEntry.{new_to, idle_txn, idle_role, acts_row, ta
 use Rattle.ill_saved.proofs.Finding.{same_is, same_self, found_is, found_put, put_last, put_again, found_mapped, put_length}
 use Rattle.ill_saved.proofs.Finding.{some_is}
 
--- ---- sides and their counts
+-- ---- sides and their released counts
 
 -- Returns the side of `held`.
 abbrev side_of : DeskEntry → Side
 side_of held = held.side
 
--- If there is a count for each side, the sides that are held are those sides.
+-- If there is a count for each side, the held sides are `sides`.
 pub sides_there : (sides : List Side) (counted : List ℕ) → length counted ≡ length sides
     → map (λ (held : DeskEntry). held.side) (held_of sides counted) ≡ sides
 unfolding held_of
@@ -68,23 +68,23 @@ sides_there [] counted as_many = refl
 sides_there (side ∷ sides) [] as_many = absurd (omega (arith, as_many))
 sides_there (side ∷ sides) (n ∷ counted) as_many = ap (λ vs. side ∷ vs) (sides_there sides counted (omega (arith, as_many)))
 
--- If there is a count for each side, a desk holds those sides.
+-- If there is a count for each side, a desk with these sides and counts holds the sides `all`.
 pub holds_sides : (all : SidesOf) (counted : List ℕ) → length counted ≡ length all.sides
     → sides_held (record { role = all.role; held = held_of all.sides counted }) ≡ all
 holds_sides all counted as_many = ap (λ vs. record { role = all.role; sides = vs }) (sides_there all.sides counted as_many)
 
--- If the content of a desk has a count for each side, its sides are those that the desk holds.
+-- If `live` is `all` with a count for each side, `live` holds the sides `all`.
 pub as_seen : (all : SidesOf) (counted : List ℕ) (live : DeskContents) → length counted ≡ length all.sides
     → record { role = all.role; held = held_of all.sides counted } ≡ live → all ≡ sides_held live
 as_seen all counted live as_many view = sym (holds_sides all counted as_many) ∙ ap sides_held view
 
--- If there is a count for each side, as many are held as there are sides.
+-- If there is a count for each side, the number of held sides is the number of `sides`.
 pub as_many_held : (sides : List Side) (counted : List ℕ) → length counted ≡ length sides
     → length (held_of sides counted) ≡ length sides
 as_many_held sides counted as_many =
     sym (length-map (held_of sides counted) side_of) ∙ ap length (sides_there sides counted as_many)
 
--- If there is a count for each side, a search of the sides finds the side that is held.
+-- If there is a count for each side, a search of `sides` and a search of the held sides find one side.
 pub found_side : (txn : Qualifiers) (sides : List Side) (counted : List ℕ) → length counted ≡ length sides
     → side_with txn sides ≡ option_map (λ (held : DeskEntry). held.side) (found_by txn_held txn (held_of sides counted))
 unfolding side_with
@@ -92,7 +92,7 @@ found_side txn sides counted as_many =
     ap (λ vs. found_by txn_of txn vs) (sym (sides_there sides counted as_many))
     ∙ found_mapped txn_held txn_of (λ (held : DeskEntry). held.side) (λ held. refl) txn (held_of sides counted)
 
--- One more side with its count comes after all that are held.
+-- Appending a side and its count appends the side to the held sides.
 pub held_last : (sides : List Side) (counted : List ℕ) (side : Side) (n : ℕ) → length counted ≡ length sides
     → held_of (sides ++ side ∷ []) (counted ++ n ∷ []) ≡ held_of sides counted ++ record { side = side; released = n } ∷ []
 unfolding held_of
@@ -102,13 +102,13 @@ held_last (x ∷ sides) [] side n as_many = absurd (omega (arith, as_many))
 held_last (x ∷ sides) (m ∷ counted) side n as_many =
     ap (λ hs. record { side = x; released = m } ∷ hs) (held_last sides counted side n (omega (arith, as_many)))
 
--- Sides with the counts of all that they have issued are held whole.
+-- If the count of each side is the number of its issued messages, the sides are held with all messages released.
 pub held_whole : (sides : List Side) → held_of sides (counts sides) ≡ map whole sides
 unfolding held_of
 held_whole [] = refl
 held_whole (side ∷ sides) = ap (λ hs. whole side ∷ hs) (held_whole sides)
 
--- If `held_put` holds of the other sides, it holds with `x` before them.
+-- If `held_put` holds for the other sides, it holds with `x` before them.
 put_among : (after x : Side) (n : ℕ) (held : DeskEntry) (sides : List Side) (counted : List ℕ) (same : Bool)
     → cond same (Some (record { side = x; released = n })) (found_by txn_held (txn_of after) (held_of sides counted)) ≡ Some held
     → (found_by txn_held (txn_of after) (held_of sides counted) ≡ Some held
@@ -123,7 +123,7 @@ put_among after x n held sides counted true found on =
     ap (λ (h : DeskEntry). record { side = after; released = h.released } ∷ held_of sides counted) (some_is _ _ found)
 put_among after x n held sides counted false found on = ap (λ hs. record { side = x; released = n } ∷ hs) (on found)
 
--- Putting a side whose transaction is held changes that side alone, and its count stays.
+-- Putting a side whose transaction is held changes that side alone. All counts are unchanged.
 pub held_put : (after : Side) (held : DeskEntry) (sides : List Side) (counted : List ℕ) → length counted ≡ length sides
     → found_by txn_held (txn_of after) (held_of sides counted) ≡ Some held
     → held_of (put_by txn_of after sides) counted
@@ -135,7 +135,7 @@ held_put after held (x ∷ sides) (n ∷ counted) as_many found =
     put_among after x n held sides counted (is_same_txn (txn_of after) (txn_of x)) found
     (held_put after held sides counted (omega (arith, as_many)))
 
--- At index `i`, a side is held with the count at `i`.
+-- The held side at index `i` has the count at index `i`.
 at_place : (sides : List Side) (counted : List ℕ) (i n : ℕ) → length counted ≡ length sides → i < length sides
     → n ≡ slice_index_or counted i n
     → (side : Side) × (slice_get (held_of sides counted) i ≡ Some (record { side = side; released = n }))
@@ -146,7 +146,7 @@ at_place (x ∷ sides) (m ∷ counted) zero n as_many within at = (x, ap (λ k. 
 at_place (x ∷ sides) (m ∷ counted) (suc i) n as_many within at =
     at_place sides counted i n (omega (arith, as_many)) (omega (arith, within)) at
 
--- A search by transaction stops at one index, among the sides and among those held.
+-- A search by transaction stops at equal indices among the sides and among the held sides.
 same_place : (test : Qualifiers → Bool) (sides : List Side) (counted : List ℕ) → length counted ≡ length sides
     → position_or_len (λ (held : DeskEntry). test (txn_of held.side)) (held_of sides counted)
     ≡ position_or_len (λ side. test (txn_of side)) sides
@@ -156,13 +156,13 @@ same_place test (side ∷ sides) [] as_many = absurd (omega (arith, as_many))
 same_place test (side ∷ sides) (n ∷ counted) as_many =
     ap (λ m. cond (not (test (txn_of side))) (1 + m) 0) (same_place test sides counted (omega (arith, as_many)))
 
--- If a search among those held gives `side`, it finds a held one, and its side is `side`.
+-- If a search among the held sides gives `side`, it finds an entry whose side is `side`.
 some_mapped : (found : Option DeskEntry) (side : Side) → Some side ≡ option_map (λ (held : DeskEntry). held.side) found
     → (held : DeskEntry) × (found ≡ Some held) × (held.side ≡ side)
 some_mapped (Some held) side e = (held, refl, sym (some_is side held.side e))
 some_mapped None side e = absurd (true≢false (ap is_some e))
 
--- If a search among those held gives no side, it finds nothing.
+-- If a search among the held sides gives no side, it finds no entry.
 none_mapped : (found : Option DeskEntry) → None ≡ option_map (λ (held : DeskEntry). held.side) found → found ≡ None
 none_mapped None e = refl
 none_mapped (Some held) e = absurd (true≢false (sym (ap is_some e)))
@@ -171,18 +171,18 @@ none_mapped (Some held) e = absurd (true≢false (sym (ap is_some e)))
 is_position : (pos len place : ℕ) → cond (nat_lt pos len) (Some pos) None ≡ Some place → pos ≡ place
 is_position pos len place e = search rules
 
--- If no position is given, the search went past the end.
+-- If no position is given, the search reached the end.
 no_position : (pos len : ℕ) → cond (nat_lt pos len) (Some pos) None ≡ None → nat_lt pos len ≡ false
 no_position pos len e = search rules
 
--- If `none_there` holds of the other items, it holds with `x` before them.
+-- If `none_there` holds for the other items, it holds with `x` before them.
 not_here : {X : Type 0} (x : X) (found : Option X) (pos len : ℕ) (passes : Bool)
     → nat_lt (cond (not passes) (1 + pos) 0) (suc len) ≡ false → (nat_lt pos len ≡ false → found ≡ None)
     → cond passes (Some x) found ≡ None
 not_here x found pos len true past on = search rules
 not_here x found pos len false past on = on (search rules)
 
--- If a search goes past the end, nothing is found.
+-- If a search reaches the end, it finds nothing.
 none_there : {X : Type 0} (test : X → Bool) (xs : List X) → nat_lt (position_or_len test xs) (length xs) ≡ false
     → find test xs ≡ None
 none_there test [] past = refl
@@ -202,7 +202,7 @@ count_there role sides counted txn place n as_many at within counted_at =
     ∙ ap (slice_get (held_of sides counted)) (same_place (is_same_txn txn) sides counted as_many ∙ pos) ∙ there.1 in
     sym (ap (λ f. (found_or (idle_held role txn) f).released) found)
 
--- If no side is of `txn`, none of its messages is released.
+-- If no side is of `txn`, the number of released messages of `txn` is 0.
 pub no_count : (role : Role) (sides : List Side) (counted : List ℕ) (txn : Qualifiers) → length counted ≡ length sides
     → None ≡ position (λ side. is_same_txn txn (txn_of side)) sides
     → 0 ≡ (held_for txn (record { role = role; held = held_of sides counted })).released
@@ -216,13 +216,13 @@ no_count role sides counted txn as_many at =
     ∙ ap (nat_lt (position_or_len test sides)) (as_many_held sides counted as_many) ∙ past) in
     sym (ap (λ f. (found_or (idle_held role txn) f).released) found)
 
--- If a search among those held gives `side`, then `side` is held with its released count.
+-- If a search among the held sides gives `side`, the entry that it finds has `side` and its released count.
 found_so : (idle : DeskEntry) (side : Side) (found : Option DeskEntry) → Some side ≡ option_map side_of found
     → found ≡ Some (record { side = side; released = (found_or idle found).released })
 found_so idle side (Some held) e = ap (λ s. Some (record { side = s; released = held.released })) (sym (some_is side held.side e))
 found_so idle side None e = absurd (true≢false (ap is_some e))
 
--- If `side` is the side of `txn`, it is held with its released count.
+-- If `side` is the side of `txn`, the held entry of `txn` has `side` and its released count.
 pub held_there : (live : DeskContents) (txn : Qualifiers) (side : Side) → side_with txn (sides_held live).sides ≡ Some side
     → found_by txn_held txn live.held ≡ Some (record { side = side; released = (held_for txn live).released })
 unfolding side_with
@@ -230,19 +230,19 @@ held_there live txn side there =
     found_so (idle_held live.role txn) side (found_by txn_held txn live.held)
     (sym there ∙ found_mapped txn_held txn_of side_of (λ held. refl) txn live.held)
 
--- If no side is of `txn`, nothing is held of `txn`.
+-- If no side is of `txn`, no side of `txn` is held.
 pub none_held_there : (live : DeskContents) (txn : Qualifiers) → side_with txn (sides_held live).sides ≡ None
     → found_by txn_held txn live.held ≡ None
 unfolding side_with
 none_held_there live txn none = none_mapped _ (sym none ∙ found_mapped txn_held txn_of side_of (λ held. refl) txn live.held)
 
--- ---- the landed sides back the content of a desk
+-- ---- landed sides that back the contents of a desk
 
 -- The idle side of `txn` is of transaction `txn`.
 pub idle_of_txn : (role : Role) (txn : Qualifiers) → txn_of (idle_side role txn) ≡ txn
 idle_of_txn role txn = search rules
 
--- If `landed` backs a side, it backs the side after a row.
+-- If `landed` backs a side, it backs the side after a transition.
 backed_on : (landed old new : Side) (released : ℕ) → IsStep old new → IsBackedBy landed old released
     → IsBackedBy landed new released
 backed_on landed old new released row backed =
@@ -253,7 +253,7 @@ backed_on landed old new released row backed =
           backed.has-released;
     }
 
--- If `landed` backs the held side that is found, it still does after a side that it backs is put.
+-- If `landed` backs the held side that is found, it backs the one that is found after a side that it backs is put.
 found_backs : (landed : Side) (idle new old : DeskEntry) (found : Option DeskEntry) (same : Bool)
     → (same ≡ true → IsBackedBy landed new.side new.released)
     → IsBackedBy landed (found_or idle found).side (found_or idle found).released
@@ -261,7 +261,7 @@ found_backs : (landed : Side) (idle new old : DeskEntry) (found : Option DeskEnt
 found_backs landed idle new old found true backs backed = backs refl
 found_backs landed idle new old found false backs backed = backed
 
--- If landed sides back the desk's content, they back it after a row of one side.
+-- If landed sides back the desk's contents, they back them after a transition of one side.
 pub row_backs_held : (landed : SidesOf) (live : DeskContents) (held : DeskEntry) (new : Side)
     → held_for (txn_of new) live ≡ held → IsStep held.side new → AreBackedBy landed live
     → AreBackedBy landed (with_held live (record { side = new; released = held.released }))
@@ -281,20 +281,20 @@ row_backs_held landed live held new is row backed = record {
       (is_same_txn txn (txn_of new)) here (backed.each txn));
 }
 
--- If the sides that were read back the desk's content, they back it after a row of one side.
+-- If the sides that were read back the desk's contents, they back them after a transition of one side.
 pub row_backs_all : (landed : Result DeskContents RecordFault) (live : DeskContents) (held : DeskEntry) (new : Side)
     → held_for (txn_of new) live ≡ held → IsStep held.side new → IsBackedByRead ManyBack landed live
     → IsBackedByRead ManyBack landed (with_held live (record { side = new; released = held.released }))
 row_backs_all (Ok landed) live held new is row backed = row_backs_held (sides_held landed) live held new is row backed
 row_backs_all (Err fault) live held new is row backed = backed
 
--- Desks of one role have the same landed sides.
+-- For desks of one role, landed bytes give equal landed sides.
 same_landed : (landed : Option (List ℕ)) (old new : DeskContents) → new.role ≡ old.role
     → landed_live many_sides landed old ≡ landed_live many_sides landed new
 same_landed None old new role = ap (λ r. Ok (no_sides r)) (sym role)
 same_landed (Some bytes) old new role = refl
 
--- ---- actions and messages of a side that is held
+-- ---- actions and messages of a held side
 
 -- Putting a held side as it is changes nothing.
 pub unchanged : (live : DeskContents) (held : DeskEntry) (txn : Qualifiers) (new : Side)
@@ -306,7 +306,7 @@ unchanged live held txn new found same =
     ∙ ap (λ hs. record { role = live.role; held = hs })
     (put_again txn_held held live.held (ap (λ t. found_by txn_held t live.held) (sym of) ∙ found))
 
--- An action of the desk is done exactly if that of its side is.
+-- An action of the desk is done exactly if the action of its side is done.
 acted_ok : (live : DeskContents) (held : DeskEntry) (r : Result Side Refusal) → is_ok (acted_by live held r) ≡ is_ok r
 acted_ok live held (Ok new) = refl
 acted_ok live held (Err refusal) = refl
@@ -319,11 +319,11 @@ took_taken live held (Err refusal) new e = search rules
 
 module _ (live : DeskContents) (txn : Qualifiers) (held : DeskEntry) (after : Side)
     (found : found_by txn_held txn live.held ≡ Some held) where
-  -- Returns the desk's content with `after` instead of its old side. The released count stays.
+  -- Returns the desk's contents with `after` in place of the old side. The released count is unchanged.
   abbrev next : DeskContents
   next = with_held live (record { side = after; released = held.released })
 
-  -- If the side of `txn` is held and the role fits, the desk acts as the side does.
+  -- If the side of `txn` is held and the action is of its role, the desk acts as the side does.
   acts_there : (action : Action) → is_same_role live.role (role_for action) ≡ true
       → desk_acts live txn action ≡ acted_by live held (acts held.side action)
   acts_there action fits =
@@ -331,7 +331,7 @@ module _ (live : DeskContents) (txn : Qualifiers) (held : DeskEntry) (after : Si
       ∙ ap (λ f. acts_reached live action
       (held_or_begun (begins action) (nat_lt (length live.held) most_sides) (idle_held live.role txn) f)) found
 
-  -- If the held side answers an action as `Acts` says, the desk answers as `DeskActs` says.
+  -- If the held side answers an action as `Acts` says, the desk answers it as `DeskActs` says.
   pub acts_held : (action : Action) (answer : Result (Unit {0}) Refusal)
       → is_same_role live.role (role_for action) ≡ true → Acts held.side action answer after
       → DeskActs many_sides live txn action (core_answer answer) next
@@ -343,7 +343,7 @@ module _ (live : DeskContents) (txn : Qualifiers) (held : DeskEntry) (after : Si
 
 module _ (live : DeskContents) (a : Apdu) (held : DeskEntry) (after : Side)
     (found : found_by txn_held a.txn live.held ≡ Some held) (other : is_own live.role a.body ≡ false) where
-  -- If the side of the APDU's transaction is held, and the APDU is not its own, that side takes it.
+  -- If the side of the APDU's transaction is held, and the APDU is of the other role, that side takes it.
   takes_there : desk_takes live a ≡ took_by live held (takes held.side a)
   takes_there =
       ap (λ b. cond b (Err (faults.Core refusals.WrongRole), live)
@@ -351,7 +351,7 @@ module _ (live : DeskContents) (a : Apdu) (held : DeskEntry) (after : Side)
       ∙ ap (λ f. takes_reached live a
       (held_or_begun (is_ill_request a.body) (nat_lt (length live.held) most_sides) (idle_held live.role a.txn) f)) found
 
-  -- If the held side answers an APDU as `Takes` says, the desk answers as `DeskTakesApdu` says.
+  -- If the held side answers an APDU as `Takes` says, the desk answers it as `DeskTakesApdu` says.
   pub takes_held : RefusalsStay → (answer : Result Taking Refusal) → Takes held.side a answer after
       → DeskTakesApdu many_sides live a (core_answer answer) (next live a.txn held after found)
   takes_held stay (Err refusals.OutOfMemory) takes_so = (
@@ -371,7 +371,7 @@ module _ (live : DeskContents) (a : Apdu) (held : DeskEntry) (after : Side)
         refl,
       )
 
--- ---- the first of a transaction
+-- ---- the first action or message of a transaction
 
 -- An action that may begin a transaction, in the desk's role, fails only if memory runs out.
 pub first_act_fails : (role : Role) (txn : Qualifiers) (action : Action) (refusal : Refusal) (new : Side)
@@ -382,14 +382,14 @@ first_act_fails roles.Requester txn (actions.Wish (wishes.Request expiry item)) 
 first_act_fails role txn action refusal new may fits acts = search rules
 
 -- Returns the answer of an idle responder of `txn` to APDU `a`, and its record after it.
--- `same` stands for the test of the two transactions.
+-- `same` is the result of the test that `a` is of `txn`.
 abbrev takes_of_txn : Bool → Qualifiers → Apdu → Result Taking Refusal × ResponderRecord
 takes_of_txn same txn a =
     let y = responder_of txn Idle None None None false None [] in
     unless_refused (cond same (cond (not (is_requesters a.body)) (Some refusals.WrongRole) None) (Some refusals.OtherTransaction))
     y (take_message y a a.body)
 
--- An idle side takes an ILL-Request that is not its own.
+-- An idle responder takes an ILL-Request.
 first_taken : (role : Role) (txn : Qualifiers) (number : ℕ) (body : Body) → is_ill_request body ≡ true
     → is_own role body ≡ false
     → (takes (idle_side role txn) (record { txn = txn; number = number; body = body })).0 ≡ Ok Taken
@@ -399,7 +399,7 @@ first_taken roles.Responder txn number (types.IllRequest expiry item) request ot
 first_taken roles.Requester txn number (types.IllRequest expiry item) request other = absurd (true≢false other)
 first_taken role txn number body request other = absurd (true≢false (sym request))
 
--- A first APDU that is an ILL-Request for the desk's role fails only if memory runs out.
+-- If the first APDU is an ILL-Request and the desk is a responder's, taking it fails only if memory runs out.
 pub first_take_fails : (role : Role) (a : Apdu) (refusal : Refusal) (new : Side) → is_ill_request a.body ≡ true
     → is_own role a.body ≡ false → Takes (idle_side role a.txn) a (Err refusal) new
     → FirstTakes (idle_side role a.txn) a (Err (of_core refusal))
@@ -409,7 +409,7 @@ first_take_fails role a refusal new request other refused =
     let is = ap (λ (p : Result Taking Refusal × Side). p.0) refused in
     search (rules, taken, is)
 
--- An ILL-Request is a requester's own.
+-- An ILL-Request is of a type that a requester issues.
 is_requests : (body : Body) → is_ill_request body ≡ true → is_own roles.Requester body ≡ true
 is_requests (types.IllRequest expiry item) request = refl
 is_requests body request = absurd (true≢false (sym request))
@@ -424,7 +424,7 @@ role_idle : (role : Role) (txn : Qualifiers) → role_of (idle_side role txn) �
 role_idle roles.Requester txn = refl
 role_idle roles.Responder txn = refl
 
--- A side of the role that is not idle and new is not refused if there is room.
+-- If there is room, a side is not refused that is of the role, not idle, and of a transaction that is not held.
 may_put_so : (fits idle there room : Bool) → fits ≡ true → idle ≡ false → there ≡ false → room ≡ true
     → cond (not fits) (Some sides_faults.OtherRole)
     (cond idle (Some sides_faults.Idle) (cond there (Some sides_faults.Twice) (cond room None (Some sides_faults.Full))))
@@ -432,7 +432,7 @@ may_put_so : (fits idle there room : Bool) → fits ≡ true → idle ≡ false 
 may_put_so true false false true fits begun none has_room = refl
 may_put_so fits idle there room f b n r = search rules
 
--- A side of the role that is not idle and new may be put if there is room.
+-- If there is room, a side may be put that is of the role, not idle, and of a transaction that is not held.
 may_put : (held : SidesOf) (side : Side) → is_same_role held.role (role_of side) ≡ true → is_idle side ≡ false
     → side_with (txn_of side) held.sides ≡ None → nat_lt (length held.sides) most_sides ≡ true
     → put_refusal held side ≡ None
@@ -440,13 +440,13 @@ may_put held side fits begun none room =
     may_put_so (is_same_role held.role (role_of side)) (is_idle side) (is_some (side_with (txn_of side) held.sides))
     (nat_lt (length held.sides) most_sides) fits begun (ap is_some none) room
 
--- The side of `txn` among the sides is the one that is held for `txn`.
+-- The side of `txn` among the desk's sides is the side of the held entry of `txn`.
 pub side_of_found : (live : DeskContents) (txn : Qualifiers)
     → side_with txn (sides_held live).sides ≡ option_map side_of (found_by txn_held txn live.held)
 unfolding side_with
 side_of_found live txn = found_mapped txn_held txn_of side_of (λ held. refl) txn live.held
 
--- If nothing is held of `txn`, no side is of `txn`.
+-- If no entry of `txn` is held, no side is of `txn`.
 none_with : (live : DeskContents) (txn : Qualifiers) → found_by txn_held txn live.held ≡ None
     → side_with txn (sides_held live).sides ≡ None
 unfolding side_with
@@ -473,7 +473,7 @@ module _ (grows : RowsGrow) (live : DeskContents) (txn : Qualifiers) (none : fou
       (ap (λ t. side_with t (sides_held live).sides) first_txn ∙ none_with live txn none)
       (ap (λ n. nat_lt n most_sides) (length-map live.held side_of) ∙ room)
 
-  -- The new side may be put, and a row led to it from the idle side of its transaction.
+  -- The new side may be put, and a transition led to it from the idle side of its transaction.
   pub first_may : (put_refusal (sides_held live) side ≡ None) × IsStep (idle_side live.role (txn_of side)) side
   first_may = (first_put, subst (λ t. IsStep (idle_side live.role t) side) (sym first_txn) row)
 
@@ -487,14 +487,14 @@ first_begins law roles.Responder a side request other taken =
     (law (responder_of a.txn Idle None None None false None []) a request (ap (λ (p : Result Taking Refusal × Side). p.0) taken))
 first_begins law roles.Requester a side request other taken = absurd (true≢false (sym (is_requests a.body request) ∙ other))
 
--- ---- one side of a desk is changed
+-- ---- a desk of which one side is changed
 
 module _ (role : Role) (sides : List Side) (counted : List ℕ) (as_many : length counted ≡ length sides) where
-  -- Returns the content of a desk with these sides and counts.
+  -- Returns the contents of a desk with these sides and counts.
   abbrev held_so : DeskContents
   held_so = record { role = role; held = held_of sides counted }
 
-  -- If no side is of `txn`, nothing is held of `txn`.
+  -- If no side is of `txn`, no side of `txn` is held.
   pub none_held : (txn : Qualifiers) → side_with txn sides ≡ None → found_by txn_held txn (held_of sides counted) ≡ None
   none_held txn none = none_mapped _ (sym none ∙ found_side txn sides counted as_many)
 
@@ -505,7 +505,7 @@ module _ (role : Role) (sides : List Side) (counted : List ℕ) (as_many : lengt
 
   module _ (grows : RowsGrow) (txn : Qualifiers) {A : Type 0} (Does : Side → A → Side → Type 0)
       (rows : (old new : Side) (answer : A) → Does old answer new → IsStep old new ⊎ (new ≡ old)) where
-    -- A side that does something keeps its transaction.
+    -- A side keeps its transaction in a call that `Does` describes.
     same_txn : (side after : Side) (answer : A) → Does side answer after → txn ≡ txn_of side → txn ≡ txn_of after
     same_txn side after answer does of = by (rows side after answer does)
       where
@@ -513,7 +513,7 @@ module _ (role : Role) (sides : List Side) (counted : List ℕ) (as_many : lengt
         by (inl row) = of ∙ sym (idle_txn side) ∙ ap txn_of (sym (grows side after row).0) ∙ idle_txn after
         by (inr same) = of ∙ ap txn_of (sym same)
 
-    -- If the side of `txn` alone does something, the desk holds the side after it instead, and its count stays.
+    -- If `Does` describes a call of the side of `txn` alone, the desk holds the side after it. The count is unchanged.
     pub changed_held : (answer : A) (new : SidesOf) → OnlyThat Does txn (record { role = role; sides = sides }) (Some answer) new
         → (held : DeskEntry) × (after : Side) × (found_by txn_held txn (held_of sides counted) ≡ Some held)
         × Does held.side answer after × (txn ≡ txn_of after)
@@ -541,7 +541,7 @@ module _ (role : Role) (sides : List Side) (counted : List ℕ) (as_many : lengt
           as_many ∙ sym (ap (λ (all : SidesOf). length all.sides) changed ∙ few),
         )
 
-    -- If landed sides back the desk's content, they back it after a held side does something.
+    -- If the sides that were read back the desk's contents, they back them after a held side's call that `Does` describes.
     changed_backs : (landed : Result DeskContents RecordFault) (held : DeskEntry) (after : Side) (answer : A)
         → found_by txn_held txn (held_of sides counted) ≡ Some held → Does held.side answer after → txn ≡ txn_of after
         → IsBackedByRead ManyBack landed held_so
@@ -554,7 +554,7 @@ module _ (role : Role) (sides : List Side) (counted : List ℕ) (as_many : lengt
             (ap (λ t. held_for t held_so) (sym of) ∙ ap (found_or (idle_held role txn)) found) row backed
         by (inr same) = subst (IsBackedByRead ManyBack landed) (sym (unchanged held_so held txn after found same)) backed
 
-    -- If sides back the desk's content, they back it after a held side does something.
+    -- If `landed` backs the desk's contents, it backs them after a held side's call that `Does` describes.
     changed_backs_by : (landed : SidesOf) (held : DeskEntry) (after : Side) (answer : A)
         → found_by txn_held txn (held_of sides counted) ≡ Some held → Does held.side answer after → txn ≡ txn_of after
         → AreBackedBy landed held_so
@@ -567,7 +567,7 @@ module _ (role : Role) (sides : List Side) (counted : List ℕ) (as_many : lengt
             (ap (λ t. held_for t held_so) (sym of) ∙ ap (found_or (idle_held role txn)) found) row backed
         by (inr same) = subst (AreBackedBy landed) (sym (unchanged held_so held txn after found same)) backed
 
-    -- All bytes that back the desk's content back it after one side does something.
+    -- All bytes that back the desk's contents back them after a call of one side that `Does` describes.
     pub still_backed : (answer : A) (new : SidesOf)
         → OnlyThat Does txn (record { role = role; sides = sides }) (Some answer) new
         → StaysBacked many_sides ManyBack held_so (record { role = new.role; held = held_of new.sides counted })
@@ -578,7 +578,7 @@ module _ (role : Role) (sides : List Side) (counted : List ℕ) (as_many : lengt
         (subst (λ read. IsBackedByRead ManyBack read next) (same_landed landed held_so next refl)
         (changed_backs (landed_live many_sides landed held_so) to.0 to.1 answer to.2 to.3 to.4 backed))
 
-    -- If some sides back the desk's content, they back it after one side does something.
+    -- If some sides back the desk's contents, they back them after a call of one side that `Does` describes.
     pub still_backable : (answer : A) (new : SidesOf)
         → OnlyThat Does txn (record { role = role; sides = sides }) (Some answer) new
         → AreBackable held_so → AreBackable (record { role = new.role; held = held_of new.sides counted })
@@ -586,7 +586,7 @@ module _ (role : Role) (sides : List Side) (counted : List ℕ) (as_many : lengt
         let to = changed_held answer new only in
         (backed.0, subst (AreBackedBy backed.0) (sym to.5) (changed_backs_by backed.0 to.0 to.1 answer to.2 to.3 to.4 backed.1))
 
-  -- If the side of `txn` alone answers an action as `Acts` says, the desk answers as `DeskActs` says.
+  -- If the side of `txn` alone answers an action as `Acts` says, the desk answers it as `DeskActs` says.
   pub desk_acts_so : (grows : RowsGrow) (txn : Qualifiers) (action : Action) (answer : Result (Unit {0}) Refusal) (new : SidesOf)
       → is_same_role role (role_for action) ≡ true
       → OnlyThat (λ old answer new. Acts old action answer new) txn (record { role = role; sides = sides }) (Some answer) new
@@ -608,15 +608,15 @@ module _ (role : Role) (sides : List Side) (counted : List ℕ) (as_many : lengt
       subst (λ l. DeskTakesApdu many_sides held_so a (core_answer answer) l) (sym to.5)
       (takes_held held_so a to.0 to.1 to.2 other stay answer to.3)
 
--- ---- one more is held
+-- ---- a desk with one more side
 
 module _ (role : Role) (sides : List Side) (counted : List ℕ) (as_many : length counted ≡ length sides) (side : Side)
     (may : put_refusal (record { role = role; sides = sides }) side ≡ None) where
-  -- Nothing is held of the transaction of `side`.
+  -- No side of the transaction of `side` is held.
   none_before : found_by txn_held (txn_of side) (held_of sides counted) ≡ None
   none_before = none_held role sides counted as_many (txn_of side) (new_to (record { role = role; sides = sides }) side may)
 
-  -- If `side` is put with a count of 0, the desk holds it with nothing released.
+  -- If `side` is put with a count of 0, the desk holds it with no message released.
   pub held_more : (new : SidesOf) → new ≡ put_side (record { role = role; sides = sides }) side
       → record { role = new.role; held = held_of new.sides (counted ++ 0 ∷ []) }
       ≡ with_held (held_so role sides counted as_many) (record { side = side; released = 0 })
@@ -626,7 +626,7 @@ module _ (role : Role) (sides : List Side) (counted : List ℕ) (as_many : lengt
       (held_last sides counted side 0 as_many
       ∙ sym (put_last txn_held (record { side = side; released = 0 }) (held_of sides counted) none_before))
 
-  -- All bytes that back the desk's content back it with a side that began by a row.
+  -- All bytes that back the desk's contents back them with a side that began by a transition.
   pub more_backed : RowsGrow → (new : SidesOf)
       → new ≡ put_side (record { role = role; sides = sides }) side → IsStep (idle_side role (txn_of side)) side
       → StaysBacked many_sides ManyBack (held_so role sides counted as_many)
@@ -639,7 +639,7 @@ module _ (role : Role) (sides : List Side) (counted : List ℕ) (as_many : lengt
       (row_backs_all (landed_live many_sides landed old) old (idle_held role (txn_of side)) side
       (ap (found_or (idle_held role (txn_of side))) none_before) row backed))
 
-  -- If some sides back the desk's content, they back it with a side that began by a row.
+  -- If some sides back the desk's contents, they back them with a side that began by a transition.
   pub more_backable : RowsGrow → (new : SidesOf) → new ≡ put_side (record { role = role; sides = sides }) side
       → IsStep (idle_side role (txn_of side)) side
       → AreBackable (held_so role sides counted as_many)
@@ -651,20 +651,20 @@ module _ (role : Role) (sides : List Side) (counted : List ℕ) (as_many : lengt
         (ap (found_or (idle_held role (txn_of side))) none_before) row backed.1),
   )
 
--- ---- all that is held is whole
+-- ---- a desk with all messages released
 
 -- An idle side is consistent.
 idle_keeps : (role : Role) (txn : Qualifiers) → IsConsistent (idle_side role txn)
 idle_keeps roles.Requester txn = idle_consistent (idle_side roles.Requester txn)
 idle_keeps roles.Responder txn = idle_consistent (idle_side roles.Responder txn)
 
--- If `P` holds of `side` and of the side found otherwise, it holds of the side found.
+-- If `side` and `found` satisfy `P`, the one that a search chooses of them satisfies it.
 either_is : (P : Side → Type 0) (side : Side) (found : Option Side) (here : Bool) → P side → IfSome found P
     → IfSome (cond here (Some side) found) P
 either_is P side found true is others = is
 either_is P side found false is others = others
 
--- If `P` holds of each side, it holds of a side that is found.
+-- If each side satisfies `P`, a side that is found satisfies it.
 each_is : (P : Side → Type 0) (txn : Qualifiers) (sides : List Side) → Each P sides → IfSome (found_by txn_of txn sides) P
 unfolding Each
 each_is P txn [] each = tt
@@ -690,22 +690,22 @@ whole_backed all each = record {
       (found_whole all.role txn (found_by txn_of txn all.sides) (each_is IsConsistent txn all.sides each));
 }
 
--- A desk with the counts of all that its sides have issued holds them whole.
+-- If the counts are the numbers of issued messages, a desk holds its sides with all messages released.
 pub whole_held : (all : SidesOf) (counted : List ℕ) → counted ≡ counts all.sides
     → record { role = all.role; held = held_of all.sides counted } ≡ whole_of all
 whole_held all counted whole = ap (λ ns. record { role = all.role; held = held_of all.sides ns }) whole
     ∙ ap (λ hs. record { role = all.role; held = hs }) (held_whole all.sides)
 
--- There are as many counts as sides.
+-- If `counted` has the numbers of issued messages, it has a count for each side.
 pub as_many_counted : (sides : List Side) (counted : List ℕ) → counted ≡ counts sides → length counted ≡ length sides
 as_many_counted sides counted whole = ap length whole ∙ length-map sides (λ side. length (issued_of side))
 
--- Sides that are held whole are those sides.
+-- A desk that holds `all` with all messages released holds the sides `all`.
 pub sides_of_whole : (all : SidesOf) → sides_held (whole_of all) ≡ all
 sides_of_whole all = ap sides_held (sym (whole_held all (counts all.sides) refl))
     ∙ holds_sides all (counts all.sides) (length-map all.sides (λ side. length (issued_of side)))
 
--- Consistent sides that are held whole back themselves.
+-- Consistent sides that are held with all messages released back themselves.
 pub whole_back : (all : SidesOf) → Each IsConsistent all.sides → ManyBack (whole_of all) (whole_of all)
 whole_back all each = subst (λ landed. AreBackedBy landed (whole_of all)) (sym (sides_of_whole all)) (whole_backed all each)
 
@@ -715,7 +715,7 @@ pub whole_backable : (all : SidesOf) (counted : List ℕ) → Each IsConsistent 
 whole_backable all counted each whole =
     (all, subst (AreBackedBy all) (sym (whole_held all counted whole)) (whole_backed all each))
 
--- If some sides back the desk's content, no more messages are released than issued.
+-- If some sides back the desk's contents, at most the issued messages are released.
 pub few_released : ((old new : Side) → Follows old new → IsPrefix (issued_of old) (issued_of new))
     → (live : DeskContents) (txn : Qualifiers) → AreBackable live
     → (held_for txn live).released ≤ length (issued_of (held_for txn live).side)
@@ -723,19 +723,19 @@ few_released follows live txn backed =
     let is = backed.1.each txn in
     omega (arith, is.has-released, no_less _ _ (follows _ _ is.follows))
 
--- Counting side `n` leaves the sides after it to count.
+-- The count of side `n` and the counts of the sides after it are the counts of the sides from `n` on.
 pub one_counted : (counted : List ℕ) (sides : List Side) (n : ℕ) (side : Side) → n < length sides → side ≡ get_or sides n side
     → (counted ++ length (issued_of side) ∷ []) ++ counts (drop (n + 1) sides) ≡ counted ++ counts (drop n sides)
 one_counted counted sides n side inside there =
     append_assoc counted (length (issued_of side) ∷ []) (counts (drop (n + 1) sides))
     ∙ ap (λ vs. counted ++ counts vs) (sym (drop_more sides n side inside ∙ ap (λ s. s ∷ drop (n + 1) sides) (sym there)))
 
--- `P` holds of each element of an empty list.
+-- Each element of an empty list satisfies `P`.
 pub none_are : (P : Side → Type 0) → Each P []
 unfolding Each
 none_are P = tt
 
--- A desk that holds nothing backs itself.
+-- A desk that holds no side backs itself.
 pub none_back : (role : Role) → ManyBack (no_sides role) (no_sides role)
 none_back role = whole_backed (record { role = role; sides = [] }) (none_are IsConsistent)
 
@@ -745,29 +745,29 @@ unfolding Each
 each_consistent [] each = tt
 each_consistent (side ∷ sides) each = (each.0.0, each_consistent sides each.1)
 
--- The law of a record of sides: sides that may be saved are read again from their encoding.
+-- The law of a record of sides: sides that may be saved are read from their encoding.
 abbrev pub SidesReadAgain : Type 0
 SidesReadAgain = (all : SidesOf) → AreSides all → records_at (sides_spelling all) ≡ Ok all
 
--- The law of rows: a side that follows by rows has issued all that the other has, as a prefix.
+-- The law of transitions: if they lead from `old` to `new`, the issued messages of `old` are a prefix of those of `new`.
 abbrev FollowsIssues : Type 0
 FollowsIssues = (old new : Side) → Follows old new → IsPrefix (issued_of old) (issued_of new)
 
 module _ (follows : FollowsIssues) (all : SidesOf) (counted : List ℕ) (as_many : length counted ≡ length all.sides)
     (each : Each IsConsistent all.sides) where
-  -- If a found side is consistent, so is the side found, or else the idle one.
+  -- If a found side is consistent, the found side, or the idle one if none is found, is consistent.
   keeps_or : (txn : Qualifiers) (found : Option DeskEntry) → IfSome (option_map side_of found) IsConsistent
       → IsConsistent (found_or (idle_held all.role txn) found).side
   keeps_or txn (Some held) is = is
   keeps_or txn None is = idle_keeps all.role txn
 
-  -- The side found, or else idle, is the side of the held one found, or else of the idle one.
+  -- The found side, or the idle one, is the side of the found entry, or of the idle entry.
   same_or : (txn : Qualifiers) (found : Option DeskEntry)
       → found_or (idle_side all.role txn) (option_map side_of found) ≡ (found_or (idle_held all.role txn) found).side
   same_or txn (Some held) = refl
   same_or txn None = refl
 
-  -- If landed sides back the desk's content, its own sides back it too.
+  -- If landed sides back the desk's contents, the sides of the desk back them, too.
   self_backed : (landed : SidesOf) → AreBackedBy landed (record { role = all.role; held = held_of all.sides counted })
       → AreBackedBy all (record { role = all.role; held = held_of all.sides counted })
   unfolding side_with
@@ -803,13 +803,13 @@ module _ (follows : FollowsIssues) (all : SidesOf) (counted : List ℕ) (as_many
         saved = subst (λ landed. ManyBack landed landed) saved (whole_back all each);
       }
 
--- If two results of values are equal, the values are.
+-- If `Ok x` is `Ok y`, `x` is `y`.
 ok_is : {X : Type 0} (x y : X) → ◌≡◌ {A = Result X RecordFault} (Ok x) (Ok y) → x ≡ y
 ok_is x y e = search rules
 
 -- ---- reading
 
--- If a side is consistent, so is each side of it alone: that side, or none if it is idle.
+-- If a side is consistent, each side of a desk with only this side is consistent.
 each_if : (idle : Bool) (side : Side) → IsConsistent side → Each IsConsistent (cond idle [] (side ∷ []))
 unfolding Each
 each_if true side is = tt
@@ -825,7 +825,7 @@ abbrev pub ManyConsistent : Type 0
 ManyConsistent = (bytes : List ℕ) (held : SidesOf) → IsBytes bytes → is_version_1 bytes ≡ false → records_at bytes ≡ Ok held
     → (bytes ≡ sides_spelling held) × AreSides held
 
--- If a side that is read is consistent, so is the side that is read alone.
+-- If a side that is read is consistent, each side of the desk that `read_alone` gives is consistent.
 alone_read : (read : Result Side RecordFault) (all : SidesOf) → ((side : Side) → read ≡ Ok side → IsConsistent side)
     → read_alone read ≡ Ok all → Each IsConsistent all.sides
 alone_read (Ok side) all one is =
@@ -833,7 +833,7 @@ alone_read (Ok side) all one is =
     (each_if (is_idle side) side (one side refl))
 alone_read (Err fault) all one is = search rules
 
--- If the sides of either version are consistent, so are the sides that are read.
+-- If the sides that either version gives are consistent, the sides that are read are consistent.
 either_read : (first : Bool) (bytes : List ℕ) (many : Result SidesOf RecordFault) (all : SidesOf)
     → (is_version_1 bytes ≡ first) → cond first (read_alone (record_at bytes)) many ≡ Ok all
     → ((side : Side) → record_at bytes ≡ Ok side → IsConsistent side)

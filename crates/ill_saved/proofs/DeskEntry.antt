@@ -1,4 +1,4 @@
--- Sides that are filed by their transactions.
+-- Entries of a map from transactions to sides. A list of entries is filed if it satisfies `AreFiled`.
 use Rattle.std.proofs.Common.{◌≡◌, ℕ, ◌<◌, nat_lt, length, drop, map, Bool, true, false, cond, if◌then◌else◌, not, ◌&&◌, ◌⊎◌, inl}
 use Rattle.std.proofs.Common.{inr, Ok, List, [], ◌∷◌, ◌++◌, Option, Some, None, Err, is_some, is_none, refl, ap, sym, subst, ◌∙◌}
 use Rattle.std.proofs.Common.{true≢false, rules, arith, length-append}
@@ -29,7 +29,7 @@ use Rattle.ill_saved.proofs.Desks.{RowsGrow}
 use Rattle.ill_saved.proofs.Finding.{apart_back, found_is, found_mapped, found_passes, keys_put, put_passes, not_true}
 use Rattle.ill_saved.specs.Sides.{SidesOf, AreFiled, side_with, is_same_role, is_begun, are_apart, most_sides, put_refusal, Puts}
 
--- If each side is filed under its own transaction, a search of the entries finds the side of the transaction.
+-- If each side has its transaction as its key, a search of the entries finds the side of the transaction.
 pub filed_with : (txn : Qualifiers) (entries : List (Qualifiers × Side)) → keys_of entries ≡ map txn_of (values_of entries)
     → lookup (is_same_txn txn) entries ≡ side_with txn (values_of entries)
 unfolding side_with
@@ -45,14 +45,14 @@ not_first : (is : Bool) (side : Side) (found : Option Side) → cond is (Some si
 not_first true side found none = absurd (true≢false (ap is_some none))
 not_first false side found none = (refl, none)
 
--- If `new` is empty whenever `old` is, a search that finds nothing with `old` finds nothing with `new`.
+-- If `new` is empty whenever `old` is empty, a search that finds nothing with `old` finds nothing with `new`.
 none_after : (is : Bool) (side : Side) (old new : Option Side) → is_none (cond is (Some side) old) ≡ true
     → (is_none old ≡ true → is_none new ≡ true)
     → is_none (cond is (Some side) new) ≡ true
 none_after true side old new none further = none
 none_after false side old new none further = further none
 
--- If no side is of `txn`, and neither is `side`, none of them together is.
+-- If none of `sides` is of `txn`, and `side` is not, no side of both together is.
 none_more : (txn : Qualifiers) (side : Side) (sides : List Side) → is_none (side_with txn sides) ≡ true
     → is_same_txn txn (txn_of side) ≡ false
     → is_none (side_with txn (sides ++ side ∷ [])) ≡ true
@@ -61,7 +61,7 @@ none_more txn side [] none apart = ap (λ same. is_none (cond same (Some side) N
 none_more txn side (x ∷ sides) none apart =
     none_after (is_same_txn txn (txn_of x)) x (side_with txn sides) _ none (λ there. none_more txn side sides there apart)
 
--- If sides are apart, and none is of the transaction of `side`, they are apart with `side` after them.
+-- If the transactions of `sides` differ, and none is that of `side`, they differ with `side` after the others.
 pub apart_more : (side : Side) (sides : List Side) → side_with (txn_of side) sides ≡ None → are_apart sides ≡ true
     → are_apart (sides ++ side ∷ []) ≡ true
 unfolding side_with are_apart
@@ -72,7 +72,7 @@ apart_more side (x ∷ sides) none apart =
     and_from _ _ (none_more (txn_of x) side sides parts.0 (apart_back (txn_of side) (txn_of x) new.0))
     (apart_more side sides new.1 parts.1)
 
--- If a side is not refused, it is of the role, not idle and new, and there is room.
+-- If a side is not refused, it is of the role and not idle, its transaction is not held, and there is room.
 pub not_refused : (of_role idle twice room : Bool)
     → (if not of_role then Some faults.OtherRole else
     (if idle then Some faults.Idle else (if twice then Some faults.Twice else (if room then None else Some faults.Full))))
@@ -105,7 +105,7 @@ no_memory_wanted : (of_role idle twice room : Bool)
     → ⊥
 no_memory_wanted of_role idle twice room wanted = search rules
 
--- If a side is refused, the answer that returns it and changes nothing is as `Puts` says.
+-- If a side is refused, returning it and changing nothing is as `Puts` says.
 pub handed_back : (held : SidesOf) (side : Side) (fault : SidesFault) → put_refusal held side ≡ Some fault
     → Puts held side (Err (fault, side)) held
 handed_back held side faults.OutOfMemory refused =
@@ -116,7 +116,7 @@ handed_back held side faults.Idle refused = (refused, refl, refl)
 handed_back held side faults.Twice refused = (refused, refl, refl)
 handed_back held side faults.Full refused = (refused, refl, refl)
 
--- An answer that is no fault is `None`.
+-- If `answer` is no fault, it is `None`.
 pub no_fault : (answer : Option SidesFault) → ((fault : SidesFault) → answer ≡ Some fault → ⊥) → answer ≡ None
 no_fault None none = refl
 no_fault (Some fault) none = absurd (none fault refl)
@@ -129,11 +129,11 @@ none_filed role entries empty =
     subst (λ es. AreFiled (keys_of es) (record { role = role; sides = values_of es })) (sym empty)
     (record { keys = refl; held = refl; few = omega arith })
 
--- Sides that are filed, and one more that may be put among them.
+-- Entries that are filed, and a side that may be put among them.
 module _ (role : Role) (entries : List (Qualifiers × Side)) (side : Side)
     (filed : AreFiled (keys_of entries) (record { role = role; sides = values_of entries }))
     (none : put_refusal (record { role = role; sides = values_of entries }) side ≡ None) where
-  -- `side` is of the role, not idle and new, and there is room.
+  -- `side` is of the role and not idle, its transaction is not held, and there is room.
   may : (is_same_role role (role_of side) ≡ true) × (is_idle side ≡ false)
       × (is_some (side_with (txn_of side) (values_of entries)) ≡ false) × (nat_lt (length (values_of entries)) most_sides ≡ true)
   may = not_refused (is_same_role role (role_of side)) (is_idle side) (is_some (side_with (txn_of side) (values_of entries)))
@@ -143,11 +143,11 @@ module _ (role : Role) (entries : List (Qualifiers × Side)) (side : Side)
   new_there : side_with (txn_of side) (values_of entries) ≡ None
   new_there = not_some (side_with (txn_of side) (values_of entries)) may.2
 
-  -- Nothing is filed under the transaction of `side`.
+  -- No entry has the transaction of `side` as its key.
   pub is_new : (key : Qualifiers) → key ≡ txn_of side → lookup (is_same_txn key) entries ≡ None
   is_new key same = ap (λ t. lookup (is_same_txn t) entries) same ∙ filed_with (txn_of side) entries filed.keys ∙ new_there
 
-  -- If `side` is filed under its transaction after the entries, all are filed.
+  -- If an entry of `side` with its transaction is appended, the entries are filed.
   put_there : (new : List (Qualifiers × Side)) → new ≡ entries ++ (txn_of side, side) ∷ []
       → AreFiled (keys_of new) (record { role = role; sides = values_of new })
   put_there new put =
@@ -167,7 +167,7 @@ module _ (role : Role) (entries : List (Qualifiers × Side)) (side : Side)
         few = omega (arith, small, length-append (values_of entries) (side ∷ []));
       })
 
-  -- If `side` is filed after the entries, under a key that is its transaction, all are filed.
+  -- If an entry of `side` with a key that is its transaction is appended, the entries are filed.
   pub filed_more : (key : Qualifiers) → key ≡ txn_of side → (new : List (Qualifiers × Side)) → new ≡ entries ++ (key, side) ∷ []
       → AreFiled (keys_of new) (record { role = role; sides = values_of new })
   filed_more key same new put = put_there new (put ∙ ap (λ t. entries ++ (t, side) ∷ []) same)
@@ -177,14 +177,14 @@ module _ (role : Role) (entries : List (Qualifiers × Side)) (side : Side)
       → AreFiled (keys_of new) (record { role = role; sides = values_of new })
   filed_still new same = subst (λ es. AreFiled (keys_of es) (record { role = role; sides = values_of es })) (sym same) filed
 
--- ---- one of the sides that are filed is changed
+-- ---- a change of one filed side
 
--- The idle side of a side has its transaction.
+-- The idle side of a side has the transaction of the side.
 pub idle_txn : (side : Side) → txn_of (idle_of side) ≡ txn_of side
 idle_txn (sides.Requester x) = refl
 idle_txn (sides.Responder y) = refl
 
--- The idle side of a side has its role.
+-- The idle side of a side has the role of the side.
 pub idle_role : (side : Side) → role_of (idle_of side) ≡ role_of side
 idle_role (sides.Requester x) = refl
 idle_role (sides.Responder y) = refl
@@ -194,12 +194,12 @@ unfoldable are_other : List Qualifiers → Bool
 are_other [] = true
 are_other (txn ∷ txns) = is_none (found_by (λ t. t) txn txns) && are_other txns
 
--- The transaction of a found side is absent exactly if no side is found.
+-- A search gives no transaction exactly if it gives no side.
 mapped_none : (txn : Qualifiers) (found : Option Side) → is_none (option_map txn_of found) ≡ is_none found
 mapped_none txn None = refl
 mapped_none txn (Some side) = refl
 
--- Sides are apart exactly if their transactions differ.
+-- `are_apart` of sides is `are_other` of their transactions.
 apart_by_txns : (sides : List Side) → are_apart sides ≡ are_other (map txn_of sides)
 unfolding side_with are_apart are_other
 apart_by_txns [] = refl
@@ -209,7 +209,7 @@ apart_by_txns (side ∷ sides) =
     ∙ mapped_none (txn_of side) (found_by txn_of (txn_of side) sides)))
     ∙ ap (λ b. is_none (found_by (λ t. t) (txn_of side) (map txn_of sides)) && b) (apart_by_txns sides)
 
--- If `values_set` holds of the other entries, it holds with `e` before them.
+-- If `values_set` holds for the other entries, it holds with `e` before them.
 set_first : (test : Bool) (e : Qualifiers × Side) (after side : Side) (found : Option Side) (set_on : List (Qualifiers × Side))
     (entries : List (Qualifiers × Side)) (put_on : List Side)
     → cond test (Some e.1) found ≡ Some side
@@ -218,7 +218,7 @@ set_first : (test : Bool) (e : Qualifiers × Side) (after side : Side) (found : 
 set_first true e after side found set_on entries put_on there further = refl
 set_first false e after side found set_on entries put_on there further = ap (λ vs. e.1 ∷ vs) (further there)
 
--- Setting the side of the entry of `txn` is putting that side among the sides.
+-- Setting the side in the entry of `txn` puts this side among the sides.
 values_set : (txn : Qualifiers) (after side : Side) (entries : List (Qualifiers × Side)) → txn ≡ txn_of after
     → keys_of entries ≡ map txn_of (values_of entries) → lookup (is_same_txn txn) entries ≡ Some side
     → values_of (set_value (is_same_txn txn) entries after) ≡ put_by txn_of after (values_of entries)
@@ -233,13 +233,13 @@ values_set txn after side (e ∷ entries) of_txn keyed there =
     ∙ ap (λ t. cond (is_same_txn t e.0) (after ∷ values_of entries) (e.1 ∷ put_on)) of_txn
     ∙ ap (λ t. cond (is_same_txn (txn_of after) t) (after ∷ values_of entries) (e.1 ∷ put_on)) first
 
--- A side that `side_with` finds is the one that `found_by` finds.
+-- A side that `side_with` finds is the side that `found_by` finds.
 pub found_plainly : (txn : Qualifiers) (sides : List Side) (side : Side) → side_with txn sides ≡ Some side
     → found_by txn_of txn sides ≡ Some side
 unfolding side_with
 found_plainly txn sides side found = found
 
--- A side keeps its role and its transaction, and does not become idle.
+-- The new side has the role and the transaction of the old one. If the old one is not idle, the new one is not.
 record Stays (old new : Side) : Type 0 where
   idle : idle_of new ≡ idle_of old
   begun : is_idle old ≡ false → is_idle new ≡ false
@@ -265,7 +265,7 @@ module _ (role : Role) (entries : List (Qualifiers × Side))
   same_txns = keys_put txn_of after side (values_of entries)
       (ap (λ t. found_by txn_of t (values_of entries)) (sym of_txn) ∙ found)
 
-  -- `after` may stand among sides of the role.
+  -- `after` is of the role and not idle.
   stands : is_begun role after ≡ true
   stands =
       let held = and_parts _ _ filed.held in
@@ -273,7 +273,7 @@ module _ (role : Role) (entries : List (Qualifiers × Side))
       let same : role_of after ≡ role_of side = sym (idle_role after) ∙ ap role_of stays.idle ∙ idle_role side in
       and_from _ _ (ap (is_same_role role) same ∙ stood.0) (ap not (stays.begun (not_true _ stood.1)))
 
-  -- If the side of `txn` is changed to `after`, all are filed.
+  -- If the side of `txn` is changed to `after`, the entries are filed.
   filed_changed : (new : List (Qualifiers × Side)) → new ≡ set_value (is_same_txn txn) entries after
       → AreFiled (keys_of new) (record { role = role; sides = values_of new })
   filed_changed new changed =
@@ -292,26 +292,26 @@ module _ (role : Role) (entries : List (Qualifiers × Side))
             ∙ length-map (put_by txn_of after (values_of entries)) txn_of) filed.few;
       })
 
--- ---- a side is changed, or none is found
+-- ---- a change of one side or of none
 
--- An action leads to the new side by a row, or the side stays.
+-- An action leads to the new side by a transition, or the side is unchanged.
 pub acts_row : (old new : Side) (action : Action) (answer : Result (Unit {0}) Refusal) → Acts old action answer new
     → IsStep old new ⊎ (new ≡ old)
 acts_row old new action (Ok done) acts = inl (acted action acts)
 acts_row old new action (Err refusals.OutOfMemory) acts = inr acts.1
 acts_row old new action (Err refusal) acts = inr acts.1
 
--- An APDU leads to the new side by a row, or the side stays.
+-- An APDU leads to the new side by a transition, or the side is unchanged.
 pub takes_row : (old new : Side) (a : Apdu) (answer : Result Taking Refusal) → Takes old a answer new
     → IsStep old new ⊎ (new ≡ old)
 takes_row old new a (Err refusals.OutOfMemory) takes = inr takes.2
 takes_row old new a answer takes = inl (took a (ap (λ (r : Result Taking Refusal × Side). r.1) takes))
 
--- The law of rows: a side that is not idle is not idle after a row.
+-- The law of transitions: a side that is not idle is not idle after a transition.
 abbrev pub RowsStay : Type 0
 RowsStay = (old new : Side) → IsStep old new → is_idle old ≡ false → is_idle new ≡ false
 
--- A side after a row, or unchanged, keeps its role and transaction and does not become idle.
+-- A side after a transition, or unchanged, keeps its role and transaction and does not become idle.
 stays_by : RowsGrow → RowsStay → (old new : Side) → IsStep old new ⊎ (new ≡ old) → Stays old new
 stays_by grows begins old new (inl row) = record { idle = (grows old new row).0; begun = begins old new row }
 stays_by grows begins old new (inr same) = record { idle = ap idle_of same; begun = λ begun. ap is_idle same ∙ begun }
@@ -320,7 +320,7 @@ module _ (grows : RowsGrow) (begins : RowsStay) {A : Type 0} (Does : Side → A 
     (rows : (old new : Side) (answer : A) → Does old answer new → IsStep old new ⊎ (new ≡ old))
     (role : Role) (txn : Qualifiers) (entries : List (Qualifiers × Side))
     (filed : AreFiled (keys_of entries) (record { role = role; sides = values_of entries })) where
-  -- If the side of `txn` alone does something, all are filed after it.
+  -- If `Does` describes a call of the side of `txn` alone, the entries are filed after it.
   pub filed_on : (answer : Option A) (new : List (Qualifiers × Side)) → OnlyThatEntry Does txn entries answer new
       → AreFiled (keys_of new) (record { role = role; sides = values_of new })
   filed_on None new only = subst (λ es. AreFiled (keys_of es) (record { role = role; sides = values_of es })) (sym only.1) filed

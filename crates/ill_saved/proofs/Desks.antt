@@ -1,4 +1,4 @@
--- The rules of a desk of one side hold after each of its calls.
+-- The rules of a desk of one side. They hold after each of its calls.
 use Rattle.std.proofs.Common.{rules, arith, ◌≡◌, ◌⊎◌, ℕ, ◌+◌, ◌≤◌, Bool, true, List, [], ◌∷◌, ◌++◌, length, Option, Some, None}
 use Rattle.std.proofs.Common.{Result, Ok, Err, refl, ap, sym, subst, ◌∙◌, inl, inr, length-append, append-nil, append_assoc, drop}
 use Rattle.std.specs.Prelude.{IfErr, IfOk, is_ok, nat_le, map, option_map, slice_get, zero, suc, ◌-◌, is_some, if◌then◌else◌, not}
@@ -63,7 +63,7 @@ use Rattle.ill_saved.specs.OneSide.{OneBacks, alone, one_acts, one_answers, one_
 use Rattle.ill_saved.specs.Desk.{IsOneApdu, Restarts}
 use Rattle.ill_saved.proofs.Rules.{responder_asked}
 
--- The laws of ill_core on rows: a row keeps the transaction, and issues one APDU or none.
+-- The laws of ill_core on transitions: a transition keeps the transaction, and issues at most one APDU.
 pub record CoreRows : Type 0 where
   pub wish_txn : (x new : RequesterRecord) (wish : Wish) → requester_actions.acts x wish ≡ Ok new → new.txn ≡ x.txn
   pub wish_issues : (x new : RequesterRecord) (wish : Wish) → requester_actions.acts x wish ≡ Ok new
@@ -85,22 +85,22 @@ one_more apdus a = (a ∷ [], refl)
 none_more : (old new : List Apdu) → new ≡ old → IsPrefix old new
 none_more old new e = ([], e ∙ sym (append-nil old))
 
--- A list has no more APDUs than a list of which it is a prefix.
+-- If `old` is a prefix of `new`, it has at most the length of `new`.
 pub no_less : (old new : List Apdu) → IsPrefix old new → length old ≤ length new
 no_less old new prefix = omega (arith, ap length prefix.1 ∙ length-append old prefix.0)
 
--- If the side of a result is `new`, the result is a record, and `new` is its side.
+-- If `done_by` gives the side `new`, the result is a record whose side is `new`.
 done_is : {R : Type 0} (make : R → Side) (r : Result R Refusal) (new : Side) → done_by make r ≡ Ok new
     → (made : R) × (r ≡ Ok made) × (make made ≡ new)
 done_is make (Ok made) new e = (made, refl, search rules)
 done_is make (Err refusal) new e = search rules
 
--- If a requester keeps its transaction and issues no less, its side grows.
+-- If a requester keeps its transaction, and its old messages are a prefix of the new ones, its side grows.
 requester_grows : (x made : RequesterRecord) → made.txn ≡ x.txn → IsPrefix x.issued made.issued
     → Grows (sides.Requester x) (sides.Requester made)
 requester_grows x made txn more = (ap (λ t. idle_of (sides.Requester (record x { txn = t }))) txn, more)
 
--- If a responder keeps its transaction and issues no less, its side grows.
+-- If a responder keeps its transaction, and its old messages are a prefix of the new ones, its side grows.
 responder_grows : (y made : ResponderRecord) → made.txn ≡ y.txn → IsPrefix y.issued made.issued
     → Grows (sides.Responder y) (sides.Responder made)
 responder_grows y made txn more = (ap (λ t. idle_of (sides.Responder (record y { txn = t }))) txn, more)
@@ -147,7 +147,7 @@ takes_grow rows (sides.Responder y) a =
     let new = (responder_deliveries.takes y a).1 in
     responder_grows y new (rows.responder_txn y a) (unfilled_grows y new a (rows.responder_issues y a))
 
--- A side grows by each row.
+-- A side grows by each transition.
 pub row_grows : CoreRows → (old new : Side) → IsStep old new → Grows old new
 row_grows rows old new (acted action e) = acts_grow rows old new action e
 row_grows rows old new (took a e) = subst (Grows old) e (takes_grow rows old a)
@@ -169,7 +169,7 @@ keeps_request y new keeps asked =
     let landed_record = keeps (not_true _ asked) in
     (ap not landed_record.0, landed_record.1)
 
--- A requester was never asked, so its side has no request to keep.
+-- A requester never takes a request, so each side keeps its request.
 never_asked : (x : RequesterRecord) (new : Side) → KeepsRequest (sides.Requester x) new
 never_asked x new asked = absurd cc
 
@@ -186,16 +186,16 @@ takes_keep_request : RequestRows → (old : Side) (a : Apdu) → KeepsRequest ol
 takes_keep_request rows (sides.Responder y) a = keeps_request y (responder_deliveries.takes y a).1 (rows.message y a)
 takes_keep_request rows (sides.Requester x) a = never_asked x (takes (sides.Requester x) a).1
 
--- Each row keeps the request.
+-- Each transition keeps the request.
 pub row_keeps_request : RequestRows → (old new : Side) → IsStep old new → KeepsRequest old new
 row_keeps_request rows old new (acted action e) = acts_keep_request rows old new action e
 row_keeps_request rows old new (took a e) = subst (KeepsRequest old) e (takes_keep_request rows old a)
 
--- The law of rows: a side grows by each row.
+-- The law of transitions: a side grows by each transition.
 abbrev pub RowsGrow : Type 0
 RowsGrow = (old new : Side) → IsStep old new → Grows old new
 
--- The law of requests: each row keeps the request.
+-- The law of requests: each transition keeps the request.
 abbrev pub RowsKeepRequest : Type 0
 RowsKeepRequest = (old new : Side) → IsStep old new → KeepsRequest old new
 
@@ -225,7 +225,7 @@ takes_stay rows keeps (sides.Requester x) a begun = rows.message x a begun
 takes_stay rows keeps (sides.Responder y) a begun =
     not_true _ (keeps (sides.Responder y) (takes (sides.Responder y) a).1 (took a refl) (ap not begun)).0
 
--- A side that is not idle is not idle after a row.
+-- A side that is not idle is not idle after a transition.
 pub rows_stay : BeginningRows → RowsKeepRequest → (old new : Side) → IsStep old new → is_idle old ≡ false → is_idle new ≡ false
 rows_stay rows keeps old new (acted action e) begun = acts_begin rows old new action e
 rows_stay rows keeps old new (took a e) begun = subst (λ side. is_idle side ≡ false) e (takes_stay rows keeps old a begun)
@@ -238,7 +238,7 @@ not_both answer refusal taken refused = search rules
 abbrev pub RefusalsStay : Type 0
 RefusalsStay = (side : Side) (a : Apdu) (refusal : Refusal) → (takes side a).0 ≡ Err refusal → (takes side a).1 ≡ side
 
--- If each role takes an APDU or stays unchanged, an APDU that is refused leaves the side unchanged.
+-- If each role either takes an APDU or is unchanged, an APDU that is refused leaves the side unchanged.
 pub refusals_stay : ((x : RequesterRecord) (a : Apdu)
     → ((requester_deliveries.takes x a).0 ≡ Ok Taken) ⊎ ((requester_deliveries.takes x a).1 ≡ x))
     → ((y : ResponderRecord) (a : Apdu)
@@ -258,32 +258,32 @@ prefix_of_prefix : (old between new : List Apdu) → IsPrefix old between → Is
 prefix_of_prefix old between new before after =
     (before.0 ++ after.0, after.1 ∙ (ap (λ l. l ++ after.0) before.1 ∙ append_assoc old before.0 after.0))
 
--- If a side follows from another by rows, it has issued all that the other has, as a prefix.
+-- If transitions lead from `old` to `new`, the issued messages of `old` are a prefix of those of `new`.
 pub follows_issues : RowsGrow → (old new : Side) → Follows old new → IsPrefix (issued_of old) (issued_of new)
 follows_issues grows old _ same = none_more (issued_of old) (issued_of old) refl
 follows_issues grows old _ (further between new follows row) =
     prefix_of_prefix (issued_of old) (issued_of between) (issued_of new) (follows_issues grows old between follows)
     (grows between new row).1
 
--- ---- the landed side backs the live one after a row
+-- ---- the landed side after a transition of the live one
 
 -- Returns a held side with its released count.
 abbrev entry : Side → ℕ → DeskEntry
 entry side released = record { side = side; released = released }
 
--- If a landed side backs the live one, it backs it after a row.
+-- If a landed side backs the live one, it backs it after a transition.
 step_backed : (landed : DeskEntry) (old new : Side) (released : ℕ) → IsStep old new
     → OneBacks landed (entry old released) → OneBacks landed (entry new released)
 step_backed landed old new released row backed =
     record { consistent = backed.consistent; follows = further old new backed.follows row; has-released = backed.has-released }
 
--- If the side that was read backs the live one, it backs it after a row.
+-- If the side that was read backs the live one, it backs it after a transition.
 read_backs : (read : Result DeskEntry RecordFault) (old new : Side) (released : ℕ) → IsStep old new
     → IsBackedByRead OneBacks read (entry old released) → IsBackedByRead OneBacks read (entry new released)
 read_backs (Ok landed) old new released row backed = step_backed landed old new released row backed
 read_backs (Err fault) old new released row backed = backed
 
--- If the landed side backs the live one, it backs it after a row.
+-- All landed bytes that back the live side back it after a transition.
 row_backs : RowsGrow → (old new : Side) (released : ℕ) → IsStep old new
     → StaysBacked one_side OneBacks (entry old released) (entry new released)
 row_backs grows old new released row None backed =
@@ -291,7 +291,7 @@ row_backs grows old new released row None backed =
     (step_backed (whole (idle_of old)) old new released row backed)
 row_backs grows old new released row (Some bytes) backed = read_backs (one_side.read bytes) old new released row backed
 
--- If a requester keeps its transaction and its first `count` messages, it goes back to the record of before.
+-- If a requester keeps its transaction and its first `count` messages, it goes back to the record that it had before.
 requester_back : (s : RequesterStanding) (count : ℕ) (x new : RequesterRecord) → new.txn ≡ x.txn
     → IsPrefix x.issued new.issued → count ≤ length x.issued
     → requesters.back_to s count new ≡ requesters.back_to s count x
@@ -301,13 +301,14 @@ requester_back s count x new txn more few =
     ap (λ t. requester_of t s.state s.held s.checked_in s.due (take count new.issued)) txn
     ∙ ap (requester_of x.txn s.state s.held s.checked_in s.due) issued
 
--- If a request stays unless the standing is IDLE, the request of the standing stays.
+-- If the request is unchanged unless the standing is IDLE, the request that belongs to the standing is unchanged.
 request_stays : (is_idle : Bool) (old new : Option Apdu) → (is_idle ≡ false → new ≡ old)
     → (if is_idle then None else new) ≡ (if is_idle then None else old)
 request_stays true old new stays = refl
 request_stays false old new stays = stays refl
 
--- If a responder keeps its transaction, its first `count` messages and its request, it goes back as before.
+-- If a responder keeps its transaction, its first `count` messages and its request, it goes back to the record that it
+-- had before.
 responder_back : (s : ResponderStanding) (count : ℕ) (y new : ResponderRecord) → new.txn ≡ y.txn
     → IsPrefix y.issued new.issued → count ≤ length y.issued
     → (is_among (Idle ∷ []) s.state ≡ false → new.request ≡ y.request)
@@ -326,7 +327,7 @@ responder_back s count y new txn more few stays =
 some_is : (s t : Side) → ◌≡◌ {A = Option Side} (Some s) (Some t) → s ≡ t
 some_is s t e = search rules
 
--- A side that grows and keeps its request goes back to the side to which it could go before.
+-- A side that grows and keeps its request can go back to each side to which it could go back before.
 back_on : (s : Standing) (count : ℕ) (old new side : Side) → Grows old new → KeepsRequest old new
     → count ≤ length (issued_of old) → (is_asked side ≡ true → is_asked old ≡ true)
     → back_to s count old ≡ Some side → back_to s count new ≡ Some side
@@ -341,7 +342,7 @@ back_on (standings.Responder s) count (sides.Requester x) new side grows keeps f
 back_on (standings.Requester s) count (sides.Requester x) (sides.Responder new) side grows keeps few asked e = absurd cc
 back_on (standings.Responder s) count (sides.Responder y) (sides.Requester new) side grows keeps few asked e = absurd cc
 
--- If a desk keeps a record, it keeps it after its side grows and keeps its request.
+-- If the live side grows and keeps its request, `HoldsReleased` remains true.
 keeps_on : (landed_record : LandedBytes) (old new : Side) (released : ℕ) → released ≤ length (issued_of old) → Grows old new
     → KeepsRequest old new → HoldsReleased landed_record old released → HoldsReleased landed_record new released
 keeps_on landed_record old new released few grows keeps (inl none) = inl none
@@ -357,16 +358,16 @@ keeps_on landed_record old new released few grows keeps (inr (side, is, of)) =
       },
     )
 
--- The rules of a held side: no more messages are released than issued, and its kept record has just the released ones.
+-- The rules of a held side: at most the issued messages are released, and its landed record has the released ones.
 abbrev pub Rules : LandedBytes → Side → ℕ → Type 0
 Rules landed_record live released = (released ≤ length (issued_of live)) × HoldsReleased landed_record live released
 
--- A held side after a row keeps its rules, and all bytes that backed it back it.
+-- The new side satisfies the rules, and all bytes that back the old side back it.
 abbrev pub StaysRight : LandedBytes → Side → Side → ℕ → Type 0
 StaysRight landed_record old new released =
     Rules landed_record new released × StaysBacked one_side OneBacks (entry old released) (entry new released)
 
--- A held side stays right after a row.
+-- A held side satisfies `StaysRight` after a transition.
 row_rules : RowsGrow → RowsKeepRequest → (landed_record : LandedBytes) (old new : Side) (released : ℕ)
     → IsStep old new → Rules landed_record old released → StaysRight landed_record old new released
 row_rules grows keeps landed_record old new released row rules =
@@ -378,13 +379,13 @@ row_rules grows keeps landed_record old new released row rules =
       row_backs grows old new released row,
     )
 
--- A held side stays right if it does not change.
+-- A held side satisfies `StaysRight` if it does not change.
 same_rules : (landed_record : LandedBytes) (old new : Side) (released : ℕ) → new ≡ old
     → Rules landed_record old released → StaysRight landed_record old new released
 same_rules landed_record old new released e rules =
     subst (λ side. StaysRight landed_record old side released) (sym e) (rules, λ landed backed. backed)
 
--- A held side stays right after an action, whatever its answer.
+-- A held side satisfies `StaysRight` after an action, whatever the answer is.
 pub acts_rules : RowsGrow → RowsKeepRequest
     → (landed_record : LandedBytes) (old new : Side) (released : ℕ) (action : Action) (answer : Result (Unit {0}) Refusal)
     → Acts old action answer new → Rules landed_record old released → StaysRight landed_record old new released
@@ -395,7 +396,7 @@ acts_rules grows keeps landed_record old new released action (Err refusals.OutOf
 acts_rules grows keeps landed_record old new released action (Err refusal) acts rules =
     same_rules landed_record old new released acts.1 rules
 
--- A held side stays right after an APDU, whatever the answer.
+-- A held side satisfies `StaysRight` after an APDU, whatever the answer is.
 pub takes_rules : RowsGrow → RowsKeepRequest
     → (landed_record : LandedBytes) (old new : Side) (released : ℕ) (a : Apdu) (answer : Result Taking Refusal)
     → Takes old a answer new → Rules landed_record old released → StaysRight landed_record old new released
@@ -404,12 +405,12 @@ takes_rules grows keeps landed_record old new released a (Err refusals.OutOfMemo
 takes_rules grows keeps landed_record old new released a answer takes rules =
     row_rules grows keeps landed_record old new released (took a (ap (λ (r : Result Taking Refusal × Side). r.1) takes)) rules
 
--- Returns the answer of a held side for the answer of its core.
+-- Returns the answer of a desk for the answer of its side.
 abbrev pub core_answer : {A : Type 0} → Result A Refusal → Result A DeskFault
 core_answer (Ok answer) = Ok answer
 core_answer (Err refusal) = Err (of_core refusal)
 
--- If the action of a side is done exactly if that of its core is, the answers are alike.
+-- An action of a desk of one side is done exactly if the action of its side is done.
 one_ok : (held : DeskEntry) (r : Result Side Refusal) → is_ok (one_acts held r) ≡ is_ok r
 one_ok held (Ok side) = refl
 one_ok held (Err refusal) = refl
@@ -431,12 +432,12 @@ takes_alone held new a (Err refusal) takes =
 
 -- ---- one APDU
 
--- If bytes follow the APDU, the answer `Trailing` is right.
+-- If bytes follow the APDU, `Trailing` is an answer that `IsOneApdu` allows.
 one_after : (a : Apdu) (rest : List ℕ) → 1 ≤ length rest → IsOneApdu (Ok (a, rest)) (Err faults.Trailing)
 one_after a [] more = absurd (omega (arith, more))
 one_after a (byte ∷ rest) more = tt
 
--- If the APDU that was read ends before the bytes do, the answer `Trailing` is right.
+-- If the APDU that was read ends before the bytes do, `Trailing` is an answer that `IsOneApdu` allows.
 pub trailing_alone : (bytes : List ℕ) (read : Result (Apdu × List ℕ) DerFault) (found : Apdu × ℕ)
     → found.1 + 1 ≤ length bytes → short_form.Decodes bytes read (Ok found) → IsOneApdu read (Err faults.Trailing)
 trailing_alone bytes (Ok apdu) found less decodes =
@@ -446,18 +447,18 @@ trailing_alone bytes (Err fault) found less decodes = search rules
 
 -- ---- saving
 
--- The law of one record: a side in range is read again from its encoding.
+-- The law of one record: a side in range is read from its encoding.
 abbrev pub ReadsAgain : Type 0
 ReadsAgain = (side : Side) → IsSide side → record_at (record_spelling side) ≡ Ok side
 
--- A request that is there exactly if the state is not IDLE is the request in that state.
+-- If there is a request exactly if the state is not IDLE, clearing it in IDLE changes nothing.
 unless_idle : (is_idle : Bool) (request : Option Apdu) → is_some request ≡ not is_idle
     → (if is_idle then None else request) ≡ request
 unless_idle true None is = refl
 unless_idle true (Some a) is = absurd cc
 unless_idle false request is = refl
 
--- A consistent side goes back to itself with all that it has issued.
+-- A consistent side goes back to itself with its standing and all its issued messages.
 back_to_itself : (side : Side) (count : ℕ) → IsConsistent side → count ≡ length (issued_of side)
     → back_to (standing_of side) count side ≡ Some side
 back_to_itself (sides.Requester x) count is all =
@@ -471,7 +472,7 @@ back_to_itself (sides.Responder y) count is all =
     ∙ ap (λ l. Some (sides.Responder (responder_of y.txn y.state y.accepted y.last_cancel y.last_renew y.received y.request l)))
     (take_all count y.issued (omega (arith, all)))
 
--- If the record of a side is kept and all of its messages are released, its desk keeps the record.
+-- If the landed record is that of the side and all its messages are released, `HoldsReleased` is true.
 pub keeps_whole : (landed_record : LandedBytes) (side : Side) (count : ℕ) → IsLandedRecord landed_record side
     → count ≡ length (issued_of side)
     → HoldsReleased landed_record side count
@@ -491,7 +492,7 @@ keeps_whole landed_record side count is all =
 pub itself_backs : (side : Side) (count : ℕ) → IsConsistent side → count ≤ length (issued_of side) → IsBackedBy side side count
 itself_backs side count is few = record { consistent = is; follows = same; has-released = few }
 
--- The kept record of a side in range is its record.
+-- The bytes of the landed record of a side are its record.
 pub record_of : ReadsAgain → (landed_record : LandedBytes) (live : Side) (released : ℕ) → IsLandedRecord landed_record live
     → released ≤ length (issued_of live) → IsRecordOf one_side OneBacks landed_record.bytes (entry live released)
 record_of again landed_record live released is few =
@@ -503,7 +504,7 @@ record_of again landed_record live released is few =
       saved = itself_backs live (length (issued_of live)) is.0.0 (omega arith);
     }
 
--- The next kept record is the record of the side.
+-- The next landed record has the record of the side as its bytes.
 pub next_record : {E : Type 0} → ReadsAgain → (live : Side) (released : ℕ) (result : Result LandedBytes E)
     → IfOk result (λ landed_record. IsLandedRecord landed_record live) → released ≤ length (issued_of live)
     → IfOk result (λ landed_record. IsRecordOf one_side OneBacks landed_record.bytes (entry live released))
@@ -512,7 +513,7 @@ next_record again live released (Err fault) is few = tt
 
 -- ---- loading
 
--- The idle side of an idle side is that idle side.
+-- The idle side of an idle side is the idle side itself.
 idle_twice : (live : Side) → idle_of (idle_of live) ≡ idle_of live
 idle_twice (sides.Requester x) = refl
 idle_twice (sides.Responder y) = refl
@@ -533,7 +534,7 @@ pub idle_is_idle : (role : Role) (txn : Qualifiers) → idle_side role txn ≡ i
 idle_is_idle roles.Requester txn = refl
 idle_is_idle roles.Responder txn = refl
 
--- If nothing has landed, the idle side with nothing released is backed.
+-- If nothing has landed, the idle side with no message released is backed.
 pub idle_backs : (first : Side) → first ≡ idle_of first → OneBacks (one_side.unsaved (alone first)) (alone first)
 idle_backs first idle =
     subst (λ side. IsBackedBy side first 0) idle
@@ -545,23 +546,23 @@ idle_again_backs live =
     subst (λ side. OneBacks (whole side) (whole (idle_of live))) (sym (idle_twice live))
     (itself_backs (idle_of live) (length (issued_of (idle_of live))) (idle_consistent live) (omega arith))
 
--- An idle side with nothing released is that side with all of its messages released.
+-- An idle side with no message released is an idle side with all of its messages released.
 pub alone_whole : (live : Side) → alone (idle_of live) ≡ whole (idle_of live)
 alone_whole live = ap (entry (idle_of live)) (sym (nothing_issued live))
 
--- If bytes are read as sides that back themselves, the bytes back them.
+-- If bytes are read as sides that back themselves, the bytes back these sides.
 pub read_is_backed : {L K : Type 0} (effects : Effects L K) (backs : L → L → Type 0) (bytes : List ℕ) (live : L)
     → effects.read bytes ≡ Ok live → backs live live → IsBacked effects backs (Some bytes) live
 read_is_backed effects backs bytes live read backed = subst (λ r. IsBackedByRead backs r live) (sym read) backed
 
--- If the live side goes back to the kept record, the loaded bytes encode it with all of its messages released.
+-- If the live side goes back to the landed record, the loaded bytes are read as it with all its messages released.
 pub back_is : ReadsAgain → (landed_record : LandedBytes) (released : ℕ) (bytes : Option (List ℕ)) (old new : Side)
     → GoesBackTo landed_record released bytes true old new → landed_live one_side bytes (entry old released) ≡ Ok (whole new)
 back_is again landed_record released bytes old new (spelled, is, of) =
     ap (λ o. landed_live one_side o (entry old released)) (spelled ∙ ap (λ (k : LandedBytes). Some k.bytes) is.1)
     ∙ ap (map_ok whole) (again new is.0)
 
--- If the live side goes back to the kept record, the loaded bytes back it, and it keeps its rules.
+-- If the live side goes back to the landed record, the loaded bytes back it, and it satisfies its rules.
 pub back_rules : ReadsAgain → (landed_record : LandedBytes) (released : ℕ) (bytes : Option (List ℕ)) (old new : Side)
     → GoesBackTo landed_record released bytes true old new
     → Rules landed_record new released × IsBacked one_side OneBacks bytes (entry new released) × (entry new released ≡ whole new)
@@ -574,7 +575,7 @@ back_rules again landed_record released bytes old new (spelled, is, of) = (
   ap (entry new) of.all,
 )
 
--- A fault of decoding a value is the fault of what the value becomes.
+-- A fault of decoding remains if the decoded value is mapped.
 pub map_decodes : {V L : Type 0} (f : V → L) (read : Result V RecordFault) (begins : Bool) (fault : RecordFault)
     → Decodes read begins (Err fault) → Decodes (map_ok f read) begins (Err fault)
 map_decodes f read begins records.OutOfMemory decodes = decodes
@@ -592,7 +593,7 @@ fault_reads effects bytes (records.Bad at) decodes = decodes
 fault_reads effects bytes records.Inconsistent decodes = decodes
 fault_reads effects bytes records.Digest decodes = decodes
 
--- A fault of decoding one record is one of reading a record without a digest.
+-- A fault of decoding one side is a fault that reading a record without a digest can have.
 pub record_faults : (bytes : List ℕ) (begins : Bool) (fault : RecordFault) → Decodes (record_at bytes) begins (Err fault)
     → IsReadFault false (of_record fault)
 record_faults bytes begins records.OutOfMemory decodes = tt
@@ -601,7 +602,7 @@ record_faults bytes begins (records.Bad at) decodes = tt
 record_faults bytes begins records.Inconsistent decodes = tt
 record_faults bytes begins records.Digest decodes = absurd (no_digest bytes decodes)
 
--- Each fault of decoding is one of reading a record with a digest.
+-- Each fault of decoding is a fault that reading a record with a digest can have.
 pub records_faults : (fault : RecordFault) → IsReadFault true (of_record fault)
 records_faults records.OutOfMemory = tt
 records_faults records.Short = tt
@@ -652,7 +653,7 @@ restarts_to effects backs {bytes_of} {before} {after} {found} old new answer sto
 
 -- ---- sending
 
--- If the encodings of issued APDUs have `bytes` at index `n`, APDU `n` is in range and has that encoding.
+-- If the encodings of issued APDUs have `bytes` at index `n`, `bytes` are the encoding of APDU `n`, which is in range.
 message_stays : (issued more : List Apdu) (n : ℕ) (bytes : List ℕ) → Each IsApdu issued
     → slice_get (map spelling issued) n ≡ Some bytes
     → (a : Apdu) × (slice_get (issued ++ more) n ≡ Some a) × IsApdu a × (bytes ≡ spelling a)
@@ -661,7 +662,7 @@ message_stays [] more n bytes are e = absurd cc
 message_stays (a ∷ issued) more zero bytes are e = (a, refl, are.0, cc)
 message_stays (a ∷ issued) more (suc n) bytes are e = message_stays issued more n bytes are.1 e
 
--- If the kept record has `bytes` as message `number`, they encode that message of the live side.
+-- If the landed record has `bytes` as message `number`, they encode message `number` of the live side.
 pub message_released : (landed_record : LandedBytes) (live : Side) (released number : ℕ) (bytes : List ℕ)
     → HoldsReleased landed_record live released → 1 ≤ number → slice_get landed_record.pieces (number - 1) ≡ Some bytes
     → (a : Apdu) × (message (issued_of live) number ≡ Some a) × IsApdu a × (bytes ≡ spelling a)
@@ -676,7 +677,7 @@ message_released landed_record live released (suc n) bytes (inr (side, is, of)) 
     let found = message_stays (issued_of side) of.prefix.0 n bytes is.0.1.issued piece in
     (found.0, subst (λ apdus. slice_get apdus n ≡ Some found.0) (sym of.prefix.1) found.1, found.2, found.3)
 
--- If a released message is taken from the kept record, the answer is as `Sends` says.
+-- If a message is taken from the landed record, the answer is as `Sends` says.
 pub sends_released : {X : Type 0} (view : X → List ℕ) (value : X) (landed_record : LandedBytes) (live : Side)
     (released number : ℕ) (bytes : List ℕ)
     → HoldsReleased landed_record live released → 1 ≤ number → number ≤ released

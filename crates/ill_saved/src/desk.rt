@@ -134,8 +134,8 @@ impl<H: Holdings, S: Store> AnyDesk<H, S> {
         Ok(())
     }
 
-    /// Goes back to the sides in the store, or to those of a new desk if the store has no record. All their messages may
-    /// be sent. A fault changes neither the sides nor the released messages.
+    /// Goes back to the sides in the store, or to those of a new desk if the store has no record. All their messages
+    /// may be sent. A fault changes neither the sides nor the released messages.
     pub fn restart(&mut self, alloc: Global) -> Result<(), DeskFault>
         ensures restarts { (S.state self.old.store).is_honest ≡ true →
             Restarts (landed_live H.effects (S.state self.old.store).landed self.old.live)

@@ -159,8 +159,8 @@ impl<'a, R: Files> FileStore<'a, R> {
         }
     }
 
-    /// Writes the bytes to a new file beside the record, and then replaces the record by it. Waits after each part until
-    /// it is durable. An empty path names no file, and touches nothing.
+    /// Writes the bytes to a new file beside the record, and then replaces the record by it. Waits until each of these
+    /// is durable. An empty path names no file, and touches nothing.
     fn replace(&mut self, bytes: &[u8]) -> io::Result<()>
         ensures { self.new ≡ self.old }
     {

@@ -1,4 +1,4 @@
-//! What a desk holds: one side, or the sides of many transactions.
+//! The sides that a desk holds: one side, or the sides of many transactions.
 
 ghost use Rattle.std.specs.Prelude.{◌≡◌, List, ℕ, option_copied, option_map, IfOk, IfErr, OnOk};
 ghost use Rattle.ill_saved.specs.Holdings.{Effects, DeskActs, DeskTakesApdu, SendsHeld, StaysBacked, IsBacked, IsRecordOf, IsReadFault, ReadsRecord, GoesBackToLanded};
@@ -13,37 +13,37 @@ use ill_core::Taking;
 use ill_values::{Apdu, Number, OutOfMemory};
 use std::alloc::Global;
 
-/// What a desk holds in memory: one side, or the sides of many transactions. It knows which messages may be sent.
+/// The sides that a desk holds in memory: one side, or the sides of many transactions, with their released messages.
 pub trait Holdings: Drop {
     /// The name of a side.
     type Key;
 
-    /// The arguments of a beginning.
+    /// The argument of `begin`.
     type First;
 
     /// A record of all sides, ready to be saved.
     type Record: Drop;
 
-    /// The effects of the calls on the sides.
+    /// The effects of a desk's calls on the sides.
     ghost effects: { Effects Self Self.Key };
 
-    /// The landed sides back the live ones: each live side follows from its landed one, which has each released
-    /// message.
+    /// The landed sides back the live ones. Transitions lead from each landed side to its live side, and the landed
+    /// side has each released message.
     ghost backs: { Self → Self → Type 0 };
 
     /// The sides are consistent, and each fits into a record.
     ghost in_range: { Self → Type 0 };
 
-    /// The sides that are held after a beginning.
+    /// Returns the sides of a new desk.
     ghost begun: { Self.First → Self };
 
-    /// The bytes of a record.
+    /// Returns the bytes of a record.
     ghost encoded: { Self.Record → List ℕ };
 
-    /// The record is of these sides.
+    /// The record is the record of these sides.
     ghost fits: { Self.Record → Self → Type 0 };
 
-    /// Begins with sides of which nothing is saved. Allocates nothing.
+    /// Returns the sides of a new desk, with no message released. Allocates nothing.
     fn begin(alloc: Global, first: Self::First) -> Self
         ensures begins { result ≡ begun first }
         ensures backed { backs (effects.unsaved result) result };
@@ -83,13 +83,13 @@ pub trait Holdings: Drop {
     fn bytes(made: &Self::Record) -> &[u8]
         ensures { result.now ≡ encoded made.now };
 
-    /// Releases all messages, as the record `landed` has landed.
+    /// Releases all messages. Their record `landed` has landed.
     fn release(&mut self, landed: Self::Record)
         requires fits { fits landed self.old }
         ensures { self.new ≡ effects.saves self.old };
 
-    /// Goes back to the sides that the landed `bytes` encode, or to those of a beginning if there are none. All their
-    /// messages may be sent. A fault changes nothing.
+    /// Goes back to the sides that the landed `bytes` encode, or to those of a new desk if there are no bytes. All
+    /// their messages may be sent. A fault changes nothing.
     fn go_back(&mut self, alloc: Global, bytes: Option<Vec<u8>>) -> Result<(), DeskFault>
         ensures goes { GoesBackToLanded effects (option_map (λ b. b.items) bytes) self.old result
             self.new }
@@ -101,11 +101,11 @@ pub trait Holdings: Drop {
     fn key_of(apdu: &Apdu) -> &Self::Key
         ensures { result.now ≡ effects.key_of apdu.now };
 
-    /// Returns the name of the side that is there from the beginning, if there is one.
+    /// Returns the name of the side that a new desk holds, if there is one.
     fn first_key(&self) -> Option<&Self::Key>
         ensures { option_copied result ≡ effects.first_key };
 
-    /// Returns the parts of the side `key` that a line shows. A side that is not held is idle.
+    /// Returns the parts of the side `key` that a line of output shows. A side that is not held counts as idle.
     fn shown(&self, key: &Self::Key) -> Shown
         ensures { result ≡ shown_of (effects.side_for key.now self.now).side
             (effects.side_for key.now self.now).released };

@@ -1,4 +1,4 @@
-//! The record that has landed, as a desk keeps it.
+//! The copy of the landed record that a desk of one side has in memory.
 
 ghost use Rattle.std.specs.Prelude.{◌≡◌, ◌++◌, ◌-◌, ◌≤◌, length, map, drop, Some, option_map, IfOk};
 ghost use Rattle.std.specs.List.{All, slice_get};
@@ -22,8 +22,8 @@ pub struct Place {
     size: usize,
 }
 
-/// The bytes of a record, the place of each message in them, and the standing of its side. The messages are
-/// the record's last part.
+/// The bytes of a landed record, the place of each message in them, and the standing of its side. The messages
+/// are the last part of the record.
 #[derive(Debug, Drop)]
 pub struct LandedRecord {
     standing: Option<Standing>,
@@ -47,7 +47,7 @@ impl Model for LandedRecord {
 }
 
 impl LandedRecord {
-    /// Returns no record. Allocates nothing.
+    /// Returns the copy of a desk that knows of no landed record. Allocates nothing.
     pub fn none(alloc: Global) -> LandedRecord
         ensures { result ≡ no_landed_record }
     {
@@ -59,7 +59,7 @@ impl LandedRecord {
         }
     }
 
-    /// Returns the record of `side`, which is `bytes`. Allocates the places.
+    /// Returns the copy of the record of `side`. `bytes` must be that record. Allocates the places.
     pub fn of(alloc: Global, bytes: Vec<u8>, side: &Side) -> Result<LandedRecord, OutOfMemory>
         requires spelled { bytes.items ≡ record_spelling side.now }
         ensures { IfOk result (λ landed_record. landed_record ≡ landed_bytes_of side.now) }
@@ -67,8 +67,8 @@ impl LandedRecord {
         LandedRecord::none(alloc).followed_by(alloc, side.standing(), bytes, side.all_issued())
     }
 
-    /// Returns the record of `side`, whose first `released` messages are kept here. Copies these, and encodes only
-    /// the others.
+    /// Returns the record of `side`, whose first `released` messages are in this copy. Copies these, and encodes
+    /// only the others.
     pub fn next(
         &self,
         alloc: Global,
@@ -115,8 +115,8 @@ impl LandedRecord {
         })
     }
 
-    /// Takes `live` back to the side of the kept record, and returns true, if `bytes` are that record. The number of
-    /// released messages is `released`. Allocates nothing.
+    /// If `bytes` are this record, takes `live` back to its side and returns true. Otherwise returns false. `released`
+    /// must be the number of released messages. Allocates nothing.
     pub fn take_back(&self, bytes: &Option<Vec<u8>>, released: u8, live: &mut Side) -> bool
         requires keeps { HoldsReleased self.now live.old released }
         ensures { GoesBackTo self.now released (option_map (λ b. b.items) bytes.now) result
@@ -137,14 +137,14 @@ impl LandedRecord {
         &self.bytes
     }
 
-    /// Returns the part of the bytes that has the messages.
+    /// Returns the last part of the bytes, which has the messages.
     fn messages(&self) -> &[u8]
         ensures { result.now ≡ self.now.messages }
     {
         &self.bytes[self.first..]
     }
 
-    /// Returns the bytes of message `number`, which must be one of them.
+    /// Returns the bytes of message `number`, which must be in the record.
     pub fn message(&self, number: Number) -> &[u8]
         requires { number ≤ length self.now.pieces }
         ensures { slice_get self.now.pieces (number - 1) ≡ Some result.now }

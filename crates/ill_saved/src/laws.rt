@@ -12,8 +12,8 @@ ghost use Rattle.ill_saved.specs.RecordsV2.{sides_spelling, is_version_1, record
 ghost use Rattle.ill_saved.specs.Ranges.{IsInRange, IsSide};
 ghost use Rattle.ill_saved.specs.Sides.{SidesOf};
 
-/// A side in range is read again from its encoding: `decode_record` gives the side that `encode_record`
-/// encoded.
+/// Each side that is consistent and in range is read from its encoding. So `decode_record` returns the side that
+/// `encode_record` encoded.
 pub fn read_again()
     ensures { (side : Side) → IsSide side → record_at (record_spelling side) ≡ Ok side }
 {
@@ -23,7 +23,7 @@ pub fn read_again()
     ill_der::laws::prefix_or_fault();
 }
 
-/// Bytes that are read as a side are its encoding, even if the side is not consistent.
+/// If bytes are read as a side, they are its encoding, even if the side is not consistent.
 pub fn spelled()
     ensures side { (bytes : List ℕ) (side : Side) → IsBytes bytes → record_at bytes ≡ Ok side →
         (bytes ≡ record_spelling side) × IsSide side }
@@ -36,15 +36,15 @@ pub fn spelled()
     ill_der::laws::prefix_or_fault();
 }
 
-/// No bytes encode two sides.
+/// Two sides with equal encodings are equal.
 pub fn one_side()
     ensures { (s t : Side) → IsSide s → IsSide t → record_spelling s ≡ record_spelling t → s ≡ t }
 {
     read_again();
 }
 
-/// A record has at most 41,811 bytes, so a store that takes 65,535 takes every record. A responder has 501
-/// bytes besides its issued messages, of which there are at most 255, of 162 each.
+/// The record of one side has at most 41,811 bytes, so a store that takes 65,535 takes every such record. A
+/// responder has 501 bytes besides at most 255 issued messages of at most 162 bytes each.
 pub fn record_is_short()
     ensures { (side : Side) → IsSide side → length (record_spelling side) ≤ 41811 }
 {
@@ -53,15 +53,15 @@ pub fn record_is_short()
     ill_der::laws::shorter();
 }
 
-/// A record of many sides has at most 41,813,039 bytes. So a store that takes `RECORD_LIMIT` takes every record of
-/// a desk. It has 39 besides the sides, of which there are at most 1,000, each with two for its length.
+/// The record of many sides has at most 41,813,039 bytes. So a store that takes `RECORD_LIMIT` takes every record of
+/// a desk. It has 39 bytes besides at most 1,000 sides, and each side has two bytes for its length.
 pub fn sides_record_is_short()
     ensures { (held : SidesOf) → AreSides held → length (sides_spelling held) ≤ 41813039 }
 {
     record_is_short();
 }
 
-/// Sides are read again from their encoding: `decode_record2` gives the sides that `encode_record2` encoded.
+/// Sides of a desk are read from their encoding. So `decode_record2` returns the sides that `encode_record2` encoded.
 pub fn sides_read_again()
     ensures { (held : SidesOf) → AreSides held → records_at (sides_spelling held) ≡ Ok held }
 {
@@ -70,7 +70,7 @@ pub fn sides_read_again()
     record_is_short();
 }
 
-/// Bytes that are read as sides, and are no record of version 1, are the encoding of these sides.
+/// If bytes are read as sides, and are no record of version 1, they are the encoding of these sides.
 pub fn sides_spelled()
     ensures { (bytes : List ℕ) (held : SidesOf) → IsBytes bytes → is_version_1 bytes ≡ false →
         records_at bytes ≡ Ok held → (bytes ≡ sides_spelling held) × AreSides held }
@@ -80,14 +80,15 @@ pub fn sides_spelled()
     record_is_short();
 }
 
-/// No bytes encode two lists of sides, or sides of two roles.
+/// If the sides of two desks have equal encodings, they are equal, and their roles are equal.
 pub fn one_sides()
     ensures { (a b : SidesOf) → AreSides a → AreSides b → sides_spelling a ≡ sides_spelling b → a ≡ b }
 {
     sides_read_again();
 }
 
-/// An action or a message keeps the role and the transaction, and takes no message away.
+/// An action or a delivery keeps the role and the transaction of a side. The old issued messages are a prefix of the
+/// new ones.
 pub fn rows_grow()
     ensures { (old new : Side) → IsStep old new → Grows old new }
 {
@@ -97,14 +98,14 @@ pub fn rows_grow()
     ill_core::laws::responder_keeps_txn();
 }
 
-/// An action or a message keeps the request of a responder that was asked, and leaves it asked.
+/// After an action or a delivery, a responder that had taken a request still has it.
 pub fn rows_keep_request()
     ensures { (old new : Side) → IsStep old new → KeepsRequest old new }
 {
     ill_core::laws::responder_keeps_request();
 }
 
-/// No side is idle after an action. A side that is not idle is not idle after a message.
+/// No side is idle after an action. A side that is not idle is not idle after a delivery.
 pub fn rows_begin()
     ensures acts { (old new : Side) (action : Action) → acts old action ≡ Ok new → is_idle new ≡ false }
     ensures stays { (old new : Side) → IsStep old new → is_idle old ≡ false → is_idle new ≡ false }
@@ -123,7 +124,7 @@ pub fn refusals_stay()
     ill_core::laws::responder_is_quiet();
 }
 
-/// A side that follows from another by rows has issued all that the other has, as a prefix.
+/// If transitions lead from one side to another, the issued messages of the first are a prefix of those of the second.
 pub fn follows_issues()
     ensures { (old new : Side) → Follows old new → IsPrefix (issued_of old) (issued_of new) }
 {

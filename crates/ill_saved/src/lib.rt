@@ -1,5 +1,5 @@
-//! Saved records of the sides of an interlibrary loan, and stores for them. One side with its store, and
-//! the many sides of one library.
+//! Saved records of the sides of an interlibrary loan, and stores for them. Also, desks: one side, or the many sides
+//! of one library, with their store.
 #![tactic(auto)]
 
 mod cursor;

@@ -44,7 +44,7 @@ impl Model for ManySides {
 }
 
 impl ManySides {
-    /// Returns no sides, of this role. Allocates nothing.
+    /// Returns a `ManySides` of this role without a side. Allocates nothing.
     fn none(alloc: Global, role: Role) -> ManySides
         ensures { result ≡ no_sides role }
     {
@@ -85,7 +85,7 @@ impl ManySides {
         }
     }
 
-    /// Does the first action of a transaction.
+    /// Performs the first action of a transaction.
     fn act_first(&mut self, alloc: Global, txn: &TxnId, action: &Action) -> Result<(), DeskFault>
         requires none { found_by txn_held txn.now self.old.held ≡ None }
         requires role { is_same_role self.old.role (role_for action.now) ≡ true }
@@ -114,7 +114,7 @@ impl ManySides {
         Ok(Taking::Taken)
     }
 
-    /// Returns a fault if a transaction that is not held may not begin.
+    /// Checks that a transaction that is not held may begin. `begins` must be true, and there must be room.
     fn may_begin(&self, begins: bool) -> Result<(), DeskFault>
         ensures { MayBegin begins (nat_lt (length self.now.held) most_sides) result }
     {
@@ -128,7 +128,8 @@ impl ManySides {
         }
     }
 
-    /// Holds a side that has begun, with none of its messages released. It is the last change.
+    /// Puts a side that has begun after the others, with none of its messages released. If memory runs out, nothing
+    /// changes.
     fn hold(&mut self, alloc: Global, side: Side) -> Result<(), DeskFault>
         requires may { put_refusal (sides_held self.old) side ≡ None }
         requires row { IsStep (idle_side self.old.role (txn_of side)) side }
@@ -271,7 +272,7 @@ fn read_sides(alloc: Global, bytes: &[u8]) -> Result<ManySides, DeskFault>
     Ok(ManySides::whole(alloc, sides)?)
 }
 
-/// Decodes the sides that `bytes` encode. Without bytes, returns none, of this role.
+/// Decodes the sides that `bytes` encode. Without bytes, returns no sides of this role.
 fn read_or_none(alloc: Global, bytes: Option<Vec<u8>>, role: Role) -> Result<ManySides, DeskFault>
     ensures reads { ReadsOrNone (option_map (λ b. b.items) bytes) role result }
     ensures whole { IfOk result (IsWhole many_sides) }
@@ -284,7 +285,7 @@ fn read_or_none(alloc: Global, bytes: Option<Vec<u8>>, role: Role) -> Result<Man
     }
 }
 
-/// Returns true if a side of `role` issues APDUs with such a `body`.
+/// Returns true if a side of `role` issues APDUs with a body of the type of `body`.
 fn is_own(role: Role, body: &Body) -> bool
     ensures { result ≡ is_own role body.now }
 {

@@ -69,8 +69,8 @@ impl MemoryStore {
     }
 }
 
-/// A `load` fails only under a plan to fail, and then allocates nothing. A `save` that is planned to fail and
-/// to leave the old bytes allocates nothing. One that leaves the new bytes lands them first, or answers
+/// A `load` that is planned to fail allocates nothing. A `save` that is planned to fail and to leave the old bytes
+/// allocates nothing. If it is planned to land the new bytes, it lands them before it fails, or answers
 /// `OutOfMemory`.
 impl Store for MemoryStore {
     ghost state = { λ m. record {

@@ -1,4 +1,4 @@
-//! One side, as a desk holds it.
+//! The side of a desk of one side.
 
 ghost use Rattle.std.specs.Prelude.{◌≡◌, ◌≤◌, length, option_map, IfErr, IfOk};
 ghost use Rattle.ill_saved.specs.Side.{issued_of, idle_side};
@@ -24,8 +24,8 @@ use std::marker::Model;
 
 /// One side of a transaction, with the number of its released messages.
 ///
-/// It keeps the last record that is known to have landed. It sends messages from those bytes, and the next record
-/// copies them.
+/// It has a copy of the last record that is known to have landed. Messages are sent from this copy, and the next
+/// record copies them from it.
 #[derive(Debug, Drop)]
 pub struct OneSide {
     side: Side,
@@ -43,7 +43,7 @@ impl Model for OneSide {
 }
 
 impl OneSide {
-    /// Returns `side` with nothing released.
+    /// Returns `side` with none of its messages released.
     pub(crate) fn alone(alloc: Global, side: Side) -> OneSide
         ensures { result ≡ alone side }
     {

@@ -1,4 +1,4 @@
-//! Regular files at a path, and nothing else that may stand there.
+//! Regular files at a path. Anything else at the path is a fault.
 
 use std::fs::{Metadata, OpenFile, OpenOptions};
 use std::io::ErrorKind;
@@ -20,7 +20,7 @@ pub fn refuse_reserved(path: &str) -> io::Result<()> {
     Ok(())
 }
 
-/// Tells one file from another, and from itself before its bytes were changed.
+/// The identity of a file at its last modification: its device, its inode and the time of the modification.
 #[derive(Clone, Copy, PartialEq, Eq)]
 pub struct Identity {
     device: u64,
@@ -39,8 +39,8 @@ impl Identity {
     }
 }
 
-/// Looks up the regular file at a path, if a file is there. Anything else in its place is a fault. To open a pipe
-/// would be to wait on it. To follow a link would be to have two names for one file.
+/// Looks up the regular file at a path, if there is one. Anything else at the path is a fault. A pipe would block
+/// when it is opened, and a link would give one file two names.
 pub fn find<R: Files>(rt: &R, path: &str) -> io::Result<Option<Metadata>> {
     match fs::symlink_metadata(rt, path) {
         Ok(found) if found.is_file() => Ok(Some(found)),
@@ -50,11 +50,11 @@ pub fn find<R: Files>(rt: &R, path: &str) -> io::Result<Option<Metadata>> {
     }
 }
 
-/// The number of attempts to look up and open a file, if its name comes to name another in between.
+/// The maximum number of attempts to look up and open a file, if another file replaces it in between.
 const LOOKUPS: u32 = 10;
 
-/// Opens the regular file at a path for reading, if a file is there. A file that has come there since the lookup is
-/// looked up in its turn, so no link is followed.
+/// Opens the regular file at a path for reading, if there is one. If another file has replaced it since the lookup,
+/// it is looked up again, so no link is followed.
 pub fn open<R: Files>(rt: &R, path: &str) -> io::Result<Option<(R::File, Identity)>> {
     for _ in 0..LOOKUPS {
         let Some(found) = find(rt, path)? else {
@@ -69,8 +69,8 @@ pub fn open<R: Files>(rt: &R, path: &str) -> io::Result<Option<(R::File, Identit
     Err(ErrorKind::InvalidInput.into())
 }
 
-/// Creates the file at a path, if nothing is there. If `share_like` is to follow, with `other`, the file is its
-/// creator's alone until then. Without `other`, it is as the system makes a new file.
+/// Creates the file at a path, if the path is free. With `other`, only its creator may use the file until
+/// `share_like` is called. Without `other`, it is created with the defaults of the system.
 pub fn create<R: Files>(rt: &R, path: &str, other: Option<&Metadata>) -> io::Result<R::File> {
     let mut options = OpenOptions::new();
     options.write(true);
@@ -81,7 +81,7 @@ pub fn create<R: Files>(rt: &R, path: &str, other: Option<&Metadata>) -> io::Res
     options.open(rt, path)
 }
 
-/// Gives the file at a path the group, the permissions and the owner of another file, as far as the system lets it.
+/// Gives the file at a path the group, the permissions and the owner of another file, as far as the system allows.
 pub fn share_like<R: Files>(
     rt: &R,
     path: &str,
@@ -97,7 +97,7 @@ pub fn share_like<R: Files>(
     Ok(())
 }
 
-/// Gives the file at a path an owner or a group, and returns true if the system lets it.
+/// Gives the file at a path an owner or a group, and returns true if the system allows it.
 fn give<R: Files>(rt: &R, path: &str, owner: Option<u32>, group: Option<u32>) -> io::Result<bool> {
     match lchown(rt, path, owner, group) {
         Ok(()) => Ok(true),
@@ -106,19 +106,19 @@ fn give<R: Files>(rt: &R, path: &str, owner: Option<u32>, group: Option<u32>) ->
     }
 }
 
-/// Returns the permissions for a file that has another group than it should. Its group gets none. The members of the
-/// right group are among the others now. So the others keep only permissions that the group had too.
+/// Returns the permissions for a file that could not be given its group. Its present group gets no permissions. The
+/// members of the intended group now count as others, so others get only permissions that this group also had.
 fn without_group(mode: u32) -> u32 {
     let of_the_group = (mode >> 3) & 0o7;
     (mode & !0o77) | (mode & of_the_group)
 }
 
-/// Returns true if the fault of a call means that the file system does not have the call.
+/// Returns true if the fault of a call means that the file system does not support the call.
 pub fn is_unsupported(fault: ErrorKind) -> bool {
     matches!(fault, ErrorKind::Unsupported | ErrorKind::InvalidInput)
 }
 
-/// Returns true if the fault means that this user may not make the call, or that the file system lacks it.
+/// Returns true if the fault means that this user may not make the call, or that the file system does not support it.
 fn is_refused(fault: ErrorKind) -> bool {
     fault == ErrorKind::PermissionDenied || is_unsupported(fault)
 }

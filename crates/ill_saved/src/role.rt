@@ -3,12 +3,12 @@
 ghost use Rattle.std.specs.Prelude.{◌≡◌};
 ghost use Rattle.ill_saved.specs.Side.{other};
 
-/// The role of a library in a transaction: one of its two sides (ISO 10160, where each is a role).
+/// The role of a library in a transaction: one of its two sides, as in ISO 10160.
 #[derive(Clone, Copy, Debug, PartialEq, Eq, Hash)]
 pub enum Role {
     /// The side that asks for an item.
     Requester,
-    /// The side that is asked for it.
+    /// The side that is asked for the item.
     Responder,
 }
 

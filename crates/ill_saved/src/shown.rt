@@ -1,4 +1,4 @@
-//! The parts of a side that a line shows.
+//! The parts of a side that a line of output shows.
 
 ghost use Rattle.std.specs.Prelude.{◌≡◌};
 ghost use Rattle.ill_values.specs.TxnId.{Qualifiers};
@@ -9,22 +9,22 @@ use crate::side::Side;
 use ill_core::State;
 use ill_values::Day;
 
-/// The parts of a side that a line shows: its state, its due date, and the counts of its released and its issued
-/// messages.
+/// The parts of a side that a line of output shows: its state, its due date, and the numbers of its released and
+/// its issued messages.
 #[derive(Clone, Copy)]
 pub struct Shown {
     /// The state.
     pub state: State,
-    /// The due date, if the side has one on record.
+    /// The due date, if the record of the side has one.
     pub due: Option<Day>,
     /// The number of messages that may be sent.
     pub released: u8,
-    /// The number of messages.
+    /// The number of issued messages.
     pub issued: u8,
 }
 
 impl Shown {
-    /// Returns the parts of `side`. `released` counts its released messages.
+    /// Returns the parts of `side`. `released` is the number of its released messages.
     pub fn of(side: &Side, released: u8) -> Shown
         ensures { result ≡ shown_of side.now released }
     {

@@ -14,12 +14,12 @@ use ill_core::{
 use ill_values::{Apdu, Day, Number, OutOfMemory, TxnId};
 use std::alloc::Global;
 
-/// One side of a transaction: the one that asks for an item, or the one that is asked.
+/// One side of a transaction: the library that asks for an item, or the library that is asked for it.
 #[derive(Debug, Drop)]
 pub enum Side {
     /// The side that asks for an item.
     Requester(Requester),
-    /// The side that is asked for it.
+    /// The side that is asked for the item.
     Responder(Responder),
 }
 
@@ -62,7 +62,7 @@ impl Action {
         }
     }
 
-    /// Returns true if the action begins a transaction: a request does.
+    /// Returns true if the action may begin a transaction. Only a request may.
     pub(crate) fn begins(&self) -> bool
         ensures { result ≡ begins self.now }
     {
@@ -71,7 +71,7 @@ impl Action {
 }
 
 impl Side {
-    /// Returns the side of this role and transaction that has issued and taken nothing. Allocates nothing.
+    /// Returns the idle side of this role and transaction, which has issued and taken nothing. Allocates nothing.
     pub fn idle(alloc: Global, role: Role, txn: TxnId) -> Side
         ensures { result ≡ idle_side role txn }
     {
@@ -81,8 +81,8 @@ impl Side {
         }
     }
 
-    /// Performs `action`, and issues the message that tells the other side. A wish of a responder, or a deed of a
-    /// requester, is `WrongRole`. A refusal changes nothing.
+    /// Performs `action`, and issues its message to the other side. An action of the other role is refused as
+    /// `WrongRole`. A refusal changes nothing.
     pub fn act(&mut self, alloc: Global, action: &Action) -> Result<(), Refusal>
         ensures { Acts self.old action.now result self.new }
     {
@@ -95,9 +95,9 @@ impl Side {
         }
     }
 
-    /// Takes a message of the other side, and answers with its effect. A refusal changes nothing. A requester
-    /// allocates nothing. A responder allocates only for an ILL-Request that it keeps, and for a
-    /// Conditional-Reply no that it answers.
+    /// Takes a message of the other side, and returns its effect. A refusal changes nothing. A requester allocates
+    /// nothing. A responder allocates only for an ILL-Request that it stores, and for a Conditional-Reply no that it
+    /// answers.
     pub fn take(&mut self, alloc: Global, apdu: &Apdu) -> Result<Taking, Refusal>
         ensures { Takes self.old apdu.now result self.new }
     {
@@ -117,7 +117,7 @@ impl Side {
         }
     }
 
-    /// Returns true if it is in IDLE: it has issued and taken nothing.
+    /// Returns true if this side is in IDLE: it has issued and taken nothing.
     pub fn is_idle(&self) -> bool
         ensures { result ≡ is_idle self.now }
     {
@@ -144,7 +144,7 @@ impl Side {
         }
     }
 
-    /// Returns the day on which the item is due, once it was shipped.
+    /// Returns the day on which the item is due, if it was shipped.
     pub fn due(&self) -> Option<Day>
         ensures { result ≡ due_date_of self.now }
     {
@@ -155,7 +155,7 @@ impl Side {
     }
 
     /// Returns the verbs of all actions that `act` does not refuse as `NotNow` or `WrongRole`. It may still refuse
-    /// them: for a date, for 255 messages that were issued, or if memory runs out.
+    /// them for a date, after 255 issued messages, or if memory runs out.
     pub fn verbs(&self) -> &'static [Verb]
         ensures value { result.now ≡ verbs_of self.now }
         ensures exact { (action : Action) →
@@ -167,7 +167,7 @@ impl Side {
         }
     }
 
-    /// Returns the turn, as far as this side knows it. If it is this side's turn, it has a verb.
+    /// Returns the turn, as far as this side knows it. If it is the turn of this side, `verbs` is not empty.
     pub fn turn(&self) -> Turn
         ensures value { result ≡ turn_of self.now }
         ensures mine { result ≡ Mine → verbs_of self.now ≡ [] → ⊥ }
@@ -199,7 +199,7 @@ impl Side {
         }
     }
 
-    /// Returns the message that this side issued with this number, if it did.
+    /// Returns the message with this number, if this side has issued it.
     pub fn issued(&self, number: Number) -> Option<&Apdu>
         ensures { option_map (λ a. a.now) result ≡ message (issued_of self.now) number }
     {
@@ -220,8 +220,8 @@ impl Side {
         }
     }
 
-    /// Goes back to `standing`, with the first `count` of its messages, if these parts fit together, and returns true.
-    /// Otherwise returns false, and nothing changes.
+    /// Goes back to the side with `standing` and the first `count` of the issued messages, if that side is consistent,
+    /// and returns true. Otherwise returns false, and nothing changes.
     pub(crate) fn go_back(&mut self, standing: &Standing, count: u8) -> bool
         ensures { GoesBack (back_to standing.now count self.old) result self.old self.new }
     {
@@ -236,7 +236,7 @@ impl Side {
         }
     }
 
-    /// Returns the idle side of its role and transaction, which has issued and taken nothing.
+    /// Returns the idle side of this role and transaction, which has issued and taken nothing.
     pub fn idle_again(&self, alloc: Global) -> Result<Side, OutOfMemory>
         ensures { IfOk result (λ idle. idle ≡ idle_of self.now) }
     {

@@ -19,8 +19,8 @@ use std::marker::Model;
 /// The maximum number of sides of one library that are held.
 pub const SIDES_LIMIT: usize = 1000;
 
-/// The sides of one library, all of one role, in the order in which they were put. None is idle, no two
-/// are of one transaction, and they are 1,000 at most.
+/// The sides of one library, all of one role, in the order in which they were put. None is idle, their
+/// transactions differ, and they are at most 1,000.
 #[derive(Drop)]
 pub struct Sides {
     role: Role,
@@ -37,7 +37,7 @@ impl Model for Sides {
 }
 
 impl Sides {
-    /// Returns no sides, of this role. Allocates nothing, so memory never runs out.
+    /// Returns a `Sides` of this role without a side. Allocates nothing, so memory never runs out.
     pub fn new(alloc: Global, role: Role) -> Result<Sides, OutOfMemory>
         ensures { result ≡ Ok (record { role = role; sides = [] }) }
     {
@@ -47,7 +47,7 @@ impl Sides {
         })
     }
 
-    /// Puts `side` after the others, or returns it with the first fault, which leaves these sides unchanged. The
+    /// Puts `side` after the others. If it cannot be put, returns it with the first fault, and nothing changes. The
     /// faults are the other role, an idle side, a held transaction, 1,000 sides, and a lack of memory.
     pub fn put(&mut self, alloc: Global, side: Side) -> Result<(), (SidesFault, Side)>
         ensures { Puts self.old side result self.new }
@@ -64,7 +64,7 @@ impl Sides {
         }
     }
 
-    /// Returns the reason not to put `side`, memory aside.
+    /// Returns the reason to refuse `side`, if there is one. A lack of memory is no such reason.
     fn refusal(&self, side: &Side) -> Option<SidesFault>
         ensures { result ≡ put_refusal self.now side.now }
     {
@@ -84,21 +84,21 @@ impl Sides {
         }
     }
 
-    /// Returns the side of `txn`, which is found by both qualifiers.
+    /// Returns the side of `txn`, if it is held. Both qualifiers must be equal.
     pub fn get(&self, txn: &TxnId) -> Option<&Side>
         ensures { option_copied result ≡ side_with txn.now self.now.sides }
     {
         self.map.get(txn)
     }
 
-    /// Returns the side at `place`, from 0 on: the order is that in which they were put.
+    /// Returns the side at `place`, counted from 0, in the order in which the sides were put.
     pub fn at(&self, place: usize) -> Option<&Side>
         ensures { option_copied result ≡ slice_get self.now.sides place }
     {
         self.map.get_index(place).map(|(_, side)| side)
     }
 
-    /// Returns the place of the side of `txn`.
+    /// Returns the place of the side of `txn`, if it is held.
     pub(crate) fn place(&self, txn: &TxnId) -> Option<usize>
         ensures place { result ≡ position (λ side. is_same_txn txn.now (txn_of side)) self.now.sides }
         ensures within { IfSome result (λ place. place < length self.now.sides) }
@@ -120,7 +120,7 @@ impl Sides {
         act_among(&mut self.map, alloc, txn, action)
     }
 
-    /// Hands a message to the side of its transaction, if that is held.
+    /// Hands a message to the side of its transaction, if that side is held.
     pub(crate) fn take(&mut self, alloc: Global, apdu: &Apdu) -> Option<Result<Taking, Refusal>>
         ensures { OnlyThat (λ old answer new. Takes old apdu.now answer new) apdu.now.txn self.old result self.new }
     {
@@ -138,7 +138,7 @@ impl Sides {
         self.map.len()
     }
 
-    /// Returns the role of all.
+    /// Returns the role of all sides.
     pub fn role(&self) -> Role
         ensures { result ≡ self.now.role }
     {
@@ -146,8 +146,8 @@ impl Sides {
     }
 }
 
-/// Puts `value` after those of the map, under a key that it has not. If memory runs out, returns `value`, and the
-/// map is unchanged.
+/// Puts `value` after the other values of the map, with a `key` that is new to it. If memory runs out, returns
+/// `value`, and the map is unchanged.
 fn insert_new<V: Drop>(map: &mut IndexMap<TxnId, V>, key: TxnId, value: V) -> Result<(), V>
     requires new { get is_same_txn map.old key ≡ None }
     ensures done { OnOk result (map.new.entries ≡ map.old.entries ++ (key, value) ∷ []) }
@@ -160,7 +160,7 @@ fn insert_new<V: Drop>(map: &mut IndexMap<TxnId, V>, key: TxnId, value: V) -> Re
     }
 }
 
-/// Performs `action`, if the side of this transaction is filed.
+/// Performs `action`, if `map` has the side of this transaction.
 fn act_among(
     map: &mut IndexMap<TxnId, Side>,
     alloc: Global,
@@ -175,7 +175,7 @@ fn act_among(
     }
 }
 
-/// Hands over a message, if the side of its transaction is filed.
+/// Hands over a message, if `map` has the side of its transaction.
 fn take_among(
     map: &mut IndexMap<TxnId, Side>,
     alloc: Global,

@@ -10,7 +10,7 @@ use thiserror::Error;
 /// The fault of a load or a save.
 #[derive(Clone, Copy, Debug, PartialEq, Eq, Hash, Error)]
 pub enum StoreFault {
-    /// The call failed. After a `save`, either the old or the new bytes have landed.
+    /// The call failed. After a `save`, the old or the new bytes have landed.
     #[error("failed")]
     Failed,
     /// The record is longer than the store's limit. Only `load` gives this.
@@ -48,19 +48,19 @@ pub enum NextCall {
     FailsNew,
 }
 
-/// A place for the bytes of one record. The landed bytes are those that the store would give back now.
+/// A place for the bytes of one record. The landed bytes are the bytes that a `load` would return now.
 ///
-/// The contracts state the landed bytes of an honest store alone, and it follows its plan, if it has one.
+/// The contracts state the landed bytes only of an honest store. An honest store follows its plan, if it has one.
 pub trait Store {
-    /// The state of the store: its landed bytes, the number of failed calls, and the plan for the next call. It also
-    /// says if the store is honest, that is, does what it answers.
+    /// Returns the state of the store: its landed bytes, the number of failed calls, the plan for the next call, and
+    /// true if the store is honest. An honest store does as it answers.
     ghost state: { Self → StoreState };
 
     /// Loads the landed bytes, or `None` if nothing has landed.
     fn load(&mut self, alloc: Global) -> Result<Option<Vec<u8>>, StoreFault>
         ensures { StoreLoads (λ b. b.items) (state self.old) result (state self.new) };
 
-    /// Saves `bytes` in place of the landed ones. After `Failed`, either may have landed.
+    /// Saves `bytes` in place of the landed bytes. After `Failed`, the old or the new bytes have landed.
     fn save(&mut self, alloc: Global, bytes: &[u8]) -> Result<(), StoreFault>
         ensures { StoreSaves bytes.now (state self.old) result (state self.new) };
 }

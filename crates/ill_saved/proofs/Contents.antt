@@ -541,7 +541,7 @@ module _ (role : Role) (sides : List Side) (counted : List ℕ) (as_many : lengt
           as_many ∙ sym (ap (λ (all : SidesOf). length all.sides) changed ∙ few),
         )
 
-    -- If the sides that were read back the desk's contents, they back them after a held side's call that `Does` describes.
+    -- If the sides that were read back the contents, they back them after a held side's call that `Does` describes.
     changed_backs : (landed : Result DeskContents RecordFault) (held : DeskEntry) (after : Side) (answer : A)
         → found_by txn_held txn (held_of sides counted) ≡ Some held → Does held.side answer after → txn ≡ txn_of after
         → IsBackedByRead ManyBack landed held_so
@@ -749,7 +749,7 @@ each_consistent (side ∷ sides) each = (each.0.0, each_consistent sides each.1)
 abbrev pub SidesReadAgain : Type 0
 SidesReadAgain = (all : SidesOf) → AreSides all → records_at (sides_spelling all) ≡ Ok all
 
--- The law of transitions: if they lead from `old` to `new`, the issued messages of `old` are a prefix of those of `new`.
+-- The law of transitions: if they lead from `old` to `new`, the messages of `old` are a prefix of those of `new`.
 abbrev FollowsIssues : Type 0
 FollowsIssues = (old new : Side) → Follows old new → IsPrefix (issued_of old) (issued_of new)
 

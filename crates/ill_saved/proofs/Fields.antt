@@ -1,5 +1,5 @@
--- The laws of a field: the bytes that it reads are the encoding of the value, and an encoded value is read again.
--- Each way to make a field from others keeps them.
+-- The laws of a field: the bytes that it reads are the encoding of the value, and a value is read from its encoding.
+-- Each way to make a field from others keeps these laws.
 use Rattle.std.proofs.Common.{◌≡◌, ℕ, zero, suc, ◌+◌, ◌<◌, ◌≤◌, Bool, true, false, cond, ◌&&◌, eqb, leb, ltb, List, [], ◌∷◌, ◌++◌}
 use Rattle.std.proofs.Common.{length, take, drop, Option, Some, None, Result, Ok, Err, refl, sym, ap, subst, ◌∙◌, inl, inr}
 use Rattle.std.proofs.Common.{append_assoc, length-append, arith, rules}
@@ -40,35 +40,35 @@ pub record Below : Type 0 where
   pub apdu_again : (a : Apdu) (rest : List ℕ) → IsApdu a → apdu_at (spelling a ++ rest) ≡ Ok (a, rest)
   pub apdu_or_fault : (bytes : List ℕ) → IsBytes bytes → BeginsWithOne bytes (apdu_at bytes)
 
--- Value `v` is read again from its encoding at offset `at`, and the cursor is left before `more`.
+-- `f` reads `v` from its encoding at offset `at`, and leaves the cursor before `more`.
 abbrev pub ReadsAgain : {V : Type 0} → Field V → V → ℕ → List ℕ → Type 0
 ReadsAgain f v at more = (after : ℕ) × (f.read (cursor_at at (f.spell v ++ more)) ≡ Ok (v, cursor_at after more))
 
--- The bytes are the encoding of `v`, and then `rest`; and `P` holds of `v`.
+-- `bytes` is the encoding of `v` followed by `rest`, and `v` satisfies `P`.
 abbrev pub Takes : {V : Type 0} → Field V → (V → Type 0) → List ℕ → V → List ℕ → Type 0
 Takes f P bytes v rest = (bytes ≡ f.spell v ++ rest) × P v
 
--- The two laws of a field. If it reads a value, the bytes read are its encoding, and `P` holds of it.
--- Each value of which `P` holds is read again from its encoding.
+-- The two laws of a field. If it reads a value, the bytes read are its encoding, and the value satisfies `P`.
+-- Each value that satisfies `P` is read from its encoding.
 pub record IsField {V : Type 0} (P : V → Type 0) (f : Field V) : Type 0 where
   pub takes : (left : Cursor) (v : V) (rest : Cursor) → IsBytes left.bytes → f.read left ≡ Ok (v, rest)
       → Takes f P left.bytes v rest.bytes
   pub again : (v : V) (at : ℕ) (more : List ℕ) → P v → ReadsAgain f v at more
 
--- If a field is read from bytes, the rest after it is bytes.
+-- If a field is read from octets, the rest after it is octets.
 pub rest_fits : {V : Type 0} (P : V → Type 0) (f : Field V) → IsField P f → (left : Cursor) (v : V) (rest : Cursor)
     → IsBytes left.bytes → f.read left ≡ Ok (v, rest) → IsBytes rest.bytes
 rest_fits P f is left v rest fits e = IsBytes-rest left.bytes (f.spell v) rest.bytes (is.takes left v rest fits e).0 fits
 
 -- ---- a field of `n` bytes
 
--- If a value was given, it is the value that was read.
+-- If `value_at` gives `v`, `o` is `Some v`.
 value_found : {V : Type 0} (at : ℕ) (o : Option V) (v : V) → value_at at o ≡ Ok v → o ≡ Some v
 value_found at (Some x) v e = ap Some (ok_is x v e)
 value_found at None v e = absurd cc
 
--- The laws of contents of `n` bytes. If they are read as a value, they are its encoding, and `P` holds of it.
--- Each value of which `P` holds has an encoding of `n` bytes, from which it is read again.
+-- The laws of contents of `n` bytes. If they are read as a value, they are its encoding, and it satisfies `P`.
+-- Each value that satisfies `P` has an encoding of `n` bytes, from which it is read.
 pub record IsSized {V : Type 0} (P : V → Type 0) (n : ℕ) (contents : Contents V) : Type 0 where
   pub takes : (bytes : List ℕ) (v : V) → IsBytes bytes → length bytes ≡ n → contents.read bytes ≡ Some v
       → (bytes ≡ contents.spell v) × P v
@@ -95,7 +95,7 @@ sized_takes {V} P n contents is left v rest fits e =
     ∙ ap (λ (p : List ℕ × Cursor). contents.spell found.0 ++ p.1.bytes) taken in
     subst (λ (x : V × Cursor). Takes (sized n contents) P left.bytes x.0 x.1.bytes) both (parts, value.1)
 
--- A value of which `P` holds is read again by its field of `n` bytes.
+-- A value that satisfies `P` is read from its encoding by its field of `n` bytes.
 sized_again : {V : Type 0} (P : V → Type 0) (n : ℕ) (contents : Contents V) → IsSized P n contents
     → (v : V) (at : ℕ) (more : List ℕ) → P v → ReadsAgain (sized n contents) v at more
 sized_again P n contents is v at more p =
@@ -105,13 +105,13 @@ sized_again P n contents is v at more p =
     le-ltb (length (text ++ more)) n (omega (arith, length-append text more, read.1)) in
     (at + n, rw (enough, take_at text more n read.1, drop_at text more n read.1, read.0) refl)
 
--- If the contents keep the laws, so does the field of `n` bytes.
+-- If `contents` obey `IsSized`, the field of `n` bytes obeys `IsField`.
 pub sized_is : {V : Type 0} (P : V → Type 0) (n : ℕ) (contents : Contents V) → IsSized P n contents → IsField P (sized n contents)
 sized_is P n contents is = record { takes = sized_takes P n contents is; again = sized_again P n contents is }
 
 -- ---- one octet
 
--- If `value_of` gives only values with their own code, a value of one octet has that octet as its encoding.
+-- If `value_of` gives only values whose code is the octet read, a value of one octet has this octet as its encoding.
 one_takes : {V : Type 0} (P : V → Type 0) (code : V → ℕ) (value_of : ℕ → Option V)
     → ((n : ℕ) (v : V) → n < 256 → value_of n ≡ Some v → (n ≡ code v) × P v)
     → (bytes : List ℕ) (v : V) → IsBytes bytes → one_octet value_of bytes ≡ Some v → (bytes ≡ code v ∷ []) × P v
@@ -121,7 +121,7 @@ one_takes P code value_of takes (n ∷ []) v fits e =
     (ap (λ (x : ℕ). x ∷ []) is.0, is.1)
 one_takes P code value_of takes (n ∷ more ∷ rest) v fits e = absurd cc
 
--- If `value_of` reads just the values of `P`, each from its `code`, the field of one octet keeps the laws.
+-- If `value_of` reads exactly the values that satisfy `P`, each from its `code`, the field of one octet obeys the laws.
 pub octet_is : {V : Type 0} (P : V → Type 0) (code : V → ℕ) (value_of : ℕ → Option V)
     → ((n : ℕ) (v : V) → n < 256 → value_of n ≡ Some v → (n ≡ code v) × P v)
     → ((v : V) → P v → value_of (code v) ≡ Some v) → IsField P (octet code value_of)
@@ -132,39 +132,39 @@ octet_is P code value_of takes again =
           (again v p, refl);
     })
 
--- No condition on the value.
+-- `v` is any value.
 abbrev pub Any : {V : Type 0} → V → Type 0
 Any v = Unit {0}
 
--- If a constant octet is read, it is the one wanted.
+-- If a constant octet is read, it is `wanted`.
 constant_takes : (wanted n : ℕ) (v : Unit {0}) → n < 256 → cond (eqb n wanted) (Some tt) None ≡ Some v → (n ≡ wanted) × Any v
 constant_takes wanted n v small e = (eqb-true n wanted (cond_some (eqb n wanted) tt v e).0, tt)
 
--- The field of a constant octet keeps the laws.
+-- The field of a constant octet obeys the laws.
 pub constant_is : (n : ℕ) → IsField Any (constant n)
 constant_is n = octet_is Any (λ _. n) (λ m. cond (eqb m n) (Some tt) None) (constant_takes n) (λ v p. rw (eq-eqb n n refl) refl)
 
--- The field of a count keeps the laws for counts below 256.
+-- The field of a count obeys the laws for counts below 256.
 pub count_is : IsField (λ n. n < 256) count
 count_is = octet_is (λ n. n < 256) (λ n. n) Some (λ n v small e. (same_Some n v e, subst (λ m. m < 256) (same_Some n v e) small))
     (λ v p. refl)
 
--- If an octet is read as a number or as none, it is the octet of that.
+-- If an octet is read as an optional number, it is the octet of that optional number.
 number_takes : (n : ℕ) (o : Option ℕ) → n < 256 → Some (cond (eqb n 0) None (Some n)) ≡ Some o
     → (n ≡ number_octet o) × IfSome o IsNumber
 number_takes n o small e = search rules
 
--- A number in range, or none, is read again from its octet.
+-- An optional number in range is read from its octet.
 number_again : (o : Option ℕ) → IfSome o IsNumber → Some (cond (eqb (number_octet o) 0) None (Some (number_octet o))) ≡ Some o
 number_again None p = refl
 number_again (Some n) p = search rules
 
--- The field of an optional number keeps the laws for numbers in range.
+-- The field of an optional number obeys the laws for numbers in range.
 pub optional_number_is : IsField (λ o. IfSome o IsNumber) optional_number
 optional_number_is = octet_is (λ o. IfSome o IsNumber) number_octet (λ n. Some (cond (eqb n 0) None (Some n))) number_takes
     number_again
 
--- If an octet is read as a mark, it is the octet of that mark.
+-- If an octet is read as a mark, it is the octet of the mark.
 mark_takes : (n : ℕ) (b : Bool) → n < 256 → cond (eqb n 0) (Some false) (cond (eqb n 1) (Some true) None) ≡ Some b
     → (n ≡ cond b 1 0) × Any b
 mark_takes n b small e =
@@ -175,17 +175,17 @@ mark_takes n b small e =
           subst (λ (x : Bool). (n ≡ cond x 1 0) × Any x) is.1 (eqb-true n 1 is.0, tt)
     ]
 
--- A mark is read again from its octet.
+-- A mark is read from its octet.
 mark_again : (b : Bool) → Any b → cond (eqb (cond b 1 0) 0) (Some false) (cond (eqb (cond b 1 0) 1) (Some true) None) ≡ Some b
 mark_again true p = refl
 mark_again false p = refl
 
--- The field of a mark keeps the laws.
+-- The field of a mark obeys the laws.
 pub mark_is : IsField Any mark
 mark_is = octet_is Any (λ b. cond b 1 0) (λ n. cond (eqb n 0) (Some false) (cond (eqb n 1) (Some true) None)) mark_takes
     mark_again
 
--- If an octet is read as a role, it is the octet of that role.
+-- If an octet is read as a role, it is the octet of the role.
 role_takes : (n : ℕ) (r : Role) → n < 256 → role_with n ≡ Some r → (n ≡ role_octet r) × Any r
 role_takes n r small e =
     elim (chosen (eqb n 0) (Some roles.Requester) (cond (eqb n 1) (Some roles.Responder) None) (Some r) e) [
@@ -195,49 +195,49 @@ role_takes n r small e =
           subst (λ (x : Role). (n ≡ role_octet x) × Any x) is.1 (eqb-true n 1 is.0, tt)
     ]
 
--- A role is read again from its octet.
+-- A role is read from its octet.
 role_again : (r : Role) → Any r → role_with (role_octet r) ≡ Some r
 role_again roles.Requester p = refl
 role_again roles.Responder p = refl
 
--- The field of a role keeps the laws.
+-- The field of a role obeys the laws.
 pub role_is : IsField Any role
 role_is = octet_is Any role_octet role_with role_takes role_again
 
--- The length is from 1 to 64.
+-- The length `n` is from 1 to 64.
 abbrev pub IsTextSize : ℕ → Type 0
 IsTextSize n = (1 ≤ n) × (n ≤ 64)
 
--- If an octet is read as a length, it is that length, from 1 to 64.
+-- If an octet is read as a length, it is the length, from 1 to 64.
 text_size_takes : (n v : ℕ) → n < 256 → cond (leb 1 n && leb n 64) (Some n) None ≡ Some v → (n ≡ v) × IsTextSize v
 text_size_takes n v small e =
     let is = cond_some (leb 1 n && leb n 64) n v e in
     let range = and_parts (leb 1 n) (leb n 64) is.0 in
     subst (λ (x : ℕ). (n ≡ x) × IsTextSize x) is.1 (refl, (leb-true 1 n range.0, leb-true n 64 range.1))
 
--- The field of a length keeps the laws for lengths from 1 to 64.
+-- The field of a length obeys the laws for lengths from 1 to 64.
 text_size_is : IsField IsTextSize text_size
 text_size_is = octet_is IsTextSize (λ n. n) (λ n. cond (leb 1 n && leb n 64) (Some n) None) text_size_takes
     (λ v p. rw (le-leb 1 v p.0, le-leb v 64 p.1) refl)
 
--- The state is read from its octet among `states`.
+-- The state is among `states`, so it is read from its octet.
 abbrev pub IsAmong : List State → State → Type 0
 IsAmong states state = state_with states (state_code state) ≡ Some state
 
--- If an octet is read as a state among `states`, it is the octet of that state.
+-- If an octet is read as a state among `states`, it is the octet of the state.
 state_takes : (states : List State) (n : ℕ) (state : State) → n < 256 → state_with states n ≡ Some state
     → (n ≡ state_code state) × IsAmong states state
 state_takes states n state small e =
     let same = found_with state_code n states state e in
     (same, sym (ap (state_with states) same) ∙ e)
 
--- The field of a state keeps the laws for the states in the list.
+-- The field of a state obeys the laws for the states in the list.
 pub state_is : (states : List State) → IsField (IsAmong states) (state_in states)
 state_is states = octet_is (IsAmong states) state_code (state_with states) (state_takes states) (λ v p. p)
 
--- ---- a field and then another
+-- ---- a field followed by another
 
--- `P` holds of the first value, and `Q` of the second.
+-- The first value satisfies `P`, and the second satisfies `Q`.
 abbrev pub Both : {V W : Type 0} → (V → Type 0) → (W → Type 0) → V × W → Type 0
 Both P Q v = P v.0 × Q v.1
 
@@ -256,7 +256,7 @@ followed_takes {V} {W} P Q f g fs gs left v rest fits e =
     subst (λ (x : (V × W) × Cursor). Takes (followed_by f g) (Both P Q) left.bytes x.0 x.1.bytes) both
     (parts, (first.1, second.1))
 
--- If both fields keep the laws, two values are read again from their encodings.
+-- If both fields obey the laws, two values are read from their encodings.
 followed_again : {V W : Type 0} (P : V → Type 0) (Q : W → Type 0) (f : Field V) (g : Field W) → IsField P f → IsField Q g
     → (v : V × W) (at : ℕ) (more : List ℕ) → Both P Q v → ReadsAgain (followed_by f g) v at more
 followed_again P Q f g fs gs v at more p =
@@ -264,19 +264,19 @@ followed_again P Q f g fs gs v at more p =
     let second = gs.again v.1 first.0 more p.1 in
     (second.0, rw (append_assoc (f.spell v.0) (g.spell v.1) more, first.1, second.1) refl)
 
--- If two fields keep the laws, so does the first followed by the second.
+-- If two fields obey the laws, the first followed by the second obeys them.
 pub followed_is : {V W : Type 0} (P : V → Type 0) (Q : W → Type 0) (f : Field V) (g : Field W) → IsField P f
     → IsField Q g → IsField (Both P Q) (followed_by f g)
 followed_is P Q f g fs gs = record { takes = followed_takes P Q f g fs gs; again = followed_again P Q f g fs gs }
 
--- ---- a qualifier after its length
+-- ---- a qualifier, preceded by its length
 
--- If a check of a text succeeds, its result is done.
+-- If a check `r` succeeds, it is `Ok tt`.
 checked : (r : Result (Unit {0}) TextFault) → is_ok r ≡ true → r ≡ Ok tt
 checked (Ok x) e = refl
 checked (Err f) e = absurd cc
 
--- The contents of a qualifier of length `n` keep the laws.
+-- The contents of a qualifier of length `n` obey the laws.
 qualifier_sized : (n : ℕ) → IsSized (λ text. IsQualifier text × (length text ≡ n)) n qualifier
 qualifier_sized n = record {
   takes = λ bytes v fits size e.
@@ -295,20 +295,20 @@ text_takes left v rest fits e =
     (rest_fits IsTextSize text_size text_size_is left size.0.0 size.0.1 fits size.1) size.2 in
     (first.0 ∙ ap (λ (x : List ℕ). size.0.0 ∷ x) second.0 ∙ ap (λ (n : ℕ). n ∷ (v ++ rest.bytes)) (sym second.1.1), second.1.0)
 
--- A qualifier is read again from its length and its bytes.
+-- A qualifier is read from its length and its bytes.
 text_again : Below → (v : List ℕ) (at : ℕ) (more : List ℕ) → IsQualifier v → ReadsAgain counted_text v at more
 text_again below v at more p =
     let size = text_size_is.again (length v) at (v ++ more) (below.text_size v p) in
     let text = (sized_is _ (length v) qualifier (qualifier_sized (length v))).again v size.0 more (p, refl) in
     (text.0, rw (size.1, text.1) refl)
 
--- The field of a qualifier after its length keeps the laws.
+-- The field of a qualifier, preceded by its length, obeys the laws.
 pub counted_text_is : Below → IsField IsQualifier counted_text
 counted_text_is below = record { takes = text_takes; again = text_again below }
 
 -- ---- APDUs
 
--- If the field of an APDU gives one, that APDU was read, and the cursor is before the rest.
+-- If the field of an APDU gives an APDU, this APDU was read, and the cursor is before the rest.
 apdu_found : (left : Cursor) (r : Result (Apdu × List ℕ) DerFault) (v : Apdu) (rest : Cursor)
     → apdu_by left r ≡ Ok (v, rest) → r ≡ Ok (v, rest.bytes)
 apdu_found left (Ok found) v rest e =
@@ -328,7 +328,7 @@ one_taken below left v rest fits e =
     (below.apdu_or_fault left.bytes fits) in
     (is.0.1, is.0.0)
 
--- The field of an APDU keeps the laws.
+-- The field of an APDU obeys the laws.
 pub apdu_is : Below → IsField IsApdu apdu
 apdu_is below = record {
   takes = one_taken below;
@@ -351,13 +351,13 @@ request_takes below left v rest fits e =
     let taken = (apdu_is below).takes left v rest fits (found.1 ∙ ap Ok both) in
     (taken.0, (taken.1, ap (λ (x : Apdu × Cursor). is_ill_request x.0.body) (sym both) ∙ is.0))
 
--- An ILL-Request in range is read again from its encoding.
+-- An ILL-Request in range is read from its encoding.
 request_again : Below → (v : Apdu) (at : ℕ) (more : List ℕ) → IsRequest v → ReadsAgain ill_request v at more
 request_again below v at more p =
     let read = (apdu_is below).again v at more p.0 in
     (read.0, rw (read.1, p.1) refl)
 
--- The field of an ILL-Request keeps the laws.
+-- The field of an ILL-Request obeys the laws.
 pub ill_request_is : Below → IsField IsRequest ill_request
 ill_request_is below = record { takes = request_takes below; again = request_again below }
 
@@ -388,7 +388,7 @@ marked_takes {V} P f fs left o rest fits e =
           subst (λ (x : Option V × Cursor). Takes (marked f) (λ o. IfSome o P) left.bytes x.0 x.1.bytes) both (parts, tt)
     ]
 
--- An optional value is read again from its mark and its encoding.
+-- An optional value is read from its mark and its encoding.
 marked_again : {V : Type 0} (P : V → Type 0) (f : Field V) → IsField P f → (o : Option V) (at : ℕ) (more : List ℕ)
     → IfSome o P → ReadsAgain (marked f) o at more
 marked_again P f fs None at more p =
@@ -399,13 +399,13 @@ marked_again P f fs (Some v) at more p =
     let found = fs.again v is.0 more p in
     (found.0, rw (is.1, found.1) refl)
 
--- If a field keeps the laws, so does the field of an optional value.
+-- If a field obeys the laws, the field of an optional value obeys them.
 pub marked_is : {V : Type 0} (P : V → Type 0) (f : Field V) → IsField P f → IsField (λ o. IfSome o P) (marked f)
 marked_is P f fs = record { takes = marked_takes P f fs; again = marked_again P f fs }
 
 -- ---- `n` values of a field
 
--- If `n` values are read, the bytes read are their encodings, and `P` holds of each.
+-- If `n` values are read, the bytes read are their encodings, and each value satisfies `P`.
 all_takes : {V : Type 0} (P : V → Type 0) (f : Field V) → IsField P f
     → (n : ℕ) (left : Cursor) (vs : List V) (rest : Cursor) → IsBytes left.bytes → read_all f n left ≡ Ok (vs, rest)
     → (left.bytes ≡ spell_all f.spell vs ++ rest.bytes) × Each P vs × (length vs ≡ n)
@@ -429,7 +429,7 @@ all_takes {V} P f fs (suc n) left vs rest fits e =
     subst (λ (x : List V × Cursor). (left.bytes ≡ spell_all f.spell x.0 ++ x.1.bytes) × Each P x.0 × (length x.0 ≡ suc n)) both
     (parts, (one.1, more.1), ap suc more.2)
 
--- If `P` holds of each value, the list is read again from its encodings.
+-- If each value satisfies `P`, the list is read from the encodings of its values.
 all_again : {V : Type 0} (P : V → Type 0) (f : Field V) → IsField P f → (vs : List V) (at : ℕ) (more : List ℕ) → Each P vs
     → (after : ℕ) × (read_all f (length vs) (cursor_at at (spell_all f.spell vs ++ more)) ≡ Ok (vs, cursor_at after more))
 unfolding read_all spell_all Each
@@ -439,7 +439,7 @@ all_again P f fs (v ∷ vs) at more p =
     let others = all_again P f fs vs first.0 more p.1 in
     (others.0, rw (append_assoc (f.spell v) (spell_all f.spell vs) more, first.1, others.1) refl)
 
--- `P` holds of each value, and `Q` of their number.
+-- Each value satisfies `P`, and their number satisfies `Q`.
 abbrev pub CountedBy : {V : Type 0} → (ℕ → Type 0) → (V → Type 0) → List V → Type 0
 CountedBy Q P vs = Each P vs × Q (length vs)
 
@@ -457,7 +457,7 @@ counted_takes Q P size f sizes fs left vs rest fits e =
     ∙ sym (append_assoc (size.spell (length vs)) (spell_all f.spell vs) rest.bytes) in
     (parts, (others.1, subst Q (sym others.2) first.1))
 
--- A list is read again from its length and its encodings.
+-- A list is read from its length and the encodings of its values.
 counted_again : {V : Type 0} (Q : ℕ → Type 0) (P : V → Type 0) (size : Field ℕ) (f : Field V) → IsField Q size
     → IsField P f → (vs : List V) (at : ℕ) (more : List ℕ) → CountedBy Q P vs
     → ReadsAgain (counted_by size f) vs at more
@@ -466,16 +466,16 @@ counted_again Q P size f sizes fs vs at more p =
     let others = all_again P f fs vs n.0 more p.0 in
     (others.0, rw (append_assoc (size.spell (length vs)) (spell_all f.spell vs) more, n.1, others.1) refl)
 
--- If the fields of the length and of a value keep the laws, so does the field of the list.
+-- If the fields of the length and of a value obey the laws, the field of the list obeys them.
 pub counted_by_is : {V : Type 0} (Q : ℕ → Type 0) (P : V → Type 0) (size : Field ℕ) (f : Field V) → IsField Q size
     → IsField P f → IsField (CountedBy Q P) (counted_by size f)
 counted_by_is Q P size f sizes fs =
     record { takes = counted_takes Q P size f sizes fs; again = counted_again Q P size f sizes fs }
 
--- `P` holds of each value, and there are fewer than 256.
+-- Each value satisfies `P`, and there are fewer than 256 values.
 abbrev pub Counted : {V : Type 0} → (V → Type 0) → List V → Type 0
 Counted P = CountedBy (λ n. n < 256) P
 
--- If a field keeps the laws, so does the field of a list of fewer than 256 values.
+-- If a field obeys the laws, the field of a list of fewer than 256 values obeys them.
 pub counted_is : {V : Type 0} (P : V → Type 0) (f : Field V) → IsField P f → IsField (Counted P) (counted f)
 counted_is P f fs = counted_by_is (λ n. n < 256) P count f count_is fs

@@ -1,4 +1,4 @@
--- Items that name a transaction each: they are found by it, and put in its place.
+-- Lists of items that have a transaction each: searching an item by its transaction, and putting one in its place.
 use Rattle.std.proofs.Common.{rules, ◌≡◌, ◌+◌, nat_lt, length, map, Bool, true, false, not, cond, List, [], ◌∷◌, ◌++◌, Option}
 use Rattle.std.proofs.Common.{Some, None, is_some, refl, ap, sym, subst, ◌∙◌, true≢false}
 use Rattle.std.specs.Prelude.{option_map, position}
@@ -36,14 +36,14 @@ apart_back a b apart = by (is_same_txn b a) refl
 pub same_self : (a : Qualifiers) → is_same_txn a a ≡ true
 same_self a = and_from _ _ ((bytes_eq-Decides a.group a.group).1 refl) ((bytes_eq-Decides a.transaction a.transaction).1 refl)
 
--- If two tests are never both true, their order in a search is free.
+-- If two tests are never both true, a search gives equal results for both orders of them.
 each_found : {X : Type 0} (a b : Bool) (x new : X) (found : Option X) → (a ≡ true → b ≡ false)
     → cond a (Some x) (cond b (Some new) found) ≡ cond b (Some new) (cond a (Some x) found)
 each_found true true x new found apart = absurd (true≢false (apart refl))
 each_found true false x new found apart = refl
 each_found false b x new found apart = refl
 
--- An item that comes after one with its own test is never found.
+-- If two items have one test, a search never finds the second.
 hidden : {X : Type 0} (b : Bool) (x new : X) (found : Option X)
     → cond b (Some new) found ≡ cond b (Some new) (cond b (Some x) found)
 hidden true x new found = refl
@@ -58,7 +58,7 @@ pub some_is : {X : Type 0} (x y : X) → ◌≡◌ {A = Option X} (Some x) (Some
 some_is x y e = search rules
 
 module _ {X : Type 0} (key : X → Qualifiers) where
-  -- If `found_is` holds of the other items, it holds with `item` before them.
+  -- If `found_is` holds for the other items, it holds with `item` before them.
   first_is : (txn : Qualifiers) (item x : X) (found : Option X) (same : Bool) → is_same_txn txn (key item) ≡ same
       → cond same (Some item) found ≡ Some x → (found ≡ Some x → txn ≡ key x) → txn ≡ key x
   first_is txn item x found true same e further = same_is txn (key item) same ∙ ap key (some_is item x e)
@@ -70,7 +70,7 @@ module _ {X : Type 0} (key : X → Qualifiers) where
   found_is txn (item ∷ items) x found =
       first_is txn item x (found_by key txn items) (is_same_txn txn (key item)) refl found (found_is txn items x)
 
-  -- If `found_put` holds of the other items, it holds with `item` before them.
+  -- If `found_put` holds for the other items, it holds with `item` before them.
   put_here : (txn : Qualifiers) (new item : X) (items : List X) (same : Bool) → is_same_txn (key new) (key item) ≡ same
       → found_by key txn (put_by key new items) ≡ cond (is_same_txn txn (key new)) (Some new) (found_by key txn items)
       → found_by key txn (cond same (new ∷ items) (item ∷ put_by key new items))
@@ -84,14 +84,14 @@ module _ {X : Type 0} (key : X → Qualifiers) where
       ∙ each_found (is_same_txn txn (key item)) (is_same_txn txn (key new)) item new (found_by key txn items)
       (λ here. apart_back (key new) txn (subst (λ k. is_same_txn (key new) k ≡ false) (sym (same_is txn (key item) here)) same))
 
-  -- After `new` is put, a search gives `new` for its own transaction, and the item from before for any other.
+  -- After `new` is put, a search gives `new` for its transaction. For any other, it gives the item that it gave before.
   pub found_put : (txn : Qualifiers) (new : X) (items : List X)
       → found_by key txn (put_by key new items) ≡ cond (is_same_txn txn (key new)) (Some new) (found_by key txn items)
   unfolding put_by
   found_put txn new [] = refl
   found_put txn new (item ∷ items) = put_here txn new item items (is_same_txn (key new) (key item)) refl (found_put txn new items)
 
-  -- If `found_passes` holds of the other items, it holds with `item` before them.
+  -- If `found_passes` holds for the other items, it holds with `item` before them.
   passes_first : (test : X → Bool) (item x : X) (rest : Option X) (same : Bool) → cond same (Some item) rest ≡ Some x
       → test item ≡ true → (rest ≡ Some x → test x ≡ true) → test x ≡ true
   passes_first test item x rest true found passes further = ap test (sym (some_is item x found)) ∙ passes
@@ -106,7 +106,7 @@ module _ {X : Type 0} (key : X → Qualifiers) where
       passes_first test item x (found_by key txn items) (is_same_txn txn (key item)) found parts.0
       (found_passes test txn items x parts.1)
 
-  -- If `put_last` holds of the other items, it holds with `item` before them.
+  -- If `put_last` holds for the other items, it holds with `item` before them.
   last_put : (new item : X) (items : List X) (same : Bool) → cond same (Some item) (found_by key (key new) items) ≡ None
       → (found_by key (key new) items ≡ None → put_by key new items ≡ items ++ new ∷ [])
       → cond same (new ∷ items) (item ∷ put_by key new items) ≡ item ∷ (items ++ new ∷ [])
@@ -119,7 +119,7 @@ module _ {X : Type 0} (key : X → Qualifiers) where
   put_last new [] none = refl
   put_last new (item ∷ items) none = last_put new item items (is_same_txn (key new) (key item)) none (put_last new items)
 
-  -- If `put_again` holds of the other items, it holds with `item` before them.
+  -- If `put_again` holds for the other items, it holds with `item` before them.
   same_put : (x item : X) (items : List X) (same : Bool) → cond same (Some item) (found_by key (key x) items) ≡ Some x
       → (found_by key (key x) items ≡ Some x → put_by key x items ≡ items)
       → cond same (x ∷ items) (item ∷ put_by key x items) ≡ item ∷ items
@@ -132,7 +132,7 @@ module _ {X : Type 0} (key : X → Qualifiers) where
   put_again x [] found = absurd (true≢false (sym (ap is_some found)))
   put_again x (item ∷ items) found = same_put x item items (is_same_txn (key x) (key item)) found (put_again x items)
 
-  -- If `put_passes` holds of the other items, it holds with `item` before them.
+  -- If `put_passes` holds for the other items, it holds with `item` before them.
   all_put : (test : X → Bool) (new item : X) (items : List X) (same : Bool) → test new ≡ true
       → list_all test (item ∷ items) ≡ true
       → (list_all test items ≡ true → list_all test (put_by key new items) ≡ true)
@@ -148,7 +148,7 @@ module _ {X : Type 0} (key : X → Qualifiers) where
   put_passes test new (item ∷ items) passes all =
       all_put test new item items (is_same_txn (key new) (key item)) passes all (put_passes test new items passes)
 
-  -- If `keys_put` holds of the other items, it holds with `item` before them.
+  -- If `keys_put` holds for the other items, it holds with `item` before them.
   keys_here : (new item x : X) (items : List X) (same : Bool) → is_same_txn (key new) (key item) ≡ same
       → cond same (Some item) (found_by key (key new) items) ≡ Some x
       → (found_by key (key new) items ≡ Some x → map key (put_by key new items) ≡ map key items)
@@ -177,7 +177,7 @@ module _ {X Y : Type 0} (of_x : X → Qualifiers) (of_y : Y → Qualifiers) (f :
   mapped_first txn x rest true = refl
   mapped_first txn x rest false = refl
 
-  -- If `f` keeps the transaction, the search among mapped items gives the mapped item that the search gives.
+  -- If `f` keeps the transaction, a search among the mapped items gives the mapped result of the search.
   pub found_mapped : (txn : Qualifiers) (xs : List X) → found_by of_y txn (map f xs) ≡ option_map f (found_by of_x txn xs)
   found_mapped txn [] = refl
   found_mapped txn (x ∷ xs) =
@@ -185,7 +185,7 @@ module _ {X Y : Type 0} (of_x : X → Qualifiers) (of_y : Y → Qualifiers) (f :
       ∙ ap (λ o. cond (is_same_txn txn (of_x x)) (Some (f x)) o) (found_mapped txn xs)
       ∙ mapped_first txn x (found_by of_x txn xs) (is_same_txn txn (of_x x))
 
-  -- If `put_mapped` holds of the other items, it holds with `x` before them.
+  -- If `put_mapped` holds for the other items, it holds with `x` before them.
   put_first : (new x : X) (xs : List X) (same : Bool) → map f (put_by of_x new xs) ≡ put_by of_y (f new) (map f xs)
       → map f (cond same (new ∷ xs) (x ∷ put_by of_x new xs))
       ≡ cond same (f new ∷ map f xs) (f x ∷ put_by of_y (f new) (map f xs))
@@ -201,13 +201,13 @@ module _ {X Y : Type 0} (of_x : X → Qualifiers) (of_y : Y → Qualifiers) (f :
       ∙ ap (λ t. cond (is_same_txn t (of_x x)) (f new ∷ map f xs) (f x ∷ put_by of_y (f new) (map f xs))) (sym (keeps new))
       ∙ ap (λ t. cond (is_same_txn (of_y (f new)) t) (f new ∷ map f xs) (f x ∷ put_by of_y (f new) (map f xs))) (sym (keeps x))
 
--- The number of mapped items before one that passes is the number of items before one whose image passes.
+-- The number of mapped items before the first that passes is the number of items before the first whose image passes.
 prefix_mapped : {X Y : Type 0} (test : Y → Bool) (f : X → Y) (xs : List X)
     → position_or_len test (map f xs) ≡ position_or_len (λ x. test (f x)) xs
 prefix_mapped test f [] = refl
 prefix_mapped test f (x ∷ xs) = ap (λ n. cond (not (test (f x))) (1 + n) 0) (prefix_mapped test f xs)
 
--- The position of a mapped item that passes is the position of the item whose image passes.
+-- The position of the first mapped item that passes is the position of the first item whose image passes.
 pub position_mapped : {X Y : Type 0} (test : Y → Bool) (f : X → Y) (xs : List X)
     → position test (map f xs) ≡ position (λ x. test (f x)) xs
 position_mapped test f xs =
@@ -215,13 +215,13 @@ position_mapped test f xs =
     ∙ ap (λ n. cond (nat_lt (position_or_len (λ x. test (f x)) xs) n) (Some (position_or_len (λ x. test (f x)) xs)) None)
     (length-map xs f)
 
--- The side of the held one found, or else of `idle`, is the side found, or else idle.
+-- The side of the found entry, or of `idle`, is the found side, or the side of `idle`.
 side_found : (idle : DeskEntry) (found : Option DeskEntry)
     → found_or idle.side (option_map (λ (held : DeskEntry). held.side) found) ≡ (found_or idle found).side
 side_found idle (Some held) = refl
 side_found idle None = refl
 
--- The side of `txn` among the sides of a desk is the side of what the desk holds for `txn`.
+-- The side of `txn` among the sides of a desk is the side of the desk's entry for `txn`.
 pub side_of_held : (txn : Qualifiers) (live : DeskContents) → side_for txn (sides_held live) ≡ (held_for txn live).side
 unfolding side_with
 side_of_held txn live =

@@ -22,7 +22,7 @@ use Rattle.ill_saved.specs.Ranges.{Each, IsSide}
 use Rattle.ill_values.specs.Apdu.{IsApdu}
 use Rattle.ill_saved.proofs.Lists.{spell_none, spell_more, spell_both, each_both}
 
--- A place within a prefix has the bytes there that it has in the whole.
+-- At a place within `prefix`, `prefix` and `prefix ++ more` have equal bytes.
 piece_of_prefix : (prefix more : List ℕ) (place : Place) → IsWithin (length prefix) place
     → piece_at (prefix ++ more) place ≡ piece_at prefix place
 piece_of_prefix prefix more place within =
@@ -31,7 +31,7 @@ piece_of_prefix prefix more place within =
     ap (take place.size) (drop-append-le place.start prefix more start)
     ∙ take-append-le place.size (drop place.start prefix) more size
 
--- Places within a prefix have the bytes there that they have in the whole.
+-- At places within `prefix`, `prefix` and `prefix ++ more` have equal bytes.
 pieces_of_prefix : (prefix more : List ℕ) (places : List Place) → All (IsWithin (length prefix)) places
     → map (piece_at (prefix ++ more)) places ≡ map (piece_at prefix) places
 pieces_of_prefix prefix more [] within = refl
@@ -40,14 +40,14 @@ pieces_of_prefix prefix more (place ∷ places) within =
     let others = pieces_of_prefix prefix more places (All-tail (IsWithin (length prefix)) place places within) in
     cc
 
--- Each message up to offset `end` has its place in `whole`, and the encodings of those in `left` follow.
+-- Each message before offset `end` has its place in `whole`. The encodings of the messages in `left` follow.
 pub record ArePlaced (whole : List ℕ) (end : ℕ) (places : List Place) (left : List Apdu) (all : List (List ℕ)) : Type 0 where
   pub rest : drop end whole ≡ spell_all spelling left
   pub reached : end ≤ length whole
   pub within : All (IsWithin (length whole)) places
   pub pieces : map (piece_at whole) places ++ map spelling left ≡ all
 
--- If the first messages have their places in their part, they have them with the encodings of others after it.
+-- If messages have their places in `messages`, they have them with the encodings of other messages after it.
 pub first_placed : (messages : List ℕ) (pieces : List (List ℕ)) (places : List Place) (apdus : List Apdu) (end : ℕ)
     → end ≡ length messages → All (IsWithin (length messages)) places
     → map (piece_at messages) places ≡ pieces
@@ -64,7 +64,7 @@ first_placed messages pieces places apdus end e within are =
           (pieces_of_prefix messages (spell_all spelling apdus) places within ∙ are);
     }
 
--- If the next message gets the place at `end`, all messages up to the end of that place have theirs.
+-- If the next message gets the place at `end`, all messages before the end of this place have their places.
 pub next_placed : (whole : List ℕ) (end : ℕ) (places : List Place) (a : Apdu) (left : List Apdu) (all : List (List ℕ))
     → ArePlaced whole end places (a ∷ left) all
     → ArePlaced whole (end + length (spelling a)) (places ++ record { start = end; size = length (spelling a) } ∷ []) left all
@@ -88,7 +88,7 @@ next_placed whole end places a left all placed =
           ∙ (ap (λ piece. map (piece_at whole) places ++ piece ∷ map spelling left) piece ∙ placed.pieces));
     }
 
--- The bytes from offset `first` on are the messages, each at its place.
+-- The bytes from offset `first` on are the messages, and each message has its place.
 pub record ArePlacedIn (bytes : List ℕ) (first : ℕ) (whole : List ℕ) (places : List Place) (all : List (List ℕ)) : Type 0 where
   pub after : first ≤ length bytes
   pub messages : drop first bytes ≡ whole
@@ -114,9 +114,9 @@ all_placed bytes whole first end places left all none placed ends e =
       pieces = subst (λ part. map (piece_at part) places ≡ all) (sym messages) pieces;
     }
 
--- ---- the messages are the last part of a record
+-- ---- the messages as the last part of a record
 
--- If bytes end with `end`, they do with anything before them.
+-- If `bytes` ends with `end`, `prefix ++ bytes` ends with `end`.
 ends_after : (prefix end bytes : List ℕ) → EndsWith end bytes → EndsWith end (prefix ++ bytes)
 ends_after prefix end bytes ends = (prefix ++ ends.0, ap (λ t. prefix ++ t) ends.1 ∙ sym (append_assoc prefix ends.0 end))
 
@@ -150,15 +150,15 @@ ends_with_messages (sides.Responder y) =
     request after_request in
     ends_after (spell_start roles.Responder) messages (head ++ rest) (ends_after head messages rest after_numbers)
 
--- ---- a side that begins with the messages kept
+-- ---- a side that begins with the messages of the landed record
 
--- The kept messages, followed by `others`, are all that the side has issued.
+-- The messages of the landed record, followed by `others`, are the issued messages of a side.
 pub record Continues (landed_record : LandedBytes) (issued others : List Apdu) : Type 0 where
   pub messages : landed_record.messages ++ spell_all spelling others ≡ spell_all spelling issued
   pub pieces : landed_record.pieces ++ map spelling others ≡ map spelling issued
   pub range : Each IsApdu others → Each IsApdu issued
 
--- If the record of a side is kept, it continues with any messages issued after that side's.
+-- If `landed_record` is that of `side`, its messages followed by `more` are those of `side` followed by `more`.
 continues_prefix : (landed_record : LandedBytes) (side : Side) (more : List Apdu) → IsLandedRecord landed_record side
     → Continues landed_record (issued_of side ++ more) more
 continues_prefix landed_record side more is = record {
@@ -168,7 +168,7 @@ continues_prefix landed_record side more is = record {
   range = λ others. each_both IsApdu (issued_of side) more is.0.1.issued others;
 }
 
--- If no record is kept, `others` are all messages.
+-- If there is no landed record, `others` are all messages.
 continues_none : (landed_record : LandedBytes) (issued : List Apdu) → landed_record ≡ no_landed_record
     → Continues landed_record issued issued
 continues_none landed_record issued none = record {
@@ -177,7 +177,7 @@ continues_none landed_record issued none = record {
   range = λ all. all;
 }
 
--- The kept messages, followed by those that are not released, are all that the live side has issued.
+-- The messages of the landed record, followed by the messages that are not released, are those of the live side.
 pub landed_continues : (landed_record : LandedBytes) (live : Side) (released : ℕ) (others : List Apdu)
     → HoldsReleased landed_record live released
     → others ≡ drop released (issued_of live) → Continues landed_record (issued_of live) others
@@ -191,7 +191,8 @@ landed_continues landed_record live released others (inr (side, is, of)) e =
     (subst (λ issued. Continues landed_record issued of.prefix.0) (sym of.prefix.1)
     (continues_prefix landed_record side of.prefix.0 is))
 
--- Kept bytes that gain the encodings of `others`, and the standing and record of `side`, are those of `side`.
+-- If the encodings of `others` are added to `landed_record`, with the standing and the record of `side`, the result
+-- is the landed record of `side`.
 pub next_landed : {E : Type 0} (result : Result LandedBytes E) (landed_record : LandedBytes) (side : Side) (standing : Standing)
     (others : List Apdu) (bytes : List ℕ)
     → Continues landed_record (issued_of side) others → IsSide side

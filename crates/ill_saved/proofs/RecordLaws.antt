@@ -1,4 +1,4 @@
--- The laws of saved records: bytes that are read encode the side, and a side in range is read again.
+-- The laws of saved records: bytes that are read as a side are its encoding, and a side is read from its encoding.
 use Rattle.std.proofs.Common.{◌≡◌, ℕ, Bool, true, false, List, [], ◌∷◌, ◌++◌, length, Option, Some, None, Result, Ok, Err, refl}
 use Rattle.std.proofs.Common.{sym, ap, subst, ◌∙◌, inl, inr, append-nil, eqb, arith, rules}
 use Rattle.std.specs.Prelude.{IfSome}
@@ -44,17 +44,17 @@ use Rattle.ill_saved.proofs.Records.{judged_ok, judged_is}
 
 -- ---- due dates
 
--- If a due date was found, it is a date that was read.
+-- If `found_date` gives `v`, a date was read, and `v` is this date.
 found_is : (o : Option Date) (v : Option Date) → found_date o ≡ Some v → (d : Date) × (o ≡ Some d) × (Some d ≡ v)
 found_is None v e = absurd cc
 found_is (Some d) v e = (d, refl, same_Some (Some d) v e)
 
--- If the date of a reading is `d`, reading gave `d`.
+-- If `result_ok r` is `Some d`, `r` is `Ok d`.
 day_found : (r : Result Date DayFault) (d : Date) → result_ok r ≡ Some d → r ≡ Ok d
 day_found (Ok x) d e = ap Ok (same_Some x d e)
 day_found (Err f) d e = absurd cc
 
--- If eight bytes are read as a due date or none, they are its text, and the date is valid.
+-- If eight bytes are read as an optional due date, they are its text, and the date is valid.
 due_takes : Below → (bytes : List ℕ) (o : Option Date) → IsBytes bytes → length bytes ≡ 8 → due_from bytes ≡ Some o
     → (bytes ≡ due_octets o) × IfSome o IsDate
 due_takes below bytes o fits size e =
@@ -67,23 +67,23 @@ due_takes below bytes o fits size e =
           subst (λ (x : Option Date). (bytes ≡ due_octets x) × IfSome x IsDate) found.2 (is.1, is.0)
     ]
 
--- The text of a date that is read again is not eight zeros.
+-- If a date is read from its text, the text is not eight zeros.
 no_zero_date : (d : Date) → read_date (date_text d) ≡ Ok d → date_text d ≡ no_date → ⊥
 no_zero_date d again zero = search (rules, sym (ap read_date zero) ∙ again)
 
--- The text of a date that is read again fails the test for eight zeros.
+-- If a date is read from its text, the text fails the test for eight zeros.
 another_text : (d : Date) (b : Bool) → read_date (date_text d) ≡ Ok d → bytes_eq (date_text d) no_date ≡ b → b ≡ false
 another_text d true again is = absurd (no_zero_date d again ((bytes_eq-Decides (date_text d) no_date).0 is))
 another_text d false again is = refl
 
--- A valid due date, or none, is read again from its eight bytes.
+-- A valid optional due date is read from its text, which has eight bytes.
 due_again : Below → (o : Option Date) → IfSome o IsDate → (due_from (due_octets o) ≡ Some o) × (length (due_octets o) ≡ 8)
 due_again below None p = (refl, refl)
 due_again below (Some d) p =
     let again = below.day_spelled d p in
     (rw (another_text d (bytes_eq (date_text d) no_date) again refl, again) refl, refl)
 
--- The field of a due date keeps the laws.
+-- The field of a due date obeys the laws.
 due_is : Below → IsField (λ o. IfSome o IsDate) due
 due_is below = sized_is (λ o. IfSome o IsDate) 8 _ (record { takes = due_takes below; again = due_again below })
 
@@ -93,7 +93,7 @@ due_is below = sized_is (λ o. IfSome o IsDate) 8 _ (record { takes = due_takes 
 abbrev HeadingParts : List State → State × (List ℕ × List ℕ) → Type 0
 HeadingParts states = Both (IsAmong states) (Both IsQualifier IsQualifier)
 
--- The field of a state and two qualifiers keeps the laws.
+-- The field of a state and two qualifiers obeys the laws.
 heading_is : Below → (states : List State) → IsField (HeadingParts states) (heading states)
 heading_is below states =
     followed_is (IsAmong states) (Both IsQualifier IsQualifier) (state_in states) (followed_by counted_text counted_text)
@@ -104,11 +104,11 @@ heading_is below states =
 abbrev IsOptionalNumber : Option ℕ → Type 0
 IsOptionalNumber o = IfSome o IsNumber
 
--- The number held and the due date are in range, and the issued APDUs are, fewer than 256.
+-- The held number and the due date are in range. The issued APDUs are in range, and fewer than 256.
 abbrev RequesterRest : Option ℕ × (Bool × (Option Date × List Apdu)) → Type 0
 RequesterRest = Both IsOptionalNumber (Both Any (Both (λ o. IfSome o IsDate) (Counted IsApdu)))
 
--- The fields of a requester keep the laws.
+-- The fields of a requester obey the laws.
 requester_fields_is : Below → IsField (Both (HeadingParts requester_states) RequesterRest) requester_fields
 requester_fields_is below =
     followed_is (HeadingParts requester_states) RequesterRest (heading requester_states) requester_rest
@@ -119,15 +119,15 @@ requester_fields_is below =
     (followed_is (λ o. IfSome o IsDate) (Counted IsApdu) due (counted apdu) (due_is below)
     (counted_is IsApdu apdu (apdu_is below)))))
 
--- The request, if there is one, is an ILL-Request in range. The issued APDUs are in range, fewer than 256.
+-- The request, if there is one, is an ILL-Request in range. The issued APDUs are in range, and fewer than 256.
 abbrev RequestAndIssued : Option Apdu × List Apdu → Type 0
 RequestAndIssued = Both (λ o. IfSome o IsRequest) (Counted IsApdu)
 
--- The three numbers are in range, and so are the request and the issued APDUs.
+-- The three numbers, the request and the issued APDUs are in range.
 abbrev ResponderRest : Option ℕ × (Option ℕ × (Option ℕ × (Bool × (Option Apdu × List Apdu)))) → Type 0
 ResponderRest = Both IsOptionalNumber (Both IsOptionalNumber (Both IsOptionalNumber (Both Any RequestAndIssued)))
 
--- The fields of a responder keep the laws.
+-- The fields of a responder obey the laws.
 responder_fields_is : Below → IsField (Both (HeadingParts responder_states) ResponderRest) responder_fields
 responder_fields_is below =
     followed_is (HeadingParts responder_states) ResponderRest (heading responder_states) responder_rest
@@ -139,28 +139,28 @@ responder_fields_is below =
     (followed_is (λ o. IfSome o IsRequest) (Counted IsApdu) (marked ill_request) (counted apdu)
     (marked_is IsRequest ill_request (ill_request_is below)) (counted_is IsApdu apdu (apdu_is below)))))))
 
--- The field of the version keeps the laws.
+-- The field of the version obeys the laws.
 version_is : IsField (Both Any (Both Any (Both Any Any))) version
 version_is =
     followed_is Any _ (constant 73) _ (constant_is 73)
     (followed_is Any _ (constant 76) _ (constant_is 76)
     (followed_is Any Any (constant 76) (constant 49) (constant_is 76) (constant_is 49)))
 
--- The field of the version and the role keeps the laws.
+-- The field of the version and the role obeys the laws.
 start_is : IsField (Both (Both Any (Both Any (Both Any Any))) Any) start
 start_is = followed_is _ Any version role version_is role_is
 
--- A request in range, or none, is an APDU in range, or none.
+-- If an optional request is in range, it is an optional APDU in range.
 request_in_range : (o : Option Apdu) → IfSome o IsRequest → IfSome o IsApdu
 request_in_range None p = tt
 request_in_range (Some a) p = p.0
 
--- If a request in range, or none, is one of `txn`, it is an ILL-Request in range, or none.
+-- If an optional APDU in range is a request of `txn`, it is an optional ILL-Request in range.
 request_is : (txn : Qualifiers) (o : Option Apdu) → is_request_of txn o ≡ true → IfSome o IsApdu → IfSome o IsRequest
 request_is txn None of p = tt
 request_is txn (Some a) of p = (p, (and_parts (is_same_txn a.txn txn) (is_ill_request a.body) of).1)
 
--- The side is of role `r` and in range, and its fields encode the bytes before `rest`.
+-- The side is of role `r` and in range, and `left` is the encoding of its fields followed by `rest`.
 abbrev ReadsSide : Role → Cursor → Side → Cursor → Type 0
 ReadsSide r left side rest = (role_of side ≡ r) × (left.bytes ≡ spell_fields side ++ rest.bytes) × IsInRange side
 
@@ -249,7 +249,7 @@ responder_state_is : (state : State) → is_among (Pending ∷ Received ∷ NotR
 responder_state_is Idle role = refl
 responder_state_is state role = search rules
 
--- A side in range is read again from its fields.
+-- A side in range is read from its fields.
 fields_again : Below → (side : Side) (at : ℕ) (more : List ℕ) → IsSide side
     → (after : ℕ) × (read_fields (role_of side) (cursor_at at (spell_fields side ++ more)) ≡ Ok (side, cursor_at after more))
 fields_again below (sides.Requester x) at more is =
@@ -286,7 +286,7 @@ fields_again below (sides.Responder y) at more is =
     ) in
     (read.0, rw read.1 refl)
 
--- A side in range is read again from its encoding, before it is judged.
+-- A side in range is read from its encoding, without the check that it is consistent.
 side_again : Below → (side : Side) → IsSide side → side_spelled (record_spelling side) ≡ Ok side
 unfolding side_spelled record_spelling
 side_again below side is =
@@ -305,12 +305,12 @@ record_takes below bytes side fits e =
     let is = side_takes below bytes side fits read.0 in
     (is.0, (read.1, is.1))
 
--- A side in range is read again from its encoding.
+-- A side in range is read from its encoding.
 pub record_again : Below → (side : Side) → IsSide side → record_at (record_spelling side) ≡ Ok side
 unfolding record_at
 record_again below side is = judged_is (side_spelled (record_spelling side)) side (side_again below side is) is.0
 
--- If each side in range is read again, two of them with one encoding are equal.
+-- If each side in range is read from its encoding, two of them with equal encodings are equal.
 pub one_side : ((side : Side) → IsSide side → record_at (record_spelling side) ≡ Ok side)
     → (s t : Side) → IsSide s → IsSide t → record_spelling s ≡ record_spelling t → s ≡ t
 one_side again s t first second e = ok_is s t (sym (again s first) ∙ ap record_at e ∙ again t second)

@@ -1,4 +1,4 @@
--- The reading of a record after its version and its role, and the judging of the side that was read.
+-- The reading of a record after its version and its role, and the check that the side is consistent.
 use Rattle.std.proofs.Common.{◌≡◌, ℕ, Bool, true, false, cond, List, Result, Ok, Err, refl, ap, sym, subst, ◌∙◌}
 use Rattle.std.specs.Prelude.{IfOk}
 use Rattle.ill_der.specs.Format.{◌>>=◌, Cursor, cursor_at}
@@ -14,7 +14,7 @@ use Rattle.ill_saved.specs.Records.{begins_as_record, Decodes, record_spelling}
 use Rattle.ill_saved.specs.Ranges.{IsSide}
 use Rattle.ill_saved.proofs.Steps.{ok_is}
 
--- If a version and a role are read first, an answer that decodes the rest decodes the whole record.
+-- If a version and a role are read first, an answer that is right for the rest is right for the whole record.
 pub decodes_after : (bytes : List ℕ) (first left : Cursor) (found role : Role) (result : Result Side RecordFault)
     → first ≡ cursor_at 0 bytes → found ≡ role
     → start.read first ≡ Ok (((tt, (tt, (tt, tt))), found), left)
@@ -29,7 +29,7 @@ decodes_after bytes first left found role result begun is read_first decodes =
     subst (λ r. Decodes r (begins_as_record bytes) result) (sym same)
     (subst (λ b. Decodes (judged (side_at role left)) b result) (sym begins) decodes)
 
--- If reading gives only sides in range with these bytes as their encoding, so does decoding.
+-- If reading gives only sides in range whose encoding is `bytes`, decoding gives only such sides.
 pub decodes_spelled : (bytes : List ℕ) (begins : Bool) (result : Result Side RecordFault)
     → ((side : Side) → record_at bytes ≡ Ok side → (bytes ≡ record_spelling side) × IsSide side)
     → Decodes (record_at bytes) begins result → IfOk result (λ side. IsSide side × (bytes ≡ record_spelling side))
@@ -38,42 +38,42 @@ decodes_spelled bytes begins (Ok side) spelled decodes =
     (is.1, is.0)
 decodes_spelled bytes begins (Err fault) spelled decodes = tt
 
--- ---- judging
+-- ---- the check of a side
 
--- If judging gives a side, its test is true, and the side is the one that was read.
+-- If the check gives a side, its test is true, and the side is the side that was read.
 judged_by : (keeps : Bool) (read side : Side) → cond keeps (Ok read) (Err faults.Inconsistent) ≡ Ok side
     → (keeps ≡ true) × (read ≡ side)
 judged_by true read side is = (refl, ok_is read side is)
 judged_by false read side is = absurd cc
 
--- If judging gives a side, that side was read and is consistent.
+-- If `judged` gives a side, this side was read and is consistent.
 pub judged_ok : (read : Result Side LayoutFault) (side : Side) → judged read ≡ Ok side → (read ≡ Ok side) × IsConsistent side
 judged_ok (Ok found) side is =
     let both = judged_by (is_consistent found) found side is in
     (ap Ok both.1, subst IsConsistent both.1 both.0)
 judged_ok (Err fault) side is = absurd cc
 
--- If the side that was read is consistent, judging gives it.
+-- If the side that was read is consistent, `judged` gives it.
 pub judged_is : (read : Result Side LayoutFault) (side : Side) → read ≡ Ok side → IsConsistent side → judged read ≡ Ok side
 judged_is read side is consistent = ap judged is ∙ ap (λ keeps. cond keeps (Ok side) (Err faults.Inconsistent)) consistent
 
--- If the test is false, judging gives `Inconsistent`.
+-- If the test is false, the check gives `Inconsistent`.
 is_inconsistent : (keeps : Bool) (side : Side) → (keeps ≡ true → ⊥)
     → cond keeps (Ok side) (Err faults.Inconsistent) ≡ Err faults.Inconsistent
 is_inconsistent true side breaks = absurd (breaks refl)
 is_inconsistent false side breaks = refl
 
--- If the side that was read is not consistent, judging gives `Inconsistent`.
+-- If the side that was read is not consistent, `judged` gives `Inconsistent`.
 pub judged_not : (read : Result Side LayoutFault) (side : Side) → read ≡ Ok side → (IsConsistent side → ⊥)
     → judged read ≡ Err faults.Inconsistent
 judged_not read side is breaks = ap judged is ∙ is_inconsistent (is_consistent side) side breaks
 
--- No test of a side gives `Digest`.
+-- The check of a side never gives `Digest`.
 consistent_no_digest : (keeps : Bool) (side : Side) → Err faults.Digest ≡ cond keeps (Ok side) (Err faults.Inconsistent) → ⊥
 consistent_no_digest true side is = cc
 consistent_no_digest false side is = cc
 
--- Judging never gives `Digest`.
+-- `judged` never gives `Digest`.
 judged_no_digest : (read : Result Side LayoutFault) → Err faults.Digest ≡ judged read → ⊥
 judged_no_digest (Ok side) is = consistent_no_digest (is_consistent side) side is
 judged_no_digest (Err Short) is = cc

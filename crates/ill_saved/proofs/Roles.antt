@@ -1,4 +1,4 @@
--- The answers of a side, from the answers of its role.
+-- The answers of a side, from the answers of a requester or a responder.
 use Rattle.std.proofs.Common.{◌≡◌, Result, Err, ap, sym, refl}
 use Rattle.ill_values.specs.declared.apdu.Apdu.{Apdu}
 use Rattle.ill_core.specs.declared.refusal.Refusal.{Refusal}
@@ -10,13 +10,13 @@ use Rattle.ill_saved.specs.declared.side.Side.{Side}
 use Rattle.ill_saved.specs.declared.side.Side.TheVariants as sides
 use Rattle.ill_saved.specs.Side.{Takes}
 
--- If a requester gives this answer and record, its side gives this answer and the side of that record.
+-- If a requester gives `answer` and `new`, its side gives `answer` and the side of `new`.
 as_side : (new : RequesterRecord) (answer : Result Taking Refusal) (found : Result Taking Refusal × RequesterRecord)
     → ◌≡◌ {A = Result Taking Refusal × RequesterRecord} (answer, new) found
     → ◌≡◌ {A = Result Taking Refusal × Side} (found.0, sides.Requester found.1) (answer, sides.Requester new)
 as_side new answer found e = sym (ap (λ (r : Result Taking Refusal × RequesterRecord). (r.0, sides.Requester r.1)) e)
 
--- If a requester answers an APDU as its definition says, and not with `OutOfMemory`, so does its side.
+-- If a requester answers an APDU as defined, and not with `OutOfMemory`, its side answers it as `Takes` says.
 pub requester_takes : (x new : RequesterRecord) (a : Apdu) (answer : Result Taking Refusal)
     → (answer ≡ Err refusals.OutOfMemory → ⊥)
     → ◌≡◌ {A = Result Taking Refusal × RequesterRecord} (answer, new) (requester.takes x a)

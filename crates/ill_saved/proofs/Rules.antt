@@ -1,4 +1,4 @@
--- Single rules of a record that keeps the rules of its role.
+-- Single rules of a consistent record, one that satisfies all rules of its role.
 use Rattle.std.proofs.Common.{◌≡◌, Bool, true, false, not, ◌&&◌, [], ◌∷◌, is_some}
 use Rattle.std.specs.List.{list_all, filter_map}
 use Rattle.std.proofs.lemmas.Bool.{and_parts, not-true}
@@ -79,7 +79,7 @@ pub responder_state : (y : ResponderRecord) → IsResponder y
     → is_among (Pending ∷ Received ∷ NotReceivedOverdue ∷ []) y.state ≡ false
 responder_state y is = not-true _ (and_parts (has_state y) (is_asked y && marks_fit y) (each_part y is).1).0
 
--- Two truth values that are alike are equal.
+-- If `are_alike` is true for two truth values, they are equal.
 alike : (a b : Bool) → are_alike a b ≡ true → a ≡ b
 alike a true is = is
 alike a false is = not-true a is

@@ -1,4 +1,5 @@
--- The laws of records of many sides: bytes that are read encode the sides, and sides are read again.
+-- The laws of records of many sides: bytes that are read as sides are their encoding, and sides are read from their
+-- encoding.
 use Rattle.std.proofs.Common.{◌≡◌, ℕ, ◌-◌, ◌<◌, ◌≤◌, ltb, leb, Bool, true, false, cond, not, List, [], ◌∷◌, ◌++◌, length, take}
 use Rattle.std.proofs.Common.{drop, Some, None, Result, Ok, Err, refl, sym, ap, subst, ◌∙◌, append_assoc, append-nil}
 use Rattle.std.proofs.Common.{length-append, arith}
@@ -33,7 +34,8 @@ use Rattle.ill_saved.proofs.Steps.{bind_ok, ok_is, passed, went_on, IsBytes-take
 use Rattle.ill_saved.proofs.Fields.{ReadsAgain, Takes, IsField, IsSized, Any, Both, CountedBy, rest_fits, sized_is, followed_is}
 use Rattle.ill_saved.proofs.Fields.{counted_by_is, role_is}
 
--- The laws of one record: it encodes the side that is read, is read again, and has at most 41,811 bytes.
+-- The laws of the record of one side: bytes that are read as a side are its encoding, and a side is read from it.
+-- The record has at most 41,811 bytes.
 pub record OneRecord : Type 0 where
   pub spelled : (bytes : List ℕ) (side : Side) → IsBytes bytes → record_at bytes ≡ Ok side → (bytes ≡ record_spelling side)
       × IsSide side
@@ -42,7 +44,7 @@ pub record OneRecord : Type 0 where
 
 -- ---- two octets
 
--- Two bytes are a number below 65,536.
+-- The number that two bytes give is below 65,536.
 two_below : (bytes : List ℕ) → length bytes ≡ 2 → IsBytes bytes → from_be_bytes w16 bytes < 65536
 two_below [] two fits = omega (arith, two)
 two_below (a ∷ []) two fits = omega (arith, two)
@@ -52,11 +54,11 @@ two_below (a ∷ b ∷ []) two fits =
     omega (arith, high, low)
 two_below (a ∷ b ∷ c ∷ rest) two fits = omega (arith, two)
 
--- Two bytes are the encoding of the number that they are read as.
+-- Two bytes are the encoding of the number that they give.
 spells_two : (bytes : List ℕ) (n : ℕ) → IsBytes bytes → length bytes ≡ 2 → from_be_bytes w16 bytes ≡ n → bytes ≡ to_be_bytes w16 n
 spells_two bytes n fits two read = sym (be_bytes_2 bytes n two fits (sym read))
 
--- The field of a number in two octets keeps the laws for numbers below 65,536.
+-- The field of a number in two octets obeys the laws for numbers below 65,536.
 two_octets_is : IsField (λ n. n < 65536) two_octets
 two_octets_is = sized_is (λ n. n < 65536) 2 _ (record {
   takes = λ bytes n fits two e.
@@ -65,7 +67,7 @@ two_octets_is = sized_is (λ n. n < 65536) 2 _ (record {
   again = λ n small. (ap Some (from_be_bytes-to_be_bytes_2 n small), refl);
 })
 
--- The field of the number of sides keeps the laws for numbers within the limit.
+-- The field of the number of sides obeys the laws for numbers up to 1,000.
 side_count_is : IsField (λ n. n ≤ most_sides) side_count
 side_count_is = sized_is (λ n. n ≤ most_sides) 2 _ (record {
   takes = λ bytes n fits two e.
@@ -80,14 +82,14 @@ side_count_is = sized_is (λ n. n ≤ most_sides) 2 _ (record {
   );
 })
 
--- ---- a record after its length
+-- ---- a record, preceded by its length
 
--- If the value of a result is `side`, the result is `side`.
+-- If `result_ok r` is `Some side`, `r` is `Ok side`.
 ok_found : (r : Result Side RecordFault) (side : Side) → result_ok r ≡ Some side → r ≡ Ok side
 ok_found (Ok found) side e = ap Ok (same_Some found side e)
 ok_found (Err fault) side e = absurd cc
 
--- The contents of a part of length `n` keep the laws.
+-- The contents of a part of length `n` obey the laws.
 record_sized : OneRecord → (n : ℕ) → IsSized (λ side. IsSide side × (length (record_spelling side) ≡ n)) n one_record
 record_sized one n = record {
   takes = λ bytes side fits size e.
@@ -96,7 +98,7 @@ record_sized one n = record {
   again = λ side p. (ap result_ok (one.again side p.0), p.1);
 }
 
--- If a reading whose fault is moved gives a value, the reading gave it.
+-- If `bad_at` of a result gives a value, the result gives this value.
 good_at : {X : Type 0} (at : ℕ) (r : Result X LayoutFault) (x : X) → bad_at at r ≡ Ok x → r ≡ Ok x
 good_at at (Ok found) x e = ap Ok (ok_is found x e)
 good_at at (Err fault) x e = absurd cc
@@ -118,7 +120,7 @@ part_takes one left side rest fits e =
     ∙ sym (append_assoc (two_octets.spell (length (record_spelling side))) (record_spelling side) rest.bytes) in
     (parts, second.1.0)
 
--- A side in range is read again from its part.
+-- A side in range is read from its part.
 part_again : OneRecord → (side : Side) (at : ℕ) (more : List ℕ) → IsSide side → ReadsAgain part side at more
 part_again one side at more is =
     let n = length (record_spelling side) in
@@ -126,17 +128,17 @@ part_again one side at more is =
     let text = (sized_is _ n one_record (record_sized one n)).again side size.0 more (is, refl) in
     (text.0, rw (append_assoc (two_octets.spell n) (record_spelling side) more, size.1, text.1) refl)
 
--- The field of a part keeps the laws.
+-- The field of a part obeys the laws.
 part_is : OneRecord → IsField IsSide part
 part_is one = record { takes = part_takes one; again = part_again one }
 
 -- ---- all sides
 
--- Each side is in range, and they are within the limit.
+-- Each side is in range, and there are at most 1,000 sides.
 abbrev ManySides : List Side → Type 0
 ManySides = CountedBy (λ n. n ≤ most_sides) IsSide
 
--- The field of the role and the sides keeps the laws.
+-- The field of the role and the sides obeys the laws.
 role_and_sides_is : OneRecord → IsField (Both Any ManySides) role_and_sides
 role_and_sides_is one = followed_is Any ManySides role (counted_by side_count part) role_is
     (counted_by_is (λ n. n ≤ most_sides) IsSide side_count part side_count_is (part_is one))
@@ -145,7 +147,7 @@ role_and_sides_is one = followed_is Any ManySides role (counted_by side_count pa
 abbrev octets_of : SidesOf → List ℕ
 octets_of held = role_and_sides.spell (held.role, held.sides)
 
--- Sides that may be saved are read again from the octets between version and digest.
+-- Sides that may be saved are read from the octets between version and digest.
 sides_again : OneRecord → (held : SidesOf) → AreSides held → sides_at (octets_of held) ≡ Ok held
 sides_again one held are =
     let read = (role_and_sides_is one).again (held.role, held.sides) 4 [] (tt, (are.each, are.few)) in
@@ -153,15 +155,15 @@ sides_again one held are =
     ap (λ (octets : List ℕ). role_and_sides.read (cursor_at 4 octets)) (sym (append-nil (octets_of held))) ∙ read.1 in
     ap (λ r. judged_together (all_of r)) whole ∙ ap (λ keeps. cond keeps (Ok held) (Err faults.Inconsistent)) are.held
 
--- If two lists of bytes are equal, their test is true.
+-- If two lists of bytes are equal, `bytes_eq` of them is true.
 same_bytes : (a b : List ℕ) → a ≡ b → bytes_eq a b ≡ true
 same_bytes a b same = (bytes_eq-Decides a b).1 same
 
--- A list with seven elements before the rest has at least seven.
+-- A list with seven elements before the rest has at least seven elements.
 seven_first : (a b c d e f g : ℕ) (rest : List ℕ) → 7 ≤ length (a ∷ b ∷ c ∷ d ∷ e ∷ f ∷ g ∷ rest)
 seven_first a b c d e f g rest = omega arith
 
--- The octets between version and digest are found again in the encoding of the sides.
+-- `unsealed` of the encoding of the sides gives the octets between version and digest.
 unsealed_again : (held : SidesOf) → unsealed (sides_spelling held) ≡ Ok (octets_of held)
 unfolding unsealed sides_spelling
 unsealed_again held =
@@ -186,7 +188,7 @@ second : (held : SidesOf) → is_version_1 (sides_spelling held) ≡ false
 unfolding sides_spelling
 second held = refl
 
--- Sides that may be saved are read again from their encoding.
+-- Sides that may be saved are read from their encoding.
 pub read_again : OneRecord → (held : SidesOf) → AreSides held → records_at (sides_spelling held) ≡ Ok held
 unfolding records_at
 read_again one held are =
@@ -194,13 +196,13 @@ read_again one held are =
 
 -- ---- reading
 
--- If the test gives sides, it is true, and they are the ones found.
+-- If the check gives the sides `held`, its test is true, and `held` are the sides `found`.
 together_is : (keeps : Bool) (found held : SidesOf) → cond keeps (Ok found) (Err faults.Inconsistent) ≡ Ok held
     → (keeps ≡ true) × (found ≡ held)
 together_is true found held e = (refl, ok_is found held e)
 together_is false found held e = absurd cc
 
--- If judging gives sides, they were read and may be held together.
+-- If `judged_together` gives sides, they were read and one desk may hold them together.
 judged_is : (r : Result (Role × List Side) LayoutFault) (held : SidesOf) → judged_together r ≡ Ok held
     → (r ≡ Ok (held.role, held.sides)) × (may_be_held held ≡ true)
 judged_is (Ok found) held e =
@@ -233,7 +235,7 @@ sides_take one octets held fits e =
 abbrev IsSealed : List ℕ → List ℕ → Type 0
 IsSealed bytes octets = (bytes ≡ (version_2 ++ octets) ++ sha256 (version_2 ++ octets)) × IsBytes octets
 
--- If `octets` are found in bytes, the bytes are the version, `octets`, and the digest of both.
+-- If `unsealed` of `bytes` gives `octets`, `bytes` are the version, `octets`, and the digest of both.
 unsealed_is : (bytes octets : List ℕ) → IsBytes bytes → unsealed bytes ≡ Ok octets → IsSealed bytes octets
 unfolding unsealed
 unsealed_is bytes octets fits e =
@@ -273,7 +275,7 @@ spelled one bytes held fits another e =
     let is = sides_take one octets.0 held sealed.1 octets.2 in
     (sealed.0 ∙ ap (λ (x : List ℕ). (version_2 ++ x) ++ sha256 (version_2 ++ x)) is.0, is.1)
 
--- If sides that may be saved are read again, two such with one encoding are equal.
+-- If sides that may be saved are read from their encoding, such sides with equal encodings are equal.
 pub one_sides : ((held : SidesOf) → AreSides held → records_at (sides_spelling held) ≡ Ok held)
     → (a b : SidesOf) → AreSides a → AreSides b → sides_spelling a ≡ sides_spelling b → a ≡ b
 one_sides again a b first second e = ok_is a b (sym (again a first) ∙ ap records_at e ∙ again b second)

@@ -29,7 +29,7 @@ use Rattle.ill_saved.specs.Sides.{SidesOf}
 use Rattle.ill_saved.specs.RecordsV2.{two_octets, part, body_of, sides_spelling, AreSides}
 use Rattle.ill_saved.proofs.Rules.{requester_request, responder_types}
 
--- The laws below bound the lengths of a qualifier, of an APDU, and of one that is no ILL-Request.
+-- The laws of the crates below on the lengths of a qualifier, of an APDU, and of an APDU that is no ILL-Request.
 pub record Bounds : Type 0 where
   pub qualifier : (text : List ℕ) → IsQualifier text → (1 ≤ length text) × (length text ≤ 64)
   pub longest : (a : Apdu) → IsApdu a → length (spelling a) ≤ 359
@@ -42,7 +42,7 @@ other_type : (body : Body) → is_ill_request body ≡ false → type_of body �
 other_type (bodies.IllRequest expiry text) e is = cc
 other_type _ e is = cc
 
--- If `a || b` is false, both are.
+-- If `a || b` is false, both are false.
 either : (a b : Bool) → (a || b) ≡ false → (a ≡ false) × (b ≡ false)
 either true b e = absurd cc
 either false b e = (refl, e)
@@ -66,7 +66,7 @@ others_bound bounds (a ∷ apdus) are none =
       length-append (spelling a) (spell_all spelling apdus),
     )
 
--- If the first APDU alone is an ILL-Request, the encodings have at most 162 bytes each, and 197 more.
+-- If only the first APDU is an ILL-Request, all encodings have at most 162 bytes for each APDU, and 197 more.
 requester_issued_bound : Bounds → (apdus : List Apdu) → Each IsApdu apdus → begins_with_request apdus ≡ true
     → length (spell_all spelling apdus) ≤ 162 * length apdus + 197
 unfolding spell_all Each
@@ -94,17 +94,17 @@ none_requested (a ∷ apdus) role =
 
 -- ---- records
 
--- If both qualifiers have at most 64 bytes, a state and the two have at most 131.
+-- If both qualifiers have at most 64 bytes, the field of a state and the two has at most 131 bytes.
 prefix_bound : (states : List State) (state : State) (group transaction : List ℕ) → length group ≤ 64
     → length transaction ≤ 64 → length ((heading states).spell (state, (group, transaction))) ≤ 131
 prefix_bound states state group transaction eg et = omega (arith, eg, et, length-append group (length transaction ∷ transaction))
 
--- The text of a due date, or of none, has eight bytes.
+-- The text of an optional due date has eight bytes.
 due_length : (o : Option Date) → length (due_octets o) ≡ 8
 due_length None = refl
 due_length (Some d) = refl
 
--- The field of a request that may be absent has at most 360 bytes.
+-- The field of an optional request has at most 360 bytes.
 request_bound : Bounds → (o : Option Apdu) → IfSome o IsApdu → length ((marked ill_request).spell o) ≤ 360
 request_bound bounds None is = omega arith
 request_bound bounds (Some a) is = omega (arith, bounds.longest a is)
@@ -148,7 +148,7 @@ record_bound bounds (sides.Responder y) is =
 abbrev pub IsShort : Type 0
 IsShort = (side : Side) → IsSide side → length (record_spelling side) ≤ 41811
 
--- If `IsShort` holds, the parts of sides in range have at most 41,813 bytes each, with the length.
+-- If `IsShort` holds, the parts of sides in range have at most 41,813 bytes each, including the length.
 parts_bound : IsShort → (sides : List Side) → Each IsSide sides → length (spell_all part.spell sides) ≤ 41813 * length sides
 unfolding spell_all Each
 parts_bound short [] each = omega arith

@@ -1,4 +1,4 @@
--- Sides that are read one after another, and held together.
+-- Sides that are read one after another, and then held together by one desk.
 use Rattle.std.proofs.Common.{◌≡◌, ℕ, ◌<◌, ◌≤◌, nat_lt, length, Bool, true, false, cond, not, ◌&&◌, if◌then◌else◌, List, [], ◌∷◌}
 use Rattle.std.proofs.Common.{◌++◌, Option, Some, None, Result, Ok, Err, is_some, is_none, is_ok, refl, ap, sym, subst, ◌∙◌}
 use Rattle.std.proofs.Common.{true≢false, rules, arith, length-append}
@@ -35,7 +35,7 @@ first_apart : (is : Bool) (found : Option Side) (x : Side) → is_none (cond is 
 first_apart true found x none = absurd (true≢false (sym none))
 first_apart false found x none = (refl, none)
 
--- If no side in a list is of `txn`, none of its elements is.
+-- If no side in a list is of `txn`, the element `side` is not of `txn`.
 apart_of : (txn : Qualifiers) (prefix : List Side) (side : Side) (rest : List Side)
     → is_none (side_with txn (prefix ++ side ∷ rest)) ≡ true → is_same_txn txn (txn_of side) ≡ false
 unfolding side_with
@@ -43,7 +43,7 @@ apart_of txn [] side rest none = (first_apart (is_same_txn txn (txn_of side)) (s
 apart_of txn (x ∷ prefix) side rest none =
     apart_of txn prefix side rest (first_apart (is_same_txn txn (txn_of x)) (side_with txn (prefix ++ side ∷ rest)) x none).1
 
--- If sides are apart, none before `side` is of its transaction.
+-- If the transactions of sides differ, no side before `side` is of its transaction.
 not_before : (prefix : List Side) (side : Side) (rest : List Side) → are_apart (prefix ++ side ∷ rest) ≡ true
     → is_some (side_with (txn_of side) prefix) ≡ false
 unfolding side_with are_apart
@@ -54,18 +54,18 @@ not_before (x ∷ prefix) side rest apart =
     apart_back (txn_of x) (txn_of side) (apart_of (txn_of x) prefix side rest parts.0) in
     ap (λ same. is_some (cond same (Some x) (side_with (txn_of side) prefix))) differs ∙ not_before prefix side rest parts.1
 
--- If `a` is less than `b`, the test of order is true.
+-- If `a` is less than `b`, `nat_lt a b` is true.
 less : (a b : ℕ) → a < b → nat_lt a b ≡ true
 less a b is = search rules
 
--- A side of the role that is not idle and new is not refused if there is room.
+-- If there is room, a side is not refused that is of the role, not idle, and of a transaction that is not held.
 none_refused : (same idle twice room : Bool) → same ≡ true → idle ≡ false → twice ≡ false → room ≡ true
     → (if not same then Some refusals.OtherRole else
     (if idle then Some refusals.Idle else
     (if twice then Some refusals.Twice else (if room then None else Some refusals.Full)))) ≡ None
 none_refused same idle twice room is_same no_idle once free = rw (is_same, no_idle, once, free) refl
 
--- If sides within the limit may be held together, each may be put after those before it.
+-- If at most 1,000 sides may be held together, each may be put after the sides before it.
 stands_last : (role : Role) (prefix : List Side) (side : Side) (rest : List Side) → length (prefix ++ side ∷ rest) ≤ most_sides
     → may_be_held (record { role = role; sides = prefix ++ side ∷ rest }) ≡ true
     → put_refusal (record { role = role; sides = prefix }) side ≡ None
@@ -81,7 +81,7 @@ stands_last role prefix side rest few held =
     (nat_lt (length prefix) most_sides)
     one.0 (not-true (is_idle side) one.1) (not_before prefix side rest parts.1) (less (length prefix) most_sides room)
 
--- If sides may not be held together, the answer is `Inconsistent`.
+-- If sides may not be held together, the result of `together` is `Inconsistent`.
 inconsistent : (held : Bool) (all : SidesOf) → (held ≡ true → ⊥)
     → Err faults.Inconsistent ≡ cond held (Ok all) (Err faults.Inconsistent)
 inconsistent true all breaks = absurd (breaks refl)
@@ -105,7 +105,7 @@ put_fails of_role all held side rest fault new same whole few puts = absurd puts
 
 -- ---- a record of one side
 
--- If two steps give a value, the first step gave one.
+-- If `r >>= f` gives a value, `r` gives one.
 ok_begins : {V W : Type 0} (r : Result V LayoutFault) (f : V → Result W LayoutFault) (w : W) → (r >>= f) ≡ Ok w → is_ok r ≡ true
 ok_begins (Ok v) f w e = refl
 ok_begins (Err fault) f w e = absurd cc
@@ -140,7 +140,7 @@ unfolding side_with
 none_first side begun = none_refused (is_same_role (role_of side) (role_of side)) (is_idle side) false true
     (own_role (role_of side)) begun refl refl
 
--- If the only side that was read cannot be put, memory ran out, and that fault is right.
+-- If the only side that was read cannot be put, memory ran out, and the fault is right for the record.
 pub alone_fails : (bytes : List ℕ) (side : Side) (fault : RecordFault) (new : SidesOf) → Ok side ≡ record_at bytes
     → is_idle side ≡ false → PutsRead (record { role = role_of side; sides = [] }) side (Err fault) new
     → Decodes (read_alone (record_at bytes)) (begins_as_record bytes) (Err fault)
@@ -159,7 +159,7 @@ count_tells octets first after_role after_count of_role n begun read_role read_c
     ap (λ r. counts_any (r >>= λ a. side_count.read a.1 >>= λ b. Ok ((a.0, b.0), b.1))) role_read
     ∙ ap (λ r. counts_any (r >>= λ b. Ok ((of_role, b.0), b.1))) read_count
 
--- If the sides after their number are read to the end, an answer that decodes them together decodes the octets.
+-- If the sides after their number are read to the end, an answer that is right for them is right for the octets.
 pub all_held : (octets : List ℕ) (first after_role after_count last : Cursor) (of_role : Role) (n : ℕ) (sides : List Side)
     (x : Unit {0}) (result : Result SidesOf RecordFault)
     → first ≡ cursor_at 4 octets
@@ -183,7 +183,7 @@ all_held octets first after_role after_count last of_role n sides x result begun
     subst (λ r. Decodes r (has_sides octets) result) (sym same)
     (subst (λ b. Decodes (together (record { role = of_role; sides = sides })) b result) (sym begins) decodes)
 
--- Unless the bytes are of version 1, a fault of their version or digest is one of the record.
+-- If the bytes are not of version 1, a fault of their version or digest is a fault of the record.
 pub unsealed_not : (bytes : List ℕ) (fault : RecordFault) → is_version_1 bytes ≡ false
     → Decodes (unsealed bytes) false (Err fault) → Decodes (records_at bytes) (begins_as_records bytes) (Err fault)
 unfolding records_at

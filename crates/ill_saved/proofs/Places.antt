@@ -191,8 +191,8 @@ landed_continues landed_record live released others (inr (side, is, of)) e =
     (subst (λ issued. Continues landed_record issued of.prefix.0) (sym of.prefix.1)
     (continues_prefix landed_record side of.prefix.0 is))
 
--- If the encodings of `others` are added to `landed_record`, with the standing and the record of `side`, the result
--- is the landed record of `side`.
+-- Let the encodings of `others` be added to `landed_record`, with the standing and the record of `side`.
+-- Then the result is the landed record of `side`.
 pub next_landed : {E : Type 0} (result : Result LandedBytes E) (landed_record : LandedBytes) (side : Side) (standing : Standing)
     (others : List Apdu) (bytes : List ℕ)
     → Continues landed_record (issued_of side) others → IsSide side

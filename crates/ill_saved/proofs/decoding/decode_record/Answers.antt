@@ -1,4 +1,5 @@
--- Answers the contract of `decode_record` (`src/decoding.rt`).
+-- Proves the contract of `decode_record` (`src/decoding.rt`).
+-- The role that was read selects the fields of the rest.
 use Rattle.ill_saved.specs.declared.role.Role.TheVariants as roles
 use Rattle.ill_saved.proofs.Records.{decodes_after}
 use Rattle.ill_saved.proofs.decoding.decode_record.Goals as goal

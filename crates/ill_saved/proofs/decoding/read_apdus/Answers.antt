@@ -1,4 +1,5 @@
--- Answers the contract of `read_apdus` (`src/decoding.rt`).
+-- Proves the contract of `read_apdus` (`src/decoding.rt`).
+-- Each turn of the loop reads the next APDU and appends it.
 use Rattle.std.proofs.Common.{rules, ap, ◌∙◌, arith, Vec, Global, ◌-◌, ◌+◌}
 use Rattle.ill_values.specs.declared.apdu.Apdu.{Apdu}
 use Rattle.ill_saved.specs.Layout.{apdu, read_all}
@@ -17,7 +18,7 @@ returns-in_err-apdu c =
           c.apdu.new.self (apdu.read c.loop.cursor) whole stays c.in_err-apdu.ensures.read,
     )
 
--- One more APDU keeps the invariant.
+-- One more turn, which reads or appends an APDU, keeps the invariant.
 pub loop-preserved : goal.loop-preserved
 loop-preserved c =
     let next = one_more apdu c.loop.apdus.items c.args.count c.loop.counter c.loop.cursor
@@ -29,7 +30,7 @@ loop-preserved c =
           ∙ next c.in_ok-apdu.field-0 c.apdu.new.self c.in_ok-apdu.ensures.read;
     }
 
--- After `count` APDUs, the list is the one that is read.
+-- After `count` APDUs, the list is the whole list of APDUs that is read.
 pub returns : goal.returns
 returns c = all_there apdu c.loop.apdus.items c.args.count c.loop.counter c.loop.cursor
     (read_all apdu c.args.count c.args.cursor.now) c.loop.invariant.read (omega arith)

@@ -3,7 +3,7 @@ use Rattle.ill_saved.specs.Layout.{apdu, read_all}
 use Rattle.ill_saved.proofs.Lists.{after}
 use Rattle.ill_saved.proofs.decoding.read_apdus.Given as goal
 
--- The APDUs so far, and the reading of those that are left, make up the whole reading.
+-- Reading the APDUs that are left, with the APDUs so far before them, gives the whole list.
 abbrev pub invariant-loop : goal.invariant-loop
 invariant-loop l = record {
   turns : l.counter ≤ l.count;

@@ -1,4 +1,5 @@
--- Answers the contract of `requester` (`src/decoding.rt`).
+-- Proves the contract of `requester` (`src/decoding.rt`).
+-- The parts of a requester fit together exactly if the record is consistent.
 use Rattle.std.proofs.Common.{rules, ◌≡◌, Ok, sym}
 use Rattle.ill_core.specs.Requester.{RequesterRecord, requester_of, IsRequester}
 use Rattle.ill_saved.specs.declared.side.Side.TheVariants as sides

@@ -1,4 +1,5 @@
--- Answers the contract of `decode_record2` (`src/decoding_v2.rt`).
+-- Proves the contract of `decode_record2` (`src/decoding_v2.rt`).
+-- Only the parts after the version and the digest take memory.
 use Rattle.std.proofs.Common.{rules, ◌≡◌, false}
 use Rattle.ill_saved.specs.RecordsV2.{is_version_1}
 use Rattle.ill_saved.proofs.Together.{unsealed_not}

@@ -1,9 +1,10 @@
--- Answers the contract of `held_together` (`src/decoding_v2.rt`).
+-- Proves the contract of `held_together` (`src/decoding_v2.rt`).
+-- Each side may be put after the sides before it exactly if all may be held together.
 use Rattle.std.proofs.Common.{rules, ◌≡◌, ◌++◌, ◌∷◌, ap, sym, ◌∙◌}
 use Rattle.ill_saved.proofs.Together.{put_fails}
 use Rattle.ill_saved.proofs.decoding_v2.held_together.Goals as goal
 
--- If a side cannot be put, its fault is right for all sides.
+-- If a side cannot be put, the fault is right for all sides together.
 pub returns-in_err-put : goal.returns-in_err-put
 returns-in_err-put c =
     let held = c.loop-side.sides in

@@ -2,7 +2,7 @@ use Rattle.std.proofs.Common.{◌≡◌, true, ◌++◌}
 use Rattle.ill_saved.specs.Sides.{may_be_held}
 use Rattle.ill_saved.proofs.decoding_v2.held_together.Given as goal
 
--- The sides that are held, and those that are left, are all that were read.
+-- The sides that are held, followed by the sides that are left, are all sides that were read.
 abbrev pub invariant-loop-side : goal.invariant-loop-side
 invariant-loop-side l = record {
   role : l.sides.role ≡ l.fn.role;

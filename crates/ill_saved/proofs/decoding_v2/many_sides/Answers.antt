@@ -1,9 +1,10 @@
--- Answers the contract of `many_sides` (`src/decoding_v2.rt`).
+-- Proves the contract of `many_sides` (`src/decoding_v2.rt`).
+-- The parts give exactly the sides that the fields of the record give.
 use Rattle.std.proofs.Common.{arith, sym}
 use Rattle.ill_saved.proofs.Together.{all_held}
 use Rattle.ill_saved.proofs.decoding_v2.many_sides.Goals as goal
 
--- The sides that were read are within the limit.
+-- The sides that were read are at most 1,000.
 pub held_together-requires : goal.held_together-requires
 held_together-requires c = record { few = omega (arith, c.in_ok-count.ensures.few, c.in_ok-sides.ensures.few) }
 

@@ -1,4 +1,5 @@
--- Answers the contract of `one_side` (`src/decoding_v2.rt`).
+-- Proves the contract of `one_side` (`src/decoding_v2.rt`).
+-- A side that is not idle may be put alone, so putting it fails only if memory runs out.
 use Rattle.std.proofs.Common.{rules, ◌≡◌, false, [], Err, subst}
 use Rattle.ill_saved.specs.Side.{role_of, is_idle}
 use Rattle.ill_saved.specs.Sides.{SidesOf}
@@ -6,7 +7,7 @@ use Rattle.ill_saved.specs.RecordsV2.{PutsRead}
 use Rattle.ill_saved.proofs.Together.{alone_fails}
 use Rattle.ill_saved.proofs.decoding_v2.one_side.Goals as goal
 
--- If the only side cannot be put, its fault is right for the record.
+-- If the only side cannot be put, the fault is right for the record.
 pub returns-in_err-put : goal.returns-in_err-put
 returns-in_err-put c =
     let side = c.in_ok-side.side in

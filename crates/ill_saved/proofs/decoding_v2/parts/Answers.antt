@@ -1,4 +1,5 @@
--- Answers the contract of `parts` (`src/decoding_v2.rt`).
+-- Proves the contract of `parts` (`src/decoding_v2.rt`).
+-- Each turn of the loop reads the next part and appends its side.
 use Rattle.std.proofs.Common.{rules, ap, ◌∙◌, arith, Vec, Global, [], ◌∷◌, length, length-append, ◌-◌, ◌+◌}
 use Rattle.ill_saved.specs.declared.side.Side.{Side}
 use Rattle.ill_saved.specs.Layout.{read_all}
@@ -18,7 +19,7 @@ returns-in_err-part-clause-read c =
           c.part.new.cursor (part.read c.loop.cursor) whole stays c.in_err-part.ensures.read,
     )
 
--- One more part keeps the invariant.
+-- One more turn of the loop keeps the invariant.
 pub loop-preserved : goal.loop-preserved
 loop-preserved c =
     let next = one_more part c.loop.sides.items c.args.count c.loop.counter c.loop.cursor
@@ -36,7 +37,7 @@ loop-preserved c =
           c.in_ok-push.ensures.items ∙ next c.in_ok-part.field-0 c.part.new.cursor c.in_ok-part.ensures.read;
     }
 
--- After `count` parts, the list is the one that is read.
+-- After `count` parts, the list is the whole list of sides that is read.
 pub returns-clause-read : goal.returns-clause-read
 returns-clause-read c = all_there part c.loop.sides.items c.args.count c.loop.counter c.loop.cursor
     (read_all part c.args.count c.args.cursor.now) c.loop.invariant.read (omega arith)

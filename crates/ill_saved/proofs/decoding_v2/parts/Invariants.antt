@@ -4,7 +4,7 @@ use Rattle.ill_saved.specs.RecordsV2.{part}
 use Rattle.ill_saved.proofs.Lists.{after}
 use Rattle.ill_saved.proofs.decoding_v2.parts.Given as goal
 
--- The sides so far, and the reading of those that are left, make up the whole reading.
+-- Reading the sides that are left, with the sides so far before them, gives the whole list.
 abbrev pub invariant-loop : goal.invariant-loop
 invariant-loop l = record {
   turns : l.counter ≤ l.count;

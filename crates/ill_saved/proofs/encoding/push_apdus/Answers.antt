@@ -1,4 +1,5 @@
--- Answers the contract of `push_apdus` (`src/encoding.rt`).
+-- Proves the contract of `push_apdus` (`src/encoding.rt`).
+-- Each turn of the loop appends the encoding of the next APDU.
 use Rattle.std.proofs.Common.{◌+◌, ◌≤◌, ◌++◌, length, drop, ap, sym, ◌∙◌, arith}
 use Rattle.ill_values.specs.Apdu.{IsApdu}
 use Rattle.ill_der.specs.ShortForm.{spelling}
@@ -6,7 +7,7 @@ use Rattle.ill_saved.specs.Layout.{spell_all}
 use Rattle.ill_saved.proofs.Lists.{one_spelled, all_spelled, one_each, none_each}
 use Rattle.ill_saved.proofs.encoding.push_apdus.Goals as goal
 
--- One more APDU keeps the invariant.
+-- One more turn, which reads or appends an APDU, keeps the invariant.
 pub loop-apdu-preserved : goal.loop-apdu-preserved
 loop-apdu-preserved c =
     let apdus = c.args.apdus.now in
@@ -27,7 +28,7 @@ returns-clause-bytes c =
     let all : length c.args.apdus.now ≤ c.loop-apdu.apdu-index = omega (arith, c.loop-apdu-test.false) in
     sym (all_spelled spelling c.loop-apdu.bytes.items c.args.apdus.now c.loop-apdu.apdu-index all) ∙ c.loop-apdu.invariant.bytes
 
--- After the last APDU, all are in range.
+-- After the last APDU, all APDUs are in range.
 pub returns-clause-range : goal.returns-clause-range
 returns-clause-range c =
     let all : length c.args.apdus.now ≤ c.loop-apdu.apdu-index = omega (arith, c.loop-apdu-test.false) in

@@ -5,8 +5,8 @@ use Rattle.ill_saved.specs.Layout.{spell_all}
 use Rattle.ill_saved.specs.Ranges.{Each}
 use Rattle.ill_saved.proofs.encoding.push_apdus.Given as goal
 
--- The bytes so far, and the encodings of the APDUs from `apdu-index` on, are the whole encoding.
--- If the APDUs from `apdu-index` on are in range, all are.
+-- The bytes so far, followed by the encodings of the APDUs from `apdu-index` on, are the whole encoding.
+-- If the APDUs from `apdu-index` on are in range, all APDUs are in range.
 abbrev pub invariant-loop-apdu : goal.invariant-loop-apdu
 invariant-loop-apdu l = record {
   bytes : l.bytes.items ++ spell_all spelling (drop l.apdu-index l.apdus) ≡ l.fn.bytes.items ++ spell_all spelling l.apdus;

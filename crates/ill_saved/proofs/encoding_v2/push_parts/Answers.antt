@@ -1,4 +1,5 @@
--- Answers the contract of `push_parts` (`src/encoding_v2.rt`).
+-- Proves the contract of `push_parts` (`src/encoding_v2.rt`).
+-- Each turn of the loop appends the part of the next side.
 use Rattle.std.proofs.Common.{◌≡◌, ◌+◌, ◌≤◌, ◌<◌, ◌++◌, length, drop, Some, ap, sym, ◌∙◌, arith, rules}
 use Rattle.std.specs.List.{slice_get}
 use Rattle.std.proofs.lemmas.Option.{get_or_from_slice_get}
@@ -9,7 +10,7 @@ use Rattle.ill_saved.proofs.Lists.{one_spelled, all_spelled, one_each, none_each
 use Rattle.ill_saved.proofs.encoding_v2.push_parts.Goals as goal
 use Rattle.ill_saved.proofs.encoding_v2.push_parts.Goals.{in-Some+in_ok-push_part, in_default}
 
--- One more part keeps the invariant.
+-- One more turn of the loop keeps the invariant.
 pub loop-place-preserved : goal.loop-place-preserved
 loop-place-preserved c =
     let held = c.args.sides.now.sides in
@@ -37,7 +38,7 @@ returns-clause-bytes c =
     let all : length held ≤ c.loop-place.place = omega (arith, c.loop-place-test.false, c.len-place-end.ensures.value) in
     sym (all_spelled part.spell c.loop-place.bytes.items held c.loop-place.place all) ∙ c.loop-place.invariant.bytes
 
--- After the last side, all are in range.
+-- After the last side, all sides are in range.
 pub returns-clause-sides : goal.returns-clause-sides
 returns-clause-sides c =
     let held = c.args.sides.now.sides in

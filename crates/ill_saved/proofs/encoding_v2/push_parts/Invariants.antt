@@ -4,8 +4,8 @@ use Rattle.ill_saved.specs.RecordsV2.{part}
 use Rattle.ill_saved.specs.Ranges.{Each, IsSide}
 use Rattle.ill_saved.proofs.encoding_v2.push_parts.Given as goal
 
--- The bytes so far, and the parts of the sides from `place` on, are the whole encoding.
--- If the sides from `place` on are in range, all are.
+-- The bytes so far, followed by the parts of the sides from `place` on, are the whole encoding.
+-- If the sides from `place` on are in range, all sides are in range.
 abbrev pub invariant-loop-place : goal.invariant-loop-place
 invariant-loop-place l = record {
   bytes : l.bytes.items ++ spell_all part.spell (drop l.place l.sides.sides)

@@ -1,7 +1,7 @@
--- Answers the contract of `one_sides` (`src/laws.rt`).
+-- Proves the contract of `one_sides` (`src/laws.rt`).
 use Rattle.ill_saved.proofs.SidesLaws.{one_sides}
 use Rattle.ill_saved.proofs.laws.one_sides.Goals as goal
 
--- Two desks' sides with one encoding are equal.
+-- Sides of two desks with equal encodings are equal.
 pub returns : goal.returns
 returns c = one_sides c.sides_read_again.ensures

@@ -1,8 +1,9 @@
--- Answers the contract of `read_again` (`src/laws.rt`).
+-- Proves the contract of `read_again` (`src/laws.rt`).
+-- Each field of the record is read from its encoding.
 use Rattle.ill_saved.proofs.RecordLaws.{record_again}
 use Rattle.ill_saved.proofs.laws.read_again.Goals as goal
 
--- A side in range is read again from its encoding.
+-- A side in range is read from its encoding.
 pub returns : goal.returns
 returns c = record_again (record {
   day_spelled = c.date_texts.ensures.spelled;

@@ -1,4 +1,4 @@
--- Answers the contract of `record_is_short` (`src/laws.rt`).
+-- Proves the contract of `record_is_short` (`src/laws.rt`).
 use Rattle.ill_saved.proofs.Sizes.{record_bound}
 use Rattle.ill_saved.proofs.laws.record_is_short.Goals as goal
 

@@ -1,4 +1,4 @@
--- Answers the contract of `refusals_stay` (`src/laws.rt`).
+-- Proves the contract of `refusals_stay` (`src/laws.rt`).
 use Rattle.ill_saved.proofs.Desks.{refusals_stay}
 use Rattle.ill_saved.proofs.laws.refusals_stay.Goals as goal
 

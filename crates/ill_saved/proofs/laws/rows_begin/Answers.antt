@@ -1,8 +1,9 @@
--- Answers the contract of `rows_begin` (`src/laws.rt`).
+-- Proves the contract of `rows_begin` (`src/laws.rt`).
+-- No wish or deed leads to IDLE, and no message leads a side back to IDLE.
 use Rattle.ill_saved.proofs.Desks.{rows_stay}
 use Rattle.ill_saved.proofs.laws.rows_begin.Goals as goal
 
--- A side that is not idle is not idle after a row.
+-- A side that is not idle is not idle after a transition.
 pub returns-clause-stays : goal.returns-clause-stays
 returns-clause-stays c =
     rows_stay (record {

@@ -1,8 +1,9 @@
--- Answers the contract of `rows_grow` (`src/laws.rt`).
+-- Proves the contract of `rows_grow` (`src/laws.rt`).
+-- Each transition of a requester or a responder keeps the transaction and appends at most one message.
 use Rattle.ill_saved.proofs.Desks.{row_grows}
 use Rattle.ill_saved.proofs.laws.rows_grow.Goals as goal
 
--- A side grows by each row.
+-- A side grows by each transition.
 pub returns : goal.returns
 returns c = row_grows (record {
   wish_txn = c.requester_keeps_txn.ensures.acts;

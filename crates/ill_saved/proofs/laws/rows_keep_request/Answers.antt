@@ -1,8 +1,8 @@
--- Answers the contract of `rows_keep_request` (`src/laws.rt`).
+-- Proves the contract of `rows_keep_request` (`src/laws.rt`).
 use Rattle.ill_saved.proofs.Desks.{row_keeps_request}
 use Rattle.ill_saved.proofs.laws.rows_keep_request.Goals as goal
 
--- Each row keeps the request.
+-- Each transition keeps the request.
 pub returns : goal.returns
 returns c = row_keeps_request (record {
   deed = c.responder_keeps_request.ensures.acts;

@@ -1,8 +1,9 @@
--- Answers the contract of `sides_read_again` (`src/laws.rt`).
+-- Proves the contract of `sides_read_again` (`src/laws.rt`).
+-- Each field of the record is read from its encoding, and the digest is computed from equal bytes.
 use Rattle.ill_saved.proofs.SidesLaws.{read_again}
 use Rattle.ill_saved.proofs.laws.sides_read_again.Goals as goal
 
--- Sides that may be saved are read again from their encoding.
+-- Sides that may be saved are read from their encoding.
 pub returns : goal.returns
 returns c = read_again (record {
   spelled = c.spelled.ensures.side;

@@ -1,4 +1,4 @@
--- Answers the contract of `sides_record_is_short` (`src/laws.rt`).
+-- Proves the contract of `sides_record_is_short` (`src/laws.rt`).
 use Rattle.ill_saved.proofs.Sizes.{sides_bound}
 use Rattle.ill_saved.proofs.laws.sides_record_is_short.Goals as goal
 

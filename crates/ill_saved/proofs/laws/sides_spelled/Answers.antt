@@ -1,4 +1,4 @@
--- Answers the contract of `sides_spelled` (`src/laws.rt`).
+-- Proves the contract of `sides_spelled` (`src/laws.rt`).
 use Rattle.ill_saved.proofs.SidesLaws.{spelled}
 use Rattle.ill_saved.proofs.laws.sides_spelled.Goals as goal
 

@@ -1,4 +1,5 @@
--- Answers the contract of `spelled` (`src/laws.rt`).
+-- Proves the contract of `spelled` (`src/laws.rt`).
+-- Each field accepts only the encoding of the value that it reads.
 use Rattle.ill_saved.proofs.Fields.{Below}
 use Rattle.ill_saved.proofs.RecordLaws.{side_takes, record_takes}
 use Rattle.ill_saved.proofs.laws.spelled.Goals as goal

@@ -1,4 +1,5 @@
--- Answers the contract of `counts_of` (`src/many_sides.rt`).
+-- Proves the contract of `counts_of` (`src/many_sides.rt`).
+-- Each turn of the loop appends the count of the next side.
 use Rattle.std.proofs.Common.{rules, arith, ◌≡◌, ◌<◌, ◌+◌, ◌++◌, ◌∷◌, [], length, drop, Some, ap, sym, ◌∙◌}
 use Rattle.std.specs.List.{slice_get}
 use Rattle.std.proofs.lemmas.Option.{get_or_from_slice_get}
@@ -8,7 +9,7 @@ use Rattle.ill_saved.proofs.Contents.{one_counted}
 use Rattle.ill_saved.proofs.many_sides.counts_of.Goals as goal
 use Rattle.ill_saved.proofs.many_sides.counts_of.Goals.{in-Some+in_ok-push, in_default}
 
--- One more count keeps the invariant.
+-- One more turn of the loop keeps the invariant.
 pub loop-place-preserved : goal.loop-place-preserved
 loop-place-preserved c =
     let held = c.args.sides.now.sides in

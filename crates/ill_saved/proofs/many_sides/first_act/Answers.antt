@@ -1,4 +1,5 @@
--- Answers the contract of `first_act` (`src/many_sides.rt`).
+-- Proves the contract of `first_act` (`src/many_sides.rt`).
+-- An idle requester performs each action Request.
 use Rattle.std.proofs.Common.{rules}
 use Rattle.ill_saved.proofs.Contents.{first_act_fails}
 use Rattle.ill_saved.proofs.many_sides.first_act.Goals as goal

@@ -1,4 +1,5 @@
--- Answers the contract of `first_take` (`src/many_sides.rt`).
+-- Proves the contract of `first_take` (`src/many_sides.rt`).
+-- An idle responder takes each ILL-Request.
 use Rattle.std.proofs.Common.{rules}
 use Rattle.ill_saved.proofs.Contents.{first_take_fails}
 use Rattle.ill_saved.proofs.many_sides.first_take.Goals as goal

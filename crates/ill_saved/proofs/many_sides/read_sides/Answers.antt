@@ -1,4 +1,5 @@
--- Answers the contract of `read_sides` (`src/many_sides.rt`).
+-- Proves the contract of `read_sides` (`src/many_sides.rt`).
+-- Decoding gives only consistent sides, which back themselves.
 use Rattle.std.proofs.Common.{◌≡◌, arith, ap, sym, subst}
 use Rattle.ill_saved.specs.Side.{IsConsistent}
 use Rattle.ill_saved.specs.Ranges.{Each}

@@ -1,4 +1,5 @@
--- Answers the contract of `read_or_idle` (`src/one_side.rt`).
+-- Proves the contract of `read_or_idle` (`src/one_side.rt`).
+-- The idle side of a side backs itself.
 use Rattle.std.proofs.Common.{sym, subst, ap, ◌∙◌, None, option_map}
 use Rattle.ill_saved.specs.Holdings.{IsBacked}
 use Rattle.ill_saved.specs.OneSide.{OneBacks, alone, one_side}

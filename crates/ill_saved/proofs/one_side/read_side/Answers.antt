@@ -1,10 +1,11 @@
--- Answers the contract of `read_side` (`src/one_side.rt`).
+-- Proves the contract of `read_side` (`src/one_side.rt`).
+-- Bytes that are read as a side are its encoding.
 use Rattle.std.proofs.Common.{arith}
 use Rattle.ill_saved.specs.Records.{begins_as_record}
 use Rattle.ill_saved.proofs.Records.{decodes_spelled}
 use Rattle.ill_saved.proofs.one_side.read_side.Goals as goal
 
--- The answer is that of decoding, and the bytes are the encoding of a side that they give.
+-- The answer is the answer of decoding, and a side that it gives has the bytes as its encoding.
 pub returns : goal.returns
 returns c =
     let bytes = c.args.bytes.now in

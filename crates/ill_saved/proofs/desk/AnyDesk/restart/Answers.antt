@@ -1,4 +1,5 @@
--- Answers the contract of `AnyDesk::restart` (`src/desk.rt`).
+-- Proves the contract of `AnyDesk::restart` (`src/desk.rt`).
+-- Landed bytes that back the live sides have no fault of the record.
 use Rattle.std.proofs.Common.{◌≡◌, true, subst}
 use Rattle.ill_saved.specs.Desk.{Restarts}
 use Rattle.ill_saved.specs.Holdings.{landed_live}

@@ -1,4 +1,5 @@
--- Answers the contract of `Desk1::create` (`src/desk.rt`).
+-- Proves the contract of `Desk1::create` (`src/desk.rt`).
+-- The idle side backs itself with no message released.
 use Rattle.std.proofs.Common.{sym, subst}
 use Rattle.ill_saved.specs.OneSide.{OneBacks, one_side}
 use Rattle.ill_saved.proofs.Desks.{idle_backs}

@@ -1,9 +1,10 @@
--- Answers the contracts of the impl of `Store` for `FileStore` (`src/file_store.rt`).
+-- Proves the contracts of the impl of `Store` for `FileStore` (`src/file_store.rt`).
+-- Each call that fails counts its failure, and no contract states the content of a file.
 use Rattle.std.proofs.Common.{rules, refl}
 use Rattle.ill_saved.proofs.Files.{load_counts, save_counts}
 use Rattle.ill_saved.proofs.file_store.FileStoreStore.TheImpl.Goals as goal
 
--- A load of a store in a file keeps the contract of each store.
+-- A load of a store in a file satisfies the contract of each store.
 pub load-tells : goal.load-tells
 load-tells g c = record {
   loaded = λ honest. search rules;
@@ -14,7 +15,7 @@ load-tells g c = record {
   plan = refl;
 }
 
--- A save of a store in a file keeps the contract of each store.
+-- A save of a store in a file satisfies the contract of each store.
 pub save-tells : goal.save-tells
 save-tells g c =
     let told = save_counts c.args.self.now c.new.self.now c.result c.ensures in

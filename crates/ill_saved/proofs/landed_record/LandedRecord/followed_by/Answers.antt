@@ -1,4 +1,5 @@
--- Answers the contract of `LandedRecord::followed_by` (`src/landed_record.rt`).
+-- Proves the contract of `LandedRecord::followed_by` (`src/landed_record.rt`).
+-- Each turn of the loop gives the next message the place after the last one.
 use Rattle.std.proofs.Common.{rules, arith, ◌≡◌, ◌+◌, ◌-◌, ◌++◌, ◌∷◌, [], length, map, drop, subst, sym, ap, ◌∙◌}
 use Rattle.std.specs.List.{All}
 use Rattle.std.proofs.lemmas.List.{drop_more, drop_all}
@@ -8,7 +9,7 @@ use Rattle.ill_saved.specs.LandedBytes.{piece_at, IsWithin}
 use Rattle.ill_saved.proofs.Places.{ArePlaced, ArePlacedIn, first_placed, next_placed, all_placed}
 use Rattle.ill_saved.proofs.landed_record.LandedRecord.followed_by.Goals as goal
 
--- The kept messages have their places before the loop.
+-- The messages of this record have their places before the loop.
 pub loop-apdu-init : goal.loop-apdu-init
 loop-apdu-init c =
     let landed_record = c.args.self.now in
@@ -23,7 +24,7 @@ loop-apdu-init c =
           (length c.messages-end.result.now) end within pieces;
     }
 
--- One more message keeps the invariant.
+-- One more turn of the loop keeps the invariant.
 pub loop-apdu-preserved : goal.loop-apdu-preserved
 loop-apdu-preserved c =
     let apdus = c.args.apdus.now in

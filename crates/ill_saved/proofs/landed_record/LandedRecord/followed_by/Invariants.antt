@@ -4,7 +4,7 @@ use Rattle.ill_saved.specs.Layout.{spell_all}
 use Rattle.ill_saved.proofs.Places.{ArePlaced}
 use Rattle.ill_saved.proofs.landed_record.LandedRecord.followed_by.Given as goal
 
--- Each message up to `end` has its place.
+-- Each message before offset `end` has its place.
 abbrev pub invariant-loop-apdu : goal.invariant-loop-apdu
 invariant-loop-apdu l = record {
   placed : ArePlaced (l.self.messages ++ spell_all spelling l.apdus) l.end l.places.items (drop l.apdu-index l.apdus)

@@ -1,11 +1,12 @@
--- Answers the contract of `LandedRecord::next` (`src/landed_record.rt`).
+-- Proves the contract of `LandedRecord::next` (`src/landed_record.rt`).
+-- The landed messages are a prefix of the issued ones, which are the last part of a record.
 use Rattle.std.proofs.Common.{◌++◌, ap, sym, ◌∙◌}
 use Rattle.ill_der.specs.ShortForm.{spelling}
 use Rattle.ill_saved.specs.Layout.{spell_all}
 use Rattle.ill_saved.proofs.Places.{landed_continues, ends_with_messages, next_landed}
 use Rattle.ill_saved.proofs.landed_record.LandedRecord.next.Goals as goal
 
--- The kept messages and the encodings of the others are those of the side.
+-- The landed messages and the encodings of the others are the messages of the side.
 pub encode_after-requires-clause-spelled : goal.encode_after-requires-clause-spelled
 encode_after-requires-clause-spelled c =
     let others = c.issued_after-others.result.now in
@@ -13,14 +14,14 @@ encode_after-requires-clause-spelled c =
     c.issued_after-others.ensures in
     ap (λ messages. messages ++ spell_all spelling others) c.messages.ensures ∙ more.messages
 
--- If the other messages are in range, all that the side has issued are.
+-- If the other messages are in range, all issued messages of the side are in range.
 pub encode_after-requires-clause-range : goal.encode_after-requires-clause-range
 encode_after-requires-clause-range c =
     let more = landed_continues c.args.self.now c.args.side.now c.args.released c.issued_after-others.result.now c.requires.keeps
     c.issued_after-others.ensures in
     more.range
 
--- The new record ends with the kept messages and the encodings of the others.
+-- The new record ends with the landed messages and the encodings of the others.
 pub followed_by-requires : goal.followed_by-requires
 followed_by-requires c =
     let more = landed_continues c.args.self.now c.args.side.now c.args.released c.issued_after-others.result.now c.requires.keeps

@@ -1,4 +1,5 @@
--- Answers the contract of `LandedRecord::of` (`src/landed_record.rt`).
+-- Proves the contract of `LandedRecord::of` (`src/landed_record.rt`).
+-- The issued messages are the last part of a record.
 use Rattle.std.proofs.Common.{rules, ◌++◌, ◌≡◌, ◌∙◌, ap, sym}
 use Rattle.ill_der.specs.ShortForm.{spelling}
 use Rattle.ill_saved.specs.Layout.{spell_all}

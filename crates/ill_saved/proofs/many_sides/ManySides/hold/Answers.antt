@@ -1,4 +1,5 @@
--- Answers the contract of `ManySides::hold` (`src/many_sides.rt`).
+-- Proves the contract of `ManySides::hold` (`src/many_sides.rt`).
+-- A side that began by a transition is backed by the sides that back the others.
 use Rattle.std.proofs.Common.{rules, ◌≡◌, ◌++◌, ◌+◌, ◌∷◌, [], length, length-append, None, ap, sym, subst, ◌∙◌}
 use Rattle.ill_saved.specs.Side.{txn_of, idle_side, IsStep}
 use Rattle.ill_saved.specs.Sides.{put_refusal, put_last}
@@ -7,7 +8,7 @@ use Rattle.ill_saved.specs.ManySides.{with_held, AreBackable, ManyBack, held_of,
 use Rattle.ill_saved.proofs.Contents.{as_seen, held_more, more_backed, more_backable}
 use Rattle.ill_saved.proofs.many_sides.ManySides.hold.Goals as goal
 
--- Each side has a count, and some sides back the desk's content with one more side.
+-- Each side has a count, and some sides back the desk's contents with one more side.
 pub invariant_of-self-in-Ok : goal.invariant_of-self-in-Ok
 invariant_of-self-in-Ok c =
     let all = c.self.inside.sides in
@@ -26,7 +27,7 @@ invariant_of-self-in-Ok c =
           c.self.invariant.1),
     )
 
--- The desk holds one more side, with nothing released.
+-- The desk holds one more side, with no message released.
 pub returns-in_ok-push-in-Ok-clause-held : goal.returns-in_ok-push-in-Ok-clause-held
 returns-in_ok-push-in-Ok-clause-held c =
     let all = c.self.inside.sides in
@@ -39,7 +40,7 @@ returns-in_ok-push-in-Ok-clause-held c =
     ∙ held_more all.role all.sides counted c.self.invariant.0 c.args.side may c.put.new.self put
     ∙ ap (λ live. with_held live (record { side = c.args.side; released = 0 })) c.self.view_is
 
--- All bytes that backed the desk's content back it with one more side.
+-- All bytes that backed the desk's contents back them with one more side.
 pub returns-in_ok-push-in-Ok-clause-backed : goal.returns-in_ok-push-in-Ok-clause-backed
 returns-in_ok-push-in-Ok-clause-backed c =
     let all = c.self.inside.sides in

@@ -1,11 +1,12 @@
--- Answers the contract of `ManySides::may_begin` (`src/many_sides.rt`).
+-- Proves the contract of `ManySides::may_begin` (`src/many_sides.rt`).
+-- The number of held entries is the number of sides.
 use Rattle.std.proofs.Common.{rules, ◌≡◌, nat_lt, length, true, false, ap, sym, ◌∙◌}
 use Rattle.ill_saved.specs.Sides.{most_sides}
 use Rattle.ill_saved.proofs.Contents.{as_many_held}
 use Rattle.ill_saved.proofs.many_sides.ManySides.may_begin.Goals.{After-len}
 use Rattle.ill_saved.proofs.many_sides.ManySides.may_begin.Goals as goal
 
--- A desk holds as many as it has sides.
+-- The number of held entries is the number of sides.
 as_many : (c : After-len) → length c.args.self.now.held ≡ length c.self.inside.sides.sides
 as_many c = sym (ap (λ live. length live.held) c.self.view_is)
     ∙ as_many_held c.self.inside.sides.sides c.self.inside.released.items c.self.invariant.0

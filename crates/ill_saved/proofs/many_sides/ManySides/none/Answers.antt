@@ -1,4 +1,5 @@
--- Answers the contract of `ManySides::none` (`src/many_sides.rt`).
+-- Proves the contract of `ManySides::none` (`src/many_sides.rt`).
+-- A desk that holds no side backs itself.
 use Rattle.std.proofs.Common.{rules, ◌≡◌, [], ap, sym, subst}
 use Rattle.ill_saved.specs.Side.{IsConsistent}
 use Rattle.ill_saved.specs.Ranges.{Each}
@@ -7,7 +8,7 @@ use Rattle.ill_saved.specs.ManySides.{counts, held_of}
 use Rattle.ill_saved.proofs.Contents.{as_many_counted, none_are, whole_backable}
 use Rattle.ill_saved.proofs.many_sides.ManySides.none.Goals as goal
 
--- Nothing is held, so each side has a count, and no sides back the desk's content.
+-- No side is held, so each side has a count, and the empty list of sides backs the desk's contents.
 pub invariant_of-result : goal.invariant_of-result
 invariant_of-result c =
     let all = c.in-Ok.sides in

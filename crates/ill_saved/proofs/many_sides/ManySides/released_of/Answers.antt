@@ -1,4 +1,5 @@
--- Answers the contract of `ManySides::released_of` (`src/many_sides.rt`).
+-- Proves the contract of `ManySides::released_of` (`src/many_sides.rt`).
+-- The side and its count have one index in their lists.
 use Rattle.std.proofs.Common.{rules, ◌≡◌, ℕ, ◌<◌, ◌≤◌, length, Some, None, ap, sym, subst, ◌∙◌}
 use Rattle.std.specs.Prelude.{position}
 use Rattle.ill_core.specs.Issued.{is_same_txn}
@@ -17,7 +18,7 @@ returns-in-Some-clause-value c =
     count_there all.role all.sides c.self.inside.released.items txn c.in-Some.place c.index.result.now c.self.invariant.0 at
     within c.index.ensures ∙ ap (λ live. (held_for txn live).released) c.self.view_is
 
--- If no side is of the transaction, nothing of it is released.
+-- If no side is of the transaction, the number of its released messages is 0.
 pub returns-in-None-clause-value : goal.returns-in-None-clause-value
 returns-in-None-clause-value c =
     let all = c.self.inside.sides in
@@ -26,7 +27,7 @@ returns-in-None-clause-value c =
     no_count all.role all.sides c.self.inside.released.items txn c.self.invariant.0 none
     ∙ ap (λ live. (held_for txn live).released) c.self.view_is
 
--- No more messages are released than issued.
+-- At most the issued messages are released.
 pub returns-in-Some-clause-issued : goal.returns-in-Some-clause-issued
 returns-in-Some-clause-issued c =
     let txn = c.args.txn.now in

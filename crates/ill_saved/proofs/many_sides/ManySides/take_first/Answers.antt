@@ -1,4 +1,5 @@
--- Answers the contract of `ManySides::take_first` (`src/many_sides.rt`).
+-- Proves the contract of `ManySides::take_first` (`src/many_sides.rt`).
+-- The message leads to the new side by a transition from the idle side of the transaction.
 use Rattle.std.proofs.Common.{rules, ◌≡◌, true, None, Ok, length, nat_lt, ap}
 use Rattle.ill_core.specs.declared.taking.Taking.TheVariants.{Taken}
 use Rattle.ill_core.specs.Bodies.{is_ill_request}
@@ -9,7 +10,7 @@ use Rattle.ill_saved.proofs.Contents.{first_may, first_begins}
 use Rattle.ill_saved.proofs.many_sides.ManySides.take_first.Goals.{In_ok-side}
 use Rattle.ill_saved.proofs.many_sides.ManySides.take_first.Goals as goal
 
--- The side that has begun may be put. A row led to it from the idle side of its transaction.
+-- The side that has begun may be put. A transition led to it from the idle side of its transaction.
 may : (c : In_ok-side)
     → (put_refusal (sides_held c.args.self.now) c.in_ok-side.side ≡ None)
     × IsStep (idle_side c.args.self.now.role (txn_of c.in_ok-side.side)) c.in_ok-side.side
@@ -26,6 +27,6 @@ may c =
 pub hold-requires-clause-may : goal.hold-requires-clause-may
 hold-requires-clause-may c = (may (goal.at.hold-requires-clause-may c).In_ok-side).0
 
--- A row led to the side that has begun, from the idle side of its transaction.
+-- A transition led to the side that has begun, from the idle side of its transaction.
 pub hold-requires-clause-row : goal.hold-requires-clause-row
 hold-requires-clause-row c = (may (goal.at.hold-requires-clause-row c).In_ok-side).1

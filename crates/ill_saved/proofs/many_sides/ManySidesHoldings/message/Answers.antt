@@ -1,4 +1,5 @@
--- Answers the contract of `ManySides::message` (`src/many_sides.rt`).
+-- Proves the contract of `ManySides::message` (`src/many_sides.rt`).
+-- The side and its released count are those of the held entry.
 use Rattle.std.proofs.Common.{rules, ◌≡◌, Some, None, ap, sym, ◌∙◌}
 use Rattle.ill_saved.specs.Sides.{found_by, side_with}
 use Rattle.ill_saved.specs.ManySides.{txn_held, held_for}
@@ -6,7 +7,7 @@ use Rattle.ill_saved.proofs.Contents.{as_seen, held_there, none_held_there}
 use Rattle.ill_saved.proofs.many_sides.ManySidesHoldings.message.Goals.{In-Some}
 use Rattle.ill_saved.proofs.many_sides.ManySidesHoldings.message.Goals as goal
 
--- If the desk has a side of the transaction, it is held with its released count.
+-- If the desk has a side of the transaction, the held entry has this side and its released count.
 found : (c : In-Some) → found_by txn_held c.args.txn.now c.args.self.now.held
     ≡ Some (record { side = c.in-Some.side.now; released = (held_for c.args.txn.now c.args.self.now).released })
 found c =
@@ -38,7 +39,7 @@ returns-in-Some-issued c =
     let held = found (goal.at.returns-in-Some-issued c).In-Some in
     search (rules, held)
 
--- If memory runs out for a released message, the answer says so.
+-- If memory runs out for a released message, the answer is `OutOfMemory`.
 pub returns-in_err-encode-in-Some-2 : goal.returns-in_err-encode-in-Some-2
 returns-in_err-encode-in-Some-2 c =
     let held = found (goal.at.returns-in_err-encode-in-Some-2 c).In-Some in

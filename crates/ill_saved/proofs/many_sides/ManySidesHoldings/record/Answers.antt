@@ -1,4 +1,5 @@
--- Answers the contract of `ManySides::record` (`src/many_sides.rt`).
+-- Proves the contract of `ManySides::record` (`src/many_sides.rt`).
+-- The sides in range are read from their encoding.
 use Rattle.std.proofs.Common.{subst, ap, ◌∙◌}
 use Rattle.ill_saved.specs.RecordsV2.{AreSides}
 use Rattle.ill_saved.specs.ManySides.{counts, AreBackable}

@@ -1,4 +1,5 @@
--- Answers the contract of `ManySides::release` (`src/many_sides.rt`).
+-- Proves the contract of `ManySides::release` (`src/many_sides.rt`).
+-- The record has the number of issued messages of each side.
 use Rattle.std.proofs.Common.{◌≡◌, ap, sym, subst, ◌∙◌}
 use Rattle.ill_saved.specs.RecordsV2.{AreSides}
 use Rattle.ill_saved.specs.ManySides.{counts, whole_of}

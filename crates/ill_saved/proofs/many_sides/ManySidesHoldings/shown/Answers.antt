@@ -1,4 +1,5 @@
--- Answers the contract of `ManySides::shown` (`src/many_sides.rt`).
+-- Proves the contract of `ManySides::shown` (`src/many_sides.rt`).
+-- The side and its released count are those of the held entry.
 use Rattle.std.proofs.Common.{rules, ◌≡◌, Some, None, ap, sym, ◌∙◌}
 use Rattle.ill_saved.specs.Side.{shown_of}
 use Rattle.ill_saved.specs.Sides.{side_with}
@@ -6,7 +7,7 @@ use Rattle.ill_saved.specs.ManySides.{idle_held, found_or}
 use Rattle.ill_saved.proofs.Contents.{as_seen, held_there, none_held_there}
 use Rattle.ill_saved.proofs.many_sides.ManySidesHoldings.shown.Goals as goal
 
--- If the side is held, its parts are those of what is held.
+-- If the side is held, the result has its parts and its released count.
 pub returns-in-Some : goal.returns-in-Some
 returns-in-Some c =
     let live = c.args.self.now in
@@ -18,7 +19,7 @@ returns-in-Some c =
     c.of.ensures ∙ ap (shown_of c.in-Some.side.now) c.released_of.ensures.value
     ∙ sym (ap (λ held. shown_of held.side held.released) held)
 
--- If the side is not held, its parts are those of an idle one.
+-- If the side is not held, the result has the parts of an idle side.
 pub returns-in-None : goal.returns-in-None
 returns-in-None c =
     let live = c.args.self.now in

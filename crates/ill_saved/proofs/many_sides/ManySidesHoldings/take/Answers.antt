@@ -1,4 +1,5 @@
--- Answers the contract of `ManySides::take` (`src/many_sides.rt`).
+-- Proves the contract of `ManySides::take` (`src/many_sides.rt`).
+-- Only the side of the message changes, by a transition.
 use Rattle.std.proofs.Common.{rules, ◌≡◌, false, length, ap, subst, ◌∙◌}
 use Rattle.ill_saved.specs.Side.{Takes}
 use Rattle.ill_saved.specs.Sides.{found_by}
@@ -10,7 +11,7 @@ use Rattle.ill_saved.proofs.Contents.{none_held, changed_held, still_backed, sti
 use Rattle.ill_saved.proofs.many_sides.ManySidesHoldings.take.Goals.{In-Some}
 use Rattle.ill_saved.proofs.many_sides.ManySidesHoldings.take.Goals as goal
 
--- After a held side takes an APDU, each side has a count, and some sides back the desk's content.
+-- After a held side has answered an APDU, each side has a count, and some sides back the desk's contents.
 rules_stay : (c : In-Some) → (length c.self.inside.released.items ≡ length c.take.new.self.sides)
     × AreBackable (record { role = c.take.new.self.role; held = held_of c.take.new.self.sides c.self.inside.released.items })
 rules_stay c =
@@ -25,7 +26,7 @@ rules_stay c =
           c.in-Some.ensures c.self.invariant.1,
     )
 
--- After a held side takes an APDU, all bytes that backed the desk's content back it.
+-- After a held side has answered an APDU, all bytes that backed the desk's contents back them.
 stays_backed : (c : In-Some)
     → StaysBacked many_sides ManyBack c.args.self.now
     (record { role = c.take.new.self.role; held = held_of c.take.new.self.sides c.self.inside.released.items })
@@ -38,7 +39,7 @@ stays_backed c =
     (λ old answer new. Takes old c.args.apdu.now answer new)
     (λ old new answer does. takes_row old new c.args.apdu.now answer does) c.in-Some.answer c.take.new.self c.in-Some.ensures)
 
--- If the held side answers an APDU, the desk answers as `DeskTakesApdu` says.
+-- If the held side answers an APDU, the desk answers it as `DeskTakesApdu` says.
 takes_so : (c : In-Some) → DeskTakesApdu many_sides c.args.self.now c.args.apdu.now (core_answer c.in-Some.answer)
     (record { role = c.take.new.self.role; held = held_of c.take.new.self.sides c.self.inside.released.items })
 takes_so c =
@@ -50,11 +51,11 @@ takes_so c =
     (desk_takes_so all.role all.sides c.self.inside.released.items c.self.invariant.0 c.rows_grow.ensures c.refusals_stay.ensures
     c.args.apdu.now c.in-Some.answer c.take.new.self other c.in-Some.ensures)
 
--- The desk keeps its invariant if its side does not take the APDU.
+-- The desk satisfies its invariant if its side refuses the APDU.
 pub invariant_of-self : goal.invariant_of-self
 invariant_of-self c = rules_stay (goal.at.invariant_of-self c).In-Some
 
--- The desk keeps its invariant after its side has taken the APDU.
+-- The desk satisfies its invariant after its side has taken the APDU.
 pub invariant_of-self-in-Some : goal.invariant_of-self-in-Some
 invariant_of-self-in-Some c = rules_stay (goal.at.invariant_of-self-in-Some c).In-Some
 
@@ -70,17 +71,17 @@ returns-in_ok-answer-in-Some-clause-takes c =
     let so = takes_so (goal.at.returns-in_ok-answer-in-Some-clause-takes c).In-Some in
     search (rules, so)
 
--- If no side is of the APDU's transaction, nothing is held of it.
+-- If no side is of the APDU's transaction, no entry of it is held.
 pub take_first-requires-clause-none : goal.take_first-requires-clause-none
 take_first-requires-clause-none c =
     ap (λ all. found_by txn_held c.args.apdu.now.txn (held_of all.sides c.self.inside.released.items)) c.in-None.ensures.1
     ∙ none_held c.self.inside.sides.role c.self.inside.sides.sides c.self.inside.released.items c.self.invariant.0
     c.args.apdu.now.txn c.in-None.ensures.0
 
--- All bytes that backed the desk's content back it.
+-- All bytes that backed the desk's contents back them.
 pub returns-in_err-answer-in-Some-clause-backed : goal.returns-in_err-answer-in-Some-clause-backed
 returns-in_err-answer-in-Some-clause-backed c = stays_backed (goal.at.returns-in_err-answer-in-Some-clause-backed c).In-Some
 
--- All bytes that backed the desk's content back it.
+-- All bytes that backed the desk's contents back them.
 pub returns-in_ok-answer-in-Some-clause-backed : goal.returns-in_ok-answer-in-Some-clause-backed
 returns-in_ok-answer-in-Some-clause-backed c = stays_backed (goal.at.returns-in_ok-answer-in-Some-clause-backed c).In-Some

@@ -1,18 +1,19 @@
--- Answers the contract of `OneSide::act` (`src/one_side.rt`).
+-- Proves the contract of `OneSide::act` (`src/one_side.rt`).
+-- An action leads to the new side by a transition, or the side is unchanged.
 use Rattle.std.proofs.Common.{subst}
 use Rattle.ill_saved.specs.Holdings.{StaysBacked}
 use Rattle.ill_saved.specs.OneSide.{OneBacks, one_side}
 use Rattle.ill_saved.proofs.Desks.{acts_rules}
 use Rattle.ill_saved.proofs.one_side.OneSideHoldings.act.Goals as goal
 
--- The rules hold if the side does not do the action.
+-- The held side satisfies `Rules` if the side refuses the action.
 pub invariant_of-self : goal.invariant_of-self
 invariant_of-self c =
     let held = c.self.inside in
     (acts_rules c.rows_grow.ensures c.rows_keep_request.ensures held.landed_record held.side c.act.new.self held.released
     c.args.action.now c.act.result c.act.ensures c.self.invariant).0
 
--- The rules hold after the side has done the action.
+-- The held side satisfies `Rules` after the side has performed the action.
 pub invariant_of-self-2 : goal.invariant_of-self-2
 invariant_of-self-2 c =
     let held = c.self.inside in

@@ -1,4 +1,5 @@
--- Answers the contract of `OneSide::begin` (`src/one_side.rt`).
+-- Proves the contract of `OneSide::begin` (`src/one_side.rt`).
+-- The idle side backs itself with no message released.
 use Rattle.std.proofs.Common.{◌≡◌, sym, subst}
 use Rattle.ill_saved.specs.Side.{idle_of}
 use Rattle.ill_saved.specs.OneSide.{OneBacks, one_side}

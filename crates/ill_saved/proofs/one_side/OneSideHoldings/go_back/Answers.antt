@@ -1,4 +1,5 @@
--- Answers the contract of `OneSide::go_back` (`src/one_side.rt`).
+-- Proves the contract of `OneSide::go_back` (`src/one_side.rt`).
+-- The landed record encodes exactly the side to which the live side goes back.
 use Rattle.std.proofs.Common.{Vec, Global, Option, List, ℕ, subst}
 use Rattle.std.specs.Prelude.{option_map}
 use Rattle.ill_saved.specs.LandedBytes.{GoesBackTo}
@@ -9,7 +10,7 @@ use Rattle.ill_saved.proofs.one_side.OneSideHoldings.go_back.Goals as goal
 abbrev given : Option (Vec ℕ Global) → Option (List ℕ)
 given bytes = option_map (λ b. b.items) bytes
 
--- The rules hold if the side goes back to the kept record.
+-- The held side satisfies `Rules` if the side goes back to the landed record.
 pub invariant_of-self : goal.invariant_of-self
 invariant_of-self c =
     let held = c.self.inside in
@@ -17,7 +18,7 @@ invariant_of-self c =
     c.take_back.new.live) c.if-take_back.true c.take_back.ensures in
     (back_rules c.read_again.ensures held.landed_record held.released (given c.args.bytes) held.side c.take_back.new.live back).0
 
--- If the side goes back to the kept record, the loaded bytes back it.
+-- If the side goes back to the landed record, the loaded bytes back it.
 pub returns-then-take_back-clause-backed : goal.returns-then-take_back-clause-backed
 returns-then-take_back-clause-backed c =
     let held = c.self.inside in

@@ -1,9 +1,10 @@
--- Answers the contract of `OneSide::message` (`src/one_side.rt`).
+-- Proves the contract of `OneSide::message` (`src/one_side.rt`).
+-- The landed record has the encodings of the released messages.
 use Rattle.std.proofs.Common.{rules, ◌≡◌, ◌≤◌, Vec, Global, ℕ}
 use Rattle.ill_saved.proofs.Desks.{sends_released}
 use Rattle.ill_saved.proofs.one_side.OneSideHoldings.message.Goals as goal
 
--- The bytes from the kept record are those that `Sends` asks for.
+-- The bytes from the landed record are the bytes that `Sends` asks for.
 pub returns : goal.returns
 returns c =
     let held = c.self.inside in

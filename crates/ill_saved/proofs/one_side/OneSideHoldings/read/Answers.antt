@@ -1,4 +1,5 @@
--- Answers the contract of `OneSide::read` (`src/one_side.rt`).
+-- Proves the contract of `OneSide::read` (`src/one_side.rt`).
+-- A side that is read is consistent, so it backs itself.
 use Rattle.std.proofs.Common.{rules, arith}
 use Rattle.ill_saved.specs.Records.{begins_as_record}
 use Rattle.ill_saved.proofs.Desks.{itself_backs, keeps_whole, record_faults}
@@ -10,7 +11,7 @@ returns-in_err-side-clause-faults c =
     let bytes = c.deref.result.now in
     search (rules, record_faults bytes (begins_as_record bytes) c.in_err-side.field-0.0 c.in_err-side.ensures.decodes)
 
--- The side that was read keeps its record, with all messages released.
+-- The side that was read satisfies its rules, with all messages released.
 pub invariant_of-result : goal.invariant_of-result
 invariant_of-result c =
     let all = c.issued_count-released.ensures in

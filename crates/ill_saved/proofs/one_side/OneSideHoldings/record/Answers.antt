@@ -1,4 +1,5 @@
--- Answers the contract of `OneSide::record` (`src/one_side.rt`).
+-- Proves the contract of `OneSide::record` (`src/one_side.rt`).
+-- The next landed record has the record of the side as its bytes.
 use Rattle.std.proofs.Common.{subst}
 use Rattle.ill_saved.proofs.Desks.{next_record}
 use Rattle.ill_saved.specs.Holdings.{IsRecordOf}
@@ -6,7 +7,7 @@ use Rattle.std.specs.Prelude.{IfOk}
 use Rattle.ill_saved.specs.OneSide.{OneBacks, one_side}
 use Rattle.ill_saved.proofs.one_side.OneSideHoldings.record.Goals as goal
 
--- The next kept record is the record of the side.
+-- The next landed record has the record of the side as its bytes.
 pub returns-clause-record : goal.returns-clause-record
 returns-clause-record c =
     let held = c.self.inside in

@@ -1,4 +1,5 @@
--- Answers the contract of `OneSide::release` (`src/one_side.rt`).
+-- Proves the contract of `OneSide::release` (`src/one_side.rt`).
+-- The landed record has all messages of the live side.
 use Rattle.std.proofs.Common.{arith, sym, subst}
 use Rattle.ill_saved.specs.LandedBytes.{IsLandedRecord}
 use Rattle.ill_saved.proofs.Desks.{keeps_whole}

@@ -1,4 +1,5 @@
--- Answers the contract of `Side::take` (`src/side.rt`).
+-- Proves the contract of `Side::take` (`src/side.rt`).
+-- A requester needs no memory for a message, so its answer is as defined.
 use Rattle.std.proofs.Common.{sym, subst}
 use Rattle.ill_saved.specs.declared.side.Side.TheVariants as sides
 use Rattle.ill_saved.specs.Side.{Takes}

@@ -1,4 +1,5 @@
--- Answers the contract of `Sides::act` (`src/sides.rt`).
+-- Proves the contract of `Sides::act` (`src/sides.rt`).
+-- Only the entry of the transaction changes, and its side keeps the transaction and the role.
 use Rattle.std.proofs.Common.{subst}
 use Rattle.std.specs.Map.{values_of}
 use Rattle.ill_saved.specs.Sides.{OnlyThat}
@@ -6,7 +7,7 @@ use Rattle.ill_saved.specs.Side.{Acts}
 use Rattle.ill_saved.proofs.DeskEntry.{filed_on, only_that, acts_row}
 use Rattle.ill_saved.proofs.sides.Sides.act.Goals as goal
 
--- All sides are filed after one of them acts.
+-- All entries satisfy `AreFiled` after one side performs an action.
 pub invariant_of-self : goal.invariant_of-self
 invariant_of-self c =
     filed_on c.rows_grow.ensures c.rows_begin.ensures.stays (λ old answer new. Acts old c.args.action.now answer new)
@@ -14,7 +15,7 @@ invariant_of-self c =
     c.self.inside.map.entries c.self.invariant
     c.act_among.result c.act_among.new.map.entries c.act_among.ensures
 
--- The side of the transaction alone acts.
+-- Only the side of the transaction performs the action.
 pub returns : goal.returns
 returns c =
     subst (λ held. OnlyThat (λ old answer new. Acts old c.args.action.now answer new) c.args.txn.now held c.act_among.result

@@ -1,4 +1,5 @@
--- Answers the contract of `Sides::get` (`src/sides.rt`).
+-- Proves the contract of `Sides::get` (`src/sides.rt`).
+-- Each side has its own transaction as its key.
 use Rattle.std.proofs.Common.{ap, ◌∙◌}
 use Rattle.ill_saved.specs.Sides.{side_with}
 use Rattle.ill_saved.proofs.DeskEntry.{filed_with}

@@ -1,4 +1,5 @@
--- Answers the contract of `Sides::place` (`src/sides.rt`).
+-- Proves the contract of `Sides::place` (`src/sides.rt`).
+-- Each side has its own transaction as its key, at one index.
 use Rattle.std.proofs.Common.{ap, ◌∙◌}
 use Rattle.std.specs.Prelude.{position}
 use Rattle.ill_core.specs.Issued.{is_same_txn}
@@ -6,7 +7,7 @@ use Rattle.ill_saved.proofs.Finding.{position_mapped}
 use Rattle.ill_saved.specs.Side.{txn_of}
 use Rattle.ill_saved.proofs.sides.Sides.place.Goals as goal
 
--- The index in the map is the place among the sides.
+-- The index of the entry is the place of the side.
 pub returns-clause-place : goal.returns-clause-place
 returns-clause-place c =
     let test = is_same_txn c.args.txn.now in

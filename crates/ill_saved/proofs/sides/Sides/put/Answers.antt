@@ -1,4 +1,5 @@
--- Answers the contract of `Sides::put` (`src/sides.rt`).
+-- Proves the contract of `Sides::put` (`src/sides.rt`).
+-- A side that is not refused has a new transaction, so its entry is appended.
 use Rattle.std.proofs.Common.{◌≡◌, None, sym, ap, ◌∙◌}
 use Rattle.ill_saved.specs.Sides.{put_refusal}
 use Rattle.ill_saved.proofs.DeskEntry.{handed_back, no_fault, is_new, filed_more, filed_still}
@@ -9,7 +10,7 @@ use Rattle.ill_saved.proofs.sides.Sides.put.Goals as goal
 pub returns-in-Some : goal.returns-in-Some
 returns-in-Some c = handed_back c.args.self.now c.args.side c.in-Some.fault (sym c.refusal.ensures ∙ c.in-Some.is)
 
--- Nothing is filed under the transaction of a side that is not refused.
+-- No entry has the transaction of a side that is not refused.
 pub insert_new-requires : goal.insert_new-requires
 insert_new-requires c =
     let none : put_refusal c.args.self.now c.args.side ≡ None =
@@ -19,7 +20,7 @@ insert_new-requires c =
           (ap (λ held. put_refusal held c.args.side) c.self.view_is ∙ none) c.in-Ok.txn (c.in-Ok.ensures ∙ c.txn.ensures);
     }
 
--- All are filed after the side is put, and if memory runs out.
+-- All entries satisfy `AreFiled` after the side is put, and if memory runs out.
 pub invariant_of-self : goal.invariant_of-self
 invariant_of-self c =
     let none : put_refusal c.args.self.now c.args.side ≡ None =

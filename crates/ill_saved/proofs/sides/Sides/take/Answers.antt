@@ -1,4 +1,5 @@
--- Answers the contract of `Sides::take` (`src/sides.rt`).
+-- Proves the contract of `Sides::take` (`src/sides.rt`).
+-- Only the entry of the transaction changes, and its side keeps the transaction and the role.
 use Rattle.std.proofs.Common.{subst}
 use Rattle.std.specs.Map.{values_of}
 use Rattle.ill_saved.specs.Sides.{OnlyThat}
@@ -6,7 +7,7 @@ use Rattle.ill_saved.specs.Side.{Takes}
 use Rattle.ill_saved.proofs.DeskEntry.{filed_on, only_that, takes_row}
 use Rattle.ill_saved.proofs.sides.Sides.take.Goals as goal
 
--- All sides are filed after one of them takes an APDU.
+-- All entries satisfy `AreFiled` after one side takes an APDU.
 pub invariant_of-self : goal.invariant_of-self
 invariant_of-self c =
     filed_on c.rows_grow.ensures c.rows_begin.ensures.stays (λ old answer new. Takes old c.args.apdu.now answer new)
@@ -14,7 +15,7 @@ invariant_of-self c =
     c.self.inside.map.entries c.self.invariant
     c.take_among.result c.take_among.new.map.entries c.take_among.ensures
 
--- The side of the APDU's transaction alone takes it.
+-- Only the side of the APDU's transaction takes it.
 pub returns : goal.returns
 returns c =
     subst (λ held. OnlyThat (λ old answer new. Takes old c.args.apdu.now answer new) c.args.apdu.now.txn held c.take_among.result

@@ -18,7 +18,7 @@ returns-in_err-apdu c =
           c.apdu.new.self (apdu.read c.loop.cursor) whole stays c.in_err-apdu.ensures.read,
     )
 
--- One more turn, which reads or appends an APDU, keeps the invariant.
+-- One more turn of the loop keeps the invariant.
 pub loop-preserved : goal.loop-preserved
 loop-preserved c =
     let next = one_more apdu c.loop.apdus.items c.args.count c.loop.counter c.loop.cursor

@@ -1,5 +1,5 @@
 -- Proves the contract of `decode_record2` (`src/decoding_v2.rt`).
--- Only the parts after the version and the digest take memory.
+-- The check of the version and the digest takes no memory.
 use Rattle.std.proofs.Common.{rules, ◌≡◌, false}
 use Rattle.ill_saved.specs.RecordsV2.{is_version_1}
 use Rattle.ill_saved.proofs.Together.{unsealed_not}

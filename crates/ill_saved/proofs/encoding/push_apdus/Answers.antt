@@ -7,7 +7,7 @@ use Rattle.ill_saved.specs.Layout.{spell_all}
 use Rattle.ill_saved.proofs.Lists.{one_spelled, all_spelled, one_each, none_each}
 use Rattle.ill_saved.proofs.encoding.push_apdus.Goals as goal
 
--- One more turn, which reads or appends an APDU, keeps the invariant.
+-- One more turn of the loop keeps the invariant.
 pub loop-apdu-preserved : goal.loop-apdu-preserved
 loop-apdu-preserved c =
     let apdus = c.args.apdus.now in

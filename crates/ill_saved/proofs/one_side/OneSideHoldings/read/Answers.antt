@@ -5,7 +5,7 @@ use Rattle.ill_saved.specs.Records.{begins_as_record}
 use Rattle.ill_saved.proofs.Desks.{itself_backs, keeps_whole, record_faults}
 use Rattle.ill_saved.proofs.one_side.OneSideHoldings.read.Goals as goal
 
--- A fault of the record is one of reading a record without a digest.
+-- A fault of the record is a fault that reading a record without a digest can have.
 pub returns-in_err-side-clause-faults : goal.returns-in_err-side-clause-faults
 returns-in_err-side-clause-faults c =
     let bytes = c.deref.result.now in

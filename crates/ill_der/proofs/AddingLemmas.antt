@@ -20,7 +20,8 @@ adds_first old new first second is = record {
   lacks = omega (arith, is.lacks, length-append is.rest second);
 }
 
--- If `new` is `old ++ first` followed by a proper prefix of `second`, it is `old` followed by one of `first ++ second`.
+-- Let `new` be `old ++ first` followed by a proper prefix of `second`.
+-- Then `new` is `old` followed by a proper prefix of `first ++ second`.
 pub adds_second : (old middle new first second : List ℕ) → middle ≡ old ++ first → AddsPrefix middle new second
     → AddsPrefix old new (first ++ second)
 adds_second old middle new first second all is = record {

@@ -186,8 +186,8 @@ judged_fault values bytes (Tag at) fits prefixes none h = refused values bytes (
 judged_fault values bytes (Length at) fits prefixes none h = refused values bytes (Length at) (λ e. absurd cc) none h
 judged_fault values bytes (Field at) fits prefixes none h = refused values bytes (Field at) (λ e. absurd cc) none h
 
--- If `bytes` lacks no byte and its proper prefixes are unfinished, a result that is `read_fault` of the decoder's
--- fault is its answer.
+-- Let `bytes` lack no byte, and let its proper prefixes be unfinished.
+-- Then a result that is `read_fault` of the decoder's fault is its answer.
 pub handed_on : Values → (bytes : List ℕ) (fault : DerFault) (r : Result (Option Apdu) ReadFault) → IsBytes bytes
     → AreUnfinished bytes → missing_of bytes ≡ 0
     → Decodes bytes (apdu_at bytes) (Err fault) → IsErrAnd r (λ handed. handed ≡ read_fault fault) → IsJudged bytes r

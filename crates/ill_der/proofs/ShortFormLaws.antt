@@ -1,4 +1,4 @@
--- The laws of the short form: bytes that are read as an APDU are its encoding, and an APDU is read from its encoding.
+-- The laws of the short form. Bytes that are read as an APDU are its encoding, and it is read from its encoding.
 use Rattle.ill_der.specs.Stream.{IfShort}
 use Rattle.std.proofs.Common.{◌≡◌, ℕ, ◌+◌, ◌-◌, ◌≤◌, false, cond, eqb, ltb, List, [], ◌∷◌, ◌++◌, length, take, drop, Option, Some}
 use Rattle.std.proofs.Common.{None, Result, Ok, Err, refl, sym, ap, subst, ◌∙◌, inl, inr, append_assoc, arith, Bool, true}
@@ -681,7 +681,7 @@ IsFinal Truncated = ⊥
 IsFinal Invalid = Unit {0}
 IsFinal (Definite n octets) = Unit {0}
 
--- If a choice is final with Truncated in its cases `one` and `two`, it is equal with `y` and `z` in these cases.
+-- If a choice is final with Truncated in its cases `one` and `two`, `y` and `z` in these cases change nothing.
 form_of_one : (short one two : Bool) (x y z w : LengthForm)
     → IsFinal (cond short x (cond one Truncated (cond two Truncated w)))
     → cond short x (cond one y (cond two z w)) ≡ cond short x (cond one Truncated (cond two Truncated w))
@@ -690,7 +690,7 @@ form_of_one false true two x y z w final = absurd final
 form_of_one false false true x y z w final = absurd final
 form_of_one false false false x y z w final = refl
 
--- If a choice is final with Truncated in its case `two`, it is equal with `z` in this case.
+-- If a choice is final with Truncated in its case `two`, `z` in this case changes nothing.
 form_of_two : (short one two : Bool) (x y z w : LengthForm) → IsFinal (cond short x (cond one y (cond two Truncated w)))
     → cond short x (cond one y (cond two z w)) ≡ cond short x (cond one y (cond two Truncated w))
 form_of_two true one two x y z w final = refl

@@ -253,7 +253,8 @@ backed_on landed old new released row backed =
           backed.has-released;
     }
 
--- If `landed` backs the held side that is found, it backs the one that is found after a side that it backs is put.
+-- Let `landed` back the held side that is found, and back `new`.
+-- Then it backs the held side that is found after `new` is put.
 found_backs : (landed : Side) (idle new old : DeskEntry) (found : Option DeskEntry) (same : Bool)
     → (same ≡ true → IsBackedBy landed new.side new.released)
     → IsBackedBy landed (found_or idle found).side (found_or idle found).released
@@ -424,7 +425,7 @@ role_idle : (role : Role) (txn : Qualifiers) → role_of (idle_side role txn) �
 role_idle roles.Requester txn = refl
 role_idle roles.Responder txn = refl
 
--- If there is room, a side is not refused that is of the role, not idle, and of a transaction that is not held.
+-- If there is room, a side is not refused if it is of the role and not idle, and its transaction is not held.
 may_put_so : (fits idle there room : Bool) → fits ≡ true → idle ≡ false → there ≡ false → room ≡ true
     → cond (not fits) (Some sides_faults.OtherRole)
     (cond idle (Some sides_faults.Idle) (cond there (Some sides_faults.Twice) (cond room None (Some sides_faults.Full))))
@@ -432,7 +433,7 @@ may_put_so : (fits idle there room : Bool) → fits ≡ true → idle ≡ false 
 may_put_so true false false true fits begun none has_room = refl
 may_put_so fits idle there room f b n r = search rules
 
--- If there is room, a side may be put that is of the role, not idle, and of a transaction that is not held.
+-- If there is room, a side may be put if it is of the role and not idle, and its transaction is not held.
 may_put : (held : SidesOf) (side : Side) → is_same_role held.role (role_of side) ≡ true → is_idle side ≡ false
     → side_with (txn_of side) held.sides ≡ None → nat_lt (length held.sides) most_sides ≡ true
     → put_refusal held side ≡ None

@@ -291,7 +291,8 @@ row_backs grows old new released row None backed =
     (step_backed (whole (idle_of old)) old new released row backed)
 row_backs grows old new released row (Some bytes) backed = read_backs (one_side.read bytes) old new released row backed
 
--- If a requester keeps its transaction and its first `count` messages, it goes back to the record that it had before.
+-- Let a requester keep its transaction and its first `count` messages.
+-- Then it goes back to the record to which it could go back before.
 requester_back : (s : RequesterStanding) (count : ℕ) (x new : RequesterRecord) → new.txn ≡ x.txn
     → IsPrefix x.issued new.issued → count ≤ length x.issued
     → requesters.back_to s count new ≡ requesters.back_to s count x
@@ -307,8 +308,8 @@ request_stays : (is_idle : Bool) (old new : Option Apdu) → (is_idle ≡ false 
 request_stays true old new stays = refl
 request_stays false old new stays = stays refl
 
--- If a responder keeps its transaction, its first `count` messages and its request, it goes back to the record that it
--- had before.
+-- Let a responder keep its transaction, its first `count` messages and its request.
+-- Then it goes back to the record to which it could go back before.
 responder_back : (s : ResponderStanding) (count : ℕ) (y new : ResponderRecord) → new.txn ≡ y.txn
     → IsPrefix y.issued new.issued → count ≤ length y.issued
     → (is_among (Idle ∷ []) s.state ≡ false → new.request ≡ y.request)

@@ -1,4 +1,4 @@
--- The laws of a field: the bytes that it reads are the encoding of the value, and a value is read from its encoding.
+-- The laws of a field. The bytes that it reads as a value are the encoding of the value, and it reads each encoding.
 -- Each way to make a field from others keeps these laws.
 use Rattle.std.proofs.Common.{◌≡◌, ℕ, zero, suc, ◌+◌, ◌<◌, ◌≤◌, Bool, true, false, cond, ◌&&◌, eqb, leb, ltb, List, [], ◌∷◌, ◌++◌}
 use Rattle.std.proofs.Common.{length, take, drop, Option, Some, None, Result, Ok, Err, refl, sym, ap, subst, ◌∙◌, inl, inr}

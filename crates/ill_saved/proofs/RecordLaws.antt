@@ -1,4 +1,4 @@
--- The laws of saved records: bytes that are read as a side are its encoding, and a side is read from its encoding.
+-- The laws of saved records. Bytes that are read as a side are its encoding, and a side is read from its encoding.
 use Rattle.std.proofs.Common.{◌≡◌, ℕ, Bool, true, false, List, [], ◌∷◌, ◌++◌, length, Option, Some, None, Result, Ok, Err, refl}
 use Rattle.std.proofs.Common.{sym, ap, subst, ◌∙◌, inl, inr, append-nil, eqb, arith, rules}
 use Rattle.std.specs.Prelude.{IfSome}

@@ -1,5 +1,5 @@
--- The laws of records of many sides: bytes that are read as sides are their encoding, and sides are read from their
--- encoding.
+-- The laws of records of many sides. Bytes that are read as sides are their encoding.
+-- Sides are read from their encoding.
 use Rattle.std.proofs.Common.{◌≡◌, ℕ, ◌-◌, ◌<◌, ◌≤◌, ltb, leb, Bool, true, false, cond, not, List, [], ◌∷◌, ◌++◌, length, take}
 use Rattle.std.proofs.Common.{drop, Some, None, Result, Ok, Err, refl, sym, ap, subst, ◌∙◌, append_assoc, append-nil}
 use Rattle.std.proofs.Common.{length-append, arith}
@@ -34,8 +34,8 @@ use Rattle.ill_saved.proofs.Steps.{bind_ok, ok_is, passed, went_on, IsBytes-take
 use Rattle.ill_saved.proofs.Fields.{ReadsAgain, Takes, IsField, IsSized, Any, Both, CountedBy, rest_fits, sized_is, followed_is}
 use Rattle.ill_saved.proofs.Fields.{counted_by_is, role_is}
 
--- The laws of the record of one side: bytes that are read as a side are its encoding, and a side is read from it.
--- The record has at most 41,811 bytes.
+-- The laws of the record of one side. Bytes that are read as a side are its encoding.
+-- A side is read from its encoding, which has at most 41,811 bytes.
 pub record OneRecord : Type 0 where
   pub spelled : (bytes : List ℕ) (side : Side) → IsBytes bytes → record_at bytes ≡ Ok side → (bytes ≡ record_spelling side)
       × IsSide side

@@ -29,7 +29,7 @@ use Rattle.ill_saved.specs.Sides.{SidesOf}
 use Rattle.ill_saved.specs.RecordsV2.{two_octets, part, body_of, sides_spelling, AreSides}
 use Rattle.ill_saved.proofs.Rules.{requester_request, responder_types}
 
--- The laws of the crates below on the lengths of a qualifier, of an APDU, and of an APDU that is no ILL-Request.
+-- The laws of the crates below on the lengths of a qualifier and of an APDU. They treat an ILL-Request apart.
 pub record Bounds : Type 0 where
   pub qualifier : (text : List ℕ) → IsQualifier text → (1 ≤ length text) × (length text ≤ 64)
   pub longest : (a : Apdu) → IsApdu a → length (spelling a) ≤ 359

@@ -58,7 +58,7 @@ not_before (x ∷ prefix) side rest apart =
 less : (a b : ℕ) → a < b → nat_lt a b ≡ true
 less a b is = search rules
 
--- If there is room, a side is not refused that is of the role, not idle, and of a transaction that is not held.
+-- If there is room, a side is not refused if it is of the role and not idle, and its transaction is not held.
 none_refused : (same idle twice room : Bool) → same ≡ true → idle ≡ false → twice ≡ false → room ≡ true
     → (if not same then Some refusals.OtherRole else
     (if idle then Some refusals.Idle else
@@ -159,7 +159,7 @@ count_tells octets first after_role after_count of_role n begun read_role read_c
     ap (λ r. counts_any (r >>= λ a. side_count.read a.1 >>= λ b. Ok ((a.0, b.0), b.1))) role_read
     ∙ ap (λ r. counts_any (r >>= λ b. Ok ((of_role, b.0), b.1))) read_count
 
--- If the sides after their number are read to the end, an answer that is right for them is right for the octets.
+-- If all sides are read to the end, an answer that is right for them is right for the octets.
 pub all_held : (octets : List ℕ) (first after_role after_count last : Cursor) (of_role : Role) (n : ℕ) (sides : List Side)
     (x : Unit {0}) (result : Result SidesOf RecordFault)
     → first ≡ cursor_at 4 octets

@@ -174,7 +174,7 @@ fn open<R: LockFiles>(rt: &R, lock_path: &str) -> io::Result<Option<R::File>> {
     }
 }
 
-/// Locks the file that was opened or created at a path, if nobody holds its lock and it is still at its path.
+/// Locks the file that was opened or created at a path. It must still be at its path, and nobody may hold its lock.
 fn lock<R: LockFiles>(rt: &R, lock_path: &str, file: R::File) -> io::Result<Attempt<R::File>> {
     let is_held = rt.try_lock(&file)? && is_at(rt, lock_path, &file)?;
     if is_held {

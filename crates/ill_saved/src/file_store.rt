@@ -197,7 +197,7 @@ impl<'a, R: Files> FileStore<'a, R> {
         Ok(written)
     }
 
-    /// Removes the `.new` file that this save or an earlier one has left, so that no write follows a link at its path.
+    /// Removes the `.new` file that this save or an earlier one has left. So no write follows a link at its path.
     fn remove_new(&self) -> io::Result<()> {
         match fs::remove_file(self.rt, self.new_path.as_str()) {
             Err(error) if error.kind() != ErrorKind::NotFound => Err(error),

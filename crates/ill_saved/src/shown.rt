@@ -9,8 +9,8 @@ use crate::side::Side;
 use ill_core::State;
 use ill_values::Day;
 
-/// The parts of a side that a line of output shows: its state, its due date, and the numbers of its released and
-/// its issued messages.
+/// The parts of a side that a line of output shows: its state, its due date, and how many messages are released and
+/// issued.
 #[derive(Clone, Copy)]
 pub struct Shown {
     /// The state.

@@ -220,8 +220,8 @@ impl Side {
         }
     }
 
-    /// Goes back to the side with `standing` and the first `count` of the issued messages, if that side is consistent,
-    /// and returns true. Otherwise returns false, and nothing changes.
+    /// Goes back to the side with `standing` and the first `count` of the issued messages. If that side is consistent,
+    /// returns true. Otherwise returns false, and nothing changes.
     pub(crate) fn go_back(&mut self, standing: &Standing, count: u8) -> bool
         ensures { GoesBack (back_to standing.now count self.old) result self.old self.new }
     {

@@ -69,9 +69,9 @@ impl MemoryStore {
     }
 }
 
-/// A `load` that is planned to fail allocates nothing. A `save` that is planned to fail and to leave the old bytes
-/// allocates nothing. If it is planned to land the new bytes, it lands them before it fails, or answers
-/// `OutOfMemory`.
+/// A `load` answers `Failed` only if it is planned to fail, and then allocates nothing. A `save` that is planned to
+/// fail and to leave the old bytes allocates nothing. If it is planned to land the new bytes, it lands them before it
+/// fails, or answers `OutOfMemory`.
 impl Store for MemoryStore {
     ghost state = { λ m. record {
       landed = m.landed;

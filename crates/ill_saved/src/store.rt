@@ -52,8 +52,8 @@ pub enum NextCall {
 ///
 /// The contracts state the landed bytes only of an honest store. An honest store follows its plan, if it has one.
 pub trait Store {
-    /// Returns the state of the store: its landed bytes, the number of failed calls, and the plan for the next call. Its
-    /// part `is_honest` is true if the store does as it answers.
+    /// Returns the state of the store: its landed bytes, the number of failed calls, and the plan for the next call.
+    /// Its part `is_honest` is true if the store does as it answers.
     ghost state: { Self → StoreState };
 
     /// Loads the landed bytes, or `None` if nothing has landed.

@@ -50,12 +50,12 @@ is_seen (Ok v) = true
 is_seen (Err refusal) = can_refuse refusal
 
 -- The row of a wish gives only refusals that can be an outcome.
-wish_line : (x : RequesterRecord) (wish : Wish) → is_seen (requester_actions.line_of x wish) ≡ true
+wish_line : (x : RequesterRecord) (wish : Wish) → is_seen (requester_actions.transition_of x wish) ≡ true
 wish_line x (wishes.Request expiry item) = search rules
 wish_line x wish = search rules
 
 -- The row of a deed gives only refusals that can be an outcome.
-deed_line : (y : ResponderRecord) (deed : Deed) (today : Date) → is_seen (responder_actions.line_of y deed today) ≡ true
+deed_line : (y : ResponderRecord) (deed : Deed) (today : Date) → is_seen (responder_actions.transition_of y deed today) ≡ true
 deed_line y (deeds.RenewAnswer None) today = search rules
 deed_line y (deeds.RenewAnswer (Some d)) today = search rules
 deed_line y deed today = search rules
@@ -65,14 +65,14 @@ number_seen : (apdus : List Apdu) → is_seen (next_number apdus) ≡ true
 number_seen apdus = search rules
 
 -- If the row and the number give only refusals that can be an outcome, so does the wish.
-wish_done : (x : RequesterRecord) (line : Result requester_actions.Line Refusal) (number : Result ℕ Refusal) → is_seen line ≡ true
+wish_done : (x : RequesterRecord) (line : Result requester_actions.Transition Refusal) (number : Result ℕ Refusal) → is_seen line ≡ true
     → is_seen number ≡ true → is_seen (requester_actions.acts_by x line number) ≡ true
 wish_done x (Err refusal) number first second = first
 wish_done x (Ok line) (Err refusal) first second = second
 wish_done x (Ok line) (Ok number) first second = refl
 
 -- If the row and the number give only refusals that can be an outcome, so does the deed.
-deed_done : (y : ResponderRecord) (line : Result responder_actions.Line Refusal) (number : Result ℕ Refusal) → is_seen line ≡ true
+deed_done : (y : ResponderRecord) (line : Result responder_actions.Transition Refusal) (number : Result ℕ Refusal) → is_seen line ≡ true
     → is_seen number ≡ true → is_seen (responder_actions.acts_by y line number) ≡ true
 deed_done y (Err refusal) number first second = first
 deed_done y (Ok line) (Err refusal) first second = second

@@ -80,17 +80,17 @@ before_on a b c one two =
     (before_is b c two))
 
 -- If `p` equals `q` and `A` is false, `Less p q A` is false.
-never_less : (p q : ℕ) (A : Type 0) → p ≡ q → (A → ⊥) → Less p q A → ⊥
-never_less p q A same never (inl lt) = omega (arith, same, lt)
-never_less p q A same never (inr both) = never both.1
+equal_is_not_less : (p q : ℕ) (A : Type 0) → p ≡ q → (A → ⊥) → Less p q A → ⊥
+equal_is_not_less p q A same never (inl lt) = omega (arith, same, lt)
+equal_is_not_less p q A same never (inr both) = never both.1
 
 -- A day is not before an equal day.
 pub not_before_same : (a b : Date) → is_same_day a b ≡ true → is_before a b ≡ true → ⊥
 not_before_same a b same h =
     let years = and_parts _ _ same in
     let days = and_parts _ _ years.1 in
-    never_less a.year b.year _ (eqb-true a.year b.year years.0)
-    (never_less a.month b.month _ (eqb-true a.month b.month days.0) (λ lt. omega (arith, eqb-true a.day b.day days.1, lt)))
+    equal_is_not_less a.year b.year _ (eqb-true a.year b.year years.0)
+    (equal_is_not_less a.month b.month _ (eqb-true a.month b.month days.0) (λ lt. omega (arith, eqb-true a.day b.day days.1, lt)))
     (before_is a b h)
 
 -- A day equals itself.

@@ -14,10 +14,10 @@ use Rattle.ill_values.specs.TxnId.{Qualifiers}
 use Rattle.ill_values.specs.declared.apdu.Apdu.{Apdu}
 use Rattle.ill_values.specs.declared.apdu.Body.{Body}
 use Rattle.ill_core.specs.declared.refusal.Refusal.TheVariants.{NumbersUsed}
-use Rattle.ill_core.specs.Numbers.{is_the}
+use Rattle.ill_core.specs.Numbers.{is_equal_number}
 use Rattle.ill_core.specs.Bodies.{is_cancel, is_renew, is_ill_request}
-use Rattle.ill_core.specs.Issued.{was, number_of_cancel, number_of_renew, next_number, with_next, next_apdu, are_numbered}
-use Rattle.ill_core.specs.Issued.{is_same_txn, has, last_of}
+use Rattle.ill_core.specs.Issued.{is_message_with, number_of_cancel, number_of_renew, next_number, with_next, next_apdu, are_numbered}
+use Rattle.ill_core.specs.Issued.{is_same_txn, has_message_with, last_of}
 use Rattle.ill_core.specs.Requester.{begins_with_request}
 use Rattle.ill_core.specs.Issued.{is_none}
 
@@ -111,9 +111,9 @@ numbered_issue txn apdus a number numbered next same is =
     )
 
 -- With one more APDU, `says` holds in the list if, and only if, it did before or holds of it.
-pub has_more : (says : Body → Bool) (apdus : List Apdu) (a : Apdu) → has says (apdus ++ a ∷ []) ≡ (has says apdus || says a.body)
+pub has_more : (says : Body → Bool) (apdus : List Apdu) (a : Apdu) → has_message_with says (apdus ++ a ∷ []) ≡ (has_message_with says apdus || says a.body)
 has_more says apdus a =
-    list_any-append (λ (b : Apdu). says b.body) apdus (a ∷ []) ∙ ap (λ b. has says apdus || b) (or-false (says a.body))
+    list_any-append (λ (b : Apdu). says b.body) apdus (a ∷ []) ∙ ap (λ b. has_message_with says apdus || b) (or-false (says a.body))
 
 -- If `says` holds of all old APDUs and of the new one, it holds of all.
 pub all_more : (says : Body → Bool) (apdus : List Apdu) (a : Apdu) → list_all (λ b. says b.body) apdus ≡ true → says a.body ≡ true
@@ -221,18 +221,18 @@ one_further says old n size (inl is) = inl is
 one_further says old n size (inr (at, is)) = inr (omega (arith, at), is)
 
 -- If `says` holds of message `c` after one more APDU, message `c` is an old message or the new one.
-pub was_more : (says : Body → Bool) (apdus : List Apdu) (a : Apdu) (c : ℕ) → was says (apdus ++ a ∷ []) c ≡ true
-    → (was says apdus c ≡ true) ⊎ ((c ≡ length apdus + 1) × (says a.body ≡ true))
+pub was_more : (says : Body → Bool) (apdus : List Apdu) (a : Apdu) (c : ℕ) → is_message_with says (apdus ++ a ∷ []) c ≡ true
+    → (is_message_with says apdus c ≡ true) ⊎ ((c ≡ length apdus + 1) × (says a.body ≡ true))
 was_more says apdus a zero h = search rules
 was_more says [] a (suc zero) h = search rules
 was_more says [] a (suc (suc n)) h = search rules
 was_more says (b ∷ apdus) a (suc zero) h = inl h
 was_more says (b ∷ apdus) a (suc (suc n)) h =
-    one_further (says a.body) (was says apdus (suc n)) n (length apdus) (was_more says apdus a (suc n) h)
+    one_further (says a.body) (is_message_with says apdus (suc n)) n (length apdus) (was_more says apdus a (suc n) h)
 
 -- If the new APDU is not a Cancel, each message that is a Cancel was one before.
 pub still_cancel : (apdus : List Apdu) (a : Apdu) (c : ℕ) → is_cancel a.body ≡ false
-    → was is_cancel (apdus ++ a ∷ []) c ≡ true → was is_cancel apdus c ≡ true
+    → is_message_with is_cancel (apdus ++ a ∷ []) c ≡ true → is_message_with is_cancel apdus c ≡ true
 still_cancel apdus a c other h = search (rules, was_more is_cancel apdus a c h)
 
 -- If the new APDU is a Cancel, its number is the number of the last Cancel.
@@ -241,7 +241,7 @@ pub last_cancel_more : (apdus : List Apdu) (a : Apdu) → is_cancel a.body ≡ t
 last_cancel_more apdus a is = last_of_more number_of_cancel apdus a a.number (ap (λ b. if b then Some a.number else None) is)
 
 -- A Cancel that is not the last one was issued before the last one.
-pub older_cancel : (c size : ℕ) (last : Option ℕ) (old : Bool) → last ≡ Some size → is_the c last ≡ false
+pub older_cancel : (c size : ℕ) (last : Option ℕ) (old : Bool) → last ≡ Some size → is_equal_number c last ≡ false
     → (old ≡ true) ⊎ ((c ≡ size) × (true ≡ true)) → old ≡ true
 older_cancel c size last old is_last other (inl is) = is
 older_cancel c size last old is_last other (inr (same, h)) = search rules

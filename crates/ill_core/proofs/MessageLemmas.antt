@@ -4,7 +4,7 @@ use Rattle.std.proofs.Common.{Some, refl, ap, ◌∙◌}
 use Rattle.std.proofs.lemmas.Bool.{or_cases, or_left, or_right}
 use Rattle.ill_values.specs.declared.apdu.Apdu.{Apdu}
 use Rattle.ill_values.specs.declared.apdu.Body.{Body}
-use Rattle.ill_core.specs.Issued.{message, has}
+use Rattle.ill_core.specs.Issued.{message, has_message_with}
 
 -- If message n + 1 is old or new, so is message n + 2 after an APDU is put first.
 message_further : (apdus : List Apdu) (a b : Apdu) (n : ℕ)
@@ -24,7 +24,7 @@ message_more (c ∷ apdus) a b (suc (suc n)) there = message_further apdus a b n
 
 -- If `says` holds of message `n`, it holds of at least one APDU of the list.
 pub message_says : (says : Body → Bool) (apdus : List Apdu) (n : ℕ) (b : Apdu) → message apdus n ≡ Some b
-    → says b.body ≡ true → has says apdus ≡ true
+    → says b.body ≡ true → has_message_with says apdus ≡ true
 message_says says apdus zero b there is = search rules
 message_says says [] (suc n) b there is = search rules
 message_says says (c ∷ apdus) (suc zero) b there is =
@@ -43,14 +43,14 @@ said_further says b apdus zero a at is = search rules
 said_further says b apdus (suc n) a at is = (suc (suc n), a, at, is)
 
 -- If `says` holds of `b` or of one of `apdus`, it holds of some message of `b ∷ apdus`.
-said_first : (says : Body → Bool) (b : Apdu) (apdus : List Apdu) → (says b.body ≡ true) ⊎ (has says apdus ≡ true)
-    → (has says apdus ≡ true → Said says apdus) → Said says (b ∷ apdus)
+said_first : (says : Body → Bool) (b : Apdu) (apdus : List Apdu) → (says b.body ≡ true) ⊎ (has_message_with says apdus ≡ true)
+    → (has_message_with says apdus ≡ true → Said says apdus) → Said says (b ∷ apdus)
 said_first says b apdus (inl is) others = (1, b, refl, is)
 said_first says b apdus (inr there) others =
     let said = others there in
     said_further says b apdus said.0 said.1 said.2 said.3
 
 -- If `says` holds of at least one APDU of the list, it holds of some message.
-pub says_message : (says : Body → Bool) (apdus : List Apdu) → has says apdus ≡ true → Said says apdus
+pub says_message : (says : Body → Bool) (apdus : List Apdu) → has_message_with says apdus ≡ true → Said says apdus
 says_message says [] there = search rules
 says_message says (b ∷ apdus) there = said_first says b apdus (or_cases _ _ there) (says_message says apdus)

@@ -17,11 +17,11 @@ use Rattle.ill_core.specs.Rules.{implies}
 use Rattle.ill_core.specs.Numbers.{is_at_most}
 use Rattle.ill_core.specs.Bodies.{is_renew, is_requesters}
 use Rattle.ill_core.specs.Dates.{is_due_on, is_after_due}
-use Rattle.ill_core.specs.Issued.{is_same_txn, was}
+use Rattle.ill_core.specs.Issued.{is_same_txn, is_message_with}
 use Rattle.ill_core.specs.Answers.{unless_refused}
 use Rattle.ill_core.specs.Requester.{RequesterRecord, accepted_number}
 use Rattle.ill_core.specs.RequesterDeliveries.{take_message, takes}
-use Rattle.ill_core.specs.RequesterNotices.{awaits, awaits_cancel, undecided, lent, in_time, has_heard, reopens}
+use Rattle.ill_core.specs.RequesterNotices.{is_awaiting_answer, is_awaiting_cancel_reply, undecided, lent, states_before_overdue, has_heard, reopens}
 use Rattle.ill_core.proofs.RequesterMoves.{Leads, nowhere, holds_conditions, ends, cancels, keeps_request, ships, misses, reminds}
 use Rattle.ill_core.proofs.RequesterMoves.{reminds_renewing, renews, refuses_renewal, recalls, checks_in, delivery_leads}
 
@@ -45,10 +45,10 @@ message_heard x a (types.CancelReply cancel is_yes) theirs = search rules
 message_heard x a (types.Shipped due) theirs = search rules
 message_heard x a (types.Overdue due) theirs = search rules
 message_heard x a (types.RenewAnswer renew (Some due)) theirs =
-    transition a.number (types.RenewAnswer renew (Some due)) (awaits x renew) _ _ (λ waits.
+    transition a.number (types.RenewAnswer renew (Some due)) (is_awaiting_answer x renew) _ _ (λ waits.
     transition a.number (types.RenewAnswer renew (Some due)) (is_after_due due x.due) _ _ (λ _. refl) (λ later_not. search rules))
     (λ waits_not.
-    transition a.number (types.RenewAnswer renew (Some due)) (was is_renew x.issued renew) _ _
+    transition a.number (types.RenewAnswer renew (Some due)) (is_message_with is_renew x.issued renew) _ _
     (λ _. ap (λ waits. not (waits && is_after_due due x.due)) waits_not)
     (λ _. ap (λ waits. not (waits && is_after_due due x.due)) waits_not))
 message_heard x a (types.RenewAnswer renew None) theirs = search rules
@@ -79,23 +79,23 @@ takes_heard x a same theirs =
 
 -- Each message that would not change `x` would not change `new`, unless `body` reopens it. There is one field for each
 -- type of message.
-record Hears (x : RequesterRecord) (body : Body) (new : RequesterRecord) : Type 0 where
+record StaysWithoutEffect (x : RequesterRecord) (body : Body) (new : RequesterRecord) : Type 0 where
   conditions : (number : ℕ) → reopens body (types.IllAnswer results.Conditional) ≡ false
       → not (is_among (Pending ∷ []) x.state) || is_at_most number (accepted_number x) ≡ true
       → not (is_among (Pending ∷ []) new.state) || is_at_most number (accepted_number new) ≡ true
   end : not (is_among undecided x.state) ≡ true → not (is_among undecided new.state) ≡ true
-  cancel_reply : (cancel : ℕ) → not (awaits_cancel x cancel) ≡ true → not (awaits_cancel new cancel) ≡ true
-  refusal : (renew : ℕ) → not (awaits x renew) ≡ true → not (awaits new renew) ≡ true
-  renewal : (renew : ℕ) (due : Date) → not (awaits x renew && is_after_due due x.due) ≡ true
-      → not (awaits new renew && is_after_due due new.due) ≡ true
-  overdue : (day : Date) → reopens body (types.Overdue day) ≡ false → not (is_among in_time x.state && is_due_on day x.due) ≡ true
-      → not (is_among in_time new.state && is_due_on day new.due) ≡ true
+  cancel_reply : (cancel : ℕ) → not (is_awaiting_cancel_reply x cancel) ≡ true → not (is_awaiting_cancel_reply new cancel) ≡ true
+  refusal : (renew : ℕ) → not (is_awaiting_answer x renew) ≡ true → not (is_awaiting_answer new renew) ≡ true
+  renewal : (renew : ℕ) (due : Date) → not (is_awaiting_answer x renew && is_after_due due x.due) ≡ true
+      → not (is_awaiting_answer new renew && is_after_due due new.due) ≡ true
+  overdue : (day : Date) → reopens body (types.Overdue day) ≡ false → not (is_among states_before_overdue x.state && is_due_on day x.due) ≡ true
+      → not (is_among states_before_overdue new.state && is_due_on day new.due) ≡ true
   recall : reopens body types.Recall ≡ false → not (is_among lent x.state) ≡ true → not (is_among lent new.state) ≡ true
   checked_in : implies (is_among (Returned ∷ []) x.state) x.checked_in ≡ true
       → implies (is_among (Returned ∷ []) new.state) new.checked_in ≡ true
 
--- The record after each row of deliveries satisfies `Hears`.
-hears : (x : RequesterRecord) (number : ℕ) (body : Body) (new : RequesterRecord) → Leads x number body new → Hears x body new
+-- The record after each row of deliveries satisfies `StaysWithoutEffect`.
+hears : (x : RequesterRecord) (number : ℕ) (body : Body) (new : RequesterRecord) → Leads x number body new → StaysWithoutEffect x body new
 hears x number _ _ (nowhere body) = search rules
 hears x number _ _ (holds_conditions is) = search rules
 hears x number _ _ (ends body is_end is) = search rules
@@ -110,8 +110,8 @@ hears x number _ _ (refuses_renewal renew waits) = search rules
 hears x number _ _ (recalls is) = search rules
 hears x number _ _ (checks_in is) = search rules
 
--- If `new` satisfies `Hears`, a message that would not change `x` would not change `new`, unless `first` reopens it.
-still_heard : (x : RequesterRecord) (first : Body) (new : RequesterRecord) → Hears x first new
+-- If `new` satisfies `StaysWithoutEffect`, a message that would not change `x` would not change `new`, unless `first` reopens it.
+still_heard : (x : RequesterRecord) (first : Body) (new : RequesterRecord) → StaysWithoutEffect x first new
     → (number : ℕ) (second : Body) → reopens first second ≡ false
     → has_heard x number second ≡ true → has_heard new number second ≡ true
 still_heard x first new how number (types.IllAnswer results.Conditional) stays heard = how.conditions number stays heard

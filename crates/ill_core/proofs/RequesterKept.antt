@@ -14,7 +14,7 @@ use Rattle.ill_core.specs.declared.requester.Wish.TheVariants as wishes
 use Rattle.ill_core.specs.State.{is_among}
 use Rattle.ill_core.specs.Rules.{implies}
 use Rattle.ill_core.specs.Bodies.{declines, is_requesters, is_ill_request, is_cancel, is_received, is_renew, is_returned}
-use Rattle.ill_core.specs.Issued.{has, is_none, with_next, next_apdu}
+use Rattle.ill_core.specs.Issued.{has_message_with, is_none, with_next, next_apdu}
 use Rattle.ill_core.specs.Requester.{RequesterRecord, requester_of}
 use Rattle.ill_core.specs.RequesterRules.{RequesterRules, PartsFit, IssuedFit}
 use Rattle.ill_core.specs.RequesterActions.{Transition, answer_held, transition_of}
@@ -25,9 +25,9 @@ use Rattle.ill_core.proofs.IssuedLemmas.{numbered_next, not_true, same_txn, has_
 abbrev pub FitsWith : State → Option ℕ → RequesterRecord → Body → Type 0
 FitsWith state held x body =
     PartsFit state (is_some held) (is_some x.due) x.checked_in
-    × IssuedFit state false (has is_received x.issued || is_received body) (has is_cancel x.issued || is_cancel body)
-    (has is_renew x.issued || is_renew body) (has is_returned x.issued || is_returned body)
-    (has declines x.issued || declines body)
+    × IssuedFit state false (has_message_with is_received x.issued || is_received body) (has_message_with is_cancel x.issued || is_cancel body)
+    (has_message_with is_renew x.issued || is_renew body) (has_message_with is_returned x.issued || is_returned body)
+    (has_message_with declines x.issued || declines body)
     × (is_requesters body ≡ true) × (is_ill_request body ≡ is_none x.issued)
 
 -- If `state` and `held` fit record `x` with one more APDU, the new record satisfies the rules.
@@ -58,7 +58,7 @@ kept x body state held h fits =
 
 -- In CONDITIONAL, if none were declined, the state after a reply fits.
 reply_fits : (txn : Qualifiers) (held : Option ℕ) (checked_in : Bool) (due : Option Date) (issued : List Apdu) (is_yes : Bool)
-    → RequesterRules (requester_of txn Conditional held checked_in due issued) → has declines issued ≡ false
+    → RequesterRules (requester_of txn Conditional held checked_in due issued) → has_message_with declines issued ≡ false
     → (let x : RequesterRecord = requester_of txn Conditional held checked_in due issued in
     FitsWith (answer_held x is_yes).next (answer_held x is_yes).held x (answer_held x is_yes).body)
 reply_fits txn held checked_in due issued true h undeclined = search rules
@@ -66,13 +66,13 @@ reply_fits txn held checked_in due issued false h undeclined = search rules
 
 -- In RECALL, if no Received was issued, RECALL fits after a Received.
 receive_fits : (txn : Qualifiers) (held : Option ℕ) (checked_in : Bool) (due : Option Date) (issued : List Apdu)
-    → RequesterRules (requester_of txn Recall held checked_in due issued) → has is_received issued ≡ false
+    → RequesterRules (requester_of txn Recall held checked_in due issued) → has_message_with is_received issued ≡ false
     → FitsWith Recall held (requester_of txn Recall held checked_in due issued) types.Received
 receive_fits txn held checked_in due issued h unreceived = search rules
 
 -- In RECALL, if a Received was issued, RETURNED fits after a Returned.
 return_fits : (txn : Qualifiers) (held : Option ℕ) (checked_in : Bool) (due : Option Date) (issued : List Apdu)
-    → RequesterRules (requester_of txn Recall held checked_in due issued) → has is_received issued ≡ true
+    → RequesterRules (requester_of txn Recall held checked_in due issued) → has_message_with is_received issued ≡ true
     → FitsWith Returned held (requester_of txn Recall held checked_in due issued) types.Returned
 return_fits txn held checked_in due issued h received = search rules
 
@@ -85,18 +85,18 @@ pub fits : (txn : Qualifiers) (state : State) (held : Option ℕ) (checked_in : 
 fits txn Idle held checked_in due issued (wishes.Request expiry item) row h leads = search rules
 fits txn Conditional held checked_in due issued (wishes.Reply is_yes) row h leads =
     let x : RequesterRecord = requester_of txn Conditional held checked_in due issued in
-    at_transition (λ r. FitsWith r.next r.held x r.body) (not (has declines issued)) _ _ row
+    at_transition (λ r. FitsWith r.next r.held x r.body) (not (has_message_with declines issued)) _ _ row
     (λ undeclined. is_this (λ r. FitsWith r.next r.held x r.body) _ row
     (reply_fits txn held checked_in due issued is_yes h (not_true _ undeclined)))
     (no_more (λ r. FitsWith r.next r.held x r.body) _ row) leads
 fits txn Recall held checked_in due issued wishes.Receive row h leads =
     let x : RequesterRecord = requester_of txn Recall held checked_in due issued in
-    at_transition (λ r. FitsWith r.next r.held x r.body) (not (has is_received issued)) _ _ row
+    at_transition (λ r. FitsWith r.next r.held x r.body) (not (has_message_with is_received issued)) _ _ row
     (λ is. is_this (λ r. FitsWith r.next r.held x r.body) _ row (receive_fits txn held checked_in due issued h (not_true _ is)))
     (no_more (λ r. FitsWith r.next r.held x r.body) _ row) leads
 fits txn Recall held checked_in due issued wishes.Return row h leads =
     let x : RequesterRecord = requester_of txn Recall held checked_in due issued in
-    at_transition (λ r. FitsWith r.next r.held x r.body) (has is_received issued) _ _ row
+    at_transition (λ r. FitsWith r.next r.held x r.body) (has_message_with is_received issued) _ _ row
     (λ is. is_this (λ r. FitsWith r.next r.held x r.body) _ row (return_fits txn held checked_in due issued h is))
     (no_more (λ r. FitsWith r.next r.held x r.body) _ row) leads
 fits txn state held checked_in due issued wish row h leads = search rules

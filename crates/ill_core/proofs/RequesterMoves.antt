@@ -14,14 +14,14 @@ use Rattle.ill_core.specs.declared.state.State.TheVariants.{Recall, Returned}
 use Rattle.ill_core.specs.declared.taking.Taking.{Taking}
 use Rattle.ill_core.specs.declared.refusal.Refusal.{Refusal}
 use Rattle.ill_core.specs.State.{is_among}
-use Rattle.ill_core.specs.Numbers.{is_at_most, is_the}
+use Rattle.ill_core.specs.Numbers.{is_at_most, is_equal_number}
 use Rattle.ill_core.specs.Bodies.{is_cancel, is_renew, is_requesters, is_unsupplied}
 use Rattle.ill_core.specs.Dates.{is_after_due, is_due_on}
-use Rattle.ill_core.specs.Issued.{first_refusal, was}
+use Rattle.ill_core.specs.Issued.{first_refusal, is_message_with}
 use Rattle.ill_core.specs.Answers.{unless_refused}
 use Rattle.ill_core.specs.Requester.{RequesterRecord, later, accepted_number, last_cancel}
 use Rattle.ill_core.specs.RequesterDeliveries.{take_message, takes, take_end, take_cancel_reply}
-use Rattle.ill_core.specs.RequesterNotices.{awaits, undecided, lent}
+use Rattle.ill_core.specs.RequesterNotices.{is_awaiting_answer, undecided, lent}
 
 -- A message with `number` and this body changes record `x` to this record by a row, or changes nothing.
 pub data Leads (x : RequesterRecord) (number : ℕ) : Body → RequesterRecord → Type 0 where
@@ -42,9 +42,9 @@ pub data Leads (x : RequesterRecord) (number : ℕ) : Body → RequesterRecord �
       → Leads x number (types.Overdue due) (record x { state = Overdue })
   reminds_renewing : (due : Date) → is_among (RenewPending ∷ []) x.state ≡ true → is_due_on due x.due ≡ true
       → Leads x number (types.Overdue due) (record x { state = RenewOverdue })
-  renews : (renew : ℕ) (due : Date) → awaits x renew ≡ true → is_after_due due x.due ≡ true
+  renews : (renew : ℕ) (due : Date) → is_awaiting_answer x renew ≡ true → is_after_due due x.due ≡ true
       → Leads x number (types.RenewAnswer renew (Some due)) (record x { state = Received; due = Some due })
-  refuses_renewal : (renew : ℕ) → awaits x renew ≡ true
+  refuses_renewal : (renew : ℕ) → is_awaiting_answer x renew ≡ true
       → Leads x number (types.RenewAnswer renew None)
       (record x { state = (if is_among (RenewPending ∷ []) x.state then Received else Overdue) })
   recalls : is_among lent x.state ≡ true → Leads x number types.Recall (record x { state = Recall })
@@ -69,11 +69,11 @@ cancel_reply_leads : (x : RequesterRecord) (number cancel : ℕ) (is_yes : Bool)
     → Leads x number (types.CancelReply cancel is_yes) (record x { state = (if is_yes then Cancelled else Pending) }))
     → Leads x number (types.CancelReply cancel is_yes) (take_cancel_reply x cancel is_yes).1
 cancel_reply_leads x number cancel is_yes decided =
-    transition x number _ (is_among (CancelPending ∷ []) x.state && is_the cancel (last_cancel x)) _ _
+    transition x number _ (is_among (CancelPending ∷ []) x.state && is_equal_number cancel (last_cancel x)) _ _
     (λ is. decided (and_parts _ _ is).0) (λ _.
-    transition x number _ (is_among (Cancelled ∷ []) x.state && (is_yes && is_the cancel (last_cancel x))) _ _ (λ _. nowhere _)
+    transition x number _ (is_among (Cancelled ∷ []) x.state && (is_yes && is_equal_number cancel (last_cancel x))) _ _ (λ _. nowhere _)
     (λ _.
-    transition x number _ (was is_cancel x.issued cancel) _ _ (λ _. nowhere _) (λ _. nowhere _)))
+    transition x number _ (is_message_with is_cancel x.issued cancel) _ _ (λ _. nowhere _) (λ _. nowhere _)))
 
 -- In SHIPPED or later, an Overdue that is not stale is for the due date.
 due_now : (x : RequesterRecord) (due : Date) → is_among later x.state ≡ true
@@ -84,7 +84,7 @@ due_now x due is_later stale_not = search rules
 message_leads : (x : RequesterRecord) (a : Apdu) (body : Body) → Leads x a.number body (take_message x a body).1
 message_leads x a (types.IllAnswer results.Conditional) =
     transition x a.number _ (is_at_most a.number (accepted_number x)) _ _ (λ _. nowhere _) (λ _.
-    transition x a.number _ (is_among (Conditional ∷ []) x.state && is_the a.number x.held) _ _ (λ _. nowhere _) (λ _.
+    transition x a.number _ (is_among (Conditional ∷ []) x.state && is_equal_number a.number x.held) _ _ (λ _. nowhere _) (λ _.
     transition x a.number _ (is_among (Pending ∷ []) x.state) _ _ holds_conditions (λ _. nowhere _)))
 message_leads x a (types.IllAnswer results.WillSupply) =
     transition x a.number _ (is_among (Pending ∷ []) x.state) _ _ (λ _. nowhere _) (λ _. nowhere _)
@@ -108,12 +108,12 @@ message_leads x a (types.Overdue due) =
     transition x a.number _ (is_among (NotReceivedOverdue ∷ Overdue ∷ RenewOverdue ∷ []) x.state) _ _ (λ _. nowhere _)
     (λ _. nowhere _)))))
 message_leads x a (types.RenewAnswer renew (Some due)) =
-    transition x a.number _ (awaits x renew) _ _ (λ waits.
+    transition x a.number _ (is_awaiting_answer x renew) _ _ (λ waits.
     transition x a.number _ (is_after_due due x.due) _ _ (renews renew due waits) (λ _. nowhere _)) (λ _.
-    transition x a.number _ (was is_renew x.issued renew) _ _ (λ _. nowhere _) (λ _. nowhere _))
+    transition x a.number _ (is_message_with is_renew x.issued renew) _ _ (λ _. nowhere _) (λ _. nowhere _))
 message_leads x a (types.RenewAnswer renew None) =
-    transition x a.number _ (awaits x renew) _ _ (refuses_renewal renew) (λ _.
-    transition x a.number _ (was is_renew x.issued renew) _ _ (λ _. nowhere _) (λ _. nowhere _))
+    transition x a.number _ (is_awaiting_answer x renew) _ _ (refuses_renewal renew) (λ _.
+    transition x a.number _ (is_message_with is_renew x.issued renew) _ _ (λ _. nowhere _) (λ _. nowhere _))
 message_leads x a types.Recall =
     transition x a.number _ (is_among lent x.state) _ _ recalls (λ _.
     transition x a.number _ (is_among (Recall ∷ []) x.state) _ _ (λ _. nowhere _) (λ _. nowhere _))

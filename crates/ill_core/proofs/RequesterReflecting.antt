@@ -12,13 +12,13 @@ use Rattle.ill_core.specs.declared.state.State.TheVariants.{Recall, Returned}
 use Rattle.ill_core.specs.declared.requester.Wish.{Wish}
 use Rattle.ill_core.specs.State.{is_among}
 use Rattle.ill_core.specs.Dates.{is_same_day, is_due_on}
-use Rattle.ill_core.specs.Numbers.{is_the}
+use Rattle.ill_core.specs.Numbers.{is_equal_number}
 use Rattle.ill_core.specs.Bodies.{is_renew, accepts}
-use Rattle.ill_core.specs.Issued.{was, next_apdu, accepted_in, number_of_renew}
+use Rattle.ill_core.specs.Issued.{is_message_with, next_apdu, accepted_in, number_of_renew}
 use Rattle.ill_core.specs.Requester.{RequesterRecord, IsRequester, later, accepted_number, last_renew}
 use Rattle.ill_core.specs.RequesterActions.{Transition, acts, record_after}
 use Rattle.ill_core.specs.RequesterDeliveries.{takes}
-use Rattle.ill_core.specs.RequesterNotices.{Notice, Recalled, Named, Answered, GrantedBefore, PastDue, awaits, Reflects, Attests}
+use Rattle.ill_core.specs.RequesterNotices.{Notice, Recalled, Named, Answered, GrantedBefore, PastDue, is_awaiting_answer, Reflects, Attests}
 use Rattle.ill_core.proofs.IssuedLemmas.{was_more, last_of_more, last_of_next, last_renew_within}
 use Rattle.ill_core.proofs.Rules.{requester_rules}
 use Rattle.ill_core.proofs.RequesterTransitions as transitions
@@ -49,7 +49,7 @@ due_on day due (Some other) on is = same_day day other on ∙ same_Some other du
 
 -- Each notice that `new` reflects was reflected by `x`, or the message attests it. There is one field for each kind of
 -- notice.
-record Keeps (x : RequesterRecord) (number : ℕ) (body : Body) (new : RequesterRecord) : Type 0 where
+record ReflectsOldOrAttested (x : RequesterRecord) (number : ℕ) (body : Body) (new : RequesterRecord) : Type 0 where
   recalled : Reflects new Recalled → Reflects x Recalled ⊎ Attests number body Recalled
   named : (conditions : ℕ) → Reflects new (Named conditions)
       → Reflects x (Named conditions) ⊎ Attests number body (Named conditions)
@@ -59,10 +59,10 @@ record Keeps (x : RequesterRecord) (number : ℕ) (body : Body) (new : Requester
       → Reflects x (GrantedBefore renew due) ⊎ Attests number body (GrantedBefore renew due)
   past_due : (due : Date) → Reflects new (PastDue due) → Reflects x (PastDue due) ⊎ Attests number body (PastDue due)
 
--- The record after each row of deliveries satisfies `Keeps`.
+-- The record after each row of deliveries satisfies `ReflectsOldOrAttested`.
 keeps : (x : RequesterRecord) (number : ℕ) (body : Body) (new : RequesterRecord) → Leads x number body new
     → is_some x.due ≡ is_among later x.state
-    → ((n : ℕ) → last_renew x ≡ Some n → n ≤ length x.issued) → Keeps x number body new
+    → ((n : ℕ) → last_renew x ≡ Some n → n ≤ length x.issued) → ReflectsOldOrAttested x number body new
 keeps x number _ _ (nowhere body) fits within =
     record {
       recalled = λ h. inl h;
@@ -84,8 +84,8 @@ keeps x number _ _ (refuses_renewal renew waits) fits within = search rules
 keeps x number _ _ (recalls is) fits within = search rules
 keeps x number _ _ (checks_in is) fits within = search rules
 
--- If `new` satisfies `Keeps`, each notice that it reflects was reflected by `x`, or the message attests it.
-kept : (x : RequesterRecord) (number : ℕ) (body : Body) (new : RequesterRecord) (notice : Notice) → Keeps x number body new
+-- If `new` satisfies `ReflectsOldOrAttested`, each notice that it reflects was reflected by `x`, or the message attests it.
+kept : (x : RequesterRecord) (number : ℕ) (body : Body) (new : RequesterRecord) (notice : Notice) → ReflectsOldOrAttested x number body new
     → Reflects new notice → Reflects x notice ⊎ Attests number body notice
 kept x number body new Recalled how = how.recalled
 kept x number body new (Named conditions) how = how.named conditions
@@ -105,7 +105,7 @@ takes_reflects x a notice h =
 -- ---- actions
 
 -- The transition of a wish adds no notice that the record reflects.
-record Leaves (x : RequesterRecord) (transition : Transition) : Type 0 where
+record AddsNoNotice (x : RequesterRecord) (transition : Transition) : Type 0 where
   recalled : transition.next ≡ Recall → x.state ≡ Recall
   held : (c : ℕ) → transition.held ≡ Some c → x.held ≡ Some c
   accepted : (c : ℕ) → accepts transition.body ≡ Some c → x.held ≡ Some c
@@ -117,10 +117,10 @@ record Leaves (x : RequesterRecord) (transition : Transition) : Type 0 where
   past_due : is_among (NotReceivedOverdue ∷ Overdue ∷ RenewOverdue ∷ []) transition.next ≡ true
       → is_among (NotReceivedOverdue ∷ Overdue ∷ RenewOverdue ∷ []) x.state ≡ true
 
--- Each transition of a wish satisfies `Leaves`.
+-- Each transition of a wish satisfies `AddsNoNotice`.
 leaves : (x : RequesterRecord) (transition : Transition) → IsTransition x transition
     → is_some x.held ≡ is_among (Conditional ∷ []) x.state
-    → Leaves x transition
+    → AddsNoNotice x transition
 leaves x _ (transitions.requests expiry item is) fits = search rules
 leaves x _ (transitions.cancels is) fits = search rules
 leaves x _ (transitions.accepts is) fits = search rules
@@ -134,7 +134,7 @@ leaves x _ (transitions.returns is) fits = search rules
 leaves x _ (transitions.returns_recalled is) fits = search rules
 
 -- If conditions `c` are the accepted ones after a transition, they were held or accepted before it.
-accepts_named : (x : RequesterRecord) (transition : Transition) (c : ℕ) (accepted : Option ℕ) → Leaves x transition
+accepts_named : (x : RequesterRecord) (transition : Transition) (c : ℕ) (accepted : Option ℕ) → AddsNoNotice x transition
     → accepts transition.body ≡ accepted → option_or accepted (accepted_number x) ≡ Some c
     → Reflects x (Named c)
 accepts_named x transition c None how is found = inr found
@@ -148,30 +148,30 @@ renew_next x transition is =
     (ap (λ b. if b then Some (length x.issued + 1) else None) is)
 
 -- If a Renew is issued and does not wait after a transition, it was issued before the transition.
-was_before : (x : RequesterRecord) (transition : Transition) (renew : ℕ) → Leaves x transition
-    → awaits (record_after x transition) renew ≡ false
-    → (was is_renew x.issued renew ≡ true) ⊎ ((renew ≡ length x.issued + 1) × (is_renew transition.body ≡ true))
-    → was is_renew x.issued renew ≡ true
+was_before : (x : RequesterRecord) (transition : Transition) (renew : ℕ) → AddsNoNotice x transition
+    → is_awaiting_answer (record_after x transition) renew ≡ false
+    → (is_message_with is_renew x.issued renew ≡ true) ⊎ ((renew ≡ length x.issued + 1) × (is_renew transition.body ≡ true))
+    → is_message_with is_renew x.issued renew ≡ true
 was_before x transition renew how waits_not (inl was_one) = was_one
 was_before x transition renew how waits_not (inr (at, is)) =
-    let waits : awaits (record_after x transition) renew ≡ true =
-    and_from _ _ (how.renew is) (subst (λ o. is_the renew o ≡ true) (sym (renew_next x transition is))
+    let waits : is_awaiting_answer (record_after x transition) renew ≡ true =
+    and_from _ _ (how.renew is) (subst (λ o. is_equal_number renew o ≡ true) (sym (renew_next x transition is))
     (eq-eqb renew (length x.issued + 1) at)) in
     search rules
 
 -- If a Renew waits after a transition, its number is above the numbers issued before it.
-waits_last : (x : RequesterRecord) (transition : Transition) (renew : ℕ) → Leaves x transition
-    → awaits (record_after x transition) renew ≡ true → length x.issued < renew
+waits_last : (x : RequesterRecord) (transition : Transition) (renew : ℕ) → AddsNoNotice x transition
+    → is_awaiting_answer (record_after x transition) renew ≡ true → length x.issued < renew
 waits_last x transition renew how waits =
     let parts = and_parts (is_among (RenewPending ∷ RenewOverdue ∷ []) transition.next)
-    (is_the renew (last_renew (record_after x transition))) waits in
+    (is_equal_number renew (last_renew (record_after x transition))) waits in
     let same : renew ≡ length x.issued + 1 =
     eqb-true renew (length x.issued + 1)
-    (subst (λ o. is_the renew o ≡ true) (renew_next x transition (how.waits parts.0)) parts.1) in
+    (subst (λ o. is_equal_number renew o ≡ true) (renew_next x transition (how.waits parts.0)) parts.1) in
     omega (arith, same)
 
 -- Each notice that a record reflects after a transition was reflected before it.
-left : (x : RequesterRecord) (transition : Transition) (notice : Notice) → Leaves x transition
+left : (x : RequesterRecord) (transition : Transition) (notice : Notice) → AddsNoNotice x transition
     → Reflects (record_after x transition) notice
     → Reflects x notice
 left x transition Recalled how h = how.recalled h
@@ -182,7 +182,7 @@ left x transition (Named c) how (inr accepted) =
 left x transition (Answered renew day) how h = (
   was_before x transition renew how h.2 (was_more is_renew x.issued (next_apdu x.txn x.issued transition.body) renew h.0),
   how.open_still h.1,
-  ap (λ here. here && is_the renew (last_renew x)) (how.answered h.1),
+  ap (λ here. here && is_equal_number renew (last_renew x)) (how.answered h.1),
   h.3,
 )
 left x transition (GrantedBefore renew due) how (same, inl waits) = (same, inr (waits_last x transition renew how waits))

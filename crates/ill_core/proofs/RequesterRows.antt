@@ -17,9 +17,9 @@ use Rattle.ill_core.specs.declared.state.State.TheVariants.{NotReceivedOverdue, 
 use Rattle.ill_core.specs.declared.taking.Taking.{Taking}
 use Rattle.ill_core.specs.declared.taking.Taking.TheVariants as takings
 use Rattle.ill_core.specs.State.{is_among}
-use Rattle.ill_core.specs.Numbers.{is_at_most, is_the}
+use Rattle.ill_core.specs.Numbers.{is_at_most, is_equal_number}
 use Rattle.ill_core.specs.Bodies.{is_requesters, is_cancel, is_renew, declines, accepts}
-use Rattle.ill_core.specs.Issued.{first_refusal, was, has, next_number, next_apdu, number_of_cancel, last_of}
+use Rattle.ill_core.specs.Issued.{first_refusal, is_message_with, has_message_with, next_number, next_apdu, number_of_cancel, last_of}
 use Rattle.ill_core.specs.RequesterRules.{RequesterRules}
 use Rattle.ill_core.specs.Requester.{RequesterRecord, later, accepted_number, is_declined, is_received_by, last_cancel}
 use Rattle.ill_core.specs.Requester.{last_renew}
@@ -77,7 +77,7 @@ ended x k body is_end is = search rules
 
 -- The change from CANCEL-PENDING to CANCELLED by a yes to the last Cancel satisfies `Moves`.
 cancelled : (x : RequesterRecord) (k : ℕ) (c : ℕ)
-    → is_among (CancelPending ∷ []) x.state && is_the c (last_cancel x) ≡ true
+    → is_among (CancelPending ∷ []) x.state && is_equal_number c (last_cancel x) ≡ true
     → Moves x k (types.CancelReply c true) (taken (record x { state = Cancelled }))
 cancelled x k c is = search rules
 
@@ -126,7 +126,7 @@ renewed x k c d is after = search rules
 
 -- The change from CANCEL-PENDING to PENDING by a no to the last Cancel satisfies `Moves`.
 cancel_refused : (x : RequesterRecord) (k c : ℕ)
-    → is_among (CancelPending ∷ []) x.state && is_the c (last_cancel x) ≡ true
+    → is_among (CancelPending ∷ []) x.state && is_equal_number c (last_cancel x) ≡ true
     → Moves x k (types.CancelReply c false) (taken (record x { state = Pending }))
 cancel_refused x k c is = search rules
 
@@ -145,13 +145,13 @@ end_row x k body is_end =
 
 -- If the answer to a Cancel-Reply satisfies `Moves` when the last Cancel waits, it satisfies `Moves` always.
 cancel_reply_row : (x : RequesterRecord) (k c : ℕ) (is_yes : Bool)
-    → (is_among (CancelPending ∷ []) x.state && is_the c (last_cancel x) ≡ true
+    → (is_among (CancelPending ∷ []) x.state && is_equal_number c (last_cancel x) ≡ true
     → Moves x k (types.CancelReply c is_yes) (taken (record x { state = (if is_yes then Cancelled else Pending) })))
     → Moves x k (types.CancelReply c is_yes) (take_cancel_reply x c is_yes)
 cancel_reply_row x k c is_yes decided =
-    transition x k _ (is_among (CancelPending ∷ []) x.state && is_the c (last_cancel x)) _ _ decided (λ _.
-    transition x k _ (is_among (Cancelled ∷ []) x.state && (is_yes && is_the c (last_cancel x))) _ _ (λ _. left x k _ _) (λ _.
-    transition x k _ (was is_cancel x.issued c) _ _ (λ _. left x k _ _) (λ _. left x k _ _)))
+    transition x k _ (is_among (CancelPending ∷ []) x.state && is_equal_number c (last_cancel x)) _ _ decided (λ _.
+    transition x k _ (is_among (Cancelled ∷ []) x.state && (is_yes && is_equal_number c (last_cancel x))) _ _ (λ _. left x k _ _) (λ _.
+    transition x k _ (is_message_with is_cancel x.issued c) _ _ (λ _. left x k _ _) (λ _. left x k _ _)))
 
 -- If the answer to a Renew-Answer satisfies `Moves` when a Renew waits, it satisfies `Moves` always.
 renew_answer_row : (x : RequesterRecord) (k c : ℕ) (granted : Option Date)
@@ -159,15 +159,15 @@ renew_answer_row : (x : RequesterRecord) (k c : ℕ) (granted : Option Date)
     → Moves x k (types.RenewAnswer c granted) (take_renewal x granted))
     → Moves x k (types.RenewAnswer c granted) (take_renew_answer x c granted)
 renew_answer_row x k c granted decided =
-    transition x k _ (is_among (RenewPending ∷ RenewOverdue ∷ []) x.state && is_the c (last_renew x)) _ _
+    transition x k _ (is_among (RenewPending ∷ RenewOverdue ∷ []) x.state && is_equal_number c (last_renew x)) _ _
     (λ is. decided (and_parts _ _ is).0) (λ _.
-    transition x k _ (was is_renew x.issued c) _ _ (λ _. left x k _ _) (λ _. left x k _ _))
+    transition x k _ (is_message_with is_renew x.issued c) _ _ (λ _. left x k _ _) (λ _. left x k _ _))
 
 -- The answer to an admitted APDU satisfies `Moves`.
 pub message_row : (x : RequesterRecord) (a : Apdu) (body : Body) → Moves x a.number body (take_message x a body)
 message_row x a (types.IllAnswer results.Conditional) =
     transition x a.number _ (is_at_most a.number (accepted_number x)) _ _ (λ _. left x a.number _ _) (λ above.
-    transition x a.number _ (is_among (Conditional ∷ []) x.state && is_the a.number x.held) _ _ (λ _. left x a.number _ _) (λ _.
+    transition x a.number _ (is_among (Conditional ∷ []) x.state && is_equal_number a.number x.held) _ _ (λ _. left x a.number _ _) (λ _.
     transition x a.number _ (is_among (Pending ∷ []) x.state) _ _ (λ is. conditions_held x a.number _ is above)
     (λ _. left x a.number _ _)))
 message_row x a (types.IllAnswer results.WillSupply) =
@@ -224,7 +224,7 @@ pub record Issues (x : RequesterRecord) (row : Transition) : Type 0 where
   pub stays : is_among later x.state ≡ true → is_among later row.next ≡ true
   pub shows : (fact : Fact) → Claims (record_after x row) fact → Claims x fact
   pub replies : (n : ℕ) (is_yes : Bool) → row.body ≡ types.ConditionalReply n is_yes
-      → (is_among (Conditional ∷ []) x.state ≡ true) × (has declines x.issued ≡ false) × (n ≡ unwrap_or x.held 0)
+      → (is_among (Conditional ∷ []) x.state ≡ true) × (has_message_with declines x.issued ≡ false) × (n ≡ unwrap_or x.held 0)
   pub once : is_some x.held ≡ is_among (Conditional ∷ []) x.state → AnswersOnce x → AnswersOnce (record_after x row)
 
 -- A state that is none of IDLE, CANCELLED and NOT-SUPPLIED is not IDLE.
@@ -280,7 +280,7 @@ cancel_refused_before : (x : RequesterRecord) (c : ℕ) → is_among (Pending �
     → ClaimsRefusal (record_after x (record { next = CancelPending; body = types.Cancel; held = x.held })) c → ClaimsRefusal x c
 cancel_refused_before x c is shown =
     let a : Apdu = next_apdu x.txn x.issued types.Cancel in (
-      older_cancel c (length x.issued + 1) (last_of number_of_cancel (x.issued ++ a ∷ [])) (was is_cancel x.issued c)
+      older_cancel c (length x.issued + 1) (last_of number_of_cancel (x.issued ++ a ∷ [])) (is_message_with is_cancel x.issued c)
           (last_cancel_more x.issued a refl) shown.2
           (was_more is_cancel x.issued a c shown.0),
       search (rules, is),
@@ -295,7 +295,7 @@ answer_goes_on false = refl
 
 -- A reply to the held conditions in CONDITIONAL satisfies `Issues`, if none were declined.
 answers_held : (x : RequesterRecord) (is_yes : Bool) → is_among (Conditional ∷ []) x.state ≡ true
-    → has declines x.issued ≡ false → Issues x (answer_held x is_yes)
+    → has_message_with declines x.issued ≡ false → Issues x (answer_held x is_yes)
 answers_held x is_yes here undeclined =
     record {
       begun = no_more_idle (answer_held x is_yes).next (answer_goes_on is_yes);
@@ -325,7 +325,7 @@ wish_row x wishes.Cancel row =
     (λ c. cancel_refused_before x c is))) (no_more (Issues x) _ row)
 wish_row x (wishes.Reply is_yes) row =
     at_transition (Issues x) (is_among (Conditional ∷ []) x.state && not (is_declined x)) _ _ row (λ is.
-    let there = undeclined_there (is_among (Conditional ∷ []) x.state) (has declines x.issued) is in
+    let there = undeclined_there (is_among (Conditional ∷ []) x.state) (has_message_with declines x.issued) is in
     is_this (Issues x) _ row (answers_held x is_yes there.0 there.1)) (no_more (Issues x) _ row)
 wish_row x wishes.Receive row =
     at_transition (Issues x) (is_among (Shipped ∷ []) x.state) _ _ row

@@ -21,8 +21,8 @@ use Rattle.ill_core.specs.declared.taking.Taking.{Taking}
 use Rattle.ill_core.specs.Answers.{taken, stale, conflict}
 use Rattle.ill_core.specs.Bodies.{is_renew, is_received, declines}
 use Rattle.ill_core.specs.Dates.{is_after_due}
-use Rattle.ill_core.specs.Issued.{was, has, next_number, with_next}
-use Rattle.ill_core.specs.Numbers.{is_the}
+use Rattle.ill_core.specs.Issued.{is_message_with, has_message_with, next_number, with_next}
+use Rattle.ill_core.specs.Numbers.{is_equal_number}
 use Rattle.ill_core.specs.Kinds.{wish_kind, responder_kind, number_in, date_in}
 use Rattle.ill_core.specs.Tables as tables
 use Rattle.ill_core.specs.Tables.{taking_of, next_state, fits}
@@ -70,14 +70,14 @@ tabled (types.CancelReply c false) state txn held checked_in due issued a = refl
 tabled (types.RenewAnswer c (Some d)) Idle txn held checked_in due issued a = refl
 tabled (types.RenewAnswer c (Some d)) RenewPending txn held checked_in due issued a =
     let x : RequesterRecord = requester_of txn RenewPending held checked_in due issued in
-    asked_twice (is_the c (last_renew x)) (is_after_due d due) (taken (record x { state = Received; due = Some d }))
+    asked_twice (is_equal_number c (last_renew x)) (is_after_due d due) (taken (record x { state = Received; due = Some d }))
     (conflict RenewPending x)
-    (if was is_renew issued c then stale x else conflict RenewPending x)
+    (if is_message_with is_renew issued c then stale x else conflict RenewPending x)
 tabled (types.RenewAnswer c (Some d)) RenewOverdue txn held checked_in due issued a =
     let x : RequesterRecord = requester_of txn RenewOverdue held checked_in due issued in
-    asked_twice (is_the c (last_renew x)) (is_after_due d due) (taken (record x { state = Received; due = Some d }))
+    asked_twice (is_equal_number c (last_renew x)) (is_after_due d due) (taken (record x { state = Received; due = Some d }))
     (conflict RenewOverdue x)
-    (if was is_renew issued c then stale x else conflict RenewOverdue x)
+    (if is_message_with is_renew issued c then stale x else conflict RenewOverdue x)
 tabled (types.RenewAnswer c (Some d)) state txn held checked_in due issued a = refl
 tabled (types.RenewAnswer c None) Idle txn held checked_in due issued a = refl
 tabled (types.RenewAnswer c None) state txn held checked_in due issued a = refl
@@ -116,7 +116,7 @@ takes_kept x a row h is = subst (λ answer. IsRequester answer.1) (sym (takes_th
 pub after_is : (x : RequesterRecord) (row : Row ResponderKind) (k : ℕ) (date : Option Date) (state : State) (held : Option ℕ)
     (checked_in : Bool) (due : Option Date)
     → state ≡ next_state row.3 x.state → held ≡ held_after row.4 x.held k
-    → checked_in ≡ (tables.has row.4 MARK || x.checked_in) → due ≡ due_after row.4 x.due date
+    → checked_in ≡ (tables.has_common_bit row.4 MARK || x.checked_in) → due ≡ due_after row.4 x.due date
     → requester_of x.txn state held checked_in due x.issued ≡ after x row k date
 after_is x row k date state held checked_in due s h m d = cc
 
@@ -125,7 +125,7 @@ after_is x row k date state held checked_in due s h m d = cc
 -- Returns the record after a row is followed for a wish, which issues message `k`.
 abbrev pub wished : RequesterRecord → Wish → ℕ → Row RequesterKind → RequesterRecord
 wished x wish k row =
-    requester_of x.txn (next_state row.3 x.state) (held_after row.4 x.held k) (tables.has row.4 MARK || x.checked_in)
+    requester_of x.txn (next_state row.3 x.state) (held_after row.4 x.held k) (tables.has_common_bit row.4 MARK || x.checked_in)
     (due_after row.4 x.due None)
     (with_next x.txn x.issued (wish_body x wish))
 
@@ -147,16 +147,16 @@ wish_tests : (wish : Wish) (state : State) (txn : Qualifiers) (held : Option ℕ
     by_tests state (wish_guards x) (λ row. Ok (wished x wish k row)) (Err (refusals.NotNow state)) (wish_rows (wish_kind wish))
     ≡ by_transition x (transition_of x wish))
 wish_tests (wishes.Reply true) Conditional txn held checked_in due issued k =
-    by_test (requester_of txn Conditional held checked_in due issued) (not (has declines issued)) _ _
+    by_test (requester_of txn Conditional held checked_in due issued) (not (has_message_with declines issued)) _ _
 wish_tests (wishes.Reply true) state txn held checked_in due issued k = refl
 wish_tests (wishes.Reply false) Conditional txn held checked_in due issued k =
-    by_test (requester_of txn Conditional held checked_in due issued) (not (has declines issued)) _ _
+    by_test (requester_of txn Conditional held checked_in due issued) (not (has_message_with declines issued)) _ _
 wish_tests (wishes.Reply false) state txn held checked_in due issued k = refl
 wish_tests wishes.Receive Recall txn held checked_in due issued k =
-    by_test (requester_of txn Recall held checked_in due issued) (not (has is_received issued)) _ _
+    by_test (requester_of txn Recall held checked_in due issued) (not (has_message_with is_received issued)) _ _
 wish_tests wishes.Receive state txn held checked_in due issued k = refl
 wish_tests wishes.Return Recall txn held checked_in due issued k =
-    by_test (requester_of txn Recall held checked_in due issued) (has is_received issued) _ _
+    by_test (requester_of txn Recall held checked_in due issued) (has_message_with is_received issued) _ _
 wish_tests wishes.Return state txn held checked_in due issued k = refl
 wish_tests wish Idle txn held checked_in due issued k = refl
 wish_tests wish state txn held checked_in due issued k = refl
@@ -220,14 +220,14 @@ pub acts_none : (x : RequesterRecord) (wish : Wish) → wish_row x wish ≡ None
 acts_none x wish is = not_now x (transition_of x wish) (refusals.NotNow x.state) (next_number x.issued) (by_none x wish is)
 
 -- If a record is the one after a transition, the transition exists.
-there : (x new : RequesterRecord) (found : Result Transition Refusal) → Ok new ≡ by_transition x found → IsOk found
-there x new (Ok transition) is = search rules
-there x new (Err refusal) is = search rules
+has_transition : (x new : RequesterRecord) (found : Result Transition Refusal) → Ok new ≡ by_transition x found → IsOk found
+has_transition x new (Ok transition) is = search rules
+has_transition x new (Err refusal) is = search rules
 
 -- If `row` fits a wish, the wish has a transition.
 pub transition_there : (x : RequesterRecord) (wish : Wish) (row : Row RequesterKind) → wish_row x wish ≡ Some row
     → IsOk (transition_of x wish)
-transition_there x wish row is = there x (wished x wish 0 row) (transition_of x wish) (by_this x wish 0 row is)
+transition_there x wish row is = has_transition x (wished x wish 0 row) (transition_of x wish) (by_this x wish 0 row is)
 
 -- If `row` fits a wish and a number is left, the record after it satisfies the rules of a requester.
 pub wished_kept : (x : RequesterRecord) (wish : Wish) (row : Row RequesterKind) (k n : ℕ) → IsRequester x
@@ -239,7 +239,7 @@ wished_kept x wish row k n h is next = acts_kept x (wished x wish k row) wish (a
 pub wished_is : (x : RequesterRecord) (wish : Wish) (row : Row RequesterKind) (k : ℕ) (txn : Qualifiers) (state : State)
     (held : Option ℕ) (checked_in : Bool) (due : Option Date) (issued : List Apdu)
     → (txn ≡ x.txn) → state ≡ next_state row.3 x.state → held ≡ held_after row.4 x.held k
-    → checked_in ≡ (tables.has row.4 MARK || x.checked_in) → due ≡ due_after row.4 x.due None
+    → checked_in ≡ (tables.has_common_bit row.4 MARK || x.checked_in) → due ≡ due_after row.4 x.due None
     → issued ≡ with_next x.txn x.issued (wish_body x wish)
     → requester_of txn state held checked_in due issued ≡ wished x wish k row
 wished_is x wish row k txn state held checked_in due issued t s h m d i = cc

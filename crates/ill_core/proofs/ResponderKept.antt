@@ -15,10 +15,10 @@ use Rattle.ill_core.specs.declared.state.State.TheVariants.{RenewPending, Overdu
 use Rattle.ill_core.specs.State.{is_among}
 use Rattle.ill_core.specs.Dates.{is_after_due}
 use Rattle.ill_core.specs.Rules.{implies}
-use Rattle.ill_core.specs.Numbers.{is_the, is_at_most}
+use Rattle.ill_core.specs.Numbers.{is_equal_number, is_at_most}
 use Rattle.ill_core.specs.Bodies.{is_ill_request, is_requesters, is_shipped, is_checked_in, names_conditions, is_renewal}
 use Rattle.ill_core.specs.Bodies.{grant_in}
-use Rattle.ill_core.specs.Issued.{next_number, was, is_same_txn, next_apdu, granted_day}
+use Rattle.ill_core.specs.Issued.{next_number, is_message_with, is_same_txn, next_apdu, granted_day}
 use Rattle.ill_core.specs.ResponderRules.{ResponderRules, IssuedFits, PartsFit}
 use Rattle.ill_core.proofs.Rules.{responder_rules, is_responder}
 use Rattle.ill_core.specs.Responder.{ResponderRecord, IsResponder, responder_of, outstanding_number, is_named, later, are_rising}
@@ -184,12 +184,12 @@ no_kept y h waits =
 outstanding_named : (txn : Qualifiers) (state : State) (accepted last_cancel last_renew : Option ℕ) (received : Bool)
     (request : Option Apdu) (issued : List Apdu) (c : ℕ)
     → ResponderRules (responder_of txn state accepted last_cancel last_renew received request issued)
-    → is_the c (outstanding_number (responder_of txn state accepted last_cancel last_renew received request issued)) ≡ true
+    → is_equal_number c (outstanding_number (responder_of txn state accepted last_cancel last_renew received request issued)) ≡ true
     → (is_among (Conditional ∷ []) state ≡ true) × (is_named (Some c) issued ≡ true)
 outstanding_named txn Conditional accepted last_cancel last_renew received request [] c h is = search rules
 outstanding_named txn Conditional accepted last_cancel last_renew received request (a ∷ issued) c h is = (
   refl,
-  subst (λ n. was names_conditions (a ∷ issued) n ≡ true) (sym (eqb-true c (length (a ∷ issued)) is))
+  subst (λ n. is_message_with names_conditions (a ∷ issued) n ≡ true) (sym (eqb-true c (length (a ∷ issued)) is))
       h.issued.conditions,
 )
 outstanding_named txn state accepted last_cancel last_renew received request issued c h is = search rules
@@ -222,7 +222,7 @@ first_of_two : (state : State) → is_among (Idle ∷ []) state ≡ true → is_
 first_of_two state is = search rules
 
 -- The record after the outstanding conditions are accepted satisfies the rules.
-yes_kept : (y : ResponderRecord) (c : ℕ) → ResponderRules y → is_the c (outstanding_number y) ≡ true
+yes_kept : (y : ResponderRecord) (c : ℕ) → ResponderRules y → is_equal_number c (outstanding_number y) ≡ true
     → ResponderRules (record y { state = InProcess; accepted = Some c })
 yes_kept y c h is =
     let named = outstanding_named y.txn y.state y.accepted y.last_cancel y.last_renew y.received y.request y.issued c h is in
@@ -319,9 +319,9 @@ pub message_kept : (y : ResponderRecord) (a : Apdu) (body : Body) → ResponderR
 message_kept y a (types.IllRequest expiry item) h same is =
     transition (is_among (Idle ∷ []) y.state) _ _ (λ idle. request_kept y a h idle same is) (λ _. h)
 message_kept y a (types.ConditionalReply c true) h same is =
-    transition (is_the c (outstanding_number y)) _ _ (λ there. yes_kept y c h there) (λ _.
-    transition (is_the c y.accepted) _ _ (λ _. h) (λ _.
-    transition (was names_conditions y.issued c) _ _ (λ _. h) (λ _. h)))
+    transition (is_equal_number c (outstanding_number y)) _ _ (λ there. yes_kept y c h there) (λ _.
+    transition (is_equal_number c y.accepted) _ _ (λ _. h) (λ _.
+    transition (is_message_with names_conditions y.issued c) _ _ (λ _. h) (λ _. h)))
 message_kept y a (types.ConditionalReply c false) h same is =
     transition (is_among (InProcess ∷ Conditional ∷ []) y.state) _ _ (answer_kept y (next_number y.issued) h) (λ _.
     transition (is_among (NotSupplied ∷ []) y.state) _ _ (λ _. h) (λ _. h))

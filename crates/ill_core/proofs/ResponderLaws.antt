@@ -18,7 +18,7 @@ use Rattle.ill_core.specs.State.{is_among}
 use Rattle.ill_core.specs.Rules.{implies}
 use Rattle.ill_core.specs.Numbers.{is_at_most, is_below}
 use Rattle.ill_core.specs.Bodies.{is_shipped, is_ill_request, is_requesters}
-use Rattle.ill_core.specs.Issued.{has, first_refusal, with_next, next_apdu, IssuesNext}
+use Rattle.ill_core.specs.Issued.{has_message_with, first_refusal, with_next, next_apdu, IssuesNext}
 use Rattle.ill_core.specs.Responder.{ResponderRecord, IsResponder}
 use Rattle.ill_core.specs.ResponderActions.{acts, issues_to}
 use Rattle.ill_core.specs.ResponderDeliveries.{takes, take_message}
@@ -27,9 +27,9 @@ use Rattle.ill_core.specs.declared.refusal.Refusal.{Refusal}
 use Rattle.ill_core.specs.declared.taking.Taking.{Taking}
 use Rattle.ill_core.specs.declared.taking.Taking.TheVariants.{Taken}
 use Rattle.ill_core.specs.ResponderEvidence.{Fact, Claims, IsEvidence, Requested, Accepted, CancelAsked, Arrived, SentBack}
-use Rattle.ill_core.specs.ResponderEvidence.{cancels, KeepsRequest, IssuesUnfilled, StaysLater, Ends, EntersByEnd, EndsOnce}
+use Rattle.ill_core.specs.ResponderEvidence.{is_yes_to_cancel, KeepsRequest, IssuesUnfilled, StaysLater, Ends, EntersByEnd, EndsOnce}
 use Rattle.ill_core.specs.ResponderEvidence.{is_unsupplied, is_cancelled, is_end, ended, ends_in, Question, MayCancel, MayRenew}
-use Rattle.ill_core.specs.ResponderEvidence.{answered_number, last_asked, waits, answers_to, AnswersLast, KeepsLast, TakesNew}
+use Rattle.ill_core.specs.ResponderEvidence.{answered_number, last_asked, is_question_open, answers_to, AnswersLast, KeepsLast, TakesNew}
 use Rattle.ill_core.specs.ResponderEvidence.{AnsweredOnce, AnswersOnce}
 use Rattle.ill_core.proofs.IssuedLemmas.{issued_body, not_longer, has_more, found_none, found_more}
 use Rattle.ill_core.proofs.ResponderLists.{count_more}
@@ -197,9 +197,9 @@ issues_once y body next how h =
 moves_once : (y new : ResponderRecord) (number : ℕ) (body : Body) → Moves y number body new → EndsOnce y → EndsOnce new
 moves_once y new number body how h =
     record {
-      unsupplied = ap (has is_unsupplied) how.issued ∙ (h.unsupplied ∙ how.unsupplied);
-      cancelled = ap (has is_cancelled) how.issued ∙ (h.cancelled ∙ how.cancelled);
-      shipped = ap (has is_shipped) how.issued ∙ (h.shipped ∙ how.shipped);
+      unsupplied = ap (has_message_with is_unsupplied) how.issued ∙ (h.unsupplied ∙ how.unsupplied);
+      cancelled = ap (has_message_with is_cancelled) how.issued ∙ (h.cancelled ∙ how.cancelled);
+      shipped = ap (has_message_with is_shipped) how.issued ∙ (h.shipped ∙ how.shipped);
       once = ap (count_by (λ a. is_end a.body)) how.issued ∙ (h.once ∙ ap (λ b. if b then 1 else 0) how.ended);
     }
 
@@ -295,36 +295,36 @@ known o n waiting there is same = search rules
 -- A transition with an answer or without one preserves `AnsweredOnce`.
 answer_issued : (question : Question) (y : ResponderRecord) (body : Body) (next : State) (o : Option ℕ)
     → answered_number question body ≡ o → Issues y body next
-    → implies (waits question y.state) (is_some (last_asked question y)) ≡ true → AnswersOnce question y
-    → AnsweredOnce (answers_to question (with_next y.txn y.issued body)) (last_asked question y) (waits question next)
+    → implies (is_question_open question y.state) (is_some (last_asked question y)) ≡ true → AnswersOnce question y
+    → AnsweredOnce (answers_to question (with_next y.txn y.issued body)) (last_asked question y) (is_question_open question next)
 answer_issued question y body next None none how there h =
-    subst (λ ns. AnsweredOnce ns (last_asked question y) (waits question next))
+    subst (λ ns. AnsweredOnce ns (last_asked question y) (is_question_open question next))
     (sym (found_none (λ a. answered_number question a.body) y.issued (next_apdu y.txn y.issued body) none))
     (each_kept _ _ _ _ (how.asked question) h)
 answer_issued question y body next (Some n) some how there h =
     let row = how.replies question n some in
-    let last = known (last_asked question y) n (waits question y.state) there row.0 row.2 in
+    let last = known (last_asked question y) n (is_question_open question y.state) there row.0 row.2 in
     let before : AnsweredOnce (answers_to question y.issued) (Some n) true =
     subst (λ o. AnsweredOnce (answers_to question y.issued) o true) last
     (subst (λ b. AnsweredOnce (answers_to question y.issued) (last_asked question y) b) row.0 h) in
-    let after : AnsweredOnce (answers_to question y.issued ++ n ∷ []) (last_asked question y) (waits question next) =
-    subst (λ o. AnsweredOnce (answers_to question y.issued ++ n ∷ []) o (waits question next)) (sym last)
+    let after : AnsweredOnce (answers_to question y.issued ++ n ∷ []) (last_asked question y) (is_question_open question next) =
+    subst (λ o. AnsweredOnce (answers_to question y.issued ++ n ∷ []) o (is_question_open question next)) (sym last)
     (subst (λ b. AnsweredOnce (answers_to question y.issued ++ n ∷ []) (Some n) b) (sym row.1) (each_answered _ n before)) in
-    subst (λ ns. AnsweredOnce ns (last_asked question y) (waits question next))
+    subst (λ ns. AnsweredOnce ns (last_asked question y) (is_question_open question next))
     (sym (found_more (λ a. answered_number question a.body) y.issued (next_apdu y.txn y.issued body) n some)) after
 
 -- A transition preserves `AnswersOnce`, if the last question has a number while it waits.
 issues_each : (question : Question) (y : ResponderRecord) (body : Body) (next : State) → Issues y body next
-    → implies (waits question y.state) (is_some (last_asked question y)) ≡ true → AnswersOnce question y
+    → implies (is_question_open question y.state) (is_some (last_asked question y)) ≡ true → AnswersOnce question y
     → AnswersOnce question (issues_to y body next)
 issues_each question y body next how there h =
-    subst (λ o. AnsweredOnce (answers_to question (with_next y.txn y.issued body)) o (waits question next))
+    subst (λ o. AnsweredOnce (answers_to question (with_next y.txn y.issued body)) o (is_question_open question next))
     (sym (last_same question y body next))
     (answer_issued question y body next (answered_number question body) refl how there h)
 
 -- A deed preserves `AnswersOnce`, if the last question has a number while it waits.
 pub acts_once : (question : Question) (y new : ResponderRecord) (deed : Deed) (today : Date) → acts y deed today ≡ Ok new
-    → implies (waits question y.state) (is_some (last_asked question y)) ≡ true → AnswersOnce question y
+    → implies (is_question_open question y.state) (is_some (last_asked question y)) ≡ true → AnswersOnce question y
     → AnswersOnce question new
 acts_once question y new deed today done there =
     of_acts (λ r. AnswersOnce question y → AnswersOnce question r) y new deed today
@@ -335,12 +335,12 @@ moves_each : (question : Question) (y new : ResponderRecord) (number : ℕ) (bod
     → KeepsLast question y new ⊎ TakesNew question number body y new
     → AnswersOnce question y → AnswersOnce question new
 moves_each question y new number body same (inl keeps) h =
-    subst (λ apdus. AnsweredOnce (answers_to question apdus) (last_asked question new) (waits question new.state)) (sym same)
-    (subst (λ o. AnsweredOnce (answers_to question y.issued) o (waits question new.state)) (sym keeps.0)
+    subst (λ apdus. AnsweredOnce (answers_to question apdus) (last_asked question new) (is_question_open question new.state)) (sym same)
+    (subst (λ o. AnsweredOnce (answers_to question y.issued) o (is_question_open question new.state)) (sym keeps.0)
     (each_kept _ _ _ _ keeps.1 h))
 moves_each question y new number body same (inr asked) h =
-    subst (λ apdus. AnsweredOnce (answers_to question apdus) (last_asked question new) (waits question new.state)) (sym same)
-    (subst (λ o. AnsweredOnce (answers_to question y.issued) o (waits question new.state)) (sym asked.2)
+    subst (λ apdus. AnsweredOnce (answers_to question apdus) (last_asked question new) (is_question_open question new.state)) (sym same)
+    (subst (λ o. AnsweredOnce (answers_to question y.issued) o (is_question_open question new.state)) (sym asked.2)
     (each_asked _ _ _ _ number asked.1 h))
 
 -- An ILL-Answer unfilled answers no question.
@@ -354,10 +354,10 @@ unfilled_each : (question : Question) (y : ResponderRecord) → Issues y (types.
     → AnswersOnce question (issues_to y (types.IllAnswer results.Unfilled) NotSupplied)
 unfilled_each question y how h =
     subst (λ ns. AnsweredOnce ns (last_asked question (issues_to y (types.IllAnswer results.Unfilled) NotSupplied))
-    (waits question NotSupplied))
+    (is_question_open question NotSupplied))
     (sym (found_none (λ a. answered_number question a.body) y.issued (next_apdu y.txn y.issued (types.IllAnswer results.Unfilled))
     (no_answer question)))
-    (subst (λ o. AnsweredOnce (answers_to question y.issued) o (waits question NotSupplied)) (sym (last_same question y _ _))
+    (subst (λ o. AnsweredOnce (answers_to question y.issued) o (is_question_open question NotSupplied)) (sym (last_same question y _ _))
     (each_kept _ _ _ _ (how.asked question) h))
 
 -- A message preserves `AnswersOnce`.
@@ -374,39 +374,39 @@ or_either true b either = inl refl
 or_either false b either = inr either
 
 -- A Cancel-Reply yes to Cancel `c` answers question `c`.
-cancels_answered : (c : ℕ) (body : Body) → cancels c body ≡ true → answered_number MayCancel body ≡ Some c
+cancels_answered : (c : ℕ) (body : Body) → is_yes_to_cancel c body ≡ true → answered_number MayCancel body ≡ Some c
 cancels_answered c (types.CancelReply n true) is = ap Some (eqb-true n c is)
 cancels_answered c other is = search rules
 
 -- If a Cancel-Reply yes to `c` was issued, or answers the last Cancel now, the record claims `CancelAsked c`.
-yes_shown : (y : ResponderRecord) (body : Body) (c : ℕ) → (cancels c body ≡ true → y.last_cancel ≡ Some c)
-    → (has (cancels c) y.issued ≡ true) ⊎ (cancels c body ≡ true)
+yes_shown : (y : ResponderRecord) (body : Body) (c : ℕ) → (is_yes_to_cancel c body ≡ true → y.last_cancel ≡ Some c)
+    → (has_message_with (is_yes_to_cancel c) y.issued ≡ true) ⊎ (is_yes_to_cancel c body ≡ true)
     → Claims y (CancelAsked c)
 yes_shown y body c asked (inl older) = inr older
 yes_shown y body c asked (inr is) = inl (asked is)
 
 -- A transition adds no claim, if a Cancel-Reply yes that it issues answers the last Cancel.
 issues_shows : (y : ResponderRecord) (body : Body) (next : State) (fact : Fact) → Issues y body next
-    → ((c : ℕ) → cancels c body ≡ true → y.last_cancel ≡ Some c) → Claims (issues_to y body next) fact → Claims y fact
+    → ((c : ℕ) → is_yes_to_cancel c body ≡ true → y.last_cancel ≡ Some c) → Claims (issues_to y body next) fact → Claims y fact
 issues_shows y body next Requested how asked shown = how.begun
 issues_shows y body next (Accepted c) how asked shown = shown
 issues_shows y body next (CancelAsked c) how asked (inl last) = inl last
 issues_shows y body next (CancelAsked c) how asked (inr yes_there) =
-    yes_shown y body c (asked c) (or_either _ _ (sym (has_more (cancels c) y.issued (next_apdu y.txn y.issued body)) ∙ yes_there))
+    yes_shown y body c (asked c) (or_either _ _ (sym (has_more (is_yes_to_cancel c) y.issued (next_apdu y.txn y.issued body)) ∙ yes_there))
 issues_shows y body next Arrived how asked shown = shown
 issues_shows y body next SentBack how asked shown = sym how.sent_back ∙ shown
 
 -- A Cancel-Reply yes that is issued answers the last Cancel, if this has a number while it waits.
 yes_answers_last : (y : ResponderRecord) (body : Body) (next : State) → Issues y body next
-    → implies (waits MayCancel y.state) (is_some y.last_cancel) ≡ true
-    → (c : ℕ) → cancels c body ≡ true → y.last_cancel ≡ Some c
+    → implies (is_question_open MayCancel y.state) (is_some y.last_cancel) ≡ true
+    → (c : ℕ) → is_yes_to_cancel c body ≡ true → y.last_cancel ≡ Some c
 yes_answers_last y body next how there c is =
     let row = how.replies MayCancel c (cancels_answered c body is) in
-    known y.last_cancel c (waits MayCancel y.state) there row.0 row.2
+    known y.last_cancel c (is_question_open MayCancel y.state) there row.0 row.2
 
 -- A deed adds no claim, if the last Cancel has a number while it waits.
 pub acts_shows : (y new : ResponderRecord) (deed : Deed) (today : Date) (fact : Fact) → acts y deed today ≡ Ok new
-    → implies (waits MayCancel y.state) (is_some y.last_cancel) ≡ true → Claims new fact → Claims y fact
+    → implies (is_question_open MayCancel y.state) (is_some y.last_cancel) ≡ true → Claims new fact → Claims y fact
 acts_shows y new deed today fact done there =
     of_acts (λ r. Claims r fact → Claims y fact) y new deed today
     (λ transition leads how. issues_shows y transition.body transition.next fact how
@@ -418,7 +418,7 @@ moves_shows : (y new : ResponderRecord) (number : ℕ) (body : Body) (fact : Fac
 moves_shows y new number body Requested how shown = how.requested shown
 moves_shows y new number body (Accepted c) how shown = how.accepted c shown
 moves_shows y new number body (CancelAsked c) how (inl last) = search (rules, how.cancel_asked c last)
-moves_shows y new number body (CancelAsked c) how (inr yes_there) = inl (inr (sym (ap (has (cancels c)) how.issued) ∙ yes_there))
+moves_shows y new number body (CancelAsked c) how (inr yes_there) = inl (inr (sym (ap (has_message_with (is_yes_to_cancel c)) how.issued) ∙ yes_there))
 moves_shows y new number body Arrived how shown = how.arrived shown
 moves_shows y new number body SentBack how shown = how.sent_back shown
 

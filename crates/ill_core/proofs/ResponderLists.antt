@@ -18,8 +18,8 @@ use Rattle.ill_core.specs.declared.state.State.TheVariants.{Idle}
 use Rattle.ill_core.specs.State.{is_among}
 use Rattle.ill_core.specs.Dates.{is_after_due}
 use Rattle.ill_core.specs.Bodies.{is_shipped, is_renewal, names_conditions, grant_in}
-use Rattle.ill_core.specs.Issued.{was, granted_day, last_of}
-use Rattle.ill_core.specs.Responder.{rises, rise_from, ships_first, ends_with_conditions, is_named, is_request_of, request_in}
+use Rattle.ill_core.specs.Issued.{is_message_with, granted_day, last_of}
+use Rattle.ill_core.specs.Responder.{is_after_last, rise_from, ships_first, ends_with_conditions, is_named, is_request_of, request_in}
 use Rattle.ill_core.proofs.IssuedLemmas.{not_true}
 
 -- One more APDU adds 1 to the count if `says` holds of it, and else 0.
@@ -28,7 +28,7 @@ pub count_more : (says : Body → Bool) (apdus : List Apdu) (a : Apdu)
 count_more says apdus a = search (rules, sum_by-append (λ (b : Apdu). cond (says b.body) 1 0) apdus (a ∷ []))
 
 -- With APDU `a` at the end, `says` holds of the last message if, and only if, it holds of `a`.
-last_message : (says : Body → Bool) (apdus : List Apdu) (a : Apdu) → was says (apdus ++ a ∷ []) (suc (length apdus)) ≡ says a.body
+last_message : (says : Body → Bool) (apdus : List Apdu) (a : Apdu) → is_message_with says (apdus ++ a ∷ []) (suc (length apdus)) ≡ says a.body
 last_message says [] a = refl
 last_message says (b ∷ apdus) a = last_message says apdus a
 
@@ -36,11 +36,11 @@ last_message says (b ∷ apdus) a = last_message says apdus a
 pub ends_more : (apdus : List Apdu) (a : Apdu) → ends_with_conditions (apdus ++ a ∷ []) ≡ names_conditions a.body
 ends_more apdus a =
     let size : length (apdus ++ a ∷ []) ≡ suc (length apdus) = omega (arith, length-append apdus (a ∷ [])) in
-    ap (was names_conditions (apdus ++ a ∷ [])) size ∙ last_message names_conditions apdus a
+    ap (is_message_with names_conditions (apdus ++ a ∷ [])) size ∙ last_message names_conditions apdus a
 
 -- If `says` holds of message `c` of a list, it holds of message `c` after one more APDU.
-pub was_longer : (says : Body → Bool) (apdus : List Apdu) (a : Apdu) (c : ℕ) → was says apdus c ≡ true
-    → was says (apdus ++ a ∷ []) c ≡ true
+pub was_longer : (says : Body → Bool) (apdus : List Apdu) (a : Apdu) (c : ℕ) → is_message_with says apdus c ≡ true
+    → is_message_with says (apdus ++ a ∷ []) c ≡ true
 was_longer says apdus a zero h = search rules
 was_longer says [] a (suc n) h = search rules
 was_longer says (b ∷ apdus) a (suc zero) h = h
@@ -74,14 +74,14 @@ rise_none o = refl
 
 -- Dates with `found` put first rise if, and only if, `found` is after `last`, and the others rise after it.
 grant_rises : (last found : Option Date) (dates : List Date)
-    → rise_from last (cons_option found dates) ≡ (rises last found && rise_from (option_or found last) dates)
+    → rise_from last (cons_option found dates) ≡ (is_after_last last found && rise_from (option_or found last) dates)
 grant_rises last None dates = refl
 grant_rises last (Some d) dates = rise_first last d dates
 
 -- The dates from index `i` on rise if, and only if, the first is after `last`, and the rest rise.
 pub rise_at : (last found next : Option Date) (follows : Bool) (apdus : List Apdu) (i : ℕ) (a : Apdu)
     → i < length apdus → a ≡ get_or apdus i a
-    → found ≡ granted_day a → follows ≡ rises last found → next ≡ option_or found last
+    → found ≡ granted_day a → follows ≡ is_after_last last found → next ≡ option_or found last
     → rise_from last (filter_map granted_day (drop i apdus))
     ≡ (follows && rise_from next (filter_map granted_day (drop (i + 1) apdus)))
 rise_at last found next follows apdus i a within there is may then_last =

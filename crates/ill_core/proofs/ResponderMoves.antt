@@ -16,9 +16,9 @@ use Rattle.ill_core.specs.declared.refusal.Refusal.TheVariants.{NumbersUsed, Oth
 use Rattle.ill_core.specs.declared.taking.Taking.{Taking}
 use Rattle.ill_core.specs.State.{is_among}
 use Rattle.ill_core.specs.Rules.{implies}
-use Rattle.ill_core.specs.Numbers.{is_the, is_at_most}
+use Rattle.ill_core.specs.Numbers.{is_equal_number, is_at_most}
 use Rattle.ill_core.specs.Bodies.{is_requesters, names_conditions}
-use Rattle.ill_core.specs.Issued.{first_refusal, next_apdu, was, is_same_txn}
+use Rattle.ill_core.specs.Issued.{first_refusal, next_apdu, is_message_with, is_same_txn}
 use Rattle.ill_core.specs.Responder.{ResponderRecord, later, outstanding_number}
 use Rattle.ill_core.specs.Answers.{unless_refused}
 use Rattle.ill_core.specs.ResponderActions.{issues_to}
@@ -52,7 +52,7 @@ transition y number body fits here others = cond_both fits here others (λ r. Ch
 
 -- If conditions wait for an answer, the state is CONDITIONAL.
 waits_conditional : (c : ℕ) (state : State) (size : Option ℕ)
-    → is_the c (if is_among (Conditional ∷ []) state then size else None) ≡ true
+    → is_equal_number c (if is_among (Conditional ∷ []) state then size else None) ≡ true
     → is_among (Conditional ∷ []) state ≡ true
 waits_conditional c state size is = search rules
 
@@ -69,9 +69,9 @@ message_changes : (y : ResponderRecord) (a : Apdu) (body : Body) → Change y a.
 message_changes y a (types.IllRequest expiry item) =
     transition y _ _ (is_among (Idle ∷ []) y.state) _ _ (requests expiry item a) (λ _. leaves _)
 message_changes y a (types.ConditionalReply c true) =
-    transition y _ _ (is_the c (outstanding_number y)) _ _ (λ there. accepts c (waits_conditional c y.state _ there)) (λ _.
-    transition y _ _ (is_the c y.accepted) _ _ (λ _. leaves _) (λ _.
-    transition y _ _ (was names_conditions y.issued c) _ _ (λ _. leaves _) (λ _. leaves _)))
+    transition y _ _ (is_equal_number c (outstanding_number y)) _ _ (λ there. accepts c (waits_conditional c y.state _ there)) (λ _.
+    transition y _ _ (is_equal_number c y.accepted) _ _ (λ _. leaves _) (λ _.
+    transition y _ _ (is_message_with names_conditions y.issued c) _ _ (λ _. leaves _) (λ _. leaves _)))
 message_changes y a (types.ConditionalReply c false) =
     transition y _ _ (is_among undecided y.state) _ _ (no_changes y a.number c (nat_lt (length y.issued) 255) refl) (λ _.
     transition y _ _ (is_among (NotSupplied ∷ []) y.state) _ _ (λ _. leaves _) (λ _. leaves _))
@@ -129,14 +129,14 @@ takes_few y a = change_few y (takes y a).1 a.number a.body (takes_changes y a)
 -- ---- a message that comes again
 
 -- The record after the answer would not change if the message came again.
-data Heard (number : ℕ) (body : Body) (answer : Result Taking Refusal × ResponderRecord) : Type 0 where
-  hears : has_heard answer.1 number body ≡ true → Heard number body answer
+data IsWithoutEffect (number : ℕ) (body : Body) (answer : Result Taking Refusal × ResponderRecord) : Type 0 where
+  hears : has_heard answer.1 number body ≡ true → IsWithoutEffect number body answer
 
--- If each transition that may be the first to fit satisfies `Heard`, so does the answer.
+-- If each transition that may be the first to fit satisfies `IsWithoutEffect`, so does the answer.
 heard_transition : (number : ℕ) (body : Body) (fits : Bool) (here others : Result Taking Refusal × ResponderRecord)
-    → (fits ≡ true → Heard number body here) → (fits ≡ false → Heard number body others)
-    → Heard number body (if fits then here else others)
-heard_transition number body fits here others = cond_both fits here others (Heard number body)
+    → (fits ≡ true → IsWithoutEffect number body here) → (fits ≡ false → IsWithoutEffect number body others)
+    → IsWithoutEffect number body (if fits then here else others)
+heard_transition number body fits here others = cond_both fits here others (IsWithoutEffect number body)
 
 -- The record after a Conditional-Reply no would not change if it came again, with a number left or without one.
 no_heard : (y : ResponderRecord) (number c : ℕ) (left : Bool) → nat_lt (length y.issued) 255 ≡ left
@@ -154,14 +154,14 @@ renew_heard : (state : State) (above : Bool) → is_among (Shipped ∷ []) state
     → is_among (Overdue ∷ []) state ≡ false → not (is_among (Shipped ∷ Overdue ∷ []) state) || above ≡ true
 renew_heard state above one other = search rules
 
--- The answer to an admitted message satisfies `Heard`.
-message_heard : (y : ResponderRecord) (a : Apdu) (body : Body) → Heard a.number body (take_message y a body)
+-- The answer to an admitted message satisfies `IsWithoutEffect`.
+message_heard : (y : ResponderRecord) (a : Apdu) (body : Body) → IsWithoutEffect a.number body (take_message y a body)
 message_heard y a (types.IllRequest expiry item) =
     heard_transition _ _ (is_among (Idle ∷ []) y.state) _ _ (λ _. hears refl) (λ begun. hears (not_from_false _ begun))
 message_heard y a (types.ConditionalReply c true) =
-    heard_transition _ _ (is_the c (outstanding_number y)) _ _ (λ _. hears refl) (λ other.
-    heard_transition _ _ (is_the c y.accepted) _ _ (λ _. hears (not_from_false _ other)) (λ _.
-    heard_transition _ _ (was names_conditions y.issued c) _ _ (λ _. hears (not_from_false _ other))
+    heard_transition _ _ (is_equal_number c (outstanding_number y)) _ _ (λ _. hears refl) (λ other.
+    heard_transition _ _ (is_equal_number c y.accepted) _ _ (λ _. hears (not_from_false _ other)) (λ _.
+    heard_transition _ _ (is_message_with names_conditions y.issued c) _ _ (λ _. hears (not_from_false _ other))
     (λ _. hears (not_from_false _ other))))
 message_heard y a (types.ConditionalReply c false) =
     heard_transition _ _ (is_among undecided y.state) _ _ (λ _. hears (no_heard y a.number c _ refl)) (λ decided.
@@ -189,8 +189,8 @@ message_heard y a types.Returned =
     (λ _. hears (not_from_false _ home)))
 message_heard y a other = hears refl
 
--- If an answer satisfies `Heard`, `has_heard` is true of the record after it.
-is_heard : (number : ℕ) (body : Body) (answer : Result Taking Refusal × ResponderRecord) → Heard number body answer
+-- If an answer satisfies `IsWithoutEffect`, `has_heard` is true of the record after it.
+is_heard : (number : ℕ) (body : Body) (answer : Result Taking Refusal × ResponderRecord) → IsWithoutEffect number body answer
     → has_heard answer.1 number body ≡ true
 is_heard number body answer (hears is) = is
 
@@ -207,7 +207,7 @@ pub takes_heard : (y : ResponderRecord) (a : Apdu) → is_same_txn a.txn y.txn �
     → has_heard (takes y a).1 a.number a.body ≡ true
 takes_heard y a same theirs =
     let transition = not_refused (is_same_txn a.txn y.txn) (is_requesters a.body) y (take_message y a a.body) same theirs in
-    is_heard a.number a.body (takes y a) (subst (Heard a.number a.body) (sym transition) (message_heard y a a.body))
+    is_heard a.number a.body (takes y a) (subst (IsWithoutEffect a.number a.body) (sym transition) (message_heard y a a.body))
 
 -- ---- a later message
 

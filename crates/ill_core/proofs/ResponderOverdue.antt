@@ -18,7 +18,7 @@ use Rattle.ill_core.specs.declared.responder.Deed.{Deed}
 use Rattle.ill_core.specs.State.{is_among}
 use Rattle.ill_core.specs.Dates.{is_same_day, is_before, is_after_due}
 use Rattle.ill_core.specs.Bodies.{grant_in}
-use Rattle.ill_core.specs.Issued.{message, has, last_of, granted_day, next_apdu}
+use Rattle.ill_core.specs.Issued.{message, has_message_with, last_of, granted_day, next_apdu}
 use Rattle.ill_core.specs.Responder.{ResponderRecord, IsResponder, later, due_of}
 use Rattle.ill_core.specs.ResponderRules.{ResponderRules}
 use Rattle.ill_core.specs.ResponderActions.{Transition, no_date, acts, issues_to}
@@ -48,7 +48,7 @@ reminded = Overdue ∷ RenewOverdue ∷ Recall ∷ Returned ∷ CheckedIn ∷ []
 
 -- Returns true if the list has an Overdue for this day.
 abbrev has_overdue : Date → List Apdu → Bool
-has_overdue due apdus = has (is_overdue_of due) apdus
+has_overdue due apdus = has_message_with (is_overdue_of due) apdus
 
 -- The list has a due date, and the day is not after it.
 abbrev IsDated : List Apdu → Date → Type 0

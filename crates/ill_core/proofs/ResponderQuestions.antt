@@ -22,7 +22,7 @@ use Rattle.ill_core.specs.Responder.{ResponderRecord}
 use Rattle.ill_core.specs.ResponderActions.{Transition, acts, issues_to, record_after}
 use Rattle.ill_core.specs.ResponderDeliveries.{takes}
 use Rattle.ill_core.specs.ResponderEvidence.{IssuesUnfilled, Question, MayCancel, MayRenew, asks, answered_number, last_asked}
-use Rattle.ill_core.specs.ResponderEvidence.{waits, answers_to, KeepsLast, TakesNew}
+use Rattle.ill_core.specs.ResponderEvidence.{is_question_open, answers_to, KeepsLast, TakesNew}
 use Rattle.ill_core.specs.ResponderNotices.{WasAsked, HasAnsweredLast, has_answered, unanswered}
 use Rattle.ill_core.proofs.IssuedLemmas.{found_none, found_more}
 use Rattle.ill_core.proofs.ResponderTransitions.{IsTransition, answers, allows_cancel, refuses_cancel, ships, renews}
@@ -69,7 +69,7 @@ none_answered question y body next number none =
 -- If a question is answered after a transition, it was asked before it.
 answered_asked : (question : Question) (y : ResponderRecord) (body : Body) (next : State) (number : ℕ) (o : Option ℕ)
     → answered_number question body ≡ o → Issues y body next
-    → implies (waits question y.state) (is_some (last_asked question y)) ≡ true
+    → implies (is_question_open question y.state) (is_some (last_asked question y)) ≡ true
     → has_answered question (issues_to y body next) number ≡ true → WasAsked question y number
 answered_asked question y body next number None none how there is =
     inr (sym (none_answered question y body next number none) ∙ is)
@@ -77,12 +77,12 @@ answered_asked question y body next number (Some m) some how there is =
     let row = how.replies question m some in
     let more = found_more (λ a. answered_number question a.body) y.issued (next_apdu y.txn y.issued body) m some in
     last_or_before (last_asked question y) m number (has_answered question y number)
-    (known (last_asked question y) m (waits question y.state) there row.0 row.2)
+    (known (last_asked question y) m (is_question_open question y.state) there row.0 row.2)
     (in_more (answers_to question y.issued) m number (sym (ap (is_in number) more) ∙ is))
 
 -- If a question is asked after a transition, it was asked before it.
 issues_asked : (question : Question) (y : ResponderRecord) (body : Body) (next : State) (number : ℕ) → Issues y body next
-    → implies (waits question y.state) (is_some (last_asked question y)) ≡ true
+    → implies (is_question_open question y.state) (is_some (last_asked question y)) ≡ true
     → WasAsked question (issues_to y body next) number → WasAsked question y number
 issues_asked question y body next number how there (inl last) = inl (sym (last_same question y body next) ∙ last)
 issues_asked question y body next number how there (inr is) =
@@ -91,7 +91,7 @@ issues_asked question y body next number how there (inr is) =
 -- A deed adds no question.
 pub acts_asked : (question : Question) (y new : ResponderRecord) (deed : Deed) (today : Date) (number : ℕ)
     → acts y deed today ≡ Ok new
-    → implies (waits question y.state) (is_some (last_asked question y)) ≡ true → WasAsked question new number
+    → implies (is_question_open question y.state) (is_some (last_asked question y)) ≡ true → WasAsked question new number
     → WasAsked question y number
 acts_asked question y new deed today number done there =
     of_acts (λ r. WasAsked question r number → WasAsked question y number) y new deed today
@@ -198,7 +198,7 @@ transition_has_answered question y transition (inr (inr now)) h number last deci
 
 -- A deed preserves `HasAnsweredLast`.
 pub acts_has_answered : (question : Question) (y new : ResponderRecord) (deed : Deed) (today : Date) → acts y deed today ≡ Ok new
-    → implies (waits question y.state) (is_some (last_asked question y)) ≡ true → HasAnsweredLast question y
+    → implies (is_question_open question y.state) (is_some (last_asked question y)) ≡ true → HasAnsweredLast question y
     → HasAnsweredLast question new
 acts_has_answered question y new deed today done there =
     of_acts (λ r. HasAnsweredLast question y → HasAnsweredLast question r) y new deed today

@@ -12,7 +12,7 @@ use Rattle.ill_core.specs.declared.state.State.TheVariants.{NotSupplied, Recall,
 use Rattle.ill_core.specs.declared.responder.Deed.{Deed}
 use Rattle.ill_core.specs.State.{is_among}
 use Rattle.ill_core.specs.Bodies.{is_shipped}
-use Rattle.ill_core.specs.Issued.{message, has, next_apdu}
+use Rattle.ill_core.specs.Issued.{message, has_message_with, next_apdu}
 use Rattle.ill_core.specs.Responder.{ResponderRecord}
 use Rattle.ill_core.specs.ResponderActions.{Transition, acts, issues_to}
 use Rattle.ill_core.specs.ResponderDeliveries.{takes}
@@ -38,7 +38,7 @@ one_type body shipped recall = search rules
 
 -- If no Recall precedes a new Shipped, every Shipped still precedes every Recall after one more APDU.
 ships_before_more : (apdus : List Apdu) (a : Apdu) → ShipsBeforeRecall apdus
-    → (is_shipped a.body ≡ true → has is_recall apdus ≡ false) → ShipsBeforeRecall (apdus ++ a ∷ [])
+    → (is_shipped a.body ≡ true → has_message_with is_recall apdus ≡ false) → ShipsBeforeRecall (apdus ++ a ∷ [])
 ships_before_more apdus a h none m n b c at_m at_n shipped recall =
     go (message_more apdus a b m at_m) (message_more apdus a c n at_n)
   where
@@ -84,16 +84,16 @@ issues_recall : (y : ResponderRecord) (body : Body) (next : State) → FitsRecal
     → ShipsBeforeRecall y.issued → HasRecallPlace (issues_to y body next)
 issues_recall y body next fits h order =
     let a : Apdu = next_apdu y.txn y.issued body in
-    let none : is_shipped body ≡ true → has is_recall y.issued ≡ false = λ is.
+    let none : is_shipped body ≡ true → has_message_with is_recall y.issued ≡ false = λ is.
     false_from_ne_true _ (λ there. not_both _ (fits.ships is) (h.after there)) in (
       record {
-        issued = λ is. has_more is_recall y.issued a ∙ or_right (has is_recall y.issued) _ (fits.leads is);
+        issued = λ is. has_more is_recall y.issued a ∙ or_right (has_message_with is_recall y.issued) _ (fits.leads is);
         after = λ there. either_way (or_cases _ _ (sym (has_more is_recall y.issued a) ∙ there));
       },
       ships_before_more y.issued a order none,
     )
   where
-    either_way : (has is_recall y.issued ≡ true) ⊎ (is_recall body ≡ true) → is_among recalled next ≡ true
+    either_way : (has_message_with is_recall y.issued ≡ true) ⊎ (is_recall body ≡ true) → is_among recalled next ≡ true
     either_way (inl old) = fits.stays (h.after old)
     either_way (inr new) = fits.after new
 
@@ -111,8 +111,8 @@ moves_recall : (y new : ResponderRecord) → new.issued ≡ y.issued
     → ShipsBeforeRecall y.issued → HasRecallPlace new
 moves_recall y new same before after h order = (
   record {
-    issued = λ is. ap (has is_recall) same ∙ h.issued (before is);
-    after = λ there. after (h.after (ap (has is_recall) (sym same) ∙ there));
+    issued = λ is. ap (has_message_with is_recall) same ∙ h.issued (before is);
+    after = λ there. after (h.after (ap (has_message_with is_recall) (sym same) ∙ there));
   },
   subst ShipsBeforeRecall (sym same) order,
 )

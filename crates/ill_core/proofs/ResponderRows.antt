@@ -18,15 +18,15 @@ use Rattle.ill_core.specs.declared.responder.Deed.{Deed}
 use Rattle.ill_core.specs.declared.taking.Taking.{Taking}
 use Rattle.ill_core.specs.declared.taking.Taking.TheVariants.{Taken}
 use Rattle.ill_core.specs.State.{is_among}
-use Rattle.ill_core.specs.Numbers.{is_the, is_at_most}
+use Rattle.ill_core.specs.Numbers.{is_equal_number, is_at_most}
 use Rattle.ill_core.specs.Bodies.{is_requesters, names_conditions, declines, is_shipped}
-use Rattle.ill_core.specs.Issued.{first_refusal, next_number, was}
+use Rattle.ill_core.specs.Issued.{first_refusal, next_number, is_message_with}
 use Rattle.ill_core.specs.Responder.{ResponderRecord, responder_of, later, outstanding_number}
 use Rattle.ill_core.specs.Answers.{unless_refused}
 use Rattle.ill_core.specs.ResponderActions.{Transition, transition_of, acts, acts_by, issues_to, record_after}
 use Rattle.ill_core.specs.ResponderDeliveries.{takes, take_message, answers_no}
 use Rattle.ill_core.specs.ResponderEvidence.{IsEvidence, Requested, Accepted, CancelAsked, Arrived, SentBack, Question}
-use Rattle.ill_core.specs.ResponderEvidence.{KeepsRequest, KeepsLast, TakesNew, answered_number, last_asked, waits, is_unsupplied}
+use Rattle.ill_core.specs.ResponderEvidence.{KeepsRequest, KeepsLast, TakesNew, answered_number, last_asked, is_question_open, is_unsupplied}
 use Rattle.ill_core.specs.ResponderEvidence.{is_cancelled, is_end, ended, ends_in}
 use Rattle.ill_core.proofs.TransitionLemmas.{few_with_next}
 use Rattle.ill_core.proofs.ResponderTransitions.{IsTransition, is_transition, answers, allows_cancel, refuses_cancel, ships}
@@ -47,9 +47,9 @@ pub record Issues (y : ResponderRecord) (body : Body) (state : State) : Type 0 w
   pub enters : is_among ended state ≡ true → (is_among ended y.state ≡ true) ⊎ (ends_in body state ≡ true)
   pub sent_back : is_among (Returned ∷ CheckedIn ∷ []) state ≡ is_among (Returned ∷ CheckedIn ∷ []) y.state
   pub on : is_among (Idle ∷ []) state ≡ false
-  pub asked : (question : Question) → waits question state ≡ true → waits question y.state ≡ true
+  pub asked : (question : Question) → is_question_open question state ≡ true → is_question_open question y.state ≡ true
   pub replies : (question : Question) (n : ℕ) → answered_number question body ≡ Some n
-      → (waits question y.state ≡ true) × (waits question state ≡ false) × (n ≡ unwrap_or (last_asked question y) 0)
+      → (is_question_open question y.state ≡ true) × (is_question_open question state ≡ false) × (n ≡ unwrap_or (last_asked question y) 0)
 
 -- Message `number` with `body` changes `y` to `new`, and issues nothing. The change does not enter or leave a state
 -- after an end, and does not change a request. The message is evidence of each new claim.
@@ -131,7 +131,7 @@ requested txn state accepted last_cancel last_renew received request kept issued
 -- The change by which the outstanding conditions are accepted satisfies `Moves`.
 accepts : (txn : Qualifiers) (state : State) (accepted last_cancel last_renew : Option ℕ) (received : Bool)
     (request : Option Apdu) (issued : List Apdu) (number c : ℕ)
-    → is_the c (outstanding_number (responder_of txn state accepted last_cancel last_renew received request issued)) ≡ true
+    → is_equal_number c (outstanding_number (responder_of txn state accepted last_cancel last_renew received request issued)) ≡ true
     → Moves (responder_of txn state accepted last_cancel last_renew received request issued) number
     (types.ConditionalReply c true) (responder_of txn InProcess (Some c) last_cancel last_renew received request issued)
 accepts txn Conditional accepted last_cancel last_renew received request issued number c there = search rules
@@ -206,11 +206,11 @@ message_row y a (types.IllRequest expiry item) =
     y.issued a.number expiry item idle)) (λ _.
     left_row y _ _ _)
 message_row y a (types.ConditionalReply c true) =
-    transition y _ _ (is_the c (outstanding_number y)) _ _
+    transition y _ _ (is_equal_number c (outstanding_number y)) _ _
     (λ there. moves (inl refl) (accepts y.txn y.state y.accepted y.last_cancel y.last_renew y.received y.request y.issued
     a.number c there)) (λ _.
-    transition y _ _ (is_the c y.accepted) _ _ (λ _. left_row y _ _ _) (λ _.
-    transition y _ _ (was names_conditions y.issued c) _ _ (λ _. left_row y _ _ _) (λ _. left_row y _ _ _)))
+    transition y _ _ (is_equal_number c y.accepted) _ _ (λ _. left_row y _ _ _) (λ _.
+    transition y _ _ (is_message_with names_conditions y.issued c) _ _ (λ _. left_row y _ _ _) (λ _. left_row y _ _ _)))
 message_row y a (types.ConditionalReply c false) =
     transition y _ _ (is_among (InProcess ∷ Conditional ∷ []) y.state) _ _ (answers_row y a.number c (next_number y.issued)) (λ _.
     transition y _ _ (is_among (NotSupplied ∷ []) y.state) _ _ (λ _. left_row y _ _ _) (λ _. left_row y _ _ _))

@@ -31,11 +31,11 @@ use Rattle.ill_core.specs.Rules.{implies}
 use Rattle.ill_core.specs.Answers.{taken, conflict, unless_refused}
 use Rattle.ill_core.specs.Issued.{next_number, is_same_txn, with_next}
 use Rattle.ill_core.specs.Kinds.{requester_kind, number_in}
-use Rattle.ill_core.specs.Tables.{has, has_state, taking_of, next_state}
+use Rattle.ill_core.specs.Tables.{has_common_bit, has_state, taking_of, next_state}
 use Rattle.ill_core.specs.Responder.{ResponderRecord, responder_of, IsResponder, due_of}
 use Rattle.ill_core.specs.Dates.{is_before, is_after_due}
 use Rattle.ill_core.specs.ResponderTables.{deed_row, check, check_date, deed_body, after_deed, number_after, request_after}
-use Rattle.ill_core.specs.ResponderTables.{issued_after, after_delivery, grows, IsRefused, number_refusal, refusal_of}
+use Rattle.ill_core.specs.ResponderTables.{issued_after, after_delivery, is_row_with_memory, IsRefused, number_refusal, refusal_of}
 use Rattle.ill_core.specs.ResponderTables.{delivery_guards, delivery_rows, delivery_row, delivery_row_of}
 use Rattle.ill_core.specs.ResponderDeliveries.{MayWantMemory, answers_no, take_message, takes_memory}
 use Rattle.ill_core.specs.ResponderActions.{Transition, leads_to, issues_to, if_allowed, no_date, expiry_of, transition_of, acts}
@@ -63,10 +63,10 @@ TestsAre body state txn accepted last_cancel last_renew received request issued 
     ≡ take_message (responder_of txn state accepted last_cancel last_renew received request issued) a body
 
 -- The row for a no issues the ILL-Answer with the next number, or is refused, as `answers_no` says.
-answered : (y : ResponderRecord) (next : Result ℕ Refusal)
+answered_no_by_row : (y : ResponderRecord) (next : Result ℕ Refusal)
     → unless_refused (refusal_of next) y (taken (issues_to y (types.IllAnswer Unfilled) NotSupplied)) ≡ answers_no y next
-answered y (Ok number) = refl
-answered y (Err refusal) = refl
+answered_no_by_row y (Ok number) = refl
+answered_no_by_row y (Err refusal) = refl
 
 -- The rows of deliveries agree with `take_message` for each APDU and each state.
 pub tabled : (body : Body) (state : State) (txn : Qualifiers) (accepted last_cancel last_renew : Option ℕ) (received : Bool)
@@ -75,9 +75,9 @@ pub tabled : (body : Body) (state : State) (txn : Qualifiers) (accepted last_can
 tabled (types.ConditionalReply c true) Idle txn accepted last_cancel last_renew received request issued a = refl
 tabled (types.ConditionalReply c true) state txn accepted last_cancel last_renew received request issued a = refl
 tabled (types.ConditionalReply c false) InProcess txn accepted last_cancel last_renew received request issued a =
-    answered (responder_of txn InProcess accepted last_cancel last_renew received request issued) (next_number issued)
+    answered_no_by_row (responder_of txn InProcess accepted last_cancel last_renew received request issued) (next_number issued)
 tabled (types.ConditionalReply c false) Conditional txn accepted last_cancel last_renew received request issued a =
-    answered (responder_of txn Conditional accepted last_cancel last_renew received request issued) (next_number issued)
+    answered_no_by_row (responder_of txn Conditional accepted last_cancel last_renew received request issued) (next_number issued)
 tabled (types.ConditionalReply c false) state txn accepted last_cancel last_renew received request issued a = refl
 tabled types.Received Idle txn accepted last_cancel last_renew true request issued a = refl
 tabled types.Received state txn accepted last_cancel last_renew true request issued a = refl
@@ -130,7 +130,7 @@ pub after_is : (y : ResponderRecord) (a : Apdu) (row : Row RequesterKind) (k : �
     (accepted last_cancel last_renew : Option ℕ) (received : Bool) (request : Option Apdu) (issued : List Apdu)
     → txn ≡ y.txn → state ≡ next_state row.3 y.state → accepted ≡ number_after ACCEPTS row.4 y.accepted k
     → last_cancel ≡ number_after CANCELS row.4 y.last_cancel k
-    → last_renew ≡ number_after RENEWS row.4 y.last_renew k → received ≡ (has row.4 RECEIVES || y.received)
+    → last_renew ≡ number_after RENEWS row.4 y.last_renew k → received ≡ (has_common_bit row.4 RECEIVES || y.received)
     → request ≡ request_after row.4 y.request a → issued ≡ issued_after row.4 y.txn y.issued
     → responder_of txn state accepted last_cancel last_renew received request issued ≡ after_delivery y a row k
 after_is y a row k txn state accepted last_cancel last_renew received request issued t s c n m r q i = cc
@@ -151,7 +151,7 @@ new_taken other state is = search rules
 
 -- Returns true if the row takes no memory, or the message takes memory and the row answers `Taken`.
 abbrev grows_new : ResponderRecord → Body → Row RequesterKind → Bool
-grows_new y body row = implies (grows row.4) (takes_memory y body && is_new row.3)
+grows_new y body row = implies (is_row_with_memory row.4) (takes_memory y body && is_new row.3)
 
 -- Returns true if `grows_new` is true of each row of the kind that contains the state.
 abbrev kind_grows_new : ResponderRecord → Body → Option RequesterKind → Bool
@@ -384,7 +384,7 @@ pub deed_is : (y : ResponderRecord) (row : Row ResponderKind) (k : ℕ) (body : 
     (accepted last_cancel last_renew : Option ℕ) (received : Bool) (issued : List Apdu)
     → txn ≡ y.txn → state ≡ next_state row.3 y.state → accepted ≡ number_after ACCEPTS row.4 y.accepted k
     → last_cancel ≡ number_after CANCELS row.4 y.last_cancel k
-    → last_renew ≡ number_after RENEWS row.4 y.last_renew k → received ≡ (has row.4 RECEIVES || y.received)
+    → last_renew ≡ number_after RENEWS row.4 y.last_renew k → received ≡ (has_common_bit row.4 RECEIVES || y.received)
     → issued ≡ with_next y.txn y.issued body
     → responder_of txn state accepted last_cancel last_renew received y.request issued ≡ after_deed y row k body
 deed_is y row k body txn state accepted last_cancel last_renew received issued t s c n m r i = cc

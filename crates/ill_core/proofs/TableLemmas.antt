@@ -16,18 +16,18 @@ answer_of hit miss None = miss
 answer_of hit miss (Some row) = hit row
 
 -- Returns `hit` if each guard whose bit is set in `asked` holds, and else `miss`. Each guard is a separate test.
-abbrev pub where_asked : {A : Type 0} → ℕ → List Guard → A → A → A
-where_asked asked [] hit miss = hit
-where_asked asked (f ∷ guards) hit miss =
-    if bit_and asked f.bit == 0 then where_asked asked guards hit miss
-    else (if f.holds then where_asked asked guards hit miss else miss)
+abbrev pub if_guards_hold : {A : Type 0} → ℕ → List Guard → A → A → A
+if_guards_hold asked [] hit miss = hit
+if_guards_hold asked (f ∷ guards) hit miss =
+    if bit_and asked f.bit == 0 then if_guards_hold asked guards hit miss
+    else (if f.holds then if_guards_hold asked guards hit miss else miss)
 
 -- Returns `hit` of the first row that contains `state` and whose guards hold, or `miss`. Each state and each guard is a
 -- separate test.
 abbrev pub by_tests : {K A : Type 0} → State → List Guard → (Row K → A) → A → List (Row K) → A
 by_tests state guards hit miss [] = miss
 by_tests state guards hit miss (row ∷ rows) =
-    if has_state row.1 state then where_asked row.2 guards (hit row) (by_tests state guards hit miss rows)
+    if has_state row.1 state then if_guards_hold row.2 guards (hit row) (by_tests state guards hit miss rows)
     else by_tests state guards hit miss rows
 
 -- The test of a guard and of the others at once equals the test of each after the other.
@@ -40,7 +40,7 @@ guard_met false false others hit miss = refl
 
 -- The test of all guards at once equals the separate tests of each guard.
 met_asked : {A : Type 0} (asked : ℕ) (guards : List Guard) (hit miss : A)
-    → (if are_met asked guards then hit else miss) ≡ where_asked asked guards hit miss
+    → (if are_met asked guards then hit else miss) ≡ if_guards_hold asked guards hit miss
 met_asked asked [] hit miss = refl
 met_asked asked (f ∷ guards) hit miss =
     guard_met (bit_and asked f.bit == 0) f.holds (are_met asked guards) hit miss
@@ -63,7 +63,7 @@ found_by_tests state guards hit miss (row ∷ rows) =
     row_fits (has_state row.1 state) (are_met row.2 guards) hit miss row (find (fits state guards) rows)
     ∙ (ap (λ others. if has_state row.1 state then others else answer_of hit miss (find (fits state guards) rows))
     (met_asked row.2 guards (hit row) (answer_of hit miss (find (fits state guards) rows)))
-    ∙ ap (λ others. if has_state row.1 state then where_asked row.2 guards (hit row) others else others)
+    ∙ ap (λ others. if has_state row.1 state then if_guards_hold row.2 guards (hit row) others else others)
     (found_by_tests state guards hit miss rows))
 
 -- If `asked` is 0, all guards with a bit in `asked` hold.
@@ -83,18 +83,18 @@ either : (b here others : Bool) → here ≡ true → others ≡ true → (if b 
 either true here others h o = h
 either false here others h o = o
 
--- If `here` and `others` are true, `where_asked` returns true.
+-- If `here` and `others` are true, `if_guards_hold` returns true.
 asked_true : (asked : ℕ) (guards : List Guard) (here others : Bool) → here ≡ true → others ≡ true
-    → where_asked asked guards here others ≡ true
+    → if_guards_hold asked guards here others ≡ true
 asked_true asked [] here others h o = h
 asked_true asked (f ∷ guards) here others h o =
-    either (bit_and asked f.bit == 0) (where_asked asked guards here others)
-    (if f.holds then where_asked asked guards here others else others) (asked_true asked guards here others h o)
-    (either f.holds (where_asked asked guards here others) others (asked_true asked guards here others h o) o)
+    either (bit_and asked f.bit == 0) (if_guards_hold asked guards here others)
+    (if f.holds then if_guards_hold asked guards here others else others) (asked_true asked guards here others h o)
+    (either f.holds (if_guards_hold asked guards here others) others (asked_true asked guards here others h o) o)
 
 -- If a row that contains the state gives true, and the others give true, the tests of all give true.
 row_true : (is_in : Bool) (asked : ℕ) (guards : List Guard) (here others : Bool) → implies is_in here ≡ true → others ≡ true
-    → (if is_in then where_asked asked guards here others else others) ≡ true
+    → (if is_in then if_guards_hold asked guards here others else others) ≡ true
 row_true true asked guards here others h o = asked_true asked guards here others h o
 row_true false asked guards here others h o = o
 

@@ -20,25 +20,25 @@ is_marked : (x : RequesterRecord) → is_among (Returned ∷ []) x.state ≡ tru
 is_marked x back over = search rules
 
 -- If the turn of requester `x` is `Over`, no message changes its record.
-led_nowhere : (x new : RequesterRecord) (number : ℕ) (body : Body) → Leads x number body new → requester_turn x ≡ Over → new ≡ x
-led_nowhere x new number body (moves.nowhere _) over = refl
-led_nowhere x new number body (moves.holds_conditions at) over = search rules
-led_nowhere x new number body (moves.ends _ is at) over = search rules
-led_nowhere x new number body (moves.cancels cancel at) over = search rules
-led_nowhere x new number body (moves.keeps_request cancel at) over = search rules
-led_nowhere x new number body (moves.ships due at) over = search rules
-led_nowhere x new number body (moves.misses due at is) over = search rules
-led_nowhere x new number body (moves.reminds due at is) over = search rules
-led_nowhere x new number body (moves.reminds_renewing due at is) over = search rules
-led_nowhere x new number body (moves.renews renew due at is) over = search rules
-led_nowhere x new number body (moves.refuses_renewal renew at) over = search rules
-led_nowhere x new number body (moves.recalls at) over = search rules
-led_nowhere x new number body (moves.checks_in at) over =
+over_changes_nothing : (x new : RequesterRecord) (number : ℕ) (body : Body) → Leads x number body new → requester_turn x ≡ Over → new ≡ x
+over_changes_nothing x new number body (moves.nowhere _) over = refl
+over_changes_nothing x new number body (moves.holds_conditions at) over = search rules
+over_changes_nothing x new number body (moves.ends _ is at) over = search rules
+over_changes_nothing x new number body (moves.cancels cancel at) over = search rules
+over_changes_nothing x new number body (moves.keeps_request cancel at) over = search rules
+over_changes_nothing x new number body (moves.ships due at) over = search rules
+over_changes_nothing x new number body (moves.misses due at is) over = search rules
+over_changes_nothing x new number body (moves.reminds due at is) over = search rules
+over_changes_nothing x new number body (moves.reminds_renewing due at is) over = search rules
+over_changes_nothing x new number body (moves.renews renew due at is) over = search rules
+over_changes_nothing x new number body (moves.refuses_renewal renew at) over = search rules
+over_changes_nothing x new number body (moves.recalls at) over = search rules
+over_changes_nothing x new number body (moves.checks_in at) over =
     ap (λ marked. record x { checked_in = marked }) (sym (is_marked x at over))
 
 -- If the turn of requester `x` is `Over`, APDU `a` does not change its record.
 pub requester_stays : (x : RequesterRecord) (a : Apdu) → requester_turn x ≡ Over → (requester.takes x a).1 ≡ x
-requester_stays x a = led_nowhere x _ a.number a.body (delivery_leads x a)
+requester_stays x a = over_changes_nothing x _ a.number a.body (delivery_leads x a)
 
 -- If the turn of responder `y` is `Over`, a change does not change its state.
 keeps_state : (y new : ResponderRecord) (number : ℕ) (body : Body) → Change y number body new

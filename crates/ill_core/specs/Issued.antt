@@ -39,8 +39,8 @@ is_none [] = true
 is_none (a ∷ apdus) = false
 
 -- Returns true if `says` holds of the body of at least one APDU.
-abbrev pub has : (Body → Bool) → List Apdu → Bool
-has says apdus = list_any (λ a. says a.body) apdus
+abbrev pub has_message_with : (Body → Bool) → List Apdu → Bool
+has_message_with says apdus = list_any (λ a. says a.body) apdus
 
 -- Returns true if there is an APDU, and `says` holds of its body.
 abbrev pub is_there : (Body → Bool) → Option Apdu → Bool
@@ -48,8 +48,8 @@ is_there says None = false
 is_there says (Some a) = says a.body
 
 -- Returns true if there is a message `n`, and `says` holds of its body.
-abbrev pub was : (Body → Bool) → List Apdu → ℕ → Bool
-was says apdus n = is_there says (message apdus n)
+abbrev pub is_message_with : (Body → Bool) → List Apdu → ℕ → Bool
+is_message_with says apdus n = is_there says (message apdus n)
 
 -- Returns the last value that `f` gives for the APDUs, or `None` if it gives none.
 abbrev pub last_of : {X : Type 0} → (Apdu → Option X) → List Apdu → Option X

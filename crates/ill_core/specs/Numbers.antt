@@ -4,9 +4,9 @@ use Rattle.std.specs.Prelude.{ℕ, Bool, true, false, not, ◌&&◌, ◌==◌, n
 use Rattle.std.specs.List.{list_any}
 
 -- Returns true if the second argument is a number, and `n` equals it.
-abbrev pub is_the : ℕ → Option ℕ → Bool
-is_the n None = false
-is_the n (Some m) = n == m
+abbrev pub is_equal_number : ℕ → Option ℕ → Bool
+is_equal_number n None = false
+is_equal_number n (Some m) = n == m
 
 -- Returns true if the second argument is a number, and `n` is at most it.
 abbrev pub is_at_most : ℕ → Option ℕ → Bool

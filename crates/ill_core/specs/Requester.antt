@@ -12,7 +12,7 @@ use Rattle.ill_core.specs.declared.requester.standing.Standing.{Standing}
 use Rattle.ill_core.specs.State.{is_among}
 use Rattle.ill_core.specs.Rules.{implies, are_alike}
 use Rattle.ill_core.specs.Bodies.{declines, is_requesters, is_ill_request, is_cancel, is_received, is_renew, is_returned}
-use Rattle.ill_core.specs.Issued.{is_none, are_numbered, has, last_of, number_of_cancel, number_of_renew, accepted_in}
+use Rattle.ill_core.specs.Issued.{is_none, are_numbered, has_message_with, last_of, number_of_cancel, number_of_renew, accepted_in}
 
 -- The record of a requester in a transaction, with all APDUs that it has issued.
 pub record RequesterRecord : Type 0 where
@@ -50,11 +50,11 @@ accepted_number x = last_of accepted_in x.issued
 
 -- Returns true if the requester is in CONDITIONAL and has issued a Conditional-Reply no.
 abbrev pub is_declined : RequesterRecord → Bool
-is_declined x = is_among (Conditional ∷ []) x.state && has declines x.issued
+is_declined x = is_among (Conditional ∷ []) x.state && has_message_with declines x.issued
 
 -- Returns true if the requester has issued a Received.
 abbrev pub is_received_by : RequesterRecord → Bool
-is_received_by x = has is_received x.issued
+is_received_by x = has_message_with is_received x.issued
 
 -- Returns the number of the last Cancel in the list, or `None`.
 abbrev pub last_cancel : RequesterRecord → Option ℕ
@@ -73,7 +73,7 @@ later =
 -- Returns true if the list is empty, or its first APDU and no other is an ILL-Request.
 abbrev pub begins_with_request : List Apdu → Bool
 begins_with_request [] = true
-begins_with_request (a ∷ apdus) = is_ill_request a.body && not (has is_ill_request apdus)
+begins_with_request (a ∷ apdus) = is_ill_request a.body && not (has_message_with is_ill_request apdus)
 
 -- Returns true if `state` is a requester's, and the parts fit it. Conditions are held exactly in CONDITIONAL. A due
 -- date is there exactly in SHIPPED or later. The checked-in mark is set only in RETURNED.
@@ -111,11 +111,11 @@ declined_fits state has_no =
 abbrev pub issued_fits : State → List Apdu → Bool
 issued_fits state issued =
     are_alike (is_none issued) (is_among (Idle ∷ []) state)
-    && (received_fits state (has is_received issued)
-    && (cancel_fits state (has is_cancel issued)
-    && (renew_fits state (has is_renew issued)
-    && (are_alike (has is_returned issued) (is_among (Returned ∷ []) state)
-    && declined_fits state (has declines issued)))))
+    && (received_fits state (has_message_with is_received issued)
+    && (cancel_fits state (has_message_with is_cancel issued)
+    && (renew_fits state (has_message_with is_renew issued)
+    && (are_alike (has_message_with is_returned issued) (is_among (Returned ∷ []) state)
+    && declined_fits state (has_message_with declines issued)))))
 
 -- Returns true if the list satisfies the rules of a requester. A requester issues each of its types, the first APDU
 -- alone is an ILL-Request, and the list fits `state`.

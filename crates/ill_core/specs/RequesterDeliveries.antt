@@ -15,9 +15,9 @@ use Rattle.ill_core.specs.declared.taking.Taking.{Taking}
 use Rattle.ill_core.specs.State.{is_among}
 use Rattle.ill_core.specs.Answers.{taken, repeat, stale, conflict, unless_refused}
 use Rattle.ill_core.specs.Dates.{is_due_on, is_after_due}
-use Rattle.ill_core.specs.Numbers.{is_the, is_at_most}
+use Rattle.ill_core.specs.Numbers.{is_equal_number, is_at_most}
 use Rattle.ill_core.specs.Bodies.{is_cancel, is_renew, is_requesters}
-use Rattle.ill_core.specs.Issued.{was, first_refusal}
+use Rattle.ill_core.specs.Issued.{is_message_with, first_refusal}
 use Rattle.ill_core.specs.Requester.{RequesterRecord, accepted_number, last_cancel, last_renew, later}
 
 -- Returns the answer to conditions with number `k`. They are a repeat if `k` is at most the accepted number, or is held
@@ -25,7 +25,7 @@ use Rattle.ill_core.specs.Requester.{RequesterRecord, accepted_number, last_canc
 abbrev pub take_conditions : RequesterRecord → ℕ → Result Taking Refusal × RequesterRecord
 take_conditions x k =
     if is_at_most k (accepted_number x) then repeat x
-    else if is_among (Conditional ∷ []) x.state && is_the k x.held then repeat x
+    else if is_among (Conditional ∷ []) x.state && is_equal_number k x.held then repeat x
     else if is_among (Pending ∷ []) x.state
     then taken (record x { state = Conditional; held = Some k })
     else conflict x.state x
@@ -47,11 +47,11 @@ take_end x =
 -- on yes, and to PENDING on no. In CANCELLED that yes is a repeat. Any other reply to a Cancel is stale.
 abbrev pub take_cancel_reply : RequesterRecord → ℕ → Bool → Result Taking Refusal × RequesterRecord
 take_cancel_reply x c is_yes =
-    if is_among (CancelPending ∷ []) x.state && is_the c (last_cancel x)
+    if is_among (CancelPending ∷ []) x.state && is_equal_number c (last_cancel x)
     then taken (record x { state = (if is_yes then Cancelled else Pending) })
-    else if is_among (Cancelled ∷ []) x.state && (is_yes && is_the c (last_cancel x))
+    else if is_among (Cancelled ∷ []) x.state && (is_yes && is_equal_number c (last_cancel x))
     then repeat x
-    else if was is_cancel x.issued c then stale x
+    else if is_message_with is_cancel x.issued c then stale x
     else conflict x.state x
 
 -- Returns the answer to a Shipped with due date `d`. PENDING, CONDITIONAL and CANCEL-PENDING take it, and lead to
@@ -88,9 +88,9 @@ take_renewal x None =
 abbrev pub take_renew_answer : RequesterRecord → ℕ → Option Date →
     Result Taking Refusal × RequesterRecord
 take_renew_answer x c granted =
-    if is_among (RenewPending ∷ RenewOverdue ∷ []) x.state && is_the c (last_renew x)
+    if is_among (RenewPending ∷ RenewOverdue ∷ []) x.state && is_equal_number c (last_renew x)
     then take_renewal x granted
-    else if was is_renew x.issued c then stale x
+    else if is_message_with is_renew x.issued c then stale x
     else conflict x.state x
 
 -- Returns the answer to a Recall. Each state from SHIPPED on but RECALL and RETURNED takes it, and leads to RECALL. In

@@ -7,9 +7,9 @@ use Rattle.ill_values.specs.declared.apdu.Body.{Body}
 use Rattle.ill_values.specs.declared.apdu.Body.TheVariants as types
 use Rattle.ill_core.specs.declared.state.State.TheVariants as states
 use Rattle.ill_core.specs.State.{is_among}
-use Rattle.ill_core.specs.Numbers.{is_the, is_at_most, is_below, are_distinct}
+use Rattle.ill_core.specs.Numbers.{is_equal_number, is_at_most, is_below, are_distinct}
 use Rattle.ill_core.specs.Bodies.{is_cancel, declines, is_final}
-use Rattle.ill_core.specs.Issued.{was, has}
+use Rattle.ill_core.specs.Issued.{is_message_with, has_message_with}
 use Rattle.ill_core.specs.Requester.{RequesterRecord, accepted_number, last_cancel, later}
 use Rattle.ill_core.specs.Dates.{is_after_due}
 use Rattle.ill_core.specs.declared.state.State.{State}
@@ -30,13 +30,13 @@ pub data Fact : Type 0 where
 -- Returns true if `c` is the last Cancel, and the state is CANCEL-PENDING or CANCELLED.
 abbrev pub is_open : RequesterRecord → ℕ → Bool
 is_open x c =
-    is_among (states.CancelPending ∷ states.Cancelled ∷ []) x.state && is_the c (last_cancel x)
+    is_among (states.CancelPending ∷ states.Cancelled ∷ []) x.state && is_equal_number c (last_cancel x)
 
 -- The record `x` claims that the responder refused Cancel `c`. The requester issued `c`, `c` is not open, and the state
 -- is neither NOT-SUPPLIED nor SHIPPED or later.
 abbrev pub ClaimsRefusal : RequesterRecord → ℕ → Type 0
 ClaimsRefusal x c =
-    (was is_cancel x.issued c ≡ true) × (is_among (states.NotSupplied ∷ later) x.state ≡ false)
+    (is_message_with is_cancel x.issued c ≡ true) × (is_among (states.NotSupplied ∷ later) x.state ≡ false)
     × (is_open x c ≡ false)
 
 -- The record `x` claims the fact.
@@ -89,7 +89,7 @@ abbrev pub Replies : RequesterRecord → RequesterRecord → Type 0
 Replies x new =
     (a : Apdu) (n : ℕ) (is_yes : Bool) → new.issued ≡ x.issued ++ a ∷ [] →
     a.body ≡ types.ConditionalReply n is_yes
-    → (is_among (states.Conditional ∷ []) x.state ≡ true) × (has declines x.issued ≡ false)
+    → (is_among (states.Conditional ∷ []) x.state ≡ true) × (has_message_with declines x.issued ≡ false)
     × (n ≡ unwrap_or x.held 0)
 
 -- The answer is `Taken` or `Repeat`, and the record after it is in one of `states`.
@@ -110,7 +110,7 @@ replies apdus = filter_map (λ a. replied_number a.body) apdus
 -- number. In CONDITIONAL they are then also below the held number.
 pub record AnswersOnce (x : RequesterRecord) : Type 0 where
   pub distinct : are_distinct (replies x.issued) ≡ true
-  pub above : has declines x.issued ≡ false →
+  pub above : has_message_with declines x.issued ≡ false →
       list_all (λ n. is_at_most n (accepted_number x)) (replies x.issued) ≡ true
-  pub held : is_among (states.Conditional ∷ []) x.state ≡ true → has declines x.issued ≡ false →
+  pub held : is_among (states.Conditional ∷ []) x.state ≡ true → has_message_with declines x.issued ≡ false →
       list_all (λ n. is_below n x.held) (replies x.issued) ≡ true

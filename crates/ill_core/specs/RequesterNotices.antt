@@ -10,9 +10,9 @@ use Rattle.ill_core.specs.declared.state.State.TheVariants as states
 use Rattle.ill_core.specs.State.{is_among}
 use Rattle.ill_core.specs.Rules.{implies}
 use Rattle.ill_core.specs.Dates.{is_same_day, is_due_on, is_before, is_after_due}
-use Rattle.ill_core.specs.Numbers.{is_the, is_at_most}
+use Rattle.ill_core.specs.Numbers.{is_equal_number, is_at_most}
 use Rattle.ill_core.specs.Bodies.{is_renew}
-use Rattle.ill_core.specs.Issued.{was}
+use Rattle.ill_core.specs.Issued.{is_message_with}
 use Rattle.ill_core.specs.Requester.{RequesterRecord, accepted_number, last_cancel, last_renew}
 
 -- ---- notices
@@ -28,13 +28,13 @@ pub data Notice : Type 0 where
   PastDue : (due : Date) → Notice  -- The item was not back after its due date `due`.
 
 -- Returns true if `renew` is the last Renew, and waits for its answer.
-abbrev pub awaits : RequesterRecord → ℕ → Bool
-awaits x renew =
-    is_among (states.RenewPending ∷ states.RenewOverdue ∷ []) x.state && is_the renew (last_renew x)
+abbrev pub is_awaiting_answer : RequesterRecord → ℕ → Bool
+is_awaiting_answer x renew =
+    is_among (states.RenewPending ∷ states.RenewOverdue ∷ []) x.state && is_equal_number renew (last_renew x)
 
 -- Returns true if `cancel` is the last Cancel, and waits for its answer.
-abbrev pub awaits_cancel : RequesterRecord → ℕ → Bool
-awaits_cancel x cancel = is_among (states.CancelPending ∷ []) x.state && is_the cancel (last_cancel x)
+abbrev pub is_awaiting_cancel_reply : RequesterRecord → ℕ → Bool
+is_awaiting_cancel_reply x cancel = is_among (states.CancelPending ∷ []) x.state && is_equal_number cancel (last_cancel x)
 
 -- Returns true if there is a due date, and it is after `day`.
 abbrev pub is_due_after : Date → Option Date → Bool
@@ -46,11 +46,11 @@ abbrev pub Reflects : RequesterRecord → Notice → Type 0
 Reflects x Recalled = x.state ≡ states.Recall
 Reflects x (Named conditions) = (x.held ≡ Some conditions) ⊎ (accepted_number x ≡ Some conditions)
 Reflects x (Answered renew day) =
-    (was is_renew x.issued renew ≡ true)
+    (is_message_with is_renew x.issued renew ≡ true)
     × (is_among (states.Recall ∷ states.Returned ∷ []) x.state ≡ false)
-    × (awaits x renew ≡ false) × (is_due_after day x.due ≡ false)
+    × (is_awaiting_answer x renew ≡ false) × (is_due_after day x.due ≡ false)
 Reflects x (GrantedBefore renew due) =
-    (x.due ≡ Some due) × ((awaits x renew ≡ true) ⊎ (length x.issued < renew))
+    (x.due ≡ Some due) × ((is_awaiting_answer x renew ≡ true) ⊎ (length x.issued < renew))
 Reflects x (PastDue due) =
     (x.due ≡ Some due)
     × (is_among (states.NotReceivedOverdue ∷ states.Overdue ∷ states.RenewOverdue ∷ []) x.state ≡ true)
@@ -80,8 +80,8 @@ lent =
     ∷ states.RenewOverdue ∷ []
 
 -- Lists the states that an Overdue for the due date changes.
-abbrev pub in_time : List State
-in_time = states.Shipped ∷ states.Received ∷ states.RenewPending ∷ []
+abbrev pub states_before_overdue : List State
+states_before_overdue = states.Shipped ∷ states.Received ∷ states.RenewPending ∷ []
 
 -- Returns true if an APDU with `number` and this body would not change record `x` now.
 abbrev pub has_heard : RequesterRecord → ℕ → Body → Bool
@@ -91,11 +91,11 @@ has_heard x number (types.IllAnswer results.WillSupply) = true
 has_heard x number (types.IllAnswer results.HoldPlaced) = true
 has_heard x number (types.IllAnswer other) = not (is_among undecided x.state)
 has_heard x number types.Expired = not (is_among undecided x.state)
-has_heard x number (types.CancelReply answers is_yes) = not (awaits_cancel x answers)
+has_heard x number (types.CancelReply answers is_yes) = not (is_awaiting_cancel_reply x answers)
 has_heard x number (types.Shipped due) = not (is_among undecided x.state)
-has_heard x number (types.RenewAnswer answers None) = not (awaits x answers)
-has_heard x number (types.RenewAnswer answers (Some due)) = not (awaits x answers && is_after_due due x.due)
-has_heard x number (types.Overdue day) = not (is_among in_time x.state && is_due_on day x.due)
+has_heard x number (types.RenewAnswer answers None) = not (is_awaiting_answer x answers)
+has_heard x number (types.RenewAnswer answers (Some due)) = not (is_awaiting_answer x answers && is_after_due due x.due)
+has_heard x number (types.Overdue day) = not (is_among states_before_overdue x.state && is_due_on day x.due)
 has_heard x number types.Recall = not (is_among lent x.state)
 has_heard x number types.CheckedIn = implies (is_among (states.Returned ∷ []) x.state) x.checked_in
 has_heard x number other = true

@@ -9,7 +9,7 @@ use Rattle.ill_core.specs.declared.state.State.TheVariants.{CheckedIn}
 use Rattle.ill_core.specs.State.{is_among}
 use Rattle.ill_core.specs.Rules.{implies}
 use Rattle.ill_core.specs.Bodies.{declines, is_requesters, is_cancel, is_received, is_renew, is_returned}
-use Rattle.ill_core.specs.Issued.{is_none, are_numbered, has}
+use Rattle.ill_core.specs.Issued.{is_none, are_numbered, has_message_with}
 use Rattle.ill_core.specs.Requester.{RequesterRecord, later, begins_with_request}
 
 -- The state is a requester's, and the parts of the record fit it. `is_held` says that conditions are held, and `is_due`
@@ -40,8 +40,8 @@ pub record IssuedFit (state : State) (none has_received has_cancel has_renew has
 -- The list `issued` fits `state`.
 abbrev pub IssuedFits : State → List Apdu → Type 0
 IssuedFits state issued =
-    IssuedFit state (is_none issued) (has is_received issued) (has is_cancel issued)
-    (has is_renew issued) (has is_returned issued) (has declines issued)
+    IssuedFit state (is_none issued) (has_message_with is_received issued) (has_message_with is_cancel issued)
+    (has_message_with is_renew issued) (has_message_with is_returned issued) (has_message_with declines issued)
 
 -- The record `x` satisfies all rules of a requester.
 pub record RequesterRules (x : RequesterRecord) : Type 0 where

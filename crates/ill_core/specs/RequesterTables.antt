@@ -16,19 +16,19 @@ use Rattle.ill_core.specs.declared.requester.Wish.{Wish}
 use Rattle.ill_core.specs.declared.requester.Wish.TheVariants as wishes
 use Rattle.ill_core.specs.Bodies.{is_cancel, is_renew}
 use Rattle.ill_core.specs.Dates.{is_due_on, is_after_due}
-use Rattle.ill_core.specs.Numbers.{is_the, is_at_most}
-use Rattle.ill_core.specs.Issued.{was}
+use Rattle.ill_core.specs.Numbers.{is_equal_number, is_at_most}
+use Rattle.ill_core.specs.Issued.{is_message_with}
 use Rattle.ill_core.specs.Kinds.{responder_kind, responder_place, requester_place, wish_kind, number_in, date_in}
-use Rattle.ill_core.specs.Tables.{Guard, has, next_state, fits}
+use Rattle.ill_core.specs.Tables.{Guard, has_common_bit, next_state, fits}
 use Rattle.ill_core.specs.Requester.{RequesterRecord, accepted_number, is_declined, is_received_by, last_cancel, last_renew}
 
 -- Returns the held conditions after a row with `changes` is followed for message `k`: `k`, none, or those held before.
 abbrev pub held_after : ℕ → Option ℕ → ℕ → Option ℕ
-held_after changes held k = if has changes HOLDS then Some k else (if has changes FREES then None else held)
+held_after changes held k = if has_common_bit changes HOLDS then Some k else (if has_common_bit changes FREES then None else held)
 
 -- Returns the due date after a row with `changes` is followed for `date`.
 abbrev pub due_after : ℕ → Option Date → Option Date → Option Date
-due_after changes due date = if has changes DUE then date else due
+due_after changes due date = if has_common_bit changes DUE then date else due
 
 -- Returns the record after a row is followed for message `k` with `date`.
 abbrev pub after : {K : Type 0} → RequesterRecord → Row K → ℕ → Option Date → RequesterRecord
@@ -36,7 +36,7 @@ after x row k date =
     record x {
       state = next_state row.3 x.state;
       held = held_after row.4 x.held k;
-      checked_in = has row.4 MARK || x.checked_in;
+      checked_in = has_common_bit row.4 MARK || x.checked_in;
       due = due_after row.4 x.due date;
     }
 
@@ -49,19 +49,19 @@ is_dated f (Some d) = f d
 abbrev pub number_guards : RequesterRecord → ℕ → List Guard
 number_guards x k =
     record { bit = delivery.PASSED; holds = is_at_most k (accepted_number x) }
-    ∷ record { bit = delivery.HELD; holds = is_the k x.held } ∷ []
+    ∷ record { bit = delivery.HELD; holds = is_equal_number k x.held } ∷ []
 
 -- Returns the guards on an answer to message `c`: `c` is the last Cancel, or `c` is any Cancel.
 abbrev pub cancel_guards : RequesterRecord → ℕ → List Guard
 cancel_guards x c =
-    record { bit = delivery.LAST_CANCEL; holds = is_the c (last_cancel x) }
-    ∷ record { bit = delivery.WAS_CANCEL; holds = was is_cancel x.issued c } ∷ []
+    record { bit = delivery.LAST_CANCEL; holds = is_equal_number c (last_cancel x) }
+    ∷ record { bit = delivery.WAS_CANCEL; holds = is_message_with is_cancel x.issued c } ∷ []
 
 -- Returns the guards on an answer to message `c`: `c` is the last Renew, or `c` is any Renew.
 abbrev pub renew_guards : RequesterRecord → ℕ → List Guard
 renew_guards x c =
-    record { bit = delivery.LAST_RENEW; holds = is_the c (last_renew x) }
-    ∷ record { bit = delivery.WAS_RENEW; holds = was is_renew x.issued c } ∷ []
+    record { bit = delivery.LAST_RENEW; holds = is_equal_number c (last_renew x) }
+    ∷ record { bit = delivery.WAS_RENEW; holds = is_message_with is_renew x.issued c } ∷ []
 
 -- Returns the guards on `date`: it is not the due date, or it is later. The last guard is that the checked-in mark is
 -- not set.

@@ -14,7 +14,7 @@ use Rattle.ill_core.specs.State.{is_among}
 use Rattle.ill_core.specs.Dates.{is_after_due}
 use Rattle.ill_core.specs.Rules.{implies, are_alike}
 use Rattle.ill_core.specs.Bodies.{is_requesters, is_ill_request, is_shipped, is_checked_in, names_conditions, is_renewal}
-use Rattle.ill_core.specs.Issued.{are_numbered, is_same_txn, has, was, last_of, is_none, granted_day, number_of_end}
+use Rattle.ill_core.specs.Issued.{are_numbered, is_same_txn, has_message_with, is_message_with, last_of, is_none, granted_day, number_of_end}
 
 -- The record of a responder in a transaction, with the request and all APDUs that it has issued.
 pub record ResponderRecord : Type 0 where
@@ -84,14 +84,14 @@ abbrev pub later : List State
 later = Shipped ∷ RenewPending ∷ Overdue ∷ RenewOverdue ∷ Recall ∷ Returned ∷ CheckedIn ∷ []
 
 -- Returns true if the new date is absent, or `last` is absent, or the new date is after `last`.
-abbrev pub rises : Option Date → Option Date → Bool
-rises last None = true
-rises last (Some d) = not (is_some last) || is_after_due d last
+abbrev pub is_after_last : Option Date → Option Date → Bool
+is_after_last last None = true
+is_after_last last (Some d) = not (is_some last) || is_after_due d last
 
 -- Returns true if each date is after the one before it, and the first date is after `last`.
 unfoldable pub rise_from : Option Date → List Date → Bool
 rise_from last [] = true
-rise_from last (d ∷ dates) = rises last (Some d) && rise_from (Some d) dates
+rise_from last (d ∷ dates) = is_after_last last (Some d) && rise_from (Some d) dates
 
 -- Returns true if each date is after the one before it.
 abbrev pub are_rising : List Date → Bool
@@ -104,12 +104,12 @@ ships_first (a ∷ apdus) = is_shipped a.body || (not (is_renewal a.body) && shi
 
 -- Returns true if the last APDU is an ILL-Answer conditional.
 abbrev pub ends_with_conditions : List Apdu → Bool
-ends_with_conditions apdus = was names_conditions apdus (length apdus)
+ends_with_conditions apdus = is_message_with names_conditions apdus (length apdus)
 
 -- Returns true if there is no number, or the message with this number is an ILL-Answer conditional.
 abbrev pub is_named : Option ℕ → List Apdu → Bool
 is_named None apdus = true
-is_named (Some c) apdus = was names_conditions apdus c
+is_named (Some c) apdus = is_message_with names_conditions apdus c
 
 -- Returns true if there is no request, or it is an ILL-Request of `txn`.
 abbrev pub is_request_of : Qualifiers → Option Apdu → Bool
@@ -139,7 +139,7 @@ parts_fit state has_request has_accepted has_cancel has_renew is_marked none =
 abbrev pub issued_fits : State → List Apdu → Bool
 issued_fits state apdus =
     (count_by (λ a. is_shipped a.body) apdus == (if is_among later state then 1 else 0))
-    && (are_alike (has is_checked_in apdus) (is_among (CheckedIn ∷ []) state)
+    && (are_alike (has_message_with is_checked_in apdus) (is_among (CheckedIn ∷ []) state)
     && implies (is_among (Conditional ∷ []) state) (ends_with_conditions apdus))
 
 -- Returns true if the list satisfies the rules of a responder. A responder issues each of its types, and the list fits

@@ -13,9 +13,9 @@ use Rattle.ill_core.specs.declared.taking.Taking.{Taking}
 use Rattle.ill_core.specs.declared.taking.Taking.TheVariants.{Taken}
 use Rattle.ill_core.specs.State.{is_among}
 use Rattle.ill_core.specs.Answers.{taken, repeat, stale, conflict, unless_refused}
-use Rattle.ill_core.specs.Numbers.{is_the, is_at_most}
+use Rattle.ill_core.specs.Numbers.{is_equal_number, is_at_most}
 use Rattle.ill_core.specs.Bodies.{names_conditions, is_requesters}
-use Rattle.ill_core.specs.Issued.{was, first_refusal, next_number}
+use Rattle.ill_core.specs.Issued.{is_message_with, first_refusal, next_number}
 use Rattle.ill_core.specs.Responder.{ResponderRecord, outstanding_number, later}
 use Rattle.ill_core.specs.ResponderActions.{issues_to}
 
@@ -30,9 +30,9 @@ take_request y a =
 -- is accepted. If `c` is accepted, it is a repeat. If `c` named other conditions, it is stale.
 abbrev pub take_yes : ResponderRecord → ℕ → Result Taking Refusal × ResponderRecord
 take_yes y c =
-    if is_the c (outstanding_number y) then taken (record y { state = InProcess; accepted = Some c })
-    else if is_the c y.accepted then repeat y
-    else if was names_conditions y.issued c then stale y
+    if is_equal_number c (outstanding_number y) then taken (record y { state = InProcess; accepted = Some c })
+    else if is_equal_number c y.accepted then repeat y
+    else if is_message_with names_conditions y.issued c then stale y
     else conflict y.state y
 
 -- Returns the answer to a no that is taken. It issues an ILL-Answer unfilled, and leads to NOT-SUPPLIED. It is refused

@@ -18,7 +18,7 @@ use Rattle.ill_core.specs.State.{is_among}
 use Rattle.ill_core.specs.Numbers.{is_at_most, is_below, are_distinct}
 use Rattle.ill_core.specs.Bodies.{is_shipped, is_cancel, is_renew, declines}
 pub use Rattle.ill_core.specs.Bodies.{is_unsupplied, is_cancelled, is_end}
-use Rattle.ill_core.specs.Issued.{has, with_next}
+use Rattle.ill_core.specs.Issued.{has_message_with, with_next}
 use Rattle.ill_core.specs.Responder.{ResponderRecord, later}
 
 -- A fact of which a message of the requester may be evidence.
@@ -30,15 +30,15 @@ pub data Fact : Type 0 where
   SentBack : Fact  -- The requester has sent the item back.
 
 -- Returns true if the APDU is a Cancel-Reply yes to Cancel `n`.
-abbrev pub cancels : ℕ → Body → Bool
-cancels n (types.CancelReply c true) = c == n
-cancels n other = false
+abbrev pub is_yes_to_cancel : ℕ → Body → Bool
+is_yes_to_cancel n (types.CancelReply c true) = c == n
+is_yes_to_cancel n other = false
 
 -- The record `y` claims the fact.
 abbrev pub Claims : ResponderRecord → Fact → Type 0
 Claims y Requested = is_among (Idle ∷ []) y.state ≡ false
 Claims y (Accepted conditions) = y.accepted ≡ Some conditions
-Claims y (CancelAsked cancel) = (y.last_cancel ≡ Some cancel) ⊎ (has (cancels cancel) y.issued ≡ true)
+Claims y (CancelAsked cancel) = (y.last_cancel ≡ Some cancel) ⊎ (has_message_with (is_yes_to_cancel cancel) y.issued ≡ true)
 Claims y Arrived = y.received ≡ true
 Claims y SentBack = is_among (Returned ∷ CheckedIn ∷ []) y.state ≡ true
 
@@ -98,9 +98,9 @@ EntersByEnd y new =
 
 -- The responder has issued at most one APDU that ends the request, and the state agrees with it.
 pub record EndsOnce (y : ResponderRecord) : Type 0 where
-  pub unsupplied : has is_unsupplied y.issued ≡ is_among (NotSupplied ∷ []) y.state
-  pub cancelled : has is_cancelled y.issued ≡ is_among (Cancelled ∷ []) y.state
-  pub shipped : has is_shipped y.issued ≡ is_among later y.state
+  pub unsupplied : has_message_with is_unsupplied y.issued ≡ is_among (NotSupplied ∷ []) y.state
+  pub cancelled : has_message_with is_cancelled y.issued ≡ is_among (Cancelled ∷ []) y.state
+  pub shipped : has_message_with is_shipped y.issued ≡ is_among later y.state
   pub once : count_by (λ a. is_end a.body) y.issued ≡ (if is_among ended y.state then 1 else 0)
 
 -- A question that the requester asks and the responder answers with yes or no.
@@ -125,23 +125,23 @@ last_asked MayCancel y = y.last_cancel
 last_asked MayRenew y = y.last_renew
 
 -- Returns true if the question waits for its answer in `state`.
-abbrev pub waits : Question → State → Bool
-waits MayCancel state = is_among (CancelPending ∷ []) state
-waits MayRenew state = is_among (RenewPending ∷ RenewOverdue ∷ []) state
+abbrev pub is_question_open : Question → State → Bool
+is_question_open MayCancel state = is_among (CancelPending ∷ []) state
+is_question_open MayRenew state = is_among (RenewPending ∷ RenewOverdue ∷ []) state
 
 -- A question is answered only while it waits, and waits no longer afterwards. The answer has the number of the last
 -- question taken of this kind.
 abbrev pub AnswersLast : Question → ResponderRecord → ResponderRecord → Type 0
 AnswersLast question y new =
     (a : Apdu) (n : ℕ) → new.issued ≡ y.issued ++ a ∷ [] → answered_number question a.body ≡ Some n
-    → (waits question y.state ≡ true) × (waits question new.state ≡ false)
+    → (is_question_open question y.state ≡ true) × (is_question_open question new.state ≡ false)
     × (n ≡ unwrap_or (last_asked question y) 0)
 
 -- The last question is unchanged, and none waits in `new` that did not wait in `y`.
 abbrev pub KeepsLast : Question → ResponderRecord → ResponderRecord → Type 0
 KeepsLast question y new =
     (last_asked question new ≡ last_asked question y)
-    × (waits question new.state ≡ true → waits question y.state ≡ true)
+    × (is_question_open question new.state ≡ true → is_question_open question y.state ≡ true)
 
 -- The APDU asks the question. Its number is not at most the last one in `y`, and is the last one in `new`.
 abbrev pub TakesNew : Question → ℕ → Body → ResponderRecord → ResponderRecord → Type 0
@@ -162,7 +162,7 @@ pub record AnsweredOnce (answers : List ℕ) (last : Option ℕ) (is_waiting : B
 -- The responder has answered each Cancel or each Renew, as `question` says, at most once.
 abbrev pub AnswersOnce : Question → ResponderRecord → Type 0
 AnswersOnce question y =
-    AnsweredOnce (answers_to question y.issued) (last_asked question y) (waits question y.state)
+    AnsweredOnce (answers_to question y.issued) (last_asked question y) (is_question_open question y.state)
 
 -- The answer is `Taken` or `Repeat`, and the record after it is in one of `states`.
 abbrev pub LeadsTo : List State → Result Taking Refusal × ResponderRecord → Type 0

@@ -12,9 +12,9 @@ use Rattle.ill_core.specs.declared.state.State.TheVariants as states
 use Rattle.ill_core.specs.State.{is_among}
 use Rattle.ill_core.specs.Rules.{implies}
 use Rattle.ill_core.specs.Dates.{is_same_day, is_before}
-use Rattle.ill_core.specs.Numbers.{is_the, is_at_most}
+use Rattle.ill_core.specs.Numbers.{is_equal_number, is_at_most}
 use Rattle.ill_core.specs.Bodies.{is_shipped}
-use Rattle.ill_core.specs.Issued.{message, has}
+use Rattle.ill_core.specs.Issued.{message, has_message_with}
 use Rattle.ill_core.specs.Responder.{ResponderRecord, due_of, outstanding_number, later}
 use Rattle.ill_core.specs.ResponderEvidence.{Question, MayCancel, MayRenew, last_asked, answers_to}
 
@@ -48,8 +48,8 @@ is_recall other = false
 
 -- In RECALL the list has a Recall. If the list has a Recall, the state is RECALL, RETURNED or CHECKED-IN.
 pub record RecallFits (y : ResponderRecord) : Type 0 where
-  pub issued : is_among (states.Recall ∷ []) y.state ≡ true → has is_recall y.issued ≡ true
-  pub after : has is_recall y.issued ≡ true →
+  pub issued : is_among (states.Recall ∷ []) y.state ≡ true → has_message_with is_recall y.issued ≡ true
+  pub after : has_message_with is_recall y.issued ≡ true →
       is_among (states.Recall ∷ states.Returned ∷ states.CheckedIn ∷ []) y.state ≡ true
 
 -- Every Shipped has a lower number than every Recall.
@@ -86,8 +86,8 @@ pub record OverdueFits (y : ResponderRecord) : Type 0 where
       (due : Date) × (due_of y ≡ Some due) × (is_before due day ≡ false)
   pub issued : (due : Date) → due_of y ≡ Some due →
       is_among (states.Overdue ∷ states.RenewOverdue ∷ []) y.state ≡ true →
-      has (is_overdue_of due) y.issued ≡ true
-  pub after : (due : Date) → due_of y ≡ Some due → has (is_overdue_of due) y.issued ≡ true →
+      has_message_with (is_overdue_of due) y.issued ≡ true
+  pub after : (due : Date) → due_of y ≡ Some due → has_message_with (is_overdue_of due) y.issued ≡ true →
       is_among (states.Overdue ∷ states.RenewOverdue ∷ states.Recall ∷ states.Returned ∷ states.CheckedIn ∷ [])
       y.state ≡ true
 
@@ -111,7 +111,7 @@ lent =
 -- Returns true if an APDU with `number` and this body would not change record `y` now.
 abbrev pub has_heard : ResponderRecord → ℕ → Body → Bool
 has_heard y number (types.IllRequest expiry item) = not (is_among (states.Idle ∷ []) y.state)
-has_heard y number (types.ConditionalReply answers true) = not (is_the answers (outstanding_number y))
+has_heard y number (types.ConditionalReply answers true) = not (is_equal_number answers (outstanding_number y))
 has_heard y number (types.ConditionalReply answers false) =
     not (is_among undecided y.state) || not (nat_lt (length y.issued) 255)
 has_heard y number types.Cancel = not (is_among undecided y.state) || is_at_most number y.last_cancel

@@ -8,7 +8,7 @@ use Rattle.ill_core.specs.declared.state.State.TheVariants.{RenewPending, RenewO
 use Rattle.ill_core.specs.State.{is_among}
 use Rattle.ill_core.specs.Rules.{implies}
 use Rattle.ill_core.specs.Bodies.{is_requesters, is_shipped, is_checked_in}
-use Rattle.ill_core.specs.Issued.{are_numbered, has, is_none, granted_day}
+use Rattle.ill_core.specs.Issued.{are_numbered, has_message_with, is_none, granted_day}
 use Rattle.ill_core.specs.Responder.{ResponderRecord, later, are_rising, ships_first, ends_with_conditions, is_named}
 use Rattle.ill_core.specs.Responder.{is_request_of}
 
@@ -28,7 +28,7 @@ pub record PartsFit (state : State) (has_request has_accepted has_cancel has_ren
 -- CHECKED-IN. In CONDITIONAL it ends with conditions.
 pub record IssuedFits (state : State) (apdus : List Apdu) : Type 0 where
   pub shipped : count_by (λ a. is_shipped a.body) apdus ≡ (if is_among later state then 1 else 0)
-  pub checked_in : has is_checked_in apdus ≡ is_among (CheckedIn ∷ []) state
+  pub checked_in : has_message_with is_checked_in apdus ≡ is_among (CheckedIn ∷ []) state
   pub conditions : implies (is_among (Conditional ∷ []) state) (ends_with_conditions apdus) ≡ true
 
 -- The record `y` satisfies all rules of a responder.

@@ -22,16 +22,16 @@ use Rattle.ill_core.specs.declared.responder.actions.TheConstants as action
 use Rattle.ill_core.specs.declared.responder.deliveries.TheConstants as delivery
 use Rattle.ill_core.specs.Bodies.{names_conditions}
 use Rattle.ill_core.specs.Dates.{is_before, is_after_due}
-use Rattle.ill_core.specs.Numbers.{is_the, is_at_most}
-use Rattle.ill_core.specs.Issued.{was, next_number, with_next}
+use Rattle.ill_core.specs.Numbers.{is_equal_number, is_at_most}
+use Rattle.ill_core.specs.Issued.{is_message_with, next_number, with_next}
 use Rattle.ill_core.specs.Kinds.{requester_kind, requester_place, responder_place, deed_kind, number_in}
-use Rattle.ill_core.specs.Tables.{Guard, has, next_state, fits}
+use Rattle.ill_core.specs.Tables.{Guard, has_common_bit, next_state, fits}
 use Rattle.ill_core.specs.Responder.{ResponderRecord, outstanding_number, due_of}
 use Rattle.ill_core.specs.ResponderActions.{no_date, expiry_of}
 
 -- Returns `k` if `changes` has `bit`, and else the number before, `last`.
 abbrev pub number_after : ℕ → ℕ → Option ℕ → ℕ → Option ℕ
-number_after bit changes last k = if has changes bit then Some k else last
+number_after bit changes last k = if has_common_bit changes bit then Some k else last
 
 -- Returns the record after a row is followed for message `k`, except for the request and the list.
 abbrev pub after : {K : Type 0} → ResponderRecord → Row K → ℕ → ResponderRecord
@@ -41,19 +41,19 @@ after y row k =
       accepted = number_after ACCEPTS row.4 y.accepted k;
       last_cancel = number_after CANCELS row.4 y.last_cancel k;
       last_renew = number_after RENEWS row.4 y.last_renew k;
-      received = has row.4 RECEIVES || y.received;
+      received = has_common_bit row.4 RECEIVES || y.received;
     }
 
 -- Returns the request after a row with `changes` is followed for APDU `a`. A row that ends the request does not change
 -- it.
 abbrev pub request_after : ℕ → Option Apdu → Apdu → Option Apdu
 request_after changes request a =
-    if has changes ENDS then request else (if has changes KEEPS then Some a else request)
+    if has_common_bit changes ENDS then request else (if has_common_bit changes KEEPS then Some a else request)
 
 -- Returns the list after a row with `changes` is followed. A row that ends the request issues an ILL-Answer unfilled.
 abbrev pub issued_after : ℕ → Qualifiers → List Apdu → List Apdu
 issued_after changes txn issued =
-    if has changes ENDS then with_next txn issued (types.IllAnswer Unfilled) else issued
+    if has_common_bit changes ENDS then with_next txn issued (types.IllAnswer Unfilled) else issued
 
 -- Returns the record after `row` is followed for APDU `a`, which has number `k` for the row.
 abbrev pub after_delivery : ResponderRecord → Apdu → Row RequesterKind → ℕ → ResponderRecord
@@ -70,25 +70,25 @@ refusal_of (Err refusal) = Some refusal
 
 -- Returns the refusal `NumbersUsed` if the row issues a message and no number is left, and else `None`.
 abbrev pub number_refusal : ℕ → List Apdu → Option Refusal
-number_refusal changes issued = if has changes ENDS then refusal_of (next_number issued) else None
+number_refusal changes issued = if has_common_bit changes ENDS then refusal_of (next_number issued) else None
 
 -- Returns true if a row with `changes` takes memory: it keeps a request, or issues a message.
-abbrev pub grows : ℕ → Bool
-grows changes = has changes KEEPS || has changes ENDS
+abbrev pub is_row_with_memory : ℕ → Bool
+is_row_with_memory changes = has_common_bit changes KEEPS || has_common_bit changes ENDS
 
 -- A row with `changes` may be refused with this refusal. It is `NumbersUsed` if the row issues a message and no number
 -- is left. It is `OutOfMemory` if the row takes memory and no number is lacking.
 abbrev pub IsRefused : ℕ → List Apdu → Refusal → Type 0
 IsRefused changes issued refusals.OutOfMemory =
-    (grows changes ≡ true) × (number_refusal changes issued ≡ None)
+    (is_row_with_memory changes ≡ true) × (number_refusal changes issued ≡ None)
 IsRefused changes issued refusal = number_refusal changes issued ≡ Some refusal
 
 -- Returns the guards on an answer to message `c`: `c` is outstanding, `c` is accepted, `c` named conditions.
 abbrev pub reply_guards : ResponderRecord → ℕ → List Guard
 reply_guards y c =
-    record { bit = delivery.OUTSTANDING; holds = is_the c (outstanding_number y) }
-    ∷ record { bit = delivery.ACCEPTED; holds = is_the c y.accepted }
-    ∷ record { bit = delivery.WAS_CONDITIONAL; holds = was names_conditions y.issued c } ∷ []
+    record { bit = delivery.OUTSTANDING; holds = is_equal_number c (outstanding_number y) }
+    ∷ record { bit = delivery.ACCEPTED; holds = is_equal_number c y.accepted }
+    ∷ record { bit = delivery.WAS_CONDITIONAL; holds = is_message_with names_conditions y.issued c } ∷ []
 
 -- Returns the guards on a message with number `n`: `n` is at most the last Cancel, or the last Renew. The last guard is
 -- that the received mark is not set.

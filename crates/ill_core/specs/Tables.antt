@@ -20,8 +20,8 @@ abbrev pub has_state : ℕ → State → Bool
 has_state states state = has_bit states (place_of state)
 
 -- Returns true if `mask` and `bits` have a bit in common.
-abbrev pub has : ℕ → ℕ → Bool
-has mask bits = not (bit_and mask bits == 0)
+abbrev pub has_common_bit : ℕ → ℕ → Bool
+has_common_bit mask bits = not (bit_and mask bits == 0)
 
 -- Returns the answer that a row gives in `state`.
 abbrev pub taking_of : Then → State → Taking

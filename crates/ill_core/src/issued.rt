@@ -2,7 +2,7 @@
 
 ghost use Rattle.std.specs.Prelude.{◌≡◌, ◌≤◌, ◌<◌, ◌==◌, ◌&&◌, true, length, take, [], Ok, Some, is_some, IfOk, IfErr, IfSome, OnOk, OnErr, option_map};
 ghost use Rattle.ill_core.specs.declared.refusal.Refusal.TheVariants as refusals;
-ghost use Rattle.ill_core.specs.Issued.{IssuedList, is_same_txn, are_numbered, message, next_number, with_next, first_refusal, Admits, last_of, sought_number, granted_day, has};
+ghost use Rattle.ill_core.specs.Issued.{IssuedList, is_same_txn, are_numbered, message, next_number, with_next, first_refusal, Admits, last_of, sought_number, granted_day, has_message_with};
 ghost use Rattle.ill_core.specs.Bodies.{is_ill_request, is_received, is_cancel, is_renew, is_returned, is_checked_in, declines};
 
 use crate::body::{grant_in, is_end, is_ill_request};
@@ -227,28 +227,28 @@ fn is_message(apdu: &Apdu, txn: &TxnId, number: usize) -> bool
 
 /// Returns true if `apdus` has an ILL-Request.
 pub fn has_ill_request(apdus: &[Apdu]) -> bool
-    ensures { result ≡ has is_ill_request apdus.now }
+    ensures { result ≡ has_message_with is_ill_request apdus.now }
 {
     apdus.iter().any(|apdu| is_ill_request(&apdu.body))
 }
 
 /// Returns true if `apdus` has a Received.
 pub fn has_received(apdus: &[Apdu]) -> bool
-    ensures { result ≡ has is_received apdus.now }
+    ensures { result ≡ has_message_with is_received apdus.now }
 {
     apdus.iter().any(|apdu| matches!(apdu.body, Body::Received))
 }
 
 /// Returns true if `apdus` has a Cancel.
 pub fn has_cancel(apdus: &[Apdu]) -> bool
-    ensures { result ≡ has is_cancel apdus.now }
+    ensures { result ≡ has_message_with is_cancel apdus.now }
 {
     apdus.iter().any(|apdu| matches!(apdu.body, Body::Cancel))
 }
 
 /// Returns true if `apdus` has a Renew.
 pub fn has_renew(apdus: &[Apdu]) -> bool
-    ensures { result ≡ has is_renew apdus.now }
+    ensures { result ≡ has_message_with is_renew apdus.now }
 {
     apdus
         .iter()
@@ -257,21 +257,21 @@ pub fn has_renew(apdus: &[Apdu]) -> bool
 
 /// Returns true if `apdus` has a Returned.
 pub fn has_returned(apdus: &[Apdu]) -> bool
-    ensures { result ≡ has is_returned apdus.now }
+    ensures { result ≡ has_message_with is_returned apdus.now }
 {
     apdus.iter().any(|apdu| matches!(apdu.body, Body::Returned))
 }
 
 /// Returns true if `apdus` has a Conditional-Reply no.
 pub fn has_declined(apdus: &[Apdu]) -> bool
-    ensures { result ≡ has declines apdus.now }
+    ensures { result ≡ has_message_with declines apdus.now }
 {
     apdus.iter().any(|apdu| matches!(apdu.body, Body::ConditionalReply { yes: false, .. }))
 }
 
 /// Returns true if `apdus` has a Checked-In.
 pub fn has_checked_in(apdus: &[Apdu]) -> bool
-    ensures { result ≡ has is_checked_in apdus.now }
+    ensures { result ≡ has_message_with is_checked_in apdus.now }
 {
     apdus
         .iter()

@@ -7,7 +7,7 @@ use Rattle.ill_der.specs.declared.fault.DerFault.{DerFault}
 use Rattle.ill_der.specs.declared.fault.DerFault.TheVariants.{Short}
 use Rattle.ill_der.specs.ShortForm.{spelling, header_at, outer_at, apdu_at}
 use Rattle.ill_der.specs.Stream.{IsUnfinished, IfShort}
-use Rattle.ill_der.specs.Feed.{Begins, Unread, Leaves, Feeds, FeedsAll}
+use Rattle.ill_der.specs.Feed.{Begins, FeedState, Leaves, Feeds, FeedsAll}
 use Rattle.ill_der.proofs.Chains.{no_value, ok_is, fault_is}
 use Rattle.ill_der.proofs.ShortFormLaws.{fault_stays}
 use Rattle.ill_der.proofs.FeedLemmas.{AgainLaw, ShortLaw, begins_join, begins_more}
@@ -15,7 +15,7 @@ use Rattle.ill_der.proofs.FeedLemmas.{AgainLaw, ShortLaw, begins_join, begins_mo
 -- ---- pieces one after another
 
 -- If `prefix` and then `piece` are pushed, one push of `prefix ++ piece` gives all their APDUs and the second feed.
-pub two_pushes : (old middle new : Unread) (prefix piece : List ℕ) (first more : List Apdu) → Feeds old prefix first middle
+pub two_pushes : (old middle new : FeedState) (prefix piece : List ℕ) (first more : List Apdu) → Feeds old prefix first middle
     → Feeds middle piece more new → Feeds old (prefix ++ piece) (first ++ more) new
 two_pushes (Ok held) (Ok between) new prefix piece first more a b =
     let bytes : (held ++ prefix) ++ piece ≡ held ++ (prefix ++ piece) = append_assoc held prefix piece in
@@ -33,35 +33,35 @@ two_pushes (Ok held) (Err fault) new prefix piece first more a b =
       subst (Leaves (a.0 ++ piece)) (sym b.1) leaves,
     )
 two_pushes (Err fault) middle new prefix piece first more a b =
-    let closed : Feeds (Err fault) piece more new = subst (λ (m : Unread). Feeds m piece more new) a.1 b in
+    let closed : Feeds (Err fault) piece more new = subst (λ (m : FeedState). Feeds m piece more new) a.1 b in
     (ap (λ (x : List Apdu). x ++ more) a.0 ∙ closed.0, closed.1)
 
 -- The feed is closed, or it is open and holds unfinished bytes.
-abbrev IsFeed : Unread → Type 0
+abbrev IsFeed : FeedState → Type 0
 IsFeed (Ok held) = IsUnfinished held
 IsFeed (Err fault) = Unit {0}
 
 -- If `rest` leaves the feed `new`, `new` is closed or holds unfinished bytes.
-is_left : (rest : List ℕ) (new : Unread) → Leaves rest new → IsFeed new
+is_left : (rest : List ℕ) (new : FeedState) → Leaves rest new → IsFeed new
 is_left rest (Ok held) leaves = subst IsUnfinished (sym leaves.0) leaves.1
 is_left rest (Err fault) leaves = tt
 
 -- After a push, the feed `new` is closed or holds unfinished bytes.
-is_fed : (old : Unread) (piece : List ℕ) (apdus : List Apdu) (new : Unread) → Feeds old piece apdus new → IsFeed new
+is_fed : (old : FeedState) (piece : List ℕ) (apdus : List Apdu) (new : FeedState) → Feeds old piece apdus new → IsFeed new
 is_fed (Ok held) piece apdus new feeds = is_left feeds.0 new feeds.2
 is_fed (Err fault) piece apdus new feeds = subst IsFeed (sym feeds.1) tt
 
 -- If `old` is closed or holds unfinished bytes, a push of no bytes gives no APDU and keeps it.
-no_push : (old : Unread) → IsFeed old → Feeds old [] [] old
+no_push : (old : FeedState) → IsFeed old → Feeds old [] [] old
 no_push (Ok held) is = (held, record { spelled = tt; parts = append-nil held }, (refl, is))
 no_push (Err fault) is = (refl, refl)
 
 -- If `pieces` are pushed into `old` one after another, one push of all their bytes gives equal APDUs and an equal feed.
-pub all_pushes : (pieces : List (List ℕ)) (old : Unread) (apdus : List Apdu) (new : Unread) → IsFeed old
+pub all_pushes : (pieces : List (List ℕ)) (old : FeedState) (apdus : List Apdu) (new : FeedState) → IsFeed old
     → FeedsAll old pieces apdus new → Feeds old (concat pieces) apdus new
 all_pushes [] old apdus new is all =
     subst (λ (x : List Apdu). Feeds old [] x new) (sym all.0)
-    (subst (λ (h : Unread). Feeds old [] [] h) (sym all.1) (no_push old is))
+    (subst (λ (h : FeedState). Feeds old [] [] h) (sym all.1) (no_push old is))
 all_pushes (piece ∷ pieces) old apdus new is all =
     let later = all_pushes pieces all.2 all.1 new (is_fed old piece all.0 all.2 all.3) all.4 in
     subst (λ (x : List Apdu). Feeds old (piece ++ concat pieces) x new) (sym all.5)
@@ -70,7 +70,7 @@ all_pushes (piece ∷ pieces) old apdus new is all =
 -- ---- equal results of all cuts
 
 -- If `rest` leaves a feed, it has a fault.
-has_fault : (rest : List ℕ) (new : Unread) → Leaves rest new → (d : DerFault) × (apdu_at rest ≡ Err d)
+has_fault : (rest : List ℕ) (new : FeedState) → Leaves rest new → (d : DerFault) × (apdu_at rest ≡ Err d)
 has_fault rest (Ok held) leaves = (Short (length rest), leaves.1)
 has_fault rest (Err fault) leaves = (fault, leaves.0)
 
@@ -82,7 +82,7 @@ first_again again bytes rest apdu apdus begins =
     ∙ again apdu (flat_map spelling apdus ++ rest) begins.spelled.0
 
 -- If all of `bytes` is a rest that leaves a feed, `bytes` begins with no APDU.
-no_first : AgainLaw → (bytes rest after : List ℕ) (new : Unread) (apdu : Apdu) (apdus : List Apdu) → Begins bytes [] rest
+no_first : AgainLaw → (bytes rest after : List ℕ) (new : FeedState) (apdu : Apdu) (apdus : List Apdu) → Begins bytes [] rest
     → Leaves rest new → Begins bytes (apdu ∷ apdus) after → ⊥
 no_first again bytes rest after new apdu apdus none leaves some =
     let fault = has_fault rest new leaves in
@@ -90,7 +90,7 @@ no_first again bytes rest after new apdu apdus none leaves some =
     (sym (first_again again bytes after apdu apdus some) ∙ ap apdu_at none.parts ∙ fault.1)
 
 -- If `rest` leaves the feed `a` and leaves the feed `b`, `a` equals `b`.
-same_left : (rest : List ℕ) (a b : Unread) → Leaves rest a → Leaves rest b → a ≡ b
+same_left : (rest : List ℕ) (a b : FeedState) → Leaves rest a → Leaves rest b → a ≡ b
 same_left rest (Ok one) (Ok other) a b = ap Ok (a.0 ∙ sym b.0)
 same_left rest (Ok one) (Err fault) a b =
     absurd (subst (λ (f : DerFault). IfShort f ⊥) (fault_is fault (Short (length rest)) (sym b.0 ∙ a.1)) b.1)
@@ -99,7 +99,7 @@ same_left rest (Err fault) (Ok other) a b =
 same_left rest (Err one) (Err other) a b = ap Err (fault_is one other (sym a.0 ∙ b.0))
 
 -- If `bytes` is divided into APDUs and a rest in two ways, the APDUs are equal, and the rests leave equal feeds.
-one_cut : AgainLaw → (first second : List Apdu) (bytes rest after : List ℕ) (a b : Unread) → Begins bytes first rest
+one_cut : AgainLaw → (first second : List Apdu) (bytes rest after : List ℕ) (a b : FeedState) → Begins bytes first rest
     → Leaves rest a → Begins bytes second after → Leaves after b
     → (first ≡ second) × (a ≡ b)
 one_cut again [] [] bytes rest after a b x leaves y other =
@@ -126,7 +126,7 @@ unfolding apdu_at outer_at header_at
 nothing_held = refl
 
 -- If two lists of pieces have equal bytes, an empty feed gives equal APDUs for both and becomes equal feeds.
-pub any_cut : AgainLaw → (pieces others : List (List ℕ)) (first second : List Apdu) (a b : Unread)
+pub any_cut : AgainLaw → (pieces others : List (List ℕ)) (first second : List Apdu) (a b : FeedState)
     → concat pieces ≡ concat others → FeedsAll (Ok []) pieces first a → FeedsAll (Ok []) others second b
     → (first ≡ second) × (a ≡ b)
 any_cut again pieces others first second a b same one other =

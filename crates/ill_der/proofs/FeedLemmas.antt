@@ -14,9 +14,9 @@ use Rattle.ill_der.specs.declared.fault.DerFault.TheVariants.{Short, Tag, Length
 use Rattle.ill_der.specs.Laws.{IsBytes, BeginsWithOne}
 use Rattle.ill_der.specs.ShortForm.{spelling, header_at, outer_at, apdu_at}
 use Rattle.ill_der.specs.Stream.{IsUnfinished, IfShort}
-use Rattle.ill_der.specs.Feed.{Begins, Unread, Leaves, HasApdu, fault_of}
+use Rattle.ill_der.specs.Feed.{Begins, FeedState, Leaves, HasApdu, fault_of}
 use Rattle.ill_der.specs.Handling.{Handles, Handled, FailsIn, FailsAt, HandlesEach}
-use Rattle.ill_der.specs.FeedView.{held_of, closing, Holds, Fills, HandlesFirst, GoesOn}
+use Rattle.ill_der.specs.FeedView.{held_of, closing, Holds, Fills, HandlesFirst, HandlesRest}
 use Rattle.ill_der.proofs.Chains.{no_value}
 use Rattle.ill_der.proofs.ShortFormLaws.{fault_stays}
 
@@ -138,14 +138,14 @@ fails_later handles bytes middle before now after apdu fault begins first later 
 -- ---- the buffer
 
 -- If the feed `now` is open, no fault closed it.
-pub is_open : (closed : Option DerFault) (bytes : List ℕ) (now : Unread) → held_of closed bytes ≡ now → IsOk now → closed ≡ None
+pub is_open : (closed : Option DerFault) (bytes : List ℕ) (now : FeedState) → held_of closed bytes ≡ now → IsOk now → closed ≡ None
 is_open None bytes now e opened = refl
 is_open (Some fault) bytes now e opened =
     let not_open : IsOk (held_of (Some fault) bytes) = subst IsOk (sym e) opened in
     absurd cc
 
 -- If the feed `now` is open, it holds `bytes`.
-pub holds_prefix : (closed : Option DerFault) (bytes : List ℕ) (now : Unread) → held_of closed bytes ≡ now → IsOk now
+pub holds_prefix : (closed : Option DerFault) (bytes : List ℕ) (now : FeedState) → held_of closed bytes ≡ now → IsOk now
     → now ≡ Ok bytes
 holds_prefix closed bytes now e opened = sym e ∙ ap (λ (k : Option DerFault). held_of k bytes) (is_open closed bytes now e opened)
 
@@ -310,9 +310,9 @@ goes_on_from handles again old new piece size filled end before now fills is fir
 
 -- If the first APDU of `held ++ piece` was handled, handling the rest has the outcome of a push of `piece`.
 on_after : {S F : Type 0} (handles : Handles S F) (held piece later : List ℕ) (apdu : Apdu) (before now after : S)
-    (result : Result (Option DerFault) F) (new : Unread)
+    (result : Result (Option DerFault) F) (new : FeedState)
     → Begins (held ++ piece) (apdu ∷ []) later → handles before apdu (Ok tt) now
-    → GoesOn handles (Ok held) later now result new after
+    → HandlesRest handles (Ok held) later now result new after
     → HandlesEach handles (Ok held) piece before result new after
 on_after handles held piece later apdu before now after (Ok fault) new begins first on = (
   on.0,
@@ -327,11 +327,11 @@ on_after handles held piece later apdu before now after (Err fault) new begins f
 
 -- If the first APDU of the filled bytes was handled, handling the rest has the outcome of a push of `piece`.
 pub goes_on_after : {S F : Type 0} (handles : Handles S F) → AgainLaw
-    → (old new piece : List ℕ) (size filled end : ℕ) (before now after : S) (was : Unread) (result : Result (Option DerFault) F)
-    (feed : Unread)
+    → (old new piece : List ℕ) (size filled end : ℕ) (before now after : S) (was : FeedState) (result : Result (Option DerFault) F)
+    (feed : FeedState)
     → Fills old new size piece filled → Holds size old → was ≡ Ok (take size old)
     → HandlesFirst handles (take filled new) before (Ok (Ok end)) now
-    → GoesOn handles (Ok (take size new)) (take (length piece - (end - size)) (drop (end - size) piece)) now result feed after
+    → HandlesRest handles (Ok (take size new)) (take (length piece - (end - size)) (drop (end - size) piece)) now result feed after
     → HandlesEach handles was piece before result feed after
 goes_on_after handles again old new piece size filled end before now after was result feed fills is opened first on =
     let held = take size old in
@@ -341,39 +341,39 @@ goes_on_after handles again old new piece size filled end before now after was r
     let few : filled - size ≤ length piece = omega (arith, fills.count) in
     let begins = begins_held held piece (take filled new) (filled - size) end first.2.0 few fills.parts later first.1 first.2.1 in
     let begun = subst (λ (n : ℕ). Begins (held ++ piece) (first.2.0 ∷ []) (drop (end - n) piece)) long begins in
-    let on_rest = subst (λ (x : List ℕ). GoesOn handles (Ok (take size new)) x now result feed after)
+    let on_rest = subst (λ (x : List ℕ). HandlesRest handles (Ok (take size new)) x now result feed after)
     (take_rest piece (end - size)) on in
-    let on_held = subst (λ (x : List ℕ). GoesOn handles (Ok x) (drop (end - size) piece) now result feed after)
+    let on_held = subst (λ (x : List ℕ). HandlesRest handles (Ok x) (drop (end - size) piece) now result feed after)
     (still_held old new piece size filled fills) on_rest in
-    subst (λ (h : Unread). HandlesEach handles h piece before result feed after) (sym opened)
+    subst (λ (h : FeedState). HandlesEach handles h piece before result feed after) (sym opened)
     (on_after handles held piece (drop (end - size) piece) first.2.0 before now after result feed begun first.2.2 on_held)
 
 -- If nothing was held, handling `piece` has the outcome of a push of `piece`.
 on_alone : {S F : Type 0} (handles : Handles S F) (held piece : List ℕ) (before after : S) (result : Result (Option DerFault) F)
-    (new : Unread)
+    (new : FeedState)
     → held ≡ []
-    → GoesOn handles (Ok held) piece before result new after → HandlesEach handles (Ok held) piece before result new after
+    → HandlesRest handles (Ok held) piece before result new after → HandlesEach handles (Ok held) piece before result new after
 on_alone handles held piece before after (Ok fault) new none on =
     subst (λ (x : List ℕ). HandlesEach handles (Ok x) piece before (Ok fault) new after) (sym none) on
 on_alone handles held piece before after (Err fault) new none on =
     (on.0, subst (λ (x : List ℕ). FailsIn handles (x ++ piece) before fault after) (sym none) on.1)
 
 -- If `was` is open and holds nothing, handling `piece` has the outcome of a push of `piece`.
-pub goes_on_alone : {S F : Type 0} (handles : Handles S F) (held piece : List ℕ) (before after : S) (was : Unread)
-    (result : Result (Option DerFault) F) (new : Unread)
+pub goes_on_alone : {S F : Type 0} (handles : Handles S F) (held piece : List ℕ) (before after : S) (was : FeedState)
+    (result : Result (Option DerFault) F) (new : FeedState)
     → was ≡ Ok held → held ≡ []
-    → GoesOn handles was piece before result new after → HandlesEach handles was piece before result new after
+    → HandlesRest handles was piece before result new after → HandlesEach handles was piece before result new after
 goes_on_alone handles held piece before after was result new opened none on =
-    subst (λ (h : Unread). HandlesEach handles h piece before result new after) (sym opened)
+    subst (λ (h : FeedState). HandlesEach handles h piece before result new after) (sym opened)
     (on_alone handles held piece before after result new none
-    (subst (λ (h : Unread). GoesOn handles h piece before result new after) opened on))
+    (subst (λ (h : FeedState). HandlesRest handles h piece before result new after) opened on))
 
 -- If `held ++ piece` begins with no APDU and leaves `new`, a push of `piece` handles no APDU and keeps the state.
-pub all_left : {S F : Type 0} (handles : Handles S F) (held piece : List ℕ) (before after : S) (was new : Unread)
+pub all_left : {S F : Type 0} (handles : Handles S F) (held piece : List ℕ) (before after : S) (was new : FeedState)
     → was ≡ Ok held → Leaves (held ++ piece) new → after ≡ before
     → HandlesEach handles was piece before (Ok (fault_of new)) new after
 all_left handles held piece before after was new opened leaves same =
-    subst (λ (h : Unread). HandlesEach handles h piece before (Ok (fault_of new)) new after) (sym opened)
+    subst (λ (h : FeedState). HandlesEach handles h piece before (Ok (fault_of new)) new after) (sym opened)
     (refl, ([], (held ++ piece, begins_none (held ++ piece), leaves), same))
 
 -- A fault of the filled bytes other than Short is the fault of the held bytes followed by all of `piece`.
@@ -389,7 +389,7 @@ fault_of_all old new piece size filled fault fills other e =
 
 -- If handling the first APDU of the filled bytes failed, a push of `piece` into `was` failed at that APDU.
 pub fails_first : {S F : Type 0} (handles : Handles S F) (old new piece : List ℕ) (size filled : ℕ) (before after : S)
-    (was : Unread) (fault : F)
+    (was : FeedState) (fault : F)
     → Fills old new size piece filled
     → was ≡ Ok (take size old) → HandlesFirst handles (take filled new) before (Err fault) after
     → FailsAt handles was piece before fault after
@@ -401,10 +401,10 @@ fails_first handles old new piece size filled before after was fault fills opene
     subst (λ (x : List ℕ). Begins x (first.0 ∷ []) rest) (whole_piece k held piece (take filled new) fills.parts)
     (begins_more (take filled new) first.1 (drop k piece) (first.0 ∷ []) first.2) in
     let failed : FailsIn handles (held ++ piece) before fault after = ([], first.0, rest, before, begins, refl, first.3) in
-    subst (λ (h : Unread). FailsAt handles h piece before fault after) (sym opened) failed
+    subst (λ (h : FeedState). FailsAt handles h piece before fault after) (sym opened) failed
 
 -- If handling failed, the feed is open, and its held bytes, followed by `piece`, begin with an APDU.
-pub fails_at_apdu : {S F : Type 0} (handles : Handles S F) (old : Unread) (piece : List ℕ) (before after : S) (fault : F)
+pub fails_at_apdu : {S F : Type 0} (handles : Handles S F) (old : FeedState) (piece : List ℕ) (before after : S) (fault : F)
     → FailsAt handles old piece before fault after → HasApdu old piece
 fails_at_apdu handles (Ok held) piece before after fault fails = begins_first (held ++ piece) fails.0 fails.1 fails.2 fails.4
 fails_at_apdu handles (Err closed) piece before after fault fails = fails

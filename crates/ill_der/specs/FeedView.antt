@@ -8,11 +8,11 @@ use Rattle.ill_der.specs.declared.fault.DerFault.TheVariants.{Short}
 use Rattle.ill_der.specs.declared.feed.Collector.{Collector}
 use Rattle.ill_der.specs.Stream.{IsUnfinished}
 use Rattle.ill_der.specs.ShortForm.{apdu_at}
-use Rattle.ill_der.specs.Feed.{Begins, Unread}
+use Rattle.ill_der.specs.Feed.{Begins, FeedState}
 use Rattle.ill_der.specs.Handling.{Handles, Handled, FailsIn, HandlesEach}
 
 -- Returns the feed with these held bytes, or with the fault that closed it.
-abbrev pub held_of : Option DerFault → List ℕ → Unread
+abbrev pub held_of : Option DerFault → List ℕ → FeedState
 held_of None bytes = Ok bytes
 held_of (Some fault) bytes = Err fault
 
@@ -53,13 +53,13 @@ HandlesAll handles bytes before (Ok (at, fault)) after =
 HandlesAll handles bytes before (Err fault) after = FailsIn handles bytes before fault after
 
 -- An open feed dropped its held bytes, and then `bytes` were pushed. If handling failed, the feed is unchanged.
-abbrev pub GoesOn : {S F : Type 0} → Handles S F → Unread → List ℕ → S → Result (Option DerFault) F → Unread → S
+abbrev pub HandlesRest : {S F : Type 0} → Handles S F → FeedState → List ℕ → S → Result (Option DerFault) F → FeedState → S
     → Type 0
-GoesOn handles old bytes before (Ok fault) new after =
+HandlesRest handles old bytes before (Ok fault) new after =
     HandlesEach handles (Ok []) bytes before (Ok fault) new after
-GoesOn handles old bytes before (Err fault) new after =
+HandlesRest handles old bytes before (Err fault) new after =
     (new ≡ old) × FailsIn handles bytes before fault after
 
 -- If the collector handles an APDU with success, the APDU is appended to its list.
-abbrev pub Keeps : Handles (Collector × Unit {0}) AllocError
-Keeps old apdu result new = OnOk result (new.0.apdus.items ≡ old.0.apdus.items ++ apdu ∷ [])
+abbrev pub CollectsApdu : Handles (Collector × Unit {0}) AllocError
+CollectsApdu old apdu result new = OnOk result (new.0.apdus.items ≡ old.0.apdus.items ++ apdu ∷ [])

@@ -2,7 +2,7 @@
 use Rattle.std.specs.Prelude.{◌≡◌, ℕ, List, [], ◌∷◌, ◌++◌, Option, Result, Ok, Err}
 use Rattle.ill_values.specs.declared.apdu.Apdu.{Apdu}
 use Rattle.ill_der.specs.declared.fault.DerFault.{DerFault}
-use Rattle.ill_der.specs.Feed.{Begins, Unread, Feeds, fault_of}
+use Rattle.ill_der.specs.Feed.{Begins, FeedState, Feeds, fault_of}
 
 -- The type of a relation for one APDU: of the state before, the APDU, the result, and the state after.
 abbrev pub Handles : Type 0 → Type 0 → Type 1
@@ -22,13 +22,13 @@ FailsIn {S = S} handles bytes before fault after =
     × handles state apdu (Err fault) after
 
 -- The feed is open, and handling failed at an APDU of its held bytes followed by `piece`.
-abbrev pub FailsAt : {S F : Type 0} → Handles S F → Unread → List ℕ → S → F → S → Type 0
+abbrev pub FailsAt : {S F : Type 0} → Handles S F → FeedState → List ℕ → S → F → S → Type 0
 FailsAt handles (Ok held) piece before fault after = FailsIn handles (held ++ piece) before fault after
 FailsAt handles (Err closed) piece before fault after = ⊥
 
 -- `piece` was pushed and its APDUs were handled, which led to the feed `new` and the state `after`.
 -- If handling failed, the feed is unchanged.
-abbrev pub HandlesEach : {S F : Type 0} → Handles S F → Unread → List ℕ → S → Result (Option DerFault) F → Unread → S
+abbrev pub HandlesEach : {S F : Type 0} → Handles S F → FeedState → List ℕ → S → Result (Option DerFault) F → FeedState → S
     → Type 0
 HandlesEach handles old piece before (Ok fault) new after =
     (fault ≡ fault_of new)

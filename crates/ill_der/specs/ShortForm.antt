@@ -180,9 +180,9 @@ abbrev pub outer_view : decoding.Outer → Outer
 outer_view outer = record { apdu_type = outer.apdu_type; inside = outer.inside; size = outer.size }
 
 -- A function of the decoder gives the value of `read`, through `view`, or the fault of `read`.
-abbrev pub Finds : {X V : Type 0} → (X → V) → Result X DerFault → Result V DerFault → Type 0
-Finds view (Ok value) read = read ≡ Ok (view value)
-Finds view (Err fault) read = read ≡ Err fault
+abbrev pub DecodesAs : {X V : Type 0} → (X → V) → Result X DerFault → Result V DerFault → Type 0
+DecodesAs view (Ok value) read = read ≡ Ok (view value)
+DecodesAs view (Err fault) read = read ≡ Err fault
 
 -- Viewing gives the APDU of `read` and the number of its bytes, or the fault of `read`.
 abbrev pub Views : List ℕ → Result (Apdu × List ℕ) DerFault → Result (Apdu × ℕ) DerFault → Type 0

@@ -4,7 +4,7 @@ ghost use Rattle.std.specs.Prelude.{◌≢◌, ◌<◌, ◌≤◌, length, IfOk,
 ghost use Rattle.ill_der.specs.declared.fault.DerFault.TheVariants.{OutOfMemory};
 ghost use Rattle.ill_der.specs.Contents.{yes_no, date, number};
 ghost use Rattle.ill_der.specs.Format.{Reads, required, where_yes};
-ghost use Rattle.ill_der.specs.ShortForm.{outer_view, outer_at, read_body, reply, body_of, inside_of, apdu_at, Finds, Views, Decodes};
+ghost use Rattle.ill_der.specs.ShortForm.{outer_view, outer_at, read_body, reply, body_of, inside_of, apdu_at, DecodesAs, Views, Decodes};
 ghost use Rattle.ill_der.specs.View.{body_in, HasItem};
 
 use crate::apdu_view::{ApduView, BodyView};
@@ -60,7 +60,7 @@ pub fn view(bytes: &[u8]) -> Result<(ApduView<'_>, usize), DerFault>
 /// Splits off the identifier and the length, and checks that all contents are present.
 #[tactic(auto, unfolding(crate::specs::ShortForm::outer_at))]
 fn outer_at(bytes: &[u8]) -> Result<Outer<'_>, DerFault>
-    ensures read { Finds outer_view result (outer_at bytes.now) }
+    ensures read { DecodesAs outer_view result (outer_at bytes.now) }
     ensures size { IfOk result (λ outer. outer.size ≤ length bytes.now) }
     ensures some { IfOk result (λ outer. 0 < outer.size) }
     ensures most { IfOk result (λ outer. outer.size ≤ 359) }
@@ -81,7 +81,7 @@ fn outer_at(bytes: &[u8]) -> Result<Outer<'_>, DerFault>
 /// Returns a view of the APDU of this type whose contents are all of `inside`.
 #[tactic(auto, unfolding(crate::specs::ShortForm::inside_of))]
 fn inside_of<'a>(apdu_type: ApduType, inside: &mut Cursor<'a>) -> Result<ApduView<'a>, DerFault>
-    ensures { Finds (λ apdu. apdu) result (inside_of apdu_type inside.old) }
+    ensures { DecodesAs (λ apdu. apdu) result (inside_of apdu_type inside.old) }
 {
     inside.version(tags::VERSION)?;
     let mut id = inside.element_at(tags::TRANSACTION_ID)?;
@@ -103,7 +103,7 @@ fn inside_of<'a>(apdu_type: ApduType, inside: &mut Cursor<'a>) -> Result<ApduVie
 /// Returns a view of the body of this type whose further fields are all of `inside`.
 #[tactic(auto, unfolding(crate::specs::ShortForm::body_of))]
 fn body_of<'a>(apdu_type: ApduType, inside: &mut Cursor<'a>) -> Result<BodyView<'a>, DerFault>
-    ensures read { Finds body_in result (body_of apdu_type inside.old) }
+    ensures read { DecodesAs body_in result (body_of apdu_type inside.old) }
     ensures item { IfOk result (λ body. HasItem (body_in body)) }
 {
     match read_body(apdu_type, inside) {

@@ -3,9 +3,9 @@
 ghost use Rattle.std.specs.Prelude.{◌≡◌, ◌+◌, ◌-◌, ◌≤◌, [], ◌∷◌, ◌++◌, length, take, min, IfOk, IsOk, OnOk};
 ghost use Rattle.ill_der.specs.ShortForm.{apdu_at};
 ghost use Rattle.ill_der.specs.Stream.{IsUnfinished};
-ghost use Rattle.ill_der.specs.Feed.{Unread, Leaves, Pushes, fault_of, end_of};
+ghost use Rattle.ill_der.specs.Feed.{FeedState, Leaves, Pushes, fault_of, end_of};
 ghost use Rattle.ill_der.specs.Handling.{HandlesEach};
-ghost use Rattle.ill_der.specs.FeedView.{held_of, closing, Holds, Fills, GoesOn, Keeps};
+ghost use Rattle.ill_der.specs.FeedView.{held_of, closing, Holds, Fills, HandlesRest, CollectsApdu};
 
 use crate::apdu_view::ApduView;
 use crate::fault::DerFault;
@@ -29,7 +29,7 @@ pub struct Feed {
 }
 
 impl Model for Feed {
-    ghost Value = { Unread };
+    ghost Value = { FeedState };
 
     ghost view = { λ f. held_of f.closed (take f.size f.buffer) };
 
@@ -157,7 +157,7 @@ impl Feed {
         handler: &mut H,
     ) -> Result<Option<DerFault>, H::Fault>
         requires { IsOk self.old }
-        ensures { GoesOn H.handles self.old bytes.now (handler.old, context.old) result self.new
+        ensures { HandlesRest H.handles self.old bytes.now (handler.old, context.old) result self.new
             (handler.new, context.new) }
     {
         match handle_all(self.alloc, bytes, context, handler) {
@@ -218,7 +218,7 @@ struct Collector {
 impl Handler<()> for Collector {
     type Fault = OutOfMemory;
 
-    ghost handles = { Keeps };
+    ghost handles = { CollectsApdu };
 
     fn handle(
         &mut self,

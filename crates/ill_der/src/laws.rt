@@ -10,7 +10,7 @@ ghost use Rattle.ill_values.specs.Types.{type_of};
 ghost use Rattle.ill_der.specs.ShortForm.{spelling, apdu_at};
 ghost use Rattle.ill_der.specs.Stream.{IfShort};
 ghost use Rattle.std.specs.List.{concat};
-ghost use Rattle.ill_der.specs.Feed.{Unread, Feeds, FeedsAll};
+ghost use Rattle.ill_der.specs.Feed.{FeedState, Feeds, FeedsAll};
 ghost use Rattle.ill_der.specs.Laws.{IsBytes, BeginsWithOne};
 
 /// Each APDU in range is read from its encoding, whatever bytes follow. So `decode` returns the APDU that
@@ -83,14 +83,14 @@ pub fn short_has_the_size()
 
 /// Two pushes, one after the other, give the APDUs and the feed that one push of both pieces gives.
 pub fn two_pushes()
-    ensures { (old middle new : Unread) (prefix piece : List ℕ) (first more : List Apdu) →
+    ensures { (old middle new : FeedState) (prefix piece : List ℕ) (first more : List Apdu) →
         Feeds old prefix first middle → Feeds middle piece more new →
         Feeds old (prefix ++ piece) (first ++ more) new }
 {}
 
 /// For all ways to cut bytes into pieces, an empty feed gives equal APDUs and becomes equal feeds.
 pub fn any_cut()
-    ensures { (pieces others : List (List ℕ)) (a b : List Apdu) (x y : Unread) →
+    ensures { (pieces others : List (List ℕ)) (a b : List Apdu) (x y : FeedState) →
         concat pieces ≡ concat others → FeedsAll (Ok []) pieces a x → FeedsAll (Ok []) others b y →
         (a ≡ b) × (x ≡ y) }
 {

@@ -32,13 +32,13 @@ use Rattle.ill_saved.specs.declared.side.Action.{Action}
 use Rattle.ill_saved.specs.declared.fault.DeskFault.{DeskFault}
 use Rattle.ill_saved.specs.declared.fault.DeskFault.TheVariants as faults
 use Rattle.ill_saved.specs.declared.fault.RecordFault.{RecordFault}
-use Rattle.ill_saved.specs.Side.{issued_of, txn_of, role_of, idle_side, is_idle, role_for, begins, IsConsistent, IsStep, acts}
-use Rattle.ill_saved.specs.Side.{takes, takes_memory, Acts, Takes, Follows, same as follows_itself, further as one_further}
+use Rattle.ill_saved.specs.Side.{issued_of, txn_of, role_of, idle_side, is_idle, role_for, begins, IsConsistent, IsSideTransition, acts}
+use Rattle.ill_saved.specs.Side.{takes, takes_memory, Acts, Takes, IsAfterTransitions, same as follows_itself, further as one_further}
 use Rattle.ill_saved.specs.Side.{IsPrefix}
 use Rattle.ill_saved.specs.Faults.{of_core}
 use Rattle.ill_saved.specs.Ranges.{Each, IsSide}
 use Rattle.ill_saved.specs.Sides.{SidesOf, is_same_role, most_sides, found_by, put_by, side_with, put_refusal}
-use Rattle.ill_saved.specs.Sides.{put_last as put_side, OnlyThat}
+use Rattle.ill_saved.specs.Sides.{put_last as put_side, ChangesOnlySideOf}
 use Rattle.ill_der.specs.Format.{◌>>=◌}
 use Rattle.ill_der.specs.Laws.{IsBytes}
 use Rattle.ill_saved.specs.Records.{record_at, record_spelling}
@@ -46,8 +46,8 @@ use Rattle.ill_saved.specs.RecordsV2.{AreSides, alone, read_alone, is_version_1,
 use Rattle.ill_saved.specs.Holdings.{DeskEntry, DeskActs, DeskTakesApdu, IsBacked, IsBackedBy, IsBackedByRead, IsRecordOf}
 use Rattle.ill_saved.specs.Holdings.{StaysBacked, landed_live, map_ok, whole}
 use Rattle.ill_saved.specs.ManySides.{DeskContents, held_of, counts, txn_held, idle_held, found_or, held_for, with_held}
-use Rattle.ill_saved.specs.ManySides.{sides_held, whole_of, no_sides, is_own, held_or_begun, reached, acted as acted_by}
-use Rattle.ill_saved.specs.ManySides.{acts_reached, desk_acts, took as took_by, takes_reached, desk_takes, many_sides, FirstActs}
+use Rattle.ill_saved.specs.ManySides.{sides_held, whole_of, no_sides, is_own, held_or_begun, side_for_call, acted as acted_by}
+use Rattle.ill_saved.specs.ManySides.{acts_reached, desk_acts, contents_after_message as took_by, takes_reached, desk_takes, many_sides, FirstActs}
 use Rattle.ill_saved.specs.ManySides.{FirstTakes, side_for, AreBackedBy, AreBackable, ManyBack}
 use Rattle.ill_saved.proofs.Desks.{RowsGrow, RefusalsStay, core_answer, itself_backs, no_less, idle_consistent}
 use Rattle.ill_saved.proofs.DeskEntry.{new_to, idle_txn, idle_role, acts_row, takes_row, found_plainly}
@@ -243,7 +243,7 @@ pub idle_of_txn : (role : Role) (txn : Qualifiers) → txn_of (idle_side role tx
 idle_of_txn role txn = search rules
 
 -- If `landed` backs a side, it backs the side after a transition.
-backed_on : (landed old new : Side) (released : ℕ) → IsStep old new → IsBackedBy landed old released
+backed_on : (landed old new : Side) (released : ℕ) → IsSideTransition old new → IsBackedBy landed old released
     → IsBackedBy landed new released
 backed_on landed old new released row backed =
     record {
@@ -264,7 +264,7 @@ found_backs landed idle new old found false backs backed = backed
 
 -- If landed sides back the desk's contents, they back them after a transition of one side.
 pub row_backs_held : (landed : SidesOf) (live : DeskContents) (held : DeskEntry) (new : Side)
-    → held_for (txn_of new) live ≡ held → IsStep held.side new → AreBackedBy landed live
+    → held_for (txn_of new) live ≡ held → IsSideTransition held.side new → AreBackedBy landed live
     → AreBackedBy landed (with_held live (record { side = new; released = held.released }))
 row_backs_held landed live held new is row backed = record {
   role = backed.role;
@@ -284,7 +284,7 @@ row_backs_held landed live held new is row backed = record {
 
 -- If the sides that were read back the desk's contents, they back them after a transition of one side.
 pub row_backs_all : (landed : Result DeskContents RecordFault) (live : DeskContents) (held : DeskEntry) (new : Side)
-    → held_for (txn_of new) live ≡ held → IsStep held.side new → IsBackedByRead ManyBack landed live
+    → held_for (txn_of new) live ≡ held → IsSideTransition held.side new → IsBackedByRead ManyBack landed live
     → IsBackedByRead ManyBack landed (with_held live (record { side = new; released = held.released }))
 row_backs_all (Ok landed) live held new is row backed = row_backs_held (sides_held landed) live held new is row backed
 row_backs_all (Err fault) live held new is row backed = backed
@@ -328,7 +328,7 @@ module _ (live : DeskContents) (txn : Qualifiers) (held : DeskEntry) (after : Si
   acts_there : (action : Action) → is_same_role live.role (role_for action) ≡ true
       → desk_acts live txn action ≡ acted_by live held (acts held.side action)
   acts_there action fits =
-      ap (λ b. cond b (acts_reached live action (reached live txn (begins action))) (Err (faults.Core refusals.WrongRole))) fits
+      ap (λ b. cond b (acts_reached live action (side_for_call live txn (begins action))) (Err (faults.Core refusals.WrongRole))) fits
       ∙ ap (λ f. acts_reached live action
       (held_or_begun (begins action) (nat_lt (length live.held) most_sides) (idle_held live.role txn) f)) found
 
@@ -348,7 +348,7 @@ module _ (live : DeskContents) (a : Apdu) (held : DeskEntry) (after : Side)
   takes_there : desk_takes live a ≡ took_by live held (takes held.side a)
   takes_there =
       ap (λ b. cond b (Err (faults.Core refusals.WrongRole), live)
-      (takes_reached live a (reached live a.txn (is_ill_request a.body)))) other
+      (takes_reached live a (side_for_call live a.txn (is_ill_request a.body)))) other
       ∙ ap (λ f. takes_reached live a
       (held_or_begun (is_ill_request a.body) (nat_lt (length live.held) most_sides) (idle_held live.role a.txn) f)) found
 
@@ -455,7 +455,7 @@ none_with live txn none = found_mapped txn_held txn_of side_of (λ held. refl) t
 
 -- A side that has begun in a transaction that is not held.
 module _ (grows : RowsGrow) (live : DeskContents) (txn : Qualifiers) (none : found_by txn_held txn live.held ≡ None)
-    (room : nat_lt (length live.held) most_sides ≡ true) (side : Side) (row : IsStep (idle_side live.role txn) side)
+    (room : nat_lt (length live.held) most_sides ≡ true) (side : Side) (row : IsSideTransition (idle_side live.role txn) side)
     (begun : is_idle side ≡ false) where
   -- The new side is of `txn`.
   first_txn : txn_of side ≡ txn
@@ -475,8 +475,8 @@ module _ (grows : RowsGrow) (live : DeskContents) (txn : Qualifiers) (none : fou
       (ap (λ n. nat_lt n most_sides) (length-map live.held side_of) ∙ room)
 
   -- The new side may be put, and a transition led to it from the idle side of its transaction.
-  pub first_may : (put_refusal (sides_held live) side ≡ None) × IsStep (idle_side live.role (txn_of side)) side
-  first_may = (first_put, subst (λ t. IsStep (idle_side live.role t) side) (sym first_txn) row)
+  pub first_may : (put_refusal (sides_held live) side ≡ None) × IsSideTransition (idle_side live.role (txn_of side)) side
+  first_may = (first_put, subst (λ t. IsSideTransition (idle_side live.role t) side) (sym first_txn) row)
 
 -- If an idle side takes an ILL-Request, it is not idle after it.
 pub first_begins : ((y : ResponderRecord) (a : Apdu) → is_ill_request a.body ≡ true → (responder_takes y a).0 ≡ Ok Taken
@@ -505,17 +505,17 @@ module _ (role : Role) (sides : List Side) (counted : List ℕ) (as_many : lengt
   side_held txn side there = some_mapped _ side (sym there ∙ found_side txn sides counted as_many)
 
   module _ (grows : RowsGrow) (txn : Qualifiers) {A : Type 0} (Does : Side → A → Side → Type 0)
-      (rows : (old new : Side) (answer : A) → Does old answer new → IsStep old new ⊎ (new ≡ old)) where
+      (rows : (old new : Side) (answer : A) → Does old answer new → IsSideTransition old new ⊎ (new ≡ old)) where
     -- A side keeps its transaction in a call that `Does` describes.
     same_txn : (side after : Side) (answer : A) → Does side answer after → txn ≡ txn_of side → txn ≡ txn_of after
     same_txn side after answer does of = by (rows side after answer does)
       where
-        by : IsStep side after ⊎ (after ≡ side) → txn ≡ txn_of after
+        by : IsSideTransition side after ⊎ (after ≡ side) → txn ≡ txn_of after
         by (inl row) = of ∙ sym (idle_txn side) ∙ ap txn_of (sym (grows side after row).0) ∙ idle_txn after
         by (inr same) = of ∙ ap txn_of (sym same)
 
     -- If `Does` describes a call of the side of `txn` alone, the desk holds the side after it. The count is unchanged.
-    pub changed_held : (answer : A) (new : SidesOf) → OnlyThat Does txn (record { role = role; sides = sides }) (Some answer) new
+    pub changed_held : (answer : A) (new : SidesOf) → ChangesOnlySideOf Does txn (record { role = role; sides = sides }) (Some answer) new
         → (held : DeskEntry) × (after : Side) × (found_by txn_held txn (held_of sides counted) ≡ Some held)
         × Does held.side answer after × (txn ≡ txn_of after)
         × (record { role = new.role; held = held_of new.sides counted }
@@ -549,7 +549,7 @@ module _ (role : Role) (sides : List Side) (counted : List ℕ) (as_many : lengt
         → IsBackedByRead ManyBack landed (with_held held_so (record { side = after; released = held.released }))
     changed_backs landed held after answer found does of backed = by (rows held.side after answer does)
       where
-        by : IsStep held.side after ⊎ (after ≡ held.side)
+        by : IsSideTransition held.side after ⊎ (after ≡ held.side)
             → IsBackedByRead ManyBack landed (with_held held_so (record { side = after; released = held.released }))
         by (inl row) = row_backs_all landed held_so held after
             (ap (λ t. held_for t held_so) (sym of) ∙ ap (found_or (idle_held role txn)) found) row backed
@@ -562,7 +562,7 @@ module _ (role : Role) (sides : List Side) (counted : List ℕ) (as_many : lengt
         → AreBackedBy landed (with_held held_so (record { side = after; released = held.released }))
     changed_backs_by landed held after answer found does of backed = by (rows held.side after answer does)
       where
-        by : IsStep held.side after ⊎ (after ≡ held.side)
+        by : IsSideTransition held.side after ⊎ (after ≡ held.side)
             → AreBackedBy landed (with_held held_so (record { side = after; released = held.released }))
         by (inl row) = row_backs_held landed held_so held after
             (ap (λ t. held_for t held_so) (sym of) ∙ ap (found_or (idle_held role txn)) found) row backed
@@ -570,7 +570,7 @@ module _ (role : Role) (sides : List Side) (counted : List ℕ) (as_many : lengt
 
     -- All bytes that back the desk's contents back them after a call of one side that `Does` describes.
     pub still_backed : (answer : A) (new : SidesOf)
-        → OnlyThat Does txn (record { role = role; sides = sides }) (Some answer) new
+        → ChangesOnlySideOf Does txn (record { role = role; sides = sides }) (Some answer) new
         → StaysBacked many_sides ManyBack held_so (record { role = new.role; held = held_of new.sides counted })
     still_backed answer new only landed backed =
         let to = changed_held answer new only in
@@ -581,7 +581,7 @@ module _ (role : Role) (sides : List Side) (counted : List ℕ) (as_many : lengt
 
     -- If some sides back the desk's contents, they back them after a call of one side that `Does` describes.
     pub still_backable : (answer : A) (new : SidesOf)
-        → OnlyThat Does txn (record { role = role; sides = sides }) (Some answer) new
+        → ChangesOnlySideOf Does txn (record { role = role; sides = sides }) (Some answer) new
         → AreBackable held_so → AreBackable (record { role = new.role; held = held_of new.sides counted })
     still_backable answer new only backed =
         let to = changed_held answer new only in
@@ -590,7 +590,7 @@ module _ (role : Role) (sides : List Side) (counted : List ℕ) (as_many : lengt
   -- If the side of `txn` alone answers an action as `Acts` says, the desk answers it as `DeskActs` says.
   pub desk_acts_so : (grows : RowsGrow) (txn : Qualifiers) (action : Action) (answer : Result (Unit {0}) Refusal) (new : SidesOf)
       → is_same_role role (role_for action) ≡ true
-      → OnlyThat (λ old answer new. Acts old action answer new) txn (record { role = role; sides = sides }) (Some answer) new
+      → ChangesOnlySideOf (λ old answer new. Acts old action answer new) txn (record { role = role; sides = sides }) (Some answer) new
       → DeskActs many_sides held_so txn action (core_answer answer) (record { role = new.role; held = held_of new.sides counted })
   desk_acts_so grows txn action answer new fits only =
       let to = changed_held grows txn (λ old answer new. Acts old action answer new)
@@ -601,7 +601,7 @@ module _ (role : Role) (sides : List Side) (counted : List ℕ) (as_many : lengt
   -- If the side of an APDU alone answers it as `Takes` says, the desk answers as `DeskTakesApdu` says.
   pub desk_takes_so : (grows : RowsGrow) → RefusalsStay → (a : Apdu) (answer : Result Taking Refusal) (new : SidesOf)
       → is_own role a.body ≡ false
-      → OnlyThat (λ old answer new. Takes old a answer new) a.txn (record { role = role; sides = sides }) (Some answer) new
+      → ChangesOnlySideOf (λ old answer new. Takes old a answer new) a.txn (record { role = role; sides = sides }) (Some answer) new
       → DeskTakesApdu many_sides held_so a (core_answer answer) (record { role = new.role; held = held_of new.sides counted })
   desk_takes_so grows stay a answer new other only =
       let to = changed_held grows a.txn (λ old answer new. Takes old a answer new)
@@ -629,7 +629,7 @@ module _ (role : Role) (sides : List Side) (counted : List ℕ) (as_many : lengt
 
   -- All bytes that back the desk's contents back them with a side that began by a transition.
   pub more_backed : RowsGrow → (new : SidesOf)
-      → new ≡ put_side (record { role = role; sides = sides }) side → IsStep (idle_side role (txn_of side)) side
+      → new ≡ put_side (record { role = role; sides = sides }) side → IsSideTransition (idle_side role (txn_of side)) side
       → StaysBacked many_sides ManyBack (held_so role sides counted as_many)
       (record { role = new.role; held = held_of new.sides (counted ++ 0 ∷ []) })
   more_backed grows new put row landed backed =
@@ -642,7 +642,7 @@ module _ (role : Role) (sides : List Side) (counted : List ℕ) (as_many : lengt
 
   -- If some sides back the desk's contents, they back them with a side that began by a transition.
   pub more_backable : RowsGrow → (new : SidesOf) → new ≡ put_side (record { role = role; sides = sides }) side
-      → IsStep (idle_side role (txn_of side)) side
+      → IsSideTransition (idle_side role (txn_of side)) side
       → AreBackable (held_so role sides counted as_many)
       → AreBackable (record { role = new.role; held = held_of new.sides (counted ++ 0 ∷ []) })
   more_backable grows new put row backed = (
@@ -717,7 +717,7 @@ whole_backable all counted each whole =
     (all, subst (AreBackedBy all) (sym (whole_held all counted whole)) (whole_backed all each))
 
 -- If some sides back the desk's contents, at most the issued messages are released.
-pub few_released : ((old new : Side) → Follows old new → IsPrefix (issued_of old) (issued_of new))
+pub few_released : ((old new : Side) → IsAfterTransitions old new → IsPrefix (issued_of old) (issued_of new))
     → (live : DeskContents) (txn : Qualifiers) → AreBackable live
     → (held_for txn live).released ≤ length (issued_of (held_for txn live).side)
 few_released follows live txn backed =
@@ -752,7 +752,7 @@ SidesReadAgain = (all : SidesOf) → AreSides all → records_at (sides_spelling
 
 -- The law of transitions: if they lead from `old` to `new`, the messages of `old` are a prefix of those of `new`.
 abbrev FollowsIssues : Type 0
-FollowsIssues = (old new : Side) → Follows old new → IsPrefix (issued_of old) (issued_of new)
+FollowsIssues = (old new : Side) → IsAfterTransitions old new → IsPrefix (issued_of old) (issued_of new)
 
 module _ (follows : FollowsIssues) (all : SidesOf) (counted : List ℕ) (as_many : length counted ≡ length all.sides)
     (each : Each IsConsistent all.sides) where

@@ -23,8 +23,8 @@ use Rattle.ill_values.specs.declared.apdu.Apdu.{Apdu}
 use Rattle.ill_core.specs.declared.refusal.Refusal.{Refusal}
 use Rattle.ill_core.specs.declared.refusal.Refusal.TheVariants as refusals
 use Rattle.ill_core.specs.declared.taking.Taking.{Taking}
-use Rattle.ill_saved.specs.Side.{idle_of, IsStep, acted, took, Acts, Takes}
-use Rattle.ill_saved.specs.Sides.{found_by, put_by, OnlyThat, OnlyThatEntry}
+use Rattle.ill_saved.specs.Side.{idle_of, IsSideTransition, acted, took, Acts, Takes}
+use Rattle.ill_saved.specs.Sides.{found_by, put_by, ChangesOnlySideOf, ChangesOnlyEntryOf}
 use Rattle.ill_saved.proofs.Desks.{RowsGrow}
 use Rattle.ill_saved.proofs.Finding.{apart_back, found_is, found_mapped, found_passes, keys_put, put_passes, not_true}
 use Rattle.ill_saved.specs.Sides.{SidesOf, AreFiled, side_with, is_same_role, is_begun, are_apart, most_sides, put_refusal, Puts}
@@ -296,32 +296,32 @@ module _ (role : Role) (entries : List (Qualifiers × Side))
 
 -- An action leads to the new side by a transition, or the side is unchanged.
 pub acts_row : (old new : Side) (action : Action) (answer : Result (Unit {0}) Refusal) → Acts old action answer new
-    → IsStep old new ⊎ (new ≡ old)
+    → IsSideTransition old new ⊎ (new ≡ old)
 acts_row old new action (Ok done) acts = inl (acted action acts)
 acts_row old new action (Err refusals.OutOfMemory) acts = inr acts.1
 acts_row old new action (Err refusal) acts = inr acts.1
 
 -- An APDU leads to the new side by a transition, or the side is unchanged.
 pub takes_row : (old new : Side) (a : Apdu) (answer : Result Taking Refusal) → Takes old a answer new
-    → IsStep old new ⊎ (new ≡ old)
+    → IsSideTransition old new ⊎ (new ≡ old)
 takes_row old new a (Err refusals.OutOfMemory) takes = inr takes.2
 takes_row old new a answer takes = inl (took a (ap (λ (r : Result Taking Refusal × Side). r.1) takes))
 
 -- The law of transitions: a side that is not idle is not idle after a transition.
 abbrev pub RowsStay : Type 0
-RowsStay = (old new : Side) → IsStep old new → is_idle old ≡ false → is_idle new ≡ false
+RowsStay = (old new : Side) → IsSideTransition old new → is_idle old ≡ false → is_idle new ≡ false
 
 -- A side after a transition, or unchanged, keeps its role and transaction and does not become idle.
-stays_by : RowsGrow → RowsStay → (old new : Side) → IsStep old new ⊎ (new ≡ old) → Stays old new
+stays_by : RowsGrow → RowsStay → (old new : Side) → IsSideTransition old new ⊎ (new ≡ old) → Stays old new
 stays_by grows begins old new (inl row) = record { idle = (grows old new row).0; begun = begins old new row }
 stays_by grows begins old new (inr same) = record { idle = ap idle_of same; begun = λ begun. ap is_idle same ∙ begun }
 
 module _ (grows : RowsGrow) (begins : RowsStay) {A : Type 0} (Does : Side → A → Side → Type 0)
-    (rows : (old new : Side) (answer : A) → Does old answer new → IsStep old new ⊎ (new ≡ old))
+    (rows : (old new : Side) (answer : A) → Does old answer new → IsSideTransition old new ⊎ (new ≡ old))
     (role : Role) (txn : Qualifiers) (entries : List (Qualifiers × Side))
     (filed : AreFiled (keys_of entries) (record { role = role; sides = values_of entries })) where
   -- If `Does` describes a call of the side of `txn` alone, the entries are filed after it.
-  pub filed_on : (answer : Option A) (new : List (Qualifiers × Side)) → OnlyThatEntry Does txn entries answer new
+  pub filed_on : (answer : Option A) (new : List (Qualifiers × Side)) → ChangesOnlyEntryOf Does txn entries answer new
       → AreFiled (keys_of new) (record { role = role; sides = values_of new })
   filed_on None new only = subst (λ es. AreFiled (keys_of es) (record { role = role; sides = values_of es })) (sym only.1) filed
   filed_on (Some answer) new (side, after, there, does, changed) =
@@ -329,8 +329,8 @@ module _ (grows : RowsGrow) (begins : RowsStay) {A : Type 0} (Does : Side → A 
       changed
 
   -- If one entry alone changes, the side of its transaction alone changes among the sides.
-  pub only_that : (answer : Option A) (new : List (Qualifiers × Side)) → OnlyThatEntry Does txn entries answer new
-      → OnlyThat Does txn (record { role = role; sides = values_of entries }) answer
+  pub only_that : (answer : Option A) (new : List (Qualifiers × Side)) → ChangesOnlyEntryOf Does txn entries answer new
+      → ChangesOnlySideOf Does txn (record { role = role; sides = values_of entries }) answer
       (record { role = role; sides = values_of new })
   only_that None new only = (
     sym (filed_with txn entries filed.keys) ∙ only.0,

@@ -48,7 +48,7 @@ use Rattle.ill_saved.specs.declared.side.Action.TheVariants as actions
 use Rattle.ill_saved.specs.declared.store.NextCall.{NextCall}
 use Rattle.ill_saved.specs.declared.store.NextCall.TheVariants as plans
 use Rattle.ill_saved.specs.Side.{issued_of, txn_of, is_idle, standing_of, back_to, is_asked, KeepsRequest, IsConsistent, idle_of}
-use Rattle.ill_saved.specs.Side.{idle_side, done_by, acts, takes, Acts, Takes, IsStep, IsPrefix, Grows, acted, took, Follows}
+use Rattle.ill_saved.specs.Side.{idle_side, done_by, acts, takes, Acts, Takes, IsSideTransition, IsPrefix, Grows, acted, took, IsAfterTransitions}
 use Rattle.ill_saved.specs.Side.{same, further}
 use Rattle.ill_saved.specs.Faults.{of_core, of_record}
 use Rattle.ill_saved.proofs.Records.{no_digest}
@@ -148,7 +148,7 @@ takes_grow rows (sides.Responder y) a =
     responder_grows y new (rows.responder_txn y a) (unfilled_grows y new a (rows.responder_issues y a))
 
 -- A side grows by each transition.
-pub row_grows : CoreRows → (old new : Side) → IsStep old new → Grows old new
+pub row_grows : CoreRows → (old new : Side) → IsSideTransition old new → Grows old new
 row_grows rows old new (acted action e) = acts_grow rows old new action e
 row_grows rows old new (took a e) = subst (Grows old) e (takes_grow rows old a)
 
@@ -187,17 +187,17 @@ takes_keep_request rows (sides.Responder y) a = keeps_request y (responder_deliv
 takes_keep_request rows (sides.Requester x) a = never_asked x (takes (sides.Requester x) a).1
 
 -- Each transition keeps the request.
-pub row_keeps_request : RequestRows → (old new : Side) → IsStep old new → KeepsRequest old new
+pub row_keeps_request : RequestRows → (old new : Side) → IsSideTransition old new → KeepsRequest old new
 row_keeps_request rows old new (acted action e) = acts_keep_request rows old new action e
 row_keeps_request rows old new (took a e) = subst (KeepsRequest old) e (takes_keep_request rows old a)
 
 -- The law of transitions: a side grows by each transition.
 abbrev pub RowsGrow : Type 0
-RowsGrow = (old new : Side) → IsStep old new → Grows old new
+RowsGrow = (old new : Side) → IsSideTransition old new → Grows old new
 
 -- The law of requests: each transition keeps the request.
 abbrev pub RowsKeepRequest : Type 0
-RowsKeepRequest = (old new : Side) → IsStep old new → KeepsRequest old new
+RowsKeepRequest = (old new : Side) → IsSideTransition old new → KeepsRequest old new
 
 -- The laws of ill_core on IDLE: no wish or deed leads to it, and no APDU leads a requester back.
 pub record BeginningRows : Type 0 where
@@ -226,7 +226,7 @@ takes_stay rows keeps (sides.Responder y) a begun =
     not_true _ (keeps (sides.Responder y) (takes (sides.Responder y) a).1 (took a refl) (ap not begun)).0
 
 -- A side that is not idle is not idle after a transition.
-pub rows_stay : BeginningRows → RowsKeepRequest → (old new : Side) → IsStep old new → is_idle old ≡ false → is_idle new ≡ false
+pub rows_stay : BeginningRows → RowsKeepRequest → (old new : Side) → IsSideTransition old new → is_idle old ≡ false → is_idle new ≡ false
 rows_stay rows keeps old new (acted action e) begun = acts_begin rows old new action e
 rows_stay rows keeps old new (took a e) begun = subst (λ side. is_idle side ≡ false) e (takes_stay rows keeps old a begun)
 
@@ -259,7 +259,7 @@ prefix_of_prefix old between new before after =
     (before.0 ++ after.0, after.1 ∙ (ap (λ l. l ++ after.0) before.1 ∙ append_assoc old before.0 after.0))
 
 -- If transitions lead from `old` to `new`, the issued messages of `old` are a prefix of those of `new`.
-pub follows_issues : RowsGrow → (old new : Side) → Follows old new → IsPrefix (issued_of old) (issued_of new)
+pub follows_issues : RowsGrow → (old new : Side) → IsAfterTransitions old new → IsPrefix (issued_of old) (issued_of new)
 follows_issues grows old _ same = none_more (issued_of old) (issued_of old) refl
 follows_issues grows old _ (further between new follows row) =
     prefix_of_prefix (issued_of old) (issued_of between) (issued_of new) (follows_issues grows old between follows)
@@ -272,19 +272,19 @@ abbrev entry : Side → ℕ → DeskEntry
 entry side released = record { side = side; released = released }
 
 -- If a landed side backs the live one, it backs it after a transition.
-step_backed : (landed : DeskEntry) (old new : Side) (released : ℕ) → IsStep old new
+step_backed : (landed : DeskEntry) (old new : Side) (released : ℕ) → IsSideTransition old new
     → OneBacks landed (entry old released) → OneBacks landed (entry new released)
 step_backed landed old new released row backed =
     record { consistent = backed.consistent; follows = further old new backed.follows row; has-released = backed.has-released }
 
 -- If the side that was read backs the live one, it backs it after a transition.
-read_backs : (read : Result DeskEntry RecordFault) (old new : Side) (released : ℕ) → IsStep old new
+read_backs : (read : Result DeskEntry RecordFault) (old new : Side) (released : ℕ) → IsSideTransition old new
     → IsBackedByRead OneBacks read (entry old released) → IsBackedByRead OneBacks read (entry new released)
 read_backs (Ok landed) old new released row backed = step_backed landed old new released row backed
 read_backs (Err fault) old new released row backed = backed
 
 -- All landed bytes that back the live side back it after a transition.
-row_backs : RowsGrow → (old new : Side) (released : ℕ) → IsStep old new
+row_backs : RowsGrow → (old new : Side) (released : ℕ) → IsSideTransition old new
     → StaysBacked one_side OneBacks (entry old released) (entry new released)
 row_backs grows old new released row None backed =
     subst (λ side. OneBacks (whole side) (entry new released)) (sym (grows old new row).0)
@@ -364,13 +364,13 @@ abbrev pub Rules : LandedBytes → Side → ℕ → Type 0
 Rules landed_record live released = (released ≤ length (issued_of live)) × HoldsReleased landed_record live released
 
 -- The new side satisfies the rules, and all bytes that back the old side back it.
-abbrev pub StaysRight : LandedBytes → Side → Side → ℕ → Type 0
-StaysRight landed_record old new released =
+abbrev pub SatisfiesRulesAfter : LandedBytes → Side → Side → ℕ → Type 0
+SatisfiesRulesAfter landed_record old new released =
     Rules landed_record new released × StaysBacked one_side OneBacks (entry old released) (entry new released)
 
--- A held side satisfies `StaysRight` after a transition.
+-- A held side satisfies `SatisfiesRulesAfter` after a transition.
 row_rules : RowsGrow → RowsKeepRequest → (landed_record : LandedBytes) (old new : Side) (released : ℕ)
-    → IsStep old new → Rules landed_record old released → StaysRight landed_record old new released
+    → IsSideTransition old new → Rules landed_record old released → SatisfiesRulesAfter landed_record old new released
 row_rules grows keeps landed_record old new released row rules =
     let more = grows old new row in (
       (
@@ -380,16 +380,16 @@ row_rules grows keeps landed_record old new released row rules =
       row_backs grows old new released row,
     )
 
--- A held side satisfies `StaysRight` if it does not change.
+-- A held side satisfies `SatisfiesRulesAfter` if it does not change.
 same_rules : (landed_record : LandedBytes) (old new : Side) (released : ℕ) → new ≡ old
-    → Rules landed_record old released → StaysRight landed_record old new released
+    → Rules landed_record old released → SatisfiesRulesAfter landed_record old new released
 same_rules landed_record old new released e rules =
-    subst (λ side. StaysRight landed_record old side released) (sym e) (rules, λ landed backed. backed)
+    subst (λ side. SatisfiesRulesAfter landed_record old side released) (sym e) (rules, λ landed backed. backed)
 
--- A held side satisfies `StaysRight` after an action, whatever the answer is.
+-- A held side satisfies `SatisfiesRulesAfter` after an action, whatever the answer is.
 pub acts_rules : RowsGrow → RowsKeepRequest
     → (landed_record : LandedBytes) (old new : Side) (released : ℕ) (action : Action) (answer : Result (Unit {0}) Refusal)
-    → Acts old action answer new → Rules landed_record old released → StaysRight landed_record old new released
+    → Acts old action answer new → Rules landed_record old released → SatisfiesRulesAfter landed_record old new released
 acts_rules grows keeps landed_record old new released action (Ok done) acts rules =
     row_rules grows keeps landed_record old new released (acted action acts) rules
 acts_rules grows keeps landed_record old new released action (Err refusals.OutOfMemory) acts rules =
@@ -397,10 +397,10 @@ acts_rules grows keeps landed_record old new released action (Err refusals.OutOf
 acts_rules grows keeps landed_record old new released action (Err refusal) acts rules =
     same_rules landed_record old new released acts.1 rules
 
--- A held side satisfies `StaysRight` after an APDU, whatever the answer is.
+-- A held side satisfies `SatisfiesRulesAfter` after an APDU, whatever the answer is.
 pub takes_rules : RowsGrow → RowsKeepRequest
     → (landed_record : LandedBytes) (old new : Side) (released : ℕ) (a : Apdu) (answer : Result Taking Refusal)
-    → Takes old a answer new → Rules landed_record old released → StaysRight landed_record old new released
+    → Takes old a answer new → Rules landed_record old released → SatisfiesRulesAfter landed_record old new released
 takes_rules grows keeps landed_record old new released a (Err refusals.OutOfMemory) takes rules =
     same_rules landed_record old new released takes.2 rules
 takes_rules grows keeps landed_record old new released a answer takes rules =

@@ -27,7 +27,7 @@ use Rattle.ill_saved.specs.Sides.{SidesOf, most_sides, may_be_held}
 use Rattle.ill_saved.specs.Layout.{sized, counted_by, spell_all, ended}
 use Rattle.ill_saved.specs.Records.{role, role_octet, all_of, record_at, record_spelling}
 use Rattle.ill_saved.specs.RecordsV2.{version_2, two_octets, few_sides, side_count, bad_at, one_record, part, role_and_sides}
-use Rattle.ill_saved.specs.RecordsV2.{body_of, sides_spelling, body, unsealed, judged_together, sides_at, read_alone}
+use Rattle.ill_saved.specs.RecordsV2.{body_of, sides_spelling, body, unsealed, consistent_sides, sides_at, read_alone}
 use Rattle.ill_saved.specs.RecordsV2.{is_version_1, records_at, AreSides}
 use Rattle.ill_saved.specs.Ranges.{IsSide}
 use Rattle.ill_saved.proofs.Steps.{bind_ok, ok_is, passed, went_on, IsBytes-take, IsBytes-rest}
@@ -153,7 +153,7 @@ sides_again one held are =
     let read = (role_and_sides_is one).again (held.role, held.sides) 4 [] (tt, (are.each, are.few)) in
     let whole : role_and_sides.read (cursor_at 4 (octets_of held)) ≡ Ok ((held.role, held.sides), cursor_at read.0 []) =
     ap (λ (octets : List ℕ). role_and_sides.read (cursor_at 4 octets)) (sym (append-nil (octets_of held))) ∙ read.1 in
-    ap (λ r. judged_together (all_of r)) whole ∙ ap (λ keeps. cond keeps (Ok held) (Err faults.Inconsistent)) are.held
+    ap (λ r. consistent_sides (all_of r)) whole ∙ ap (λ keeps. cond keeps (Ok held) (Err faults.Inconsistent)) are.held
 
 -- If two lists of bytes are equal, `bytes_eq` of them is true.
 same_bytes : (a b : List ℕ) → a ≡ b → bytes_eq a b ≡ true
@@ -202,8 +202,8 @@ together_is : (keeps : Bool) (found held : SidesOf) → cond keeps (Ok found) (E
 together_is true found held e = (refl, ok_is found held e)
 together_is false found held e = absurd cc
 
--- If `judged_together` gives sides, they were read and one desk may hold them together.
-judged_is : (r : Result (Role × List Side) LayoutFault) (held : SidesOf) → judged_together r ≡ Ok held
+-- If `consistent_sides` gives sides, they were read and one desk may hold them together.
+judged_is : (r : Result (Role × List Side) LayoutFault) (held : SidesOf) → consistent_sides r ≡ Ok held
     → (r ≡ Ok (held.role, held.sides)) × (may_be_held held ≡ true)
 judged_is (Ok found) held e =
     let both = together_is (may_be_held (record { role = found.0; sides = found.1 })) (record { role = found.0; sides = found.1 })

@@ -17,7 +17,7 @@ use Rattle.ill_values.specs.Types.{type_of}
 use Rattle.ill_der.specs.ShortForm.{spelling}
 use Rattle.ill_core.specs.declared.state.State.{State}
 use Rattle.ill_core.specs.Bodies.{is_ill_request, is_requesters}
-use Rattle.ill_core.specs.Issued.{has}
+use Rattle.ill_core.specs.Issued.{has_message_with}
 use Rattle.ill_core.specs.Requester.{begins_with_request}
 use Rattle.ill_saved.specs.declared.side.Side.{Side}
 use Rattle.ill_saved.specs.declared.side.Side.TheVariants as sides
@@ -53,12 +53,12 @@ opposite true e = absurd cc
 opposite false e = refl
 
 -- If no APDU in the list is an ILL-Request, their encodings have at most 162 bytes each.
-others_bound : Bounds → (apdus : List Apdu) → Each IsApdu apdus → has is_ill_request apdus ≡ false
+others_bound : Bounds → (apdus : List Apdu) → Each IsApdu apdus → has_message_with is_ill_request apdus ≡ false
     → length (spell_all spelling apdus) ≤ 162 * length apdus
 unfolding spell_all Each
 others_bound bounds [] are none = omega arith
 others_bound bounds (a ∷ apdus) are none =
-    let parts = either (is_ill_request a.body) (has is_ill_request apdus) none in
+    let parts = either (is_ill_request a.body) (has_message_with is_ill_request apdus) none in
     omega (
       arith,
       bounds.shorter a are.0 (other_type a.body parts.0),
@@ -72,11 +72,11 @@ requester_issued_bound : Bounds → (apdus : List Apdu) → Each IsApdu apdus �
 unfolding spell_all Each
 requester_issued_bound bounds [] are begins = omega arith
 requester_issued_bound bounds (a ∷ apdus) are begins =
-    let parts = and_parts (is_ill_request a.body) (not (has is_ill_request apdus)) begins in
+    let parts = and_parts (is_ill_request a.body) (not (has_message_with is_ill_request apdus)) begins in
     omega (
       arith,
       bounds.longest a are.0,
-      others_bound bounds apdus are.1 (opposite (has is_ill_request apdus) parts.1),
+      others_bound bounds apdus are.1 (opposite (has_message_with is_ill_request apdus) parts.1),
       length-append (spelling a) (spell_all spelling apdus),
     )
 
@@ -86,7 +86,7 @@ not_own (bodies.IllRequest expiry text) e = absurd cc
 not_own _ e = refl
 
 -- If all APDUs are of a responder's type, none is an ILL-Request.
-none_requested : (apdus : List Apdu) → list_all (λ a. not (is_requesters a.body)) apdus ≡ true → has is_ill_request apdus ≡ false
+none_requested : (apdus : List Apdu) → list_all (λ a. not (is_requesters a.body)) apdus ≡ true → has_message_with is_ill_request apdus ≡ false
 none_requested [] role = refl
 none_requested (a ∷ apdus) role =
     let parts = and_parts (not (is_requesters a.body)) (list_all (λ a. not (is_requesters a.body)) apdus) role in

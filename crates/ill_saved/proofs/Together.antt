@@ -21,7 +21,7 @@ use Rattle.ill_saved.specs.Layout.{counted_by, read_all, ended}
 use Rattle.ill_saved.specs.Records.{role, heading, start, has_prefix, has_prefix_after, requester_fields, responder_fields}
 use Rattle.ill_saved.specs.Records.{requester_states, responder_states, read_fields, side_at, side_spelled, record_at}
 use Rattle.ill_saved.specs.Records.{begins_as_record, Decodes}
-use Rattle.ill_saved.specs.RecordsV2.{part, side_count, role_and_sides, unsealed, together, judged_together, sides_at, read_alone}
+use Rattle.ill_saved.specs.RecordsV2.{part, side_count, role_and_sides, unsealed, together, consistent_sides, sides_at, read_alone}
 use Rattle.ill_saved.specs.RecordsV2.{is_version_1, counts_any, has_sides, records_at, begins_as_records, PutsRead}
 use Rattle.ill_saved.proofs.Steps.{bind_ok}
 use Rattle.ill_saved.proofs.Records.{judged_ok}
@@ -176,8 +176,8 @@ all_held octets first after_role after_count last of_role n sides x result begun
     ap (λ r. r >>= λ a. (counted_by side_count part).read a.1 >>= λ b. Ok ((a.0, b.0), b.1)) role_read
     ∙ ap (λ r. r >>= λ b. Ok ((of_role, b.0), b.1)) counted in
     let same : sides_at octets ≡ together (record { role = of_role; sides = sides }) =
-    ap (λ r. judged_together (r >>= λ found. ended found.1 >>= λ _. Ok found.0)) whole
-    ∙ ap (λ r. judged_together (r >>= λ _. Ok (of_role, sides))) at_end in
+    ap (λ r. consistent_sides (r >>= λ found. ended found.1 >>= λ _. Ok found.0)) whole
+    ∙ ap (λ r. consistent_sides (r >>= λ _. Ok (of_role, sides))) at_end in
     let begins : has_sides octets ≡ nat_lt 0 (length sides) =
     count_tells octets first after_role after_count of_role n begun read_role read_count ∙ ap (nat_lt 0) (sym so_many) in
     subst (λ r. Decodes r (has_sides octets) result) (sym same)

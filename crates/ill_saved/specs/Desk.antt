@@ -10,7 +10,7 @@ use Rattle.ill_saved.specs.declared.fault.DeskFault.{DeskFault}
 use Rattle.ill_saved.specs.declared.fault.DeskFault.TheVariants.{Bytes, Trailing, Exists, NoRecord, Store, Saved, OutOfMemory}
 use Rattle.ill_saved.specs.Holdings.{Effects, DeskTakesApdu, IsReadFault}
 use Rattle.ill_saved.specs.Records.{Decodes}
-use Rattle.ill_saved.specs.Store.{Allows, LandsAtFailure, HasRisen, StoreState, spent}
+use Rattle.ill_saved.specs.Store.{Allows, LandsAtFailure, HasRisen, StoreState, plan_after_call}
 
 -- A desk: the sides that it holds in memory, and their store.
 pub record DeskOf (L S : Type 0) : Type 0 where
@@ -50,14 +50,14 @@ SaveLands plan bytes (Err OutOfMemory) old new = new ≡ old
 SaveLands plan bytes (Err other) old new = ⊥
 
 -- If the answer is not `OutOfMemory`, the live sides satisfy `in_range`: they were encoded.
-abbrev pub WasSpelled : {L : Type 0} → (L → Type 0) → Result (Unit {0}) DeskFault → L → Type 0
-WasSpelled in_range (Err OutOfMemory) live = Unit {0}
-WasSpelled in_range answer live = in_range live
+abbrev pub IsInRangeIfEncoded : {L : Type 0} → (L → Type 0) → Result (Unit {0}) DeskFault → L → Type 0
+IsInRangeIfEncoded in_range (Err OutOfMemory) live = Unit {0}
+IsInRangeIfEncoded in_range answer live = in_range live
 
 -- A call of the store spends its plan. If memory ran out before the call, the plan is unchanged.
 abbrev pub PlanAfter : Result (Unit {0}) DeskFault → Option NextCall → Option NextCall → Type 0
-PlanAfter (Err OutOfMemory) old new = (new ≡ spent old) ⊎ (new ≡ old)
-PlanAfter answer old new = new ≡ spent old
+PlanAfter (Err OutOfMemory) old new = (new ≡ plan_after_call old) ⊎ (new ≡ old)
+PlanAfter answer old new = new ≡ plan_after_call old
 
 -- The answer to a save is that it is done, that the store failed, or that memory ran out.
 abbrev pub IsSaveFault : Result (Unit {0}) DeskFault → Type 0
@@ -97,12 +97,12 @@ Restarts landed plan (Err OutOfMemory) new = Unit {0}
 Restarts landed plan (Err other) new = ⊥
 
 -- All messages that the live sides have issued are released.
-abbrev pub IsWhole : {L K : Type 0} → Effects L K → L → Type 0
-IsWhole effects live = live ≡ effects.saves live
+abbrev pub AreAllReleased : {L K : Type 0} → Effects L K → L → Type 0
+AreAllReleased effects live = live ≡ effects.saves live
 
 -- After a restart that is done, all messages are released. After a fault, the sides are unchanged.
 abbrev pub RestartLeaves : {L K : Type 0} → Effects L K → Result (Unit {0}) DeskFault → L → L → Type 0
-RestartLeaves effects (Ok done) old new = IsWhole effects new
+RestartLeaves effects (Ok done) old new = AreAllReleased effects new
 RestartLeaves effects (Err fault) old new = (new ≡ old) × IsLoadFault effects.has_digest fault
 
 -- If the desk answers that its store failed, the count of failures has risen or is at its maximum.
@@ -121,7 +121,7 @@ pub record DeskLoads {X : Type 0} (old : StoreState) (answer : Result X DeskFaul
   pub landed : old.is_honest ≡ true → new.landed ≡ old.landed
   pub counted : CountsDeskFailure answer old.failures new.failures
   pub honest : new.is_honest ≡ old.is_honest
-  pub plan : new.plan ≡ spent old.plan
+  pub plan : new.plan ≡ plan_after_call old.plan
 
 -- The store of a desk is in state `new` after a save of `bytes`. If it is honest, `SaveLands` gives its landed bytes.
 pub record DeskSaves (bytes : List ℕ) (old : StoreState) (answer : Result (Unit {0}) DeskFault) (new : StoreState)

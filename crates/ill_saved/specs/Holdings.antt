@@ -15,7 +15,7 @@ use Rattle.ill_saved.specs.declared.fault.DeskFault.TheVariants.{Core, NoSuchMes
 use Rattle.ill_saved.specs.declared.fault.DeskFault.TheVariants.{Saved, OutOfMemory}
 use Rattle.ill_saved.specs.declared.fault.RecordFault.{RecordFault}
 use Rattle.ill_saved.specs.declared.fault.RecordFault.TheVariants as records
-use Rattle.ill_saved.specs.Side.{issued_of, takes_memory, IsConsistent, Follows}
+use Rattle.ill_saved.specs.Side.{issued_of, takes_memory, IsConsistent, IsAfterTransitions}
 use Rattle.ill_saved.specs.Records.{Decodes}
 
 -- A side that a desk holds, and the number of its messages that are released.
@@ -117,7 +117,7 @@ SendsHeld view (Some held) number answer =
 -- Transitions lead from `side` to the live side.
 pub record IsBackedBy (side live : Side) (released : ℕ) : Type 0 where
   pub consistent : IsConsistent side
-  pub follows : Follows side live
+  pub follows : IsAfterTransitions side live
   pub has-released : released ≤ length (issued_of side)
 
 -- Returns the sides that the landed bytes encode, or a fault. If nothing has landed, it returns the `unsaved` sides.

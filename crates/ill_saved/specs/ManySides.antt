@@ -82,8 +82,8 @@ held_or_begun may_begin has_room idle None =
     if may_begin then (if has_room then Ok idle else Err DeskFull) else Err NoSuchTransaction
 
 -- Returns the side of `txn` for an action or a message: the held one, or an idle one if `txn` may begin.
-abbrev pub reached : DeskContents → Qualifiers → Bool → Result DeskEntry DeskFault
-reached live txn may_begin =
+abbrev pub side_for_call : DeskContents → Qualifiers → Bool → Result DeskEntry DeskFault
+side_for_call live txn may_begin =
     held_or_begun may_begin (nat_lt (length live.held) most_sides) (idle_held live.role txn)
     (found_by txn_held txn live.held)
 
@@ -92,7 +92,7 @@ abbrev pub acted : DeskContents → DeskEntry → Result Side Refusal → Result
 acted live held (Ok new) = Ok (with_held live (record { side = new; released = held.released }))
 acted live held (Err refusal) = Err (Core refusal)
 
--- Returns the contents after the action of the side that `reached` gave, or the fault.
+-- Returns the contents after the action of the side that `side_for_call` gave, or the fault.
 abbrev pub acts_reached : DeskContents → Action → Result DeskEntry DeskFault → Result DeskContents DeskFault
 acts_reached live action (Ok held) = acted live held (acts held.side action)
 acts_reached live action (Err fault) = Err fault
@@ -102,25 +102,25 @@ acts_reached live action (Err fault) = Err fault
 abbrev pub desk_acts : DeskContents → Qualifiers → Action → Result DeskContents DeskFault
 desk_acts live txn action =
     if is_same_role live.role (role_for action)
-    then acts_reached live action (reached live txn (begins action))
+    then acts_reached live action (side_for_call live txn (begins action))
     else Err (Core WrongRole)
 
 -- Returns the answer to an APDU, and the contents with the side after it. A refusal changes nothing.
-abbrev pub took : DeskContents → DeskEntry → Result Taking Refusal × Side → Result Taking DeskFault × DeskContents
-took live held (Ok taking, new) =
+abbrev pub contents_after_message : DeskContents → DeskEntry → Result Taking Refusal × Side → Result Taking DeskFault × DeskContents
+contents_after_message live held (Ok taking, new) =
     (Ok taking, with_held live (record { side = new; released = held.released }))
-took live held (Err refusal, new) = (Err (Core refusal), live)
+contents_after_message live held (Err refusal, new) = (Err (Core refusal), live)
 
--- Returns the answer to an APDU of the side that `reached` gave, and the contents after it. A fault changes nothing.
+-- Returns the answer to an APDU of the side that `side_for_call` gave, and the contents after it. A fault changes nothing.
 abbrev pub takes_reached : DeskContents → Apdu → Result DeskEntry DeskFault → Result Taking DeskFault × DeskContents
-takes_reached live a (Ok held) = took live held (takes held.side a)
+takes_reached live a (Ok held) = contents_after_message live held (takes held.side a)
 takes_reached live a (Err fault) = (Err fault, live)
 
 -- Returns the answer of a desk to an APDU, and its contents after it. The side of the APDU's transaction takes it.
 abbrev pub desk_takes : DeskContents → Apdu → Result Taking DeskFault × DeskContents
 desk_takes live a =
     if is_own live.role a.body then (Err (Core WrongRole), live)
-    else takes_reached live a (reached live a.txn (is_ill_request a.body))
+    else takes_reached live a (side_for_call live a.txn (is_ill_request a.body))
 
 -- ---- the sides that have landed
 

@@ -205,13 +205,13 @@ unfoldable pub side_spelled : List ℕ → Result Side LayoutFault
 side_spelled bytes = start.read (cursor_at 0 bytes) >>= λ start. side_at start.0.1 start.1
 
 -- Returns the side that was read, if it is consistent, and otherwise `Inconsistent`.
-abbrev pub judged : Result Side LayoutFault → Result Side RecordFault
-judged (Ok side) = if is_consistent side then Ok side else Err faults.Inconsistent
-judged (Err fault) = Err (record_fault fault)
+abbrev pub consistent_side : Result Side LayoutFault → Result Side RecordFault
+consistent_side (Ok side) = if is_consistent side then Ok side else Err faults.Inconsistent
+consistent_side (Err fault) = Err (record_fault fault)
 
 -- Returns the consistent side that all of the bytes encode, or the first fault.
 unfoldable pub record_at : List ℕ → Result Side RecordFault
-record_at bytes = judged (side_spelled bytes)
+record_at bytes = consistent_side (side_spelled bytes)
 
 -- Returns the states of a role.
 abbrev pub states_of : Role → List State

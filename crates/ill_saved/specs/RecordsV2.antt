@@ -88,13 +88,13 @@ abbrev pub together : SidesOf → Result SidesOf RecordFault
 together held = if may_be_held held then Ok held else Err faults.Inconsistent
 
 -- Returns the role and the sides that were read, if one desk may hold them together, or the first fault.
-abbrev pub judged_together : Result (Role × List Side) LayoutFault → Result SidesOf RecordFault
-judged_together (Ok found) = together (record { role = found.0; sides = found.1 })
-judged_together (Err fault) = Err (record_fault fault)
+abbrev pub consistent_sides : Result (Role × List Side) LayoutFault → Result SidesOf RecordFault
+consistent_sides (Ok found) = together (record { role = found.0; sides = found.1 })
+consistent_sides (Err fault) = Err (record_fault fault)
 
 -- Returns the sides that all of `octets` encode, or the first fault. `octets` are the bytes after the version.
 abbrev pub sides_at : List ℕ → Result SidesOf RecordFault
-sides_at octets = judged_together (all_of (role_and_sides.read (cursor_at 4 octets)))
+sides_at octets = consistent_sides (all_of (role_and_sides.read (cursor_at 4 octets)))
 
 -- Returns the sides of a desk with only this side, or with none if this side is idle.
 abbrev pub alone : Side → SidesOf

@@ -190,14 +190,14 @@ Takes old a (Err refusals.OutOfMemory) new = WantsMemoryFor old a new
 Takes old a answer new = takes old a ≡ (answer, new)
 
 -- One transition leads from the old side to the new one: an action that is done, or the delivery of an APDU.
-pub data IsStep (old new : Side) : Type 0 where
-  acted : (action : Action) → acts old action ≡ Ok new → IsStep old new
-  took : (a : Apdu) → (takes old a).1 ≡ new → IsStep old new
+pub data IsSideTransition (old new : Side) : Type 0 where
+  acted : (action : Action) → acts old action ≡ Ok new → IsSideTransition old new
+  took : (a : Apdu) → (takes old a).1 ≡ new → IsSideTransition old new
 
 -- Transitions, one after another, lead from the old side to the new one. There may be none.
-pub data Follows (old : Side) : Side → Type 0 where
-  same : Follows old old
-  further : (between new : Side) → Follows old between → IsStep between new → Follows old new
+pub data IsAfterTransitions (old : Side) : Side → Type 0 where
+  same : IsAfterTransitions old old
+  further : (between new : Side) → IsAfterTransitions old between → IsSideTransition between new → IsAfterTransitions old new
 
 -- The list `prefix` is a prefix of `all`.
 abbrev pub IsPrefix : {X : Type 0} → List X → List X → Type 0

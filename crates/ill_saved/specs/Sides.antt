@@ -83,18 +83,18 @@ Puts old side (Err (fault, back)) new =
 
 -- If the side of `txn` is held, `Does` relates it to the answer and to the side after. The others are unchanged.
 -- If none is held, nothing changes, and there is no answer.
-abbrev pub OnlyThat : {A : Type 0} → (Side → A → Side → Type 0) → Qualifiers → SidesOf → Option A → SidesOf →
+abbrev pub ChangesOnlySideOf : {A : Type 0} → (Side → A → Side → Type 0) → Qualifiers → SidesOf → Option A → SidesOf →
     Type 0
-OnlyThat Does txn old None new = (side_with txn old.sides ≡ None) × (new ≡ old)
-OnlyThat Does txn old (Some answer) new =
+ChangesOnlySideOf Does txn old None new = (side_with txn old.sides ≡ None) × (new ≡ old)
+ChangesOnlySideOf Does txn old (Some answer) new =
     (side : Side) × (after : Side) × (side_with txn old.sides ≡ Some side) × Does side answer after
     × (new ≡ record { role = old.role; sides = put_by txn_of after old.sides })
 
 -- If there is an entry with the key `txn`, `Does` relates its side to the answer and to the side after.
 -- The others are unchanged. If there is no such entry, nothing changes, and there is no answer.
-abbrev pub OnlyThatEntry : {A : Type 0} → (Side → A → Side → Type 0) → Qualifiers → List (Qualifiers × Side) →
+abbrev pub ChangesOnlyEntryOf : {A : Type 0} → (Side → A → Side → Type 0) → Qualifiers → List (Qualifiers × Side) →
     Option A → List (Qualifiers × Side) → Type 0
-OnlyThatEntry Does txn old None new = (lookup (is_same_txn txn) old ≡ None) × (new ≡ old)
-OnlyThatEntry Does txn old (Some answer) new =
+ChangesOnlyEntryOf Does txn old None new = (lookup (is_same_txn txn) old ≡ None) × (new ≡ old)
+ChangesOnlyEntryOf Does txn old (Some answer) new =
     (side : Side) × (after : Side) × (lookup (is_same_txn txn) old ≡ Some side) × Does side answer after
     × (new ≡ set_value (is_same_txn txn) old after)

@@ -35,9 +35,9 @@ LandsAtSave plan bytes (Err TooLarge) old new = ⊥
 LandsAtSave plan bytes (Err OutOfMemory) old new = new ≡ old
 
 -- Returns the plan after a call. A store with a plan works at its next call. A store without a plan gets none.
-abbrev pub spent : Option NextCall → Option NextCall
-spent None = None
-spent (Some plan) = Some Works
+abbrev pub plan_after_call : Option NextCall → Option NextCall
+plan_after_call None = None
+plan_after_call (Some plan) = Some Works
 
 -- The maximum of a count of failures: 2^64 - 1.
 abbrev pub most_failures : ℕ
@@ -84,7 +84,7 @@ pub record StoreLoads {X : Type 0} (bytes_of : X → List ℕ) (old : StoreState
   pub landed : old.is_honest ≡ true → new.landed ≡ old.landed
   pub counted : CountsFailure answer old.failures new.failures
   pub honest : new.is_honest ≡ old.is_honest
-  pub plan : new.plan ≡ spent old.plan
+  pub plan : new.plan ≡ plan_after_call old.plan
 
 -- The store answers a save of `bytes`, and is in the state `new` after it.
 -- In an honest store the bytes land as it answers, and it follows its plan.
@@ -95,7 +95,7 @@ pub record StoreSaves (bytes : List ℕ) (old : StoreState) (answer : Result (Un
   pub large : IsNotTooLarge answer
   pub counted : CountsFailure answer old.failures new.failures
   pub honest : new.is_honest ≡ old.is_honest
-  pub plan : new.plan ≡ spent old.plan
+  pub plan : new.plan ≡ plan_after_call old.plan
 
 -- ---- a store that fails from a call on
 
@@ -117,15 +117,15 @@ fuse_state state fuse = record (state fuse.inner) {
 }
 
 -- Returns the fuse after a call that the fuse itself failed and counted.
-abbrev pub blown : {S : Type 0} → FuseOf S → FuseOf S
-blown fuse = record fuse { failures = one_more fuse.failures }
+abbrev pub fuse_after_failure : {S : Type 0} → FuseOf S → FuseOf S
+fuse_after_failure fuse = record fuse { failures = one_more fuse.failures }
 
 -- If the fuse has calls left, the inner store answers, and the fuse has one call less left.
 -- If it has none left, the call answers `Failed`, and the inner store is unchanged.
 abbrev pub FuseCalls : {S A : Type 0} → (S → StoreState) → (StoreState → Result A StoreFault → StoreState → Type 0) →
     FuseOf S → Result A StoreFault → FuseOf S → Type 0
 FuseCalls state calls old answer new =
-    ((old.calls ≡ 0) × (answer ≡ Err Failed) × (new ≡ blown old))
+    ((old.calls ≡ 0) × (answer ≡ Err Failed) × (new ≡ fuse_after_failure old))
     ⊎ ((old.calls ≡ new.calls + 1) × (new.failures ≡ old.failures) × calls (state old.inner) answer (state new.inner))
 
 -- ---- a store in memory
@@ -137,8 +137,8 @@ pub record MemoryStoreState : Type 0 where
   pub next : NextCall
 
 -- Returns the store after a call that spent its plan.
-abbrev pub called : MemoryStoreState → MemoryStoreState
-called store = record store { next = Works }
+abbrev pub store_after_call : MemoryStoreState → MemoryStoreState
+store_after_call store = record store { next = Works }
 
 -- Returns the store after a call that failed as planned and was counted.
 abbrev pub failed : MemoryStoreState → MemoryStoreState
@@ -150,8 +150,8 @@ abbrev pub MemoryLoads : {X : Type 0} → (X → List ℕ) → NextCall → Memo
     Result (Option X) StoreFault →
     MemoryStoreState → Type 0
 MemoryLoads bytes_of Works old (Ok found) new =
-    (option_map bytes_of found ≡ old.landed) × (new ≡ called old)
-MemoryLoads bytes_of Works old (Err OutOfMemory) new = (is_some old.landed ≡ true) × (new ≡ called old)
+    (option_map bytes_of found ≡ old.landed) × (new ≡ store_after_call old)
+MemoryLoads bytes_of Works old (Err OutOfMemory) new = (is_some old.landed ≡ true) × (new ≡ store_after_call old)
 MemoryLoads bytes_of Works old (Err other) new = ⊥
 MemoryLoads bytes_of FailsOld old answer new = (answer ≡ Err Failed) × (new ≡ failed old)
 MemoryLoads bytes_of FailsNew old answer new = (answer ≡ Err Failed) × (new ≡ failed old)
@@ -159,12 +159,12 @@ MemoryLoads bytes_of FailsNew old answer new = (answer ≡ Err Failed) × (new �
 -- The store answers a save of `bytes` as planned, and is in the state `new` after it.
 -- A save that is planned to fail and to leave the old bytes takes no memory.
 abbrev pub MemorySaves : NextCall → List ℕ → MemoryStoreState → Result (Unit {0}) StoreFault → MemoryStoreState → Type 0
-MemorySaves Works bytes old (Ok done) new = new ≡ called (record old { landed = Some bytes })
-MemorySaves Works bytes old (Err OutOfMemory) new = new ≡ called old
+MemorySaves Works bytes old (Ok done) new = new ≡ store_after_call (record old { landed = Some bytes })
+MemorySaves Works bytes old (Err OutOfMemory) new = new ≡ store_after_call old
 MemorySaves Works bytes old (Err other) new = ⊥
 MemorySaves FailsOld bytes old answer new = (answer ≡ Err Failed) × (new ≡ failed old)
 MemorySaves FailsNew bytes old (Err Failed) new = new ≡ failed (record old { landed = Some bytes })
-MemorySaves FailsNew bytes old (Err OutOfMemory) new = new ≡ called old
+MemorySaves FailsNew bytes old (Err OutOfMemory) new = new ≡ store_after_call old
 MemorySaves FailsNew bytes old answer new = ⊥
 
 -- ---- a store in a file

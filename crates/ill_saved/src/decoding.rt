@@ -3,7 +3,7 @@
 ghost use Rattle.std.specs.Prelude.{◌≡◌, ◌+◌, ◌≤◌, true, is_ok, Err, OnOk};
 ghost use Rattle.ill_saved.specs.declared.fault.RecordFault.TheVariants as faults;
 ghost use Rattle.ill_saved.specs.Layout.{Reads, ReadsInMemory, followed_by, counted_text, counted, apdu, read_all};
-ghost use Rattle.ill_saved.specs.Records.{start, heading, requester_states, responder_states, read_requester, read_responder, all_of, judged, record_at, begins_as_record, Decodes};
+ghost use Rattle.ill_saved.specs.Records.{start, heading, requester_states, responder_states, read_requester, read_responder, all_of, consistent_side, record_at, begins_as_record, Decodes};
 
 use crate::cursor::Cursor;
 use crate::fault::{LayoutFault, RecordFault};
@@ -44,7 +44,7 @@ fn role(cursor: &mut Cursor<'_>) -> Result<Role, LayoutFault>
 /// Decodes the rest of a record of a requester, to its end.
 fn requester(alloc: Global, cursor: &mut Cursor<'_>) -> Result<Side, RecordFault>
     requires room { cursor.old.at ≤ 1000 }
-    ensures { Decodes (judged (all_of (read_requester cursor.old)))
+    ensures { Decodes (consistent_side (all_of (read_requester cursor.old)))
         (is_ok ((heading requester_states).read cursor.old)) result }
 {
     let state = cursor.requester_state()?;
@@ -63,7 +63,7 @@ fn requester(alloc: Global, cursor: &mut Cursor<'_>) -> Result<Side, RecordFault
 /// Decodes the rest of a record of a responder, to its end.
 fn responder(alloc: Global, cursor: &mut Cursor<'_>) -> Result<Side, RecordFault>
     requires room { cursor.old.at ≤ 1000 }
-    ensures { Decodes (judged (all_of (read_responder cursor.old)))
+    ensures { Decodes (consistent_side (all_of (read_responder cursor.old)))
         (is_ok ((heading responder_states).read cursor.old)) result }
 {
     let state = cursor.responder_state()?;

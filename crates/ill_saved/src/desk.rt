@@ -7,7 +7,7 @@ ghost use Rattle.ill_saved.specs.Sides.{found_by};
 ghost use Rattle.ill_saved.specs.Holdings.{DeskActs, DeskTakesApdu, SendsHeld, IsBacked, held_after, landed_live};
 ghost use Rattle.ill_saved.specs.OneSide.{OneBacks, alone, one_side};
 ghost use Rattle.ill_saved.specs.ManySides.{ManyBack, held_for, many_sides, no_sides, sides_held, txn_held};
-ghost use Rattle.ill_saved.specs.Desk.{DeskOf, DeskTakes, IsOneApdu, DeskSaves, IsSaveFault, IsLoadFault, Loads, Restarts, RestartLeaves, answer_of, store_of, Creates, IsCreateAnswer, Begins, IsStartAnswer, IsWhole, DeskLoads, WasSpelled};
+ghost use Rattle.ill_saved.specs.Desk.{DeskOf, DeskTakes, IsOneApdu, DeskSaves, IsSaveFault, IsLoadFault, Loads, Restarts, RestartLeaves, answer_of, store_of, Creates, IsCreateAnswer, Begins, IsStartAnswer, AreAllReleased, DeskLoads, IsInRangeIfEncoded};
 
 use crate::fault::DeskFault;
 use crate::holdings::Holdings;
@@ -81,7 +81,7 @@ impl<H: Holdings, S: Store> AnyDesk<H, S> {
     pub fn start(alloc: Global, store: S) -> Result<AnyDesk<H, S>, (DeskFault, S)>
         ensures starts { (S.state store).is_honest ≡ true →
             Begins H.effects.read H.effects.begins (λ desk. desk.live) (S.state store).landed (S.state store).plan result }
-        ensures whole { IfOk result (λ desk. IsWhole H.effects desk.live) }
+        ensures whole { IfOk result (λ desk. AreAllReleased H.effects desk.live) }
         ensures rules { IfOk result (λ desk. H.backs desk.live desk.live) }
         ensures faults { IsStartAnswer H.effects.has_digest (answer_of result) }
         ensures store { DeskLoads (S.state store) (answer_of result) (S.state (store_of result)) }
@@ -125,7 +125,7 @@ impl<H: Holdings, S: Store> AnyDesk<H, S> {
         ensures live { self.new.live ≡ held_after H.effects result self.old.live }
         ensures store { DeskSaves (H.effects.spelling self.old.live) (S.state self.old.store) result
             (S.state self.new.store) }
-        ensures sides { WasSpelled H.in_range result self.old.live }
+        ensures sides { IsInRangeIfEncoded H.in_range result self.old.live }
         ensures faults { IsSaveFault result }
     {
         let record = self.held.record(alloc)?;
@@ -301,7 +301,7 @@ fn load<H: Holdings, S: Store>(alloc: Global, store: &mut S) -> Result<Option<H>
     ensures loads { (S.state store.old).is_honest ≡ true →
         Loads H.effects.read H.effects.begins (S.state store.old).landed (S.state store.old).plan
         result }
-    ensures whole { IfOk result (λ found. IfSome found (λ held. IsWhole H.effects held)) }
+    ensures whole { IfOk result (λ found. IfSome found (λ held. AreAllReleased H.effects held)) }
     ensures backed { IfOk result (λ found. IfSome found (λ held. H.backs held held)) }
     ensures faults { IfErr result (IsLoadFault H.effects.has_digest) }
     ensures store { DeskLoads (S.state store.old) result (S.state store.new) }

@@ -2,7 +2,7 @@
 
 ghost use Rattle.std.specs.Prelude.{◌≡◌};
 ghost use Rattle.ill_saved.specs.declared.store.StoreFault.TheVariants.{Failed};
-ghost use Rattle.ill_saved.specs.Store.{FuseOf, StoreLoads, StoreSaves, blown, fuse_state, FuseCalls};
+ghost use Rattle.ill_saved.specs.Store.{FuseOf, StoreLoads, StoreSaves, fuse_after_failure, fuse_state, FuseCalls};
 
 use crate::store::{Store, StoreFault};
 use std::alloc::Global;
@@ -45,7 +45,7 @@ impl<S: Store> FuseStore<S> {
     /// Fails this call, and counts the failure.
     fn fail(&mut self) -> StoreFault
         ensures fault { result ≡ Failed }
-        ensures counted { self.new ≡ blown self.old }
+        ensures counted { self.new ≡ fuse_after_failure self.old }
     {
         self.failures = self.failures.saturating_add(1);
         StoreFault::Failed

@@ -3,7 +3,7 @@
 ghost use Rattle.std.specs.Prelude.{◌≡◌, List, ℕ, option_copied, option_map, IfOk, IfErr, OnOk};
 ghost use Rattle.ill_saved.specs.Holdings.{Effects, DeskActs, DeskTakesApdu, SendsHeld, StaysBacked, IsBacked, IsRecordOf, IsReadFault, ReadsRecord, GoesBackToLanded};
 ghost use Rattle.ill_saved.specs.Side.{shown_of};
-ghost use Rattle.ill_saved.specs.Desk.{IsWhole};
+ghost use Rattle.ill_saved.specs.Desk.{AreAllReleased};
 
 use crate::fault::DeskFault;
 use crate::role::Role;
@@ -51,7 +51,7 @@ pub trait Holdings: Drop {
     /// Decodes the sides that `bytes` encode. All their messages may be sent.
     fn read(alloc: Global, bytes: Vec<u8>) -> Result<Self, DeskFault>
         ensures reads { ReadsRecord effects bytes.items result }
-        ensures whole { IfOk result (λ held. IsWhole effects held) }
+        ensures whole { IfOk result (λ held. AreAllReleased effects held) }
         ensures backed { IfOk result (λ held. backs held held) }
         ensures faults { IfErr result (IsReadFault effects.has_digest) };
 
@@ -93,7 +93,7 @@ pub trait Holdings: Drop {
     fn go_back(&mut self, alloc: Global, bytes: Option<Vec<u8>>) -> Result<(), DeskFault>
         ensures goes { GoesBackToLanded effects (option_map (λ b. b.items) bytes) self.old result
             self.new }
-        ensures whole { OnOk result (IsWhole effects self.new) }
+        ensures whole { OnOk result (AreAllReleased effects self.new) }
         ensures backed { OnOk result (IsBacked effects backs (option_map (λ b. b.items) bytes) self.new) }
         ensures faults { IfErr result (IsReadFault effects.has_digest) };
 

@@ -6,7 +6,7 @@ ghost use Rattle.ill_values.specs.declared.apdu.Apdu.{Apdu};
 ghost use Rattle.ill_core.specs.declared.refusal.Refusal.{Refusal};
 ghost use Rattle.ill_saved.specs.declared.side.Side.{Side};
 ghost use Rattle.ill_saved.specs.declared.side.Action.{Action};
-ghost use Rattle.ill_saved.specs.Side.{issued_of, is_idle, acts, takes, IsStep, Grows, KeepsRequest, Follows, IsPrefix};
+ghost use Rattle.ill_saved.specs.Side.{issued_of, is_idle, acts, takes, IsSideTransition, Grows, KeepsRequest, IsAfterTransitions, IsPrefix};
 ghost use Rattle.ill_saved.specs.Records.{side_spelled, record_at, record_spelling};
 ghost use Rattle.ill_saved.specs.RecordsV2.{sides_spelling, is_version_1, records_at, AreSides};
 ghost use Rattle.ill_saved.specs.Ranges.{IsInRange, IsSide};
@@ -90,7 +90,7 @@ pub fn one_sides()
 /// An action or a delivery keeps the role and the transaction of a side. The old issued messages are a prefix of the
 /// new ones.
 pub fn rows_grow()
-    ensures { (old new : Side) → IsStep old new → Grows old new }
+    ensures { (old new : Side) → IsSideTransition old new → Grows old new }
 {
     ill_core::laws::requester_issues();
     ill_core::laws::requester_keeps_txn();
@@ -100,7 +100,7 @@ pub fn rows_grow()
 
 /// After an action or a delivery, a responder that had taken a request still has it.
 pub fn rows_keep_request()
-    ensures { (old new : Side) → IsStep old new → KeepsRequest old new }
+    ensures { (old new : Side) → IsSideTransition old new → KeepsRequest old new }
 {
     ill_core::laws::responder_keeps_request();
 }
@@ -108,7 +108,7 @@ pub fn rows_keep_request()
 /// No side is idle after an action. A side that is not idle is not idle after a delivery.
 pub fn rows_begin()
     ensures acts { (old new : Side) (action : Action) → acts old action ≡ Ok new → is_idle new ≡ false }
-    ensures stays { (old new : Side) → IsStep old new → is_idle old ≡ false → is_idle new ≡ false }
+    ensures stays { (old new : Side) → IsSideTransition old new → is_idle old ≡ false → is_idle new ≡ false }
 {
     ill_core::laws::requester_has_begun();
     ill_core::laws::responder_has_begun();
@@ -126,7 +126,7 @@ pub fn refusals_stay()
 
 /// If transitions lead from one side to another, the issued messages of the first are a prefix of those of the second.
 pub fn follows_issues()
-    ensures { (old new : Side) → Follows old new → IsPrefix (issued_of old) (issued_of new) }
+    ensures { (old new : Side) → IsAfterTransitions old new → IsPrefix (issued_of old) (issued_of new) }
 {
     rows_grow();
 }

@@ -3,12 +3,12 @@
 ghost use Rattle.std.specs.Prelude.{◌≡◌, ◌≤◌, true, false, None, length, nat_lt, option_map, IfOk, IfErr, OnOk};
 ghost use Rattle.ill_core.specs.Bodies.{is_ill_request};
 ghost use Rattle.ill_saved.specs.declared.fault.DeskFault.TheVariants as desks;
-ghost use Rattle.ill_saved.specs.Side.{issued_of, txn_of, idle_side, role_for, begins, IsConsistent, IsStep};
+ghost use Rattle.ill_saved.specs.Side.{issued_of, txn_of, idle_side, role_for, begins, IsConsistent, IsSideTransition};
 ghost use Rattle.ill_saved.specs.Ranges.{Each};
 ghost use Rattle.ill_saved.specs.Sides.{is_same_role, put_refusal, most_sides, found_by};
 ghost use Rattle.ill_saved.specs.RecordsV2.{AreSides};
 ghost use Rattle.ill_saved.specs.Holdings.{DeskActs, DeskTakesApdu, StaysBacked, IsBacked, ReadsRecord, IsReadFault};
-ghost use Rattle.ill_saved.specs.Desk.{IsWhole};
+ghost use Rattle.ill_saved.specs.Desk.{AreAllReleased};
 ghost use Rattle.ill_saved.specs.ManySides.{DeskContents, held_of, txn_held, held_for, with_held, sides_held, whole_of, is_own, counts, MayBegin, FirstActs, FirstTakes, AreBackable, ManyBack, ReadsOrNone, many_sides, no_sides};
 
 use crate::decoding_v2::decode_record2;
@@ -132,7 +132,7 @@ impl ManySides {
     /// changes.
     fn hold(&mut self, alloc: Global, side: Side) -> Result<(), DeskFault>
         requires may { put_refusal (sides_held self.old) side ≡ None }
-        requires row { IsStep (idle_side self.old.role (txn_of side)) side }
+        requires row { IsSideTransition (idle_side self.old.role (txn_of side)) side }
         ensures held { OnOk result (self.new ≡ with_held self.old (record { side = side; released = 0 })) }
         ensures fault { IfErr result (λ fault. (fault ≡ desks.OutOfMemory) × (self.new ≡ self.old)) }
         ensures backed { StaysBacked many_sides ManyBack self.old self.new }
@@ -262,7 +262,7 @@ impl Holdings for ManySides {
 /// Decodes the sides that `bytes` encode. All their messages are released.
 fn read_sides(alloc: Global, bytes: &[u8]) -> Result<ManySides, DeskFault>
     ensures reads { ReadsRecord many_sides bytes.now result }
-    ensures whole { IfOk result (IsWhole many_sides) }
+    ensures whole { IfOk result (AreAllReleased many_sides) }
     ensures backed { IfOk result (λ held. ManyBack held held) }
     ensures faults { IfErr result (IsReadFault true) }
 {
@@ -275,7 +275,7 @@ fn read_sides(alloc: Global, bytes: &[u8]) -> Result<ManySides, DeskFault>
 /// Decodes the sides that `bytes` encode. Without bytes, returns no sides of this role.
 fn read_or_none(alloc: Global, bytes: Option<Vec<u8>>, role: Role) -> Result<ManySides, DeskFault>
     ensures reads { ReadsOrNone (option_map (λ b. b.items) bytes) role result }
-    ensures whole { IfOk result (IsWhole many_sides) }
+    ensures whole { IfOk result (AreAllReleased many_sides) }
     ensures backed { IfOk result (IsBacked many_sides ManyBack (option_map (λ b. b.items) bytes)) }
     ensures faults { IfErr result (IsReadFault true) }
 {

@@ -5,7 +5,7 @@ ghost use Rattle.ill_saved.specs.Side.{issued_of, idle_side};
 ghost use Rattle.ill_saved.specs.Records.{record_spelling, record_at, begins_as_record, Decodes};
 ghost use Rattle.ill_saved.specs.Ranges.{IsSide};
 ghost use Rattle.ill_saved.specs.Holdings.{DeskEntry, IsBacked, IsReadFault};
-ghost use Rattle.ill_saved.specs.Desk.{IsWhole};
+ghost use Rattle.ill_saved.specs.Desk.{AreAllReleased};
 ghost use Rattle.ill_saved.specs.OneSide.{OneBacks, ReadsOrIdle, alone, one_side};
 ghost use Rattle.ill_saved.specs.LandedBytes.{HoldsReleased, IsLandedRecord};
 
@@ -176,7 +176,7 @@ impl Holdings for OneSide {
 /// Decodes the side that `bytes` encode. Without bytes, returns the idle side of `live`.
 fn read_or_idle(alloc: Global, bytes: Option<Vec<u8>>, live: &Side) -> Result<OneSide, DeskFault>
     ensures reads { ReadsOrIdle (option_map (λ b. b.items) bytes) live.now result }
-    ensures whole { IfOk result (IsWhole one_side) }
+    ensures whole { IfOk result (AreAllReleased one_side) }
     ensures backed { IfOk result (λ held. IsBacked one_side OneBacks (option_map (λ b. b.items) bytes) held) }
     ensures faults { IfErr result (IsReadFault one_side.has_digest) }
 {

@@ -4,7 +4,7 @@ ghost use Rattle.std.specs.Prelude.{◌≡◌, ◌≤◌, ◌<◌, ◌++◌, [],
 ghost use Rattle.indexmap.specs.IndexMap.{get, keys, values};
 ghost use Rattle.ill_core.specs.Issued.{is_same_txn};
 ghost use Rattle.ill_saved.specs.Side.{txn_of, Acts, Takes};
-ghost use Rattle.ill_saved.specs.Sides.{SidesOf, AreFiled, most_sides, side_with, may_be_held, put_refusal, Puts, OnlyThat, OnlyThatEntry};
+ghost use Rattle.ill_saved.specs.Sides.{SidesOf, AreFiled, most_sides, side_with, may_be_held, put_refusal, Puts, ChangesOnlySideOf, ChangesOnlyEntryOf};
 
 use crate::fault::SidesFault;
 use crate::laws;
@@ -113,7 +113,7 @@ impl Sides {
         txn: &TxnId,
         action: &Action,
     ) -> Option<Result<(), Refusal>>
-        ensures { OnlyThat (λ old answer new. Acts old action.now answer new) txn.now self.old result self.new }
+        ensures { ChangesOnlySideOf (λ old answer new. Acts old action.now answer new) txn.now self.old result self.new }
     {
         laws::rows_grow();
         laws::rows_begin();
@@ -122,7 +122,7 @@ impl Sides {
 
     /// Hands a message to the side of its transaction, if that side is held.
     pub(crate) fn take(&mut self, alloc: Global, apdu: &Apdu) -> Option<Result<Taking, Refusal>>
-        ensures { OnlyThat (λ old answer new. Takes old apdu.now answer new) apdu.now.txn self.old result self.new }
+        ensures { ChangesOnlySideOf (λ old answer new. Takes old apdu.now answer new) apdu.now.txn self.old result self.new }
     {
         laws::rows_grow();
         laws::rows_begin();
@@ -167,7 +167,7 @@ fn act_among(
     txn: &TxnId,
     action: &Action,
 ) -> Option<Result<(), Refusal>>
-    ensures { OnlyThatEntry (λ old answer new. Acts old action.now answer new) txn.now map.old.entries result map.new.entries }
+    ensures { ChangesOnlyEntryOf (λ old answer new. Acts old action.now answer new) txn.now map.old.entries result map.new.entries }
 {
     match map.get_mut(txn) {
         Some(side) => Some(side.act(alloc, action)),
@@ -181,7 +181,7 @@ fn take_among(
     alloc: Global,
     apdu: &Apdu,
 ) -> Option<Result<Taking, Refusal>>
-    ensures { OnlyThatEntry (λ old answer new. Takes old apdu.now answer new) apdu.now.txn map.old.entries result map.new.entries }
+    ensures { ChangesOnlyEntryOf (λ old answer new. Takes old apdu.now answer new) apdu.now.txn map.old.entries result map.new.entries }
 {
     match map.get_mut(&apdu.txn) {
         Some(side) => Some(side.take(alloc, apdu)),

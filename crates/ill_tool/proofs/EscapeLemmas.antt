@@ -2,10 +2,10 @@
 use Rattle.std.proofs.Common.{◌≡◌, ℕ, Bool, true, false, ◌++◌, List, [], ◌∷◌, if◌then◌else◌, sym, ap, subst, ◌∙◌}
 use Rattle.std.proofs.lemmas.List.{append-nil}
 use Rattle.ill_tool.specs.declared.escape.Escaping.{Escaping}
-use Rattle.ill_tool.specs.Escape.{byte_text, escape, written, number_of_two, number_of_three, two_act, three_act}
+use Rattle.ill_tool.specs.Escape.{byte_text, escape, written, number_of_two, number_of_three, is_acting_pair, is_acting_triple}
 
 -- If the first two bytes are an acting character, `written` replaces them by its escape.
-pub two_escape : (escaping : Escaping) (first second : ℕ) (rest : List ℕ) → two_act first second ≡ true
+pub two_escape : (escaping : Escaping) (first second : ℕ) (rest : List ℕ) → is_acting_pair first second ≡ true
     → written escaping (first ∷ second ∷ rest) ≡ escape escaping (number_of_two first second) ++ written escaping rest
 unfolding written
 two_escape escaping first second [] acts =
@@ -15,26 +15,26 @@ two_escape escaping first second [] acts =
 two_escape escaping first second (third ∷ rest) acts =
     ap
     (λ (act : Bool). if act then escape escaping (number_of_two first second) ++ written escaping (third ∷ rest)
-    else (if three_act first second third then escape escaping (number_of_three first second third) ++ written escaping rest
+    else (if is_acting_triple first second third then escape escaping (number_of_three first second third) ++ written escaping rest
     else byte_text escaping first ++ written escaping (second ∷ third ∷ rest)))
     acts
 
 -- If the first two bytes are no acting character, `written` tests the first three.
-third_byte_decides : (escaping : Escaping) (first second third : ℕ) (rest : List ℕ) → two_act first second ≡ false
+third_byte_decides : (escaping : Escaping) (first second third : ℕ) (rest : List ℕ) → is_acting_pair first second ≡ false
     → written escaping (first ∷ second ∷ third ∷ rest)
-    ≡ (if three_act first second third then escape escaping (number_of_three first second third) ++ written escaping rest else
+    ≡ (if is_acting_triple first second third then escape escaping (number_of_three first second third) ++ written escaping rest else
     byte_text escaping first ++ written escaping (second ∷ third ∷ rest))
 unfolding written
 third_byte_decides escaping first second third rest pass =
     ap
     (λ (act : Bool). if act then escape escaping (number_of_two first second) ++ written escaping (third ∷ rest)
-    else (if three_act first second third then escape escaping (number_of_three first second third) ++ written escaping rest
+    else (if is_acting_triple first second third then escape escaping (number_of_three first second third) ++ written escaping rest
     else byte_text escaping first ++ written escaping (second ∷ third ∷ rest)))
     pass
 
 -- If the first three bytes are an acting character and the first two are none, `written` escapes all three.
-pub three_escape : (escaping : Escaping) (first second third : ℕ) (rest : List ℕ) → two_act first second ≡ false
-    → three_act first second third ≡ true
+pub three_escape : (escaping : Escaping) (first second third : ℕ) (rest : List ℕ) → is_acting_pair first second ≡ false
+    → is_acting_triple first second third ≡ true
     → written escaping (first ∷ second ∷ third ∷ rest)
     ≡ escape escaping (number_of_three first second third) ++ written escaping rest
 three_escape escaping first second third rest pass acts =
@@ -43,8 +43,8 @@ three_escape escaping first second third rest pass acts =
     byte_text escaping first ++ written escaping (second ∷ third ∷ rest)) acts
 
 -- If a text of three bytes or more begins with no acting character, `written` writes its first byte by itself.
-pub first_stays : (escaping : Escaping) (first second third : ℕ) (rest : List ℕ) → two_act first second ≡ false
-    → three_act first second third ≡ false
+pub first_stays : (escaping : Escaping) (first second third : ℕ) (rest : List ℕ) → is_acting_pair first second ≡ false
+    → is_acting_triple first second third ≡ false
     → written escaping (first ∷ second ∷ third ∷ rest) ≡ byte_text escaping first ++ written escaping (second ∷ third ∷ rest)
 first_stays escaping first second third rest pass passes =
     third_byte_decides escaping first second third rest pass
@@ -61,7 +61,7 @@ last_stays escaping first after none =
 
 -- If a text of two bytes is no acting character, `written` writes its first byte by itself.
 pub first_of_two_stays : (escaping : Escaping) (first second : ℕ) (after rest : List ℕ) → after ≡ second ∷ rest
-    → rest ≡ [] → two_act first second ≡ false
+    → rest ≡ [] → is_acting_pair first second ≡ false
     → written escaping (first ∷ after) ≡ byte_text escaping first ++ written escaping after
 unfolding written
 first_of_two_stays escaping first second after rest is none pass =

@@ -13,7 +13,7 @@ use Rattle.ill_der.specs.declared.fault.DerFault.{DerFault}
 use Rattle.ill_der.specs.declared.fault.DerFault.TheVariants.{Short, Tag, Length, Field, OutOfMemory}
 use Rattle.ill_der.specs.ShortForm.{spelling, header_at, outer_at, apdu_at}
 use Rattle.ill_der.specs.Stream.{IsUnfinished, IfShort}
-use Rattle.ill_der.specs.Feed.{Begins, Unread, Leaves, fault_of, end_of}
+use Rattle.ill_der.specs.Feed.{Begins, FeedState, Leaves, fault_of, end_of}
 use Rattle.ill_der.specs.Handling.{Handles, Handled, FailsAt, HandlesEach}
 use Rattle.ill_tool.specs.declared.fault.ToolFault.{ToolFault}
 use Rattle.ill_tool.specs.declared.input.Counted.{Counted}
@@ -66,7 +66,7 @@ reads_on_views handles seen view as_seen old new before after result is = (
 -- If handling the APDUs of a piece fails by `handles`, it fails by `seen` on the views.
 fails_as : {S T F : Type 0} (handles : Handles S F) (seen : Handles T F) (view : S → T)
     → ((s t : S) (apdu : Apdu) (r : Result (Unit {0}) F) → handles s apdu r t → seen (view s) apdu r (view t))
-    → (old : Unread) (piece : List ℕ) (before after : S) (fault : F) → FailsAt handles old piece before fault after
+    → (old : FeedState) (piece : List ℕ) (before after : S) (fault : F) → FailsAt handles old piece before fault after
     → FailsAt seen old piece (view before) fault (view after)
 fails_as handles seen view as_seen (Ok held) piece before after fault is = (
   is.0,
@@ -82,7 +82,7 @@ fails_as handles seen view as_seen (Err closed) piece before after fault is = ab
 -- If the APDUs of a piece are handled by `handles`, they are handled by `seen` on the views.
 pub piece_on_views : {S T F : Type 0} (handles : Handles S F) (seen : Handles T F) (view : S → T)
     → ((s t : S) (apdu : Apdu) (r : Result (Unit {0}) F) → handles s apdu r t → seen (view s) apdu r (view t))
-    → (old : Unread) (piece : List ℕ) (before : S) (result : Result (Option DerFault) F) (new : Unread) (after : S)
+    → (old : FeedState) (piece : List ℕ) (before : S) (result : Result (Option DerFault) F) (new : FeedState) (after : S)
     → HandlesEach handles old piece before result new after
     → HandlesEach seen old piece (view before) result new (view after)
 piece_on_views handles seen view as_seen old piece before (Ok fault) new after is =
@@ -113,15 +113,15 @@ counted_on handles before after (apdu ∷ apdus) few is =
     (omega (arith, one.1, on.0), on.1, (is.0.1, one.2, on.2))
 
 -- `piece` was pushed into the feed `old`, and its APDUs were counted and handled.
-abbrev pub HandlesCounted : {H C : Type 0} → Handles (H × C) ToolFault → Unread → List ℕ → Counted H × C
-    → Result (Option DerFault) ToolFault → Unread → Counted H × C → Type 0
+abbrev pub HandlesCounted : {H C : Type 0} → Handles (H × C) ToolFault → FeedState → List ℕ → Counted H × C
+    → Result (Option DerFault) ToolFault → FeedState → Counted H × C → Type 0
 HandlesCounted handles old piece before result new after =
     HandlesEach (λ s apdu r t. CountsOn handles (s.0.count, (s.0.handler, s.1)) apdu r (t.0.count, (t.0.handler, t.1))) old piece
     before result new after
 
 -- If a counted handler has handled a piece, the piece is handled on pairs of the count and the state.
-each_counted : {H C : Type 0} (handles : Handles (H × C) ToolFault) (old feed : Unread) (piece : List ℕ) (before : Counted H × C)
-    (result : Result (Option DerFault) ToolFault) (new : Unread) (after : Counted H × C)
+each_counted : {H C : Type 0} (handles : Handles (H × C) ToolFault) (old feed : FeedState) (piece : List ℕ) (before : Counted H × C)
+    (result : Result (Option DerFault) ToolFault) (new : FeedState) (after : Counted H × C)
     → feed ≡ old → HandlesCounted handles feed piece before result new after
     → HandlesEach (CountsOn handles) old piece (before.0.count, (before.0.handler, before.1)) result new
     (after.0.count, (after.0.handler, after.1))
@@ -129,7 +129,7 @@ each_counted {H = H} {C = C} handles old feed piece before result new after same
     piece_on_views (λ (s : Counted H × C) apdu r t.
     CountsOn handles (s.0.count, (s.0.handler, s.1)) apdu r (t.0.count, (t.0.handler, t.1))) (CountsOn handles)
     (λ s. (s.0.count, (s.0.handler, s.1))) (λ s t apdu r h. h) old piece before result new after
-    (subst (λ (f : Unread). HandlesCounted handles f piece before result new after) same is)
+    (subst (λ (f : FeedState). HandlesCounted handles f piece before result new after) same is)
 
 -- ---- lists of APDUs
 
@@ -156,7 +156,7 @@ spelled_join prefix more rest =
 
 -- The bytes read from `old` to `now` are the encodings of `apdus`, and then `held`. All `count` APDUs were handled,
 -- from the state `before` to `after`. The feed is open and holds `held`, which more bytes may complete to an APDU.
-pub record SoFar {S : Type 0} (handles : Handles S ToolFault) (old now : Option (List ℕ)) (before : S) (count : ℕ) (feed : Unread)
+pub record SoFar {S : Type 0} (handles : Handles S ToolFault) (old now : Option (List ℕ)) (before : S) (count : ℕ) (feed : FeedState)
     (after : S) (apdus : List Apdu) (held : List ℕ) : Type 0 where
   pub spelled : AllByRecursion IsApdu apdus
   pub counted : length apdus ≡ count
@@ -167,12 +167,12 @@ pub record SoFar {S : Type 0} (handles : Handles S ToolFault) (old now : Option 
   pub unfinished : IsUnfinished held
 
 -- `SoFar` holds of some list of APDUs and some held bytes.
-abbrev pub ReadSoFar : {S : Type 0} → Handles S ToolFault → Option (List ℕ) → Option (List ℕ) → S → ℕ → Unread → S → Type 0
+abbrev pub ReadSoFar : {S : Type 0} → Handles S ToolFault → Option (List ℕ) → Option (List ℕ) → S → ℕ → FeedState → S → Type 0
 ReadSoFar handles old now before count feed after =
     (apdus : List Apdu) × (held : List ℕ) × SoFar handles old now before count feed after apdus held
 
 -- Before the first read, `ReadSoFar` holds with no APDU and no held byte.
-pub none_read : {S : Type 0} (handles : Handles S ToolFault) (old : Option (List ℕ)) (before : S) (count : ℕ) (feed : Unread)
+pub none_read : {S : Type 0} (handles : Handles S ToolFault) (old : Option (List ℕ)) (before : S) (count : ℕ) (feed : FeedState)
     → count ≡ 0 → feed ≡ Ok [] → ReadSoFar handles old old before count feed before
 unfolding apdu_at outer_at header_at
 none_read handles old before count feed none empty = (
@@ -216,12 +216,12 @@ apdus_read old now new apdus more held piece rest read piece_is begins =
 -- ---- one piece more
 
 -- Returns an upper bound of the bytes that may still be read, or 0 if the feed is closed.
-abbrev pub most_bytes_left : ℕ → Unread → ℕ
+abbrev pub most_bytes_left : ℕ → FeedState → ℕ
 most_bytes_left count (Ok held) = 35900359 - (count * 359 + length held)
 most_bytes_left count (Err fault) = 0
 
 -- If the feed `new` has no fault, it is open and holds bytes.
-still_open : (new : Unread) → None ≡ fault_of new → (held : List ℕ) × (new ≡ Ok held)
+still_open : (new : FeedState) → None ≡ fault_of new → (held : List ℕ) × (new ≡ Ok held)
 still_open (Ok held) e = (held, refl)
 still_open (Err fault) e = absurd cc
 
@@ -246,19 +246,19 @@ rest_within : (held piece text rest : List ℕ) → held ++ piece ≡ text ++ re
 rest_within held piece text rest e = omega (arith, ap length e, length-append held piece, length-append text rest)
 
 -- A piece that is not empty makes `most_bytes_left` smaller.
-room_falls : ShortLaw → (count m : ℕ) (feed next : Unread) (held now piece : List ℕ) (more : List Apdu)
+room_falls : ShortLaw → (count m : ℕ) (feed next : FeedState) (held now piece : List ℕ) (more : List Apdu)
     → feed ≡ Ok held → next ≡ Ok now → held ++ piece ≡ spellings more ++ now
     → m ≡ count + length more → m ≤ 100000 → IsUnfinished held → IsUnfinished now → 0 < length piece
     → most_bytes_left m next < most_bytes_left count feed
 room_falls law count m feed next held now piece more was is parts counted few unfinished still some =
-    subst (λ (f : Unread). most_bytes_left m next < most_bytes_left count f) (sym was)
-    (subst (λ (f : Unread). most_bytes_left m f < most_bytes_left count (Ok held)) (sym is)
+    subst (λ (f : FeedState). most_bytes_left m next < most_bytes_left count f) (sym was)
+    (subst (λ (f : FeedState). most_bytes_left m f < most_bytes_left count (Ok held)) (sym is)
     (more_room count (length more) (length held) (length piece) (length now) m (longer_or_handed more held piece now parts)
     counted few (few_held law held unfinished) (few_held law now still) some))
 
 -- If a piece is handled and the feed stays open, `ReadSoFar` holds after it, and `most_bytes_left` is smaller.
 pub one_piece_more : {H C : Type 0} (handles : Handles (H × C) ToolFault) → ShortLaw
-    → (old now new : Option (List ℕ)) (before : H × C) (middle after : Counted H × C) (feed next : Unread) (piece : List ℕ)
+    → (old now new : Option (List ℕ)) (before : H × C) (middle after : Counted H × C) (feed next : FeedState) (piece : List ℕ)
     → ReadSoFar handles old now before middle.0.count feed (middle.0.handler, middle.1) → Consumes now new piece
     → 0 < length piece → (closed : Option DerFault) → closed ≡ None
     → HandlesCounted handles feed piece middle (Ok closed) next after
@@ -298,7 +298,7 @@ one_piece_more {H = H} {C = C} handles law old now new before middle after feed 
 
 -- If the input ends after `apdus` and the bytes `held`, `ReadsInput` holds of it.
 ends_held : {S : Type 0} (handles : Handles S ToolFault) → ShortLaw
-    → (old new : Option (List ℕ)) (before after : S) (count : ℕ) (feed : Unread) (result : Result ℕ ToolFault) (apdus : List Apdu)
+    → (old new : Option (List ℕ)) (before after : S) (count : ℕ) (feed : FeedState) (result : Result ℕ ToolFault) (apdus : List Apdu)
     (held : List ℕ)
     → SoFar handles old new before count feed after apdus held → Ends handles result count held [] new after after
     → ReadsInput handles old new before result after
@@ -330,19 +330,19 @@ at_end handles count (byte ∷ held) left after unfinished end =
 
 -- If the reader is at its end, `ReadsInput` holds with the answer of `answer_at_end`.
 pub ends_at_end : {S : Type 0} (handles : Handles S ToolFault) → ShortLaw
-    → (old new : Option (List ℕ)) (before after : S) (count : ℕ) (feed : Unread)
+    → (old new : Option (List ℕ)) (before after : S) (count : ℕ) (feed : FeedState)
     → ReadSoFar handles old new before count feed after → IsAtEnd new
     → ReadsInput handles old new before (answer_at_end (end_of feed) count) after
 ends_at_end handles law old new before after count feed so_far end =
     let held = so_far.1 in
     let is = so_far.2 in
     ends_held handles law old new before after count feed (answer_at_end (end_of feed) count) so_far.0 held is
-    (subst (λ (f : Unread). Ends handles (answer_at_end (end_of f) count) count held [] new after after) (sym is.opened)
+    (subst (λ (f : FeedState). Ends handles (answer_at_end (end_of f) count) count held [] new after after) (sym is.opened)
     (at_end handles count held new after is.unfinished end))
 
 -- If a read gives no byte, `ReadSoFar` still holds.
 pub read_nothing : {S : Type 0} (handles : Handles S ToolFault) (old now new : Option (List ℕ)) (before after : S) (count : ℕ)
-    (feed : Unread)
+    (feed : FeedState)
     → ReadSoFar handles old now before count feed after
     → Consumes now new [] → ReadSoFar handles old new before count feed after
 read_nothing handles old now new before after count feed so_far read =
@@ -369,7 +369,7 @@ kept_nothing now new keeps = Consumes-kept now now new [] (Consumes-nil now) kee
 
 -- If the reader fails, `ReadsInput` holds with the fault `Read`.
 pub ends_unread : {S : Type 0} (handles : Handles S ToolFault) → ShortLaw
-    → (old now new : Option (List ℕ)) (before after : S) (count : ℕ) (feed : Unread)
+    → (old now new : Option (List ℕ)) (before after : S) (count : ℕ) (feed : FeedState)
     → ReadSoFar handles old now before count feed after
     → Keeps now new → ReadsInput handles old new before (Err Read) after
 ends_unread handles law old now new before after count feed so_far keeps =
@@ -378,7 +378,7 @@ ends_unread handles law old now new before after count feed so_far keeps =
     (inl ((still.2.unfinished, refl), refl))
 
 -- If a push closes the feed with `fault`, the feed `new` is `Err fault`.
-closed_by : (new : Unread) (fault : DerFault) → Some fault ≡ fault_of new → new ≡ Err fault
+closed_by : (new : FeedState) (fault : DerFault) → Some fault ≡ fault_of new → new ≡ Err fault
 closed_by (Ok held) fault e = absurd cc
 closed_by (Err closed) fault e = (let is : fault ≡ closed = cc in ap (λ (f : DerFault). Err f) (sym is))
 
@@ -392,7 +392,7 @@ not_short OutOfMemory P none = tt
 
 -- If the bytes of a piece close the feed with `fault`, `ReadsInput` holds with that fault.
 pub ends_closed : {H C : Type 0} (handles : Handles (H × C) ToolFault) → ShortLaw
-    → (old now new : Option (List ℕ)) (before : H × C) (middle after : Counted H × C) (feed next : Unread) (piece : List ℕ)
+    → (old now new : Option (List ℕ)) (before : H × C) (middle after : Counted H × C) (feed next : FeedState) (piece : List ℕ)
     (fault : DerFault)
     → ReadSoFar handles old now before middle.0.count feed (middle.0.handler, middle.1) → Consumes now new piece
     → length piece ≤ 4096 → (closed : Option DerFault) → closed ≡ Some fault
@@ -440,7 +440,7 @@ ends_in_hand handles state after apdu fault count ahead left is counted few on =
 
 -- If an APDU of a piece is one too many, or handling it fails, `ReadsInput` holds with that fault.
 pub ends_failing : {H C : Type 0} (handles : Handles (H × C) ToolFault) → ShortLaw
-    → (old now new : Option (List ℕ)) (before : H × C) (middle after : Counted H × C) (feed next : Unread) (piece : List ℕ)
+    → (old now new : Option (List ℕ)) (before : H × C) (middle after : Counted H × C) (feed next : FeedState) (piece : List ℕ)
     (fault : ToolFault)
     → ReadSoFar handles old now before middle.0.count feed (middle.0.handler, middle.1) → Consumes now new piece
     → length piece ≤ 4096

@@ -9,14 +9,14 @@ use Rattle.ill_saved.specs.declared.role.Role.TheVariants.{Requester, Responder}
 use Rattle.ill_saved.specs.Side.{idle_side}
 use Rattle.ill_saved.specs.Holdings.{whole}
 use Rattle.ill_saved.specs.OneSide.{alone}
-use Rattle.ill_saved.specs.Store.{Allows, spent}
+use Rattle.ill_saved.specs.Store.{Allows, plan_after_call}
 use Rattle.ill_tool.specs.declared.fault.ToolFault.{ToolFault}
 use Rattle.ill_tool.specs.declared.fault.ToolFault.TheVariants.{Desk, Write, OutOfMemory}
 use Rattle.ill_tool.specs.New.{LandsFirst, BeginsOver}
 
 -- After one call has spent the plan `old`, a second call that leaves or spends it keeps it spent.
-pub still_spent : (old between new : Option NextCall) → between ≡ spent old → (new ≡ between) ⊎ (new ≡ spent between)
-    → new ≡ spent old
+pub still_spent : (old between new : Option NextCall) → between ≡ plan_after_call old → (new ≡ between) ⊎ (new ≡ plan_after_call between)
+    → new ≡ plan_after_call old
 still_spent None between new e (inl is) = is ∙ e
 still_spent None None new e (inr is) = is
 still_spent None (Some plan) new e (inr is) = search rules
@@ -27,7 +27,7 @@ still_spent (Some plan) (Some next) new e (inr is) = is
 -- If `plan` allows the load, and the store has no record, a first save fulfils `BeginsOver`.
 pub begun_over : (bytes : List ℕ) (plan : Option NextCall) (answer : Result (Unit {0}) ToolFault) (new : Option (List ℕ))
     → Allows {X = Unit {0}} plan (Ok tt)
-    → LandsFirst (spent plan) bytes answer None new → BeginsOver bytes plan None answer new
+    → LandsFirst (plan_after_call plan) bytes answer None new → BeginsOver bytes plan None answer new
 begun_over bytes plan (Ok done) new allows lands = (lands, allows)
 begun_over bytes plan (Err Write) new allows lands = (lands, allows)
 begun_over bytes None (Err (Desk (Store Failed))) new allows lands = lands

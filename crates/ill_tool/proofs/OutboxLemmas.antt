@@ -13,7 +13,7 @@ use Rattle.ill_tool.specs.declared.verdict.Mail.{Mail}
 use Rattle.ill_tool.specs.declared.verdict.Verdict.{Verdict}
 use Rattle.ill_tool.specs.Output.{WritesPrefix}
 use Rattle.ill_tool.specs.declared.outbox.Leaving.{Leaving}
-use Rattle.ill_tool.specs.Outbox.{Letter, RunsOutbox, StreamsOutbox, after_all, after_one, asked_by, asks_at, issue_of, letter_of}
+use Rattle.ill_tool.specs.Outbox.{Letter, RunsOutbox, StreamsOutbox, after_all, after_one, asked_by, asking_bytes_at, issue_of, letter_of}
 use Rattle.ill_tool.specs.Outbox.{letters_of, stream_of}
 use Rattle.std.specs.List.{fold}
 
@@ -74,13 +74,13 @@ zip_nothing [] = refl
 zip_nothing (item ∷ items) = refl
 
 -- A mail without a verdict does not ask, so it adds no bytes.
-mail_without_verdict_is_silent : (live : DeskContents) (mail : Option Mail) (rest : List ℕ) → asks_at live mail None ++ rest ≡ rest
+mail_without_verdict_is_silent : (live : DeskContents) (mail : Option Mail) (rest : List ℕ) → asking_bytes_at live mail None ++ rest ≡ rest
 mail_without_verdict_is_silent live None rest = refl
 mail_without_verdict_is_silent live (Some mail) rest = refl
 
 -- The bytes that ask from `place` on are those of the mail at `place`, and those of the later mails.
 pub asking_split_at : (live : DeskContents) (mails : List Mail) (verdicts : List Verdict) (place : ℕ)
-    → asks_at live (slice_get mails place) (slice_get verdicts place)
+    → asking_bytes_at live (slice_get mails place) (slice_get verdicts place)
     ++ asked_by live (zip (drop (suc place) mails) (drop (suc place) verdicts))
     ≡ asked_by live (zip (drop place mails) (drop place verdicts))
 asking_split_at live [] verdicts zero = refl

@@ -17,12 +17,12 @@ use Rattle.ill_tool.specs.declared.fault.ToolFault.TheVariants.{OutOfMemory}
 use Rattle.ill_tool.specs.declared.shelf.TheConstants.{ESCAPED}
 use Rattle.ill_tool.specs.Input.{ReadsInput}
 use Rattle.ill_tool.proofs.InputLemmas.{reads_on_views}
-use Rattle.ill_tool.specs.Shelf.{ShelfTaking, Follow, Headed, Stop, VisitsAll, desk_name, graver, gravest, takes_home}
+use Rattle.ill_tool.specs.Shelf.{ShelfTaking, AreConsecutive, Headed, Stop, VisitsAll, desk_name, graver, gravest, TakesAtHome}
 
 -- If visits lead from `before` to `between`, and `stop` begins there, `stop` may follow them.
 follow_more : (before between : Option (List ℕ)) (stops : List Stop) (stop : Stop)
-    → Follow before stops between → stop.before ≡ between → Follow before (stops ++ stop ∷ []) stop.after
-unfolding Follow
+    → AreConsecutive before stops between → stop.before ≡ between → AreConsecutive before (stops ++ stop ∷ []) stop.after
+unfolding AreConsecutive
 follow_more before between [] stop is begins = (begins ∙ is, refl)
 follow_more before between (first ∷ stops) stop follows begins =
     (follows.0, follow_more first.after between stops stop follows.1 begins)
@@ -60,7 +60,7 @@ one_more_visit is_headed Runs paths place path before between after answer next 
 pub no_visit : (is_headed : Bool) (Runs : Option (List ℕ) → Option (List ℕ) → Result Bool ToolFault → Type 0)
     (before : Option (List ℕ))
     → VisitsAll is_headed Runs [] before before (Ok true)
-unfolding Follow
+unfolding AreConsecutive
 no_visit is_headed Runs before = ([], refl, refl, All-nil (Headed is_headed Runs), refl)
 
 -- `graver answer (Ok true)` is `answer`.
@@ -98,11 +98,11 @@ own_desk role one other is_one is_other same =
     sym (round_trip ESCAPED one refl (qualifier_bytes one is_one)) ∙ ap percent_decode encoded
     ∙ round_trip ESCAPED other refl (qualifier_bytes other is_other)
 
--- If an input is read by `takes_home` of views of states, `takes_home` reads it from view to view.
+-- If an input is read by `TakesAtHome` of views of states, `TakesAtHome` reads it from view to view.
 pub taken_home : {S : Type 0} (view : S → ShelfTaking) (left rest : Option (List ℕ)) (before after : S)
     (count : Result ℕ ToolFault)
-    → ReadsInput (λ (s : S) apdu r (t : S). takes_home (view s) apdu r (view t)) left rest before count after
-    → ReadsInput takes_home left rest (view before) count (view after)
+    → ReadsInput (λ (s : S) apdu r (t : S). TakesAtHome (view s) apdu r (view t)) left rest before count after
+    → ReadsInput TakesAtHome left rest (view before) count (view after)
 taken_home view left rest before after count is =
-    reads_on_views (λ s apdu r t. takes_home (view s) apdu r (view t)) takes_home view (λ s t apdu r h. h) left rest before after count
+    reads_on_views (λ s apdu r t. TakesAtHome (view s) apdu r (view t)) TakesAtHome view (λ s t apdu r h. h) left rest before after count
     is

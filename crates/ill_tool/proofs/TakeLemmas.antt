@@ -14,7 +14,7 @@ use Rattle.ill_saved.specs.Desk.{DeskOf}
 use Rattle.ill_saved.specs.Holdings.{Effects}
 use Rattle.ill_tool.specs.Performing.{HeldAndLanded, ToolFailsCounted}
 use Rattle.ill_tool.specs.Telling.{Wording}
-use Rattle.ill_tool.specs.Take.{KeepsDesk, Progress, progress, takes_each, answer_of, RunsTaking}
+use Rattle.ill_tool.specs.Take.{KeepsDesk, Progress, progress, TakesMessage, answer_of, RunsTaking}
 use Rattle.ill_tool.proofs.InputLemmas.{reads_on_views}
 
 -- ---- properties that each message keeps
@@ -96,7 +96,7 @@ module _ {H S D A B C L N W : Type 0} {n m : ℕ} (is_kept : Bool) (told : Wordi
   -- `apdu` is taken, which leads from `s` to `t`, and the borrowed desk and file stay.
   abbrev pub TakesOn : Handles (TakesEach H S D n m A B C × W) ToolFault
   TakesOn s apdu r t =
-      takes_each is_kept told effects (how_far s) apdu r (how_far t)
+      TakesMessage is_kept told effects (how_far s) apdu r (how_far t)
       × KeepsDesk is_kept r s.0.desk.ghost_name t.0.desk.ghost_name s.0.came.ghost_name t.0.came.ghost_name
       (failures s.0.desk.now) (failures t.0.desk.now)
 
@@ -109,14 +109,14 @@ module _ {H S D A B C L N W : Type 0} {n m : ℕ} (is_kept : Bool) (told : Wordi
       × KeepsDesk is_kept result before.0.desk.ghost_name after.0.desk.ghost_name before.0.came.ghost_name after.0.came.ghost_name
       (failures before.0.desk.now) (failures after.0.desk.now)
   input_taken old new before after result fine is =
-      let taken = reads_on_views TakesOn (takes_each is_kept told effects) how_far (λ s t apdu r h. h.0) old new before after result
+      let taken = reads_on_views TakesOn (TakesMessage is_kept told effects) how_far (λ s t apdu r h. h.0) old new before after result
       is in
       let first = progress (view before.0.desk.now) (kept before.0.came.now) (contents before.1) in (
         (
           result,
           after.0.all_fine,
           refl,
-          subst (λ (b : Bool). ReadsInput (takes_each is_kept told effects) old new (first b) result (how_far after)) fine
+          subst (λ (b : Bool). ReadsInput (TakesMessage is_kept told effects) old new (first b) result (how_far after)) fine
               taken,
         ),
         input_keeps is_kept TakesOn (λ s. s.0.desk.ghost_name) (λ s. s.0.came.ghost_name) (λ s. failures s.0.desk.now)

@@ -8,12 +8,12 @@ use Rattle.ill_tool.specs.Output.{WritesText}
 use Rattle.ill_tool.specs.Lines.{count_line}
 
 -- An APDU is skipped, with success.
-abbrev pub passes : Handles (Unit {0}) ToolFault
-passes before apdu result after = result ≡ Ok tt
+abbrev pub SkipsApdu : Handles (Unit {0}) ToolFault
+SkipsApdu before apdu result after = result ≡ Ok tt
 
 -- The APDUs of the input were counted. The input went from `old` to `new`.
 abbrev pub Counts : Option (List ℕ) → Option (List ℕ) → Result ℕ ToolFault → Type 0
-Counts old new result = ReadsInput passes old new tt result tt
+Counts old new result = ReadsInput SkipsApdu old new tt result tt
 
 -- The line of `count` was written, and `count` returned. After the fault `Write` a prefix of the line was
 -- written. After `OutOfMemory` nothing was.

@@ -61,20 +61,20 @@ IsOpenFault OutOfMemory = Unit {0}
 IsOpenFault other = ⊥
 
 -- A file could not be opened or locked, and nothing was written.
-abbrev pub IsShut : {A : Type 0} → Option (List ℕ) → Option (List ℕ) → Result A ToolFault → Type 0
-IsShut before after result = IsErrAnd result IsOpenFault × (after ≡ before)
+abbrev pub FailsToOpen : {A : Type 0} → Option (List ℕ) → Option (List ℕ) → Result A ToolFault → Type 0
+FailsToOpen before after result = IsErrAnd result IsOpenFault × (after ≡ before)
 
 -- A desk was begun. Or its file could not be opened.
 abbrev pub NewAtFile : Option (List ℕ) → Option (List ℕ) → Result Bool ToolFault → Type 0
 NewAtFile before after result =
-    IsShut before after result ⊎ GoesWell (RunsNew (codes "done\n") before after) result
+    FailsToOpen before after result ⊎ GoesWell (RunsNew (codes "done\n") before after) result
 
 -- The action of `words` was performed in `txn` at a desk, on the day `today`. Or its file could not be
 -- opened.
 abbrev pub ActsAtFile : Qualifiers → Option Date → List (List ℕ) → Option (List ℕ) → Option (List ℕ) →
     Result Bool ToolFault → Type 0
 ActsAtFile txn today words before after result =
-    IsShut before after result
+    FailsToOpen before after result
     ⊎ ((old : HeldAndLanded DeskContents) × (new : HeldAndLanded DeskContents)
     × RunsAct many_sides txn (action_named old.live.role today words) old before after result new)
 
@@ -83,7 +83,7 @@ ActsAtFile txn today words before after result =
 abbrev pub TakesAtFile : Bool → Bool → Option (List ℕ) → Option (List ℕ) → Option (List ℕ) → Option (List ℕ) →
     Result Bool ToolFault → Type 0
 TakesAtFile is_kept is_long left rest before after result =
-    (IsShut before after result × (rest ≡ left))
+    (FailsToOpen before after result × (rest ≡ left))
     ⊎ ((old : HeldAndLanded DeskContents) × (new : HeldAndLanded DeskContents)
     × RunsTaking is_kept (wording is_long) many_sides left rest None None before after old result new)
 
@@ -113,7 +113,7 @@ SettlesRun mails waiting (Err fault) result = result ≡ Err fault
 abbrev pub TakesMails : HeldAndLanded DeskContents → Option (List ℕ) → Option (List ℕ) →
     Result Night ToolFault → HeldAndLanded DeskContents → Type 0
 TakesMails old before after result new =
-    (IsShut before after result × (new ≡ old))
+    (FailsToOpen before after result × (new ≡ old))
     ⊎ ((mails : List Mail) × (waiting : ℕ) × (answer : Result (List Verdict) ToolFault)
     × RunsInbox many_sides mails waiting None None before after old answer new
     × SettlesRun mails waiting answer result)
@@ -126,7 +126,7 @@ ending_of (Err fault) = Err fault
 -- The command `inbox` took the mails of a folder at a desk. Or a file could not be opened.
 abbrev pub InboxAtFile : Option (List ℕ) → Option (List ℕ) → Result Bool ToolFault → Type 0
 InboxAtFile before after result =
-    IsShut before after result
+    FailsToOpen before after result
     ⊎ ((old new : HeldAndLanded DeskContents) × (taken : Result Night ToolFault)
     × TakesMails old before after taken new × (result ≡ ending_of taken))
 
@@ -143,13 +143,13 @@ SendsAsked bytes held before after result =
 -- file of unknown content. Or a file could not be opened.
 abbrev pub SendsTo : List DeskEntry → Option (List ℕ) → Option (List ℕ) → Result (Unit {0}) ToolFault → Type 0
 SendsTo held before after result =
-    IsShut before after result ⊎ ((bytes : List ℕ) × SendsAsked bytes held before after result)
+    FailsToOpen before after result ⊎ ((bytes : List ℕ) × SendsAsked bytes held before after result)
 
 -- The messages that want sending were written to the output, one after another. Or a file could not be
 -- opened.
 abbrev pub SendsOn : List DeskEntry → Option (List ℕ) → Option (List ℕ) → Result (Unit {0}) ToolFault → Type 0
 SendsOn held before after result =
-    IsShut before after result ⊎ ((bytes : List ℕ) × StreamsOutbox bytes held before after result)
+    FailsToOpen before after result ⊎ ((bytes : List ℕ) × StreamsOutbox bytes held before after result)
 
 -- The messages of a desk were put into a folder if the Bool is true, else written to the output.
 abbrev pub SendsFrom : Bool → List DeskEntry → Option (List ℕ) → Option (List ℕ) → Result (Unit {0}) ToolFault → Type 0
@@ -159,13 +159,13 @@ SendsFrom false = SendsOn
 -- The command `outbox` sent the messages of a desk. Or its file could not be opened.
 abbrev pub OutboxAtFile : Bool → Option (List ℕ) → Option (List ℕ) → Result Bool ToolFault → Type 0
 OutboxAtFile has_folder before after result =
-    IsShut before after result ⊎ ((held : List DeskEntry) × GoesWell (SendsFrom has_folder held before after) result)
+    FailsToOpen before after result ⊎ ((held : List DeskEntry) × GoesWell (SendsFrom has_folder held before after) result)
 
 -- If `dates` has a day, the deeds of that day were performed and saved. Else nothing changed.
-abbrev pub SaysDates : Option (Date × Dates) → Option (List ℕ) → Option (List ℕ) → HeldAndLanded DeskContents →
+abbrev pub PerformsDueDeeds : Option (Date × Dates) → Option (List ℕ) → Option (List ℕ) → HeldAndLanded DeskContents →
     Result (Unit {0}) ToolFault → HeldAndLanded DeskContents → Type 0
-SaysDates None before after old result new = (result ≡ Ok tt) × (after ≡ before) × (new ≡ old)
-SaysDates (Some (today, which)) before after old result new = RunsDates which today before after old result new
+PerformsDueDeeds None before after old result new = (result ≡ Ok tt) × (after ≡ before) × (new ≡ old)
+PerformsDueDeeds (Some (today, which)) before after old result new = RunsDates which today before after old result new
 
 -- Returns the result of a night. It is a fault if mails wait, false if a mail wants a person, else true.
 abbrev pub night_ending : Role → Night → Result Bool ToolFault
@@ -175,9 +175,9 @@ night_ending role night =
 
 -- If the messages were sent, the result is `ending`, or the fault of the file that marks the run. If they
 -- were not, it is the fault of the sending.
-abbrev pub Departs : Result Bool ToolFault → Result (Unit {0}) ToolFault → Result Bool ToolFault → Type 0
-Departs ending (Ok done) result = (result ≡ ending) ⊎ IsErrAnd result IsFileFault
-Departs ending (Err fault) result = result ≡ Err fault
+abbrev pub EndsAfterSending : Result Bool ToolFault → Result (Unit {0}) ToolFault → Result Bool ToolFault → Type 0
+EndsAfterSending ending (Ok done) result = (result ≡ ending) ⊎ IsErrAnd result IsFileFault
+EndsAfterSending ending (Err fault) result = result ≡ Err fault
 
 -- Returns the messages of a night that ask: they came for loans that are over at the desk `live`.
 abbrev pub night_asks : DeskContents → Night → List ℕ
@@ -191,15 +191,15 @@ SendsAll night live before after (Err fault) result = (result ≡ Err fault) × 
 SendsAll night live before after (Ok done) result =
     (IsErrAnd result IsFileFault × (after ≡ before))
     ⊎ ((sent : Result (Unit {0}) ToolFault) × SendsAsked (night_asks live night) live.held before after sent
-    × Departs (night_ending live.role night) sent result)
+    × EndsAfterSending (night_ending live.role night) sent result)
 
 -- The rest of a night, after its mails were taken: the deeds of the day, and then the sending. If the mails
 -- could not be taken, nothing more is done.
-abbrev pub GoesOn : Option (Date × Dates) → Result Night ToolFault → Option (List ℕ) → Option (List ℕ) →
+abbrev pub FinishesNight : Option (Date × Dates) → Result Night ToolFault → Option (List ℕ) → Option (List ℕ) →
     HeldAndLanded DeskContents → Result Bool ToolFault → HeldAndLanded DeskContents → Type 0
-GoesOn dates (Err fault) before after old result new = (result ≡ Err fault) × (after ≡ before) × (new ≡ old)
-GoesOn dates (Ok night) before after old result new =
-    (between : Option (List ℕ)) × (said : Result (Unit {0}) ToolFault) × SaysDates dates before between old said new
+FinishesNight dates (Err fault) before after old result new = (result ≡ Err fault) × (after ≡ before) × (new ≡ old)
+FinishesNight dates (Ok night) before after old result new =
+    (between : Option (List ℕ)) × (said : Result (Unit {0}) ToolFault) × PerformsDueDeeds dates before between old said new
     × SendsAll night new.live between after said result
 
 -- A night of a desk leads from `old` to `new`. Its mails were taken, the deeds of the day performed, and its
@@ -208,24 +208,24 @@ abbrev pub ExchangesAt : Option (Date × Dates) → HeldAndLanded DeskContents �
     Result Bool ToolFault → HeldAndLanded DeskContents → Type 0
 ExchangesAt dates old before after result new =
     (met : HeldAndLanded DeskContents) × (between : Option (List ℕ)) × (taken : Result Night ToolFault)
-    × TakesMails old before between taken met × GoesOn dates taken between after met result new
+    × TakesMails old before between taken met × FinishesNight dates taken between after met result new
 
 -- The command `exchange` performed a night of the desk in a file. Or the file could not be opened.
 abbrev pub ExchangesAtFile : Option (Date × Dates) → Option (List ℕ) → Option (List ℕ) → Result Bool ToolFault → Type 0
 ExchangesAtFile dates before after result =
-    IsShut before after result
+    FailsToOpen before after result
     ⊎ ((old : HeldAndLanded DeskContents) × (new : HeldAndLanded DeskContents) × ExchangesAt dates old before after result new)
 
 -- The message `number` of `txn` at a desk was written. Or a file could not be opened.
 abbrev pub SendsAtFile : Qualifiers → ℕ → Option (List ℕ) → Option (List ℕ) → Result Bool ToolFault → Type 0
 SendsAtFile txn number before after result =
-    IsShut before after result
+    FailsToOpen before after result
     ⊎ ((held : List DeskEntry) × GoesWell (RunsSend (found_by txn_held txn held) number before after) result)
 
 -- The sides of a desk were written in this form. Or a file could not be opened.
 abbrev pub ShowsFile : Form → Option (List ℕ) → Option (List ℕ) → Result Bool ToolFault → Type 0
 ShowsFile form before after result =
-    IsShut before after result
+    FailsToOpen before after result
     ⊎ ((held : List DeskEntry) × GoesWell (WritesText before after (status_of_desk form held)) result)
 
 -- The wanted sides of a desk were listed. If `is_first`, no desk is before it. If `is_headed`, the path is
@@ -233,7 +233,7 @@ ShowsFile form before after result =
 abbrev pub ListsDesk : Form → Wanted → (is_first is_headed : Bool) → List ℕ → Option (List ℕ) → Option (List ℕ) →
     Result (Unit {0}) ToolFault → Type 0
 ListsDesk form wanted is_first is_headed path before after result =
-    IsShut before after result
+    FailsToOpen before after result
     ⊎ ((sides : List Side)
     × WritesText before after (between form is_first ++ listed_desk form is_headed wanted path sides) result)
 
@@ -255,27 +255,27 @@ ListsDesks form wanted files before after (Err fault) =
 -- All desks at the paths were listed. Or a file could not be opened.
 abbrev pub ListsPaths : Form → Wanted → Option (List ℕ) → Option (List ℕ) → Result Bool ToolFault → Type 0
 ListsPaths form wanted before after result =
-    IsShut before after result
+    FailsToOpen before after result
     ⊎ ((files : List (List ℕ)) × GoesWell (ListsDesks form wanted files before after) result)
 
 -- The transaction `txn` at a desk was shown or drawn, with the messages that came. Or a file could not be
 -- opened.
 abbrev pub LoanAtFile : Form → Bool → Qualifiers → Option (List ℕ) → Option (List ℕ) → Result Bool ToolFault → Type 0
 LoanAtFile form is_picture txn before after result =
-    IsShut before after result
+    FailsToOpen before after result
     ⊎ ((held : List DeskEntry) × (came : List ℕ)
     × GoesWell (RunsKeptLoan (drawn_or_shown form is_picture) (found_by txn_held txn held) came before after) result)
 
 -- The record in a file was verified. Or the file could not be opened.
 abbrev pub VerifiesFile : Option (List ℕ) → Option (List ℕ) → Result Bool ToolFault → Type 0
 VerifiesFile before after result =
-    IsShut before after result
+    FailsToOpen before after result
     ⊎ ((loaded : Result (Option (List ℕ)) StoreFault) × GoesWell (VerifiesLoaded loaded before after) result)
 
 -- A page of the desks at the paths was written. Or a file could not be opened.
 abbrev pub ReportsPaths : Date → Option (List ℕ) → Option (List ℕ) → Result Bool ToolFault → Type 0
 ReportsPaths today before after result =
-    IsShut before after result
+    FailsToOpen before after result
     ⊎ ((desks : List (List ℕ × List Side)) × GoesWell (WritesText before after (report_page today desks)) result)
 
 -- A command has this result. The input went from `left` to `rest`, and the output from `before` to `after`.

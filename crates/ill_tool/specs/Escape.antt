@@ -27,19 +27,19 @@ number_of_three first second third =
     (first - 0xE0) * 4096 + ((second - 0x80) * 64 + (third - 0x80))
 
 -- Returns true if `byte` can follow the first byte of a character.
-abbrev pub goes_on : ℕ → Bool
-goes_on byte = is_within 0x80 0xBF byte
+abbrev pub is_continuation : ℕ → Bool
+is_continuation byte = is_within 0x80 0xBF byte
 
 -- Returns true if the two bytes encode a character on which a terminal may act.
-abbrev pub two_act : ℕ → ℕ → Bool
-two_act first second =
-    is_within 0xC0 0xDF first && (goes_on second && is_acting (number_of_two first second))
+abbrev pub is_acting_pair : ℕ → ℕ → Bool
+is_acting_pair first second =
+    is_within 0xC0 0xDF first && (is_continuation second && is_acting (number_of_two first second))
 
 -- Returns true if the three bytes encode a character on which a terminal may act.
-abbrev pub three_act : ℕ → ℕ → ℕ → Bool
-three_act first second third =
+abbrev pub is_acting_triple : ℕ → ℕ → ℕ → Bool
+is_acting_triple first second third =
     is_within 0xE0 0xEF first
-    && (goes_on second && (goes_on third && is_acting (number_of_three first second third)))
+    && (is_continuation second && (is_continuation third && is_acting (number_of_three first second third)))
 
 -- Returns the hexadecimal digit of `digit`.
 abbrev pub hex : ℕ → List ℕ
@@ -53,8 +53,8 @@ escape Json number =
     codes "\\u" ++ hex (number / 4096 % 16) ++ hex (number / 256 % 16) ++ hex (number / 16 % 16) ++ hex (number % 16)
 
 -- Returns true for a quotation mark and a backslash, which have a backslash before them in a string of JSON.
-abbrev pub is_marked : ℕ → Bool
-is_marked byte = (byte == 0x22) || (byte == 0x5C)
+abbrev pub needs_backslash : ℕ → Bool
+needs_backslash byte = (byte == 0x22) || (byte == 0x5C)
 
 -- Returns true for a control character of ASCII.
 abbrev pub is_control : ℕ → Bool
@@ -65,19 +65,19 @@ is_control byte = nat_lt byte 0x20 || (byte == 0x7F)
 abbrev pub byte_text : Escaping → ℕ → List ℕ
 byte_text Screen byte = if is_control byte then escape Screen byte else byte ∷ []
 byte_text Json byte =
-    if is_marked byte then 0x5C ∷ byte ∷ [] else (if is_control byte then escape Json byte else byte ∷ [])
+    if needs_backslash byte then 0x5C ∷ byte ∷ [] else (if is_control byte then escape Json byte else byte ∷ [])
 
 -- Returns `text` with an escape for each character on which a terminal may act. Other bytes stay, but for
 -- quotation marks and backslashes in JSON.
 unfoldable pub written : Escaping → List ℕ → List ℕ
 written escaping (first ∷ second ∷ third ∷ rest) =
-    if two_act first second
+    if is_acting_pair first second
     then escape escaping (number_of_two first second) ++ written escaping (third ∷ rest)
-    else (if three_act first second third
+    else (if is_acting_triple first second third
     then escape escaping (number_of_three first second third) ++ written escaping rest
     else byte_text escaping first ++ written escaping (second ∷ third ∷ rest))
 written escaping (first ∷ second ∷ []) =
-    if two_act first second then escape escaping (number_of_two first second)
+    if is_acting_pair first second then escape escaping (number_of_two first second)
     else byte_text escaping first ++ byte_text escaping second
 written escaping (first ∷ []) = byte_text escaping first
 written escaping [] = []

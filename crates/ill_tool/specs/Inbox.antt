@@ -121,8 +121,8 @@ abbrev pub unsorted : {L : Type 0} → L → Sorting L
 unsorted live = record { live = live; verdicts = []; told = []; kept = [] }
 
 -- Returns the state after the verdict of the mail `name`.
-abbrev pub settled : {L : Type 0} → List ℕ → Verdict → Sorting L → Sorting L
-settled name verdict old = record {
+abbrev pub with_verdict : {L : Type 0} → List ℕ → Verdict → Sorting L → Sorting L
+with_verdict name verdict old = record {
   live = old.live;
   verdicts = old.verdicts ++ verdict ∷ [];
   told = old.told ++ verdict_line name verdict;
@@ -135,8 +135,8 @@ kept_bytes outcome bytes = if is_change outcome then bytes else []
 
 -- Returns the state after a message with this outcome. Its lines are as by `take --long`, with its side as it
 -- is once all is saved. Its bytes are kept if it was taken.
-abbrev pub told_of : {L K : Type 0} → Effects L K → List ℕ → Apdu → DeskOutcome → L → Sorting L → Sorting L
-told_of effects bytes a outcome live old = record {
+abbrev pub with_message : {L K : Type 0} → Effects L K → List ℕ → Apdu → DeskOutcome → L → Sorting L → Sorting L
+with_message effects bytes a outcome live old = record {
   live = live;
   verdicts = old.verdicts;
   told = old.told ++ long a outcome (as_told true (effects.side_for (effects.key_of a) live));
@@ -145,20 +145,20 @@ told_of effects bytes a outcome live old = record {
 
 -- Returns the state after a message was handed to its side, and its mail got a verdict. A fault that is no
 -- refusal changes nothing. No side returns one.
-abbrev pub after_hand : {L K : Type 0} → Effects L K → List ℕ → List ℕ → Apdu → Result DeskOutcome ToolFault × L →
+abbrev pub after_handing : {L K : Type 0} → Effects L K → List ℕ → List ℕ → Apdu → Result DeskOutcome ToolFault × L →
     Sorting L → Sorting L
-after_hand effects name bytes a (Ok outcome, live) old =
-    settled name (verdict_of (effects.role live) outcome) (told_of effects bytes a outcome live old)
-after_hand effects name bytes a (Err fault, live) old = old
+after_handing effects name bytes a (Ok outcome, live) old =
+    with_verdict name (verdict_of (effects.role live) outcome) (with_message effects bytes a outcome live old)
+after_handing effects name bytes a (Err fault, live) old = old
 
 -- Returns the state after a mail with this message, or with the reason that it has none.
 abbrev pub after_message : {L K : Type 0} → Effects L K → List ℕ → List ℕ → Result Apdu Unfit → Sorting L → Sorting L
-after_message effects name bytes (Ok a) old = after_hand effects name bytes a (handed effects old.live a) old
-after_message effects name bytes (Err unfit) old = settled name (Aside unfit) old
+after_message effects name bytes (Ok a) old = after_handing effects name bytes a (handed effects old.live a) old
+after_message effects name bytes (Err unfit) old = with_verdict name (Aside unfit) old
 
 -- Returns the state after a mail with these bytes, or after one that could not be read.
 abbrev pub after_bytes : {L K : Type 0} → Effects L K → List ℕ → Option (List ℕ) → Sorting L → Sorting L
-after_bytes effects name None old = settled name (Left delays.NotRead) old
+after_bytes effects name None old = with_verdict name (Left delays.NotRead) old
 after_bytes effects name (Some bytes) old = after_message effects name bytes (message_in bytes) old
 
 -- Returns the state after one mail.

@@ -24,7 +24,7 @@ use Rattle.ill_tool.specs.Output.{WritesText}
 
 -- The messages `came` begin `bytes`, one after another. The rest of `bytes` begins with no message.
 abbrev pub AreIn : List ℕ → List Apdu → Type 0
-AreIn bytes came = (left : feeds.Unread) × feeds.Feeds (Ok []) bytes came left
+AreIn bytes came = (left : feeds.FeedState) × feeds.Feeds (Ok []) bytes came left
 
 -- Returns true if `a` and `b` have equal bytes.
 abbrev pub is_same : Apdu → Apdu → Bool

@@ -8,7 +8,7 @@ use Rattle.ill_saved.specs.Holdings.{DeskEntry}
 use Rattle.ill_saved.specs.Holdings.{Effects}
 use Rattle.ill_tool.specs.Performing.{CountsToolFailure}
 use Rattle.ill_tool.specs.Telling.{done_line}
-use Rattle.ill_saved.specs.Store.{Allows, LandsAtFailure, StoreState, spent}
+use Rattle.ill_saved.specs.Store.{Allows, LandsAtFailure, StoreState, plan_after_call}
 use Rattle.ill_tool.specs.declared.fault.ToolFault.{ToolFault}
 use Rattle.ill_tool.specs.declared.fault.ToolFault.TheVariants.{Desk, Write, OutOfMemory}
 
@@ -74,7 +74,7 @@ pub record SavesFirst (bytes : List ℕ) (old : StoreState) (answer : Result (Un
   pub landed : old.is_honest ≡ true → LandsFirst old.plan bytes answer old.landed new.landed
   pub counted : CountsToolFailure answer old.failures new.failures
   pub honest : new.is_honest ≡ old.is_honest
-  pub plan : (new.plan ≡ old.plan) ⊎ (new.plan ≡ spent old.plan)
+  pub plan : (new.plan ≡ old.plan) ⊎ (new.plan ≡ plan_after_call old.plan)
 
 -- The beginning of a desk with the first record `bytes` leads from the store `old` to `new`, with this
 -- answer.
@@ -83,4 +83,4 @@ pub record BeginsIn (bytes : List ℕ) (old : StoreState) (answer : Result (Unit
   pub landed : old.is_honest ≡ true → BeginsOver bytes old.plan old.landed answer new.landed
   pub counted : CountsToolFailure answer old.failures new.failures
   pub honest : new.is_honest ≡ old.is_honest
-  pub plan : new.plan ≡ spent old.plan
+  pub plan : new.plan ≡ plan_after_call old.plan

@@ -176,26 +176,26 @@ is_held_over (Some side) = is_over side
 
 -- Returns the bytes of a mail if its message asks: its loan is held at this desk and is over. Else it returns
 -- nothing.
-abbrev pub asks : DeskContents → List ℕ → Result Apdu Unfit → List ℕ
-asks live bytes (Ok a) = if is_held_over (side_with a.txn (sides_held live).sides) then bytes else []
-asks live bytes (Err unfit) = []
+abbrev pub asking_bytes : DeskContents → List ℕ → Result Apdu Unfit → List ℕ
+asking_bytes live bytes (Ok a) = if is_held_over (side_with a.txn (sides_held live).sides) then bytes else []
+asking_bytes live bytes (Err unfit) = []
 
 -- Returns the bytes of a mail that could be read, if its message asks.
-abbrev pub asks_in : DeskContents → Option (List ℕ) → List ℕ
-asks_in live None = []
-asks_in live (Some bytes) = asks live bytes (message_in bytes)
+abbrev pub asking_bytes_if_read : DeskContents → Option (List ℕ) → List ℕ
+asking_bytes_if_read live None = []
+asking_bytes_if_read live (Some bytes) = asking_bytes live bytes (message_in bytes)
 
 -- Returns the bytes of a mail with this verdict, if its message asks. A mail that is put aside or waits does
 -- not ask.
-abbrev pub asks_of : DeskContents → Mail → Verdict → List ℕ
-asks_of live mail (Done outcome) = asks_in live (option_map (λ bytes. bytes.items) mail.bytes)
-asks_of live mail verdict = []
+abbrev pub asking_bytes_of_mail : DeskContents → Mail → Verdict → List ℕ
+asking_bytes_of_mail live mail (Done outcome) = asking_bytes_if_read live (option_map (λ bytes. bytes.items) mail.bytes)
+asking_bytes_of_mail live mail verdict = []
 
 -- Returns the bytes of a mail, if there are a mail and a verdict, and its message asks.
-abbrev pub asks_at : DeskContents → Option Mail → Option Verdict → List ℕ
-asks_at live (Some mail) (Some verdict) = asks_of live mail verdict
-asks_at live mail verdict = []
+abbrev pub asking_bytes_at : DeskContents → Option Mail → Option Verdict → List ℕ
+asking_bytes_at live (Some mail) (Some verdict) = asking_bytes_of_mail live mail verdict
+asking_bytes_at live mail verdict = []
 
 -- Returns the bytes of all messages that ask, by the verdicts of their mails.
 abbrev pub asked_by : DeskContents → List (Mail × Verdict) → List ℕ
-asked_by live mails = flat_map (λ mail. asks_of live mail.0 mail.1) mails
+asked_by live mails = flat_map (λ mail. asking_bytes_of_mail live mail.0 mail.1) mails

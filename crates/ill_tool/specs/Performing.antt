@@ -38,8 +38,8 @@ abbrev pub view_of : {L S : Type 0} → (S → StoreState) → DeskOf L S → He
 view_of state desk = record { live = desk.live; landed = known (state desk.store) }
 
 -- Returns the state in which the desk holds `live`, which is not saved yet.
-abbrev pub becomes : {L : Type 0} → HeldAndLanded L → L → HeldAndLanded L
-becomes old live = record old { live = live }
+abbrev pub with_sides : {L : Type 0} → HeldAndLanded L → L → HeldAndLanded L
+with_sides old live = record old { live = live }
 
 -- Returns the state after a save of the sides that the desk holds.
 abbrev pub saved : {L K : Type 0} → Effects L K → HeldAndLanded L → HeldAndLanded L
@@ -101,11 +101,11 @@ abbrev pub Performs : {L K : Type 0} → Effects L K → Type 0 → HeldAndLande
     Result DeskOutcome ToolFault → HeldAndLanded L → Type 0
 Performs effects WantsMemory old event (Ok outcome) new =
     (event.0 ≡ Ok outcome)
-    × (new ≡ (if is_change outcome then saved effects (becomes old event.1) else becomes old event.1))
+    × (new ≡ (if is_change outcome then saved effects (with_sides old event.1) else with_sides old event.1))
 Performs effects WantsMemory old event (Err (Desk (desks.Store Failed))) new =
-    IsChange event.0 × IsFaulted effects (becomes old event.1) new
+    IsChange event.0 × IsFaulted effects (with_sides old event.1) new
 Performs effects WantsMemory old event (Err OutOfMemory) new =
-    (WantsMemory × (new ≡ old)) ⊎ (IsChange event.0 × (new ≡ becomes old event.1))
+    (WantsMemory × (new ≡ old)) ⊎ (IsChange event.0 × (new ≡ with_sides old event.1))
 Performs effects WantsMemory old event (Err other) new = ⊥
 
 -- ---- many changes, and one save
@@ -134,7 +134,7 @@ pub record Run (L A : Type 0) : Type 0 where
 -- Returns the state after a run and its one save. Without a change nothing is saved.
 abbrev pub after_run : {L K A : Type 0} → Effects L K → HeldAndLanded L → Run L A → HeldAndLanded L
 after_run effects old run =
-    if run.has_changed then saved effects (becomes old run.live) else becomes old run.live
+    if run.has_changed then saved effects (with_sides old run.live) else with_sides old run.live
 
 -- The end of a run leads from `old` to `new`, with this answer. Without a fault all changes are saved and the
 -- lines written. After the fault `Write` all is saved, and a prefix of the lines written. If the save failed,
@@ -147,7 +147,7 @@ EndsRun effects run before after old (Ok answer) new =
 EndsRun effects run before after old (Err Write) new =
     ((size : ℕ) × Appends before after (take size run.told)) × (new ≡ after_run effects old run)
 EndsRun effects run before after old (Err (Desk (desks.Store Failed))) new =
-    (after ≡ before) × (run.has_changed ≡ true) × IsFaulted effects (becomes old run.live) new
+    (after ≡ before) × (run.has_changed ≡ true) × IsFaulted effects (with_sides old run.live) new
 EndsRun effects run before after old (Err OutOfMemory) new = (after ≡ before) × (new.landed ≡ old.landed)
 EndsRun effects run before after old (Err other) new = ⊥
 

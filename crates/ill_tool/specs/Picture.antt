@@ -52,12 +52,12 @@ abbrev pub without_last : List ℕ → List ℕ
 without_last text = take (length text - 1) text
 
 -- Returns the text with the sender and the receiver of a message.
-abbrev pub way_of : Body → List ℕ
-way_of body = if is_requesters body then codes "  requester->>responder: " else codes "  responder->>requester: "
+abbrev pub arrow_of : Body → List ℕ
+arrow_of body = if is_requesters body then codes "  requester->>responder: " else codes "  responder->>requester: "
 
 -- Returns the arrow of a message.
 unfoldable pub arrow : Apdu → List ℕ
-arrow apdu = way_of apdu.body ++ drawn (without_last (label_of apdu)) ++ codes "\n"
+arrow apdu = arrow_of apdu.body ++ drawn (without_last (label_of apdu)) ++ codes "\n"
 
 -- Returns the arrows of messages.
 abbrev pub arrows : List Apdu → List ℕ

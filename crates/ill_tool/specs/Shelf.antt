@@ -23,7 +23,7 @@ use Rattle.ill_der.specs.Handling.{Handles}
 use Rattle.ill_der.specs.ShortForm.{spelling}
 use Rattle.ill_tool.specs.Asked.{Asked}
 use Rattle.ill_tool.specs.Asked as asks
-use Rattle.ill_tool.specs.Commands.{ActsAtFile, ExchangesAtFile, InboxAtFile, IsShut, LoanAtFile, NewAtFile, OutboxAtFile}
+use Rattle.ill_tool.specs.Commands.{ActsAtFile, ExchangesAtFile, InboxAtFile, FailsToOpen, LoanAtFile, NewAtFile, OutboxAtFile}
 use Rattle.ill_tool.specs.Commands.{SendsAtFile, ShowsFile, TakesAtFile}
 use Rattle.ill_tool.specs.Copy.{Copies}
 use Rattle.ill_tool.specs.Input.{ReadsInput}
@@ -76,9 +76,9 @@ pub record Stop : Type 0 where
 
 -- Each of the visits begins with the output of the one before it. The first begins with `before`, and the
 -- last ends with `after`.
-unfoldable pub Follow : Option (List ℕ) → List Stop → Option (List ℕ) → Type 0
-Follow before [] after = after ≡ before
-Follow before (stop ∷ stops) after = (stop.before ≡ before) × Follow stop.after stops after
+unfoldable pub AreConsecutive : Option (List ℕ) → List Stop → Option (List ℕ) → Type 0
+AreConsecutive before [] after = after ≡ before
+AreConsecutive before (stop ∷ stops) after = (stop.before ≡ before) × AreConsecutive stop.after stops after
 
 -- Returns the gravest answer of the visits.
 abbrev pub gravest : List Stop → Result Bool ToolFault
@@ -119,7 +119,7 @@ RunsVisit (visits.Exchange night) = ExchangesAtFile night.dates
 abbrev pub VisitsAll : Bool → (Option (List ℕ) → Option (List ℕ) → Result Bool ToolFault → Type 0) → List (List ℕ) →
     Option (List ℕ) → Option (List ℕ) → Result Bool ToolFault → Type 0
 VisitsAll is_headed Runs paths before after answer =
-    (stops : List Stop) × (map (λ stop. stop.path) stops ≡ paths) × Follow before stops after
+    (stops : List Stop) × (map (λ stop. stop.path) stops ≡ paths) × AreConsecutive before stops after
     × All (Headed is_headed Runs) stops × (answer ≡ gravest stops)
 
 -- The result is that all is well, that mails without a desk wait, or that a file failed.
@@ -133,7 +133,7 @@ IsFurther (Err fault) = IsFileFault fault
 abbrev pub VisitsShelf : Bool → (Option (List ℕ) → Option (List ℕ) → Result Bool ToolFault → Type 0) → Option (List ℕ) →
     Option (List ℕ) → Result Bool ToolFault → Type 0
 VisitsShelf is_headed Runs before after result =
-    IsShut before after result
+    FailsToOpen before after result
     ⊎ ((paths : List (List ℕ)) × (answer further : Result Bool ToolFault) × VisitsAll is_headed Runs paths before after answer
     × IsFurther further × (result ≡ graver answer further))
 
@@ -169,7 +169,7 @@ told_with is_well (Err fault) = Err fault
 -- be opened.
 abbrev pub RetiresAtFile : Option (List ℕ) → Option (List ℕ) → Result Bool ToolFault → Type 0
 RetiresAtFile before after result =
-    IsShut before after result
+    FailsToOpen before after result
     ⊎ ((is_retired : Bool) × (told : Result (Unit {0}) ToolFault) × WritesText before after (retired_line is_retired) told
     × (result ≡ told_with is_retired told))
 
@@ -184,12 +184,12 @@ pub record ShelfTaking : Type 0 where
   pub written : Option (List ℕ)
 
 -- The APDU `a` was taken as by `take` at one desk, with `a` alone as the input.
-abbrev pub takes_home : Handles ShelfTaking ToolFault
-takes_home old a (Ok done) new =
+abbrev pub TakesAtHome : Handles ShelfTaking ToolFault
+TakesAtHome old a (Ok done) new =
     (is_well : Bool) × (rest : Option (List ℕ))
     × TakesAtFile old.is_kept old.is_long (Some (spelling a)) rest old.written new.written (Ok is_well)
     × (new ≡ record old { all_fine = old.all_fine && is_well; written = new.written })
-takes_home old a (Err fault) new =
+TakesAtHome old a (Err fault) new =
     (rest : Option (List ℕ))
     × TakesAtFile old.is_kept old.is_long (Some (spelling a)) rest old.written new.written (Err fault)
 
@@ -201,9 +201,9 @@ shelf_taking is_kept is_long before = record { is_kept = is_kept; is_long = is_l
 abbrev pub TakesAtShelf : (is_kept is_long : Bool) → Option (List ℕ) → Option (List ℕ) → Option (List ℕ) →
     Option (List ℕ) → Result Bool ToolFault → Type 0
 TakesAtShelf is_kept is_long left rest before after result =
-    (IsShut before after result × (rest ≡ left))
+    (FailsToOpen before after result × (rest ≡ left))
     ⊎ ((count : Result ℕ ToolFault) × (end : ShelfTaking)
-    × ReadsInput takes_home left rest (shelf_taking is_kept is_long before) count end
+    × ReadsInput TakesAtHome left rest (shelf_taking is_kept is_long before) count end
     × (after ≡ end.written) × (result ≡ answer_of count end.all_fine))
 
 -- ---- the commands

@@ -14,11 +14,11 @@ form_of true = Json
 form_of false = Lines
 
 -- The text of an APDU was written. The states are the output before and after it.
-abbrev pub shows : Form → Handles (Option (List ℕ)) ToolFault
-shows form before apdu result after = WritesText before after (apdu_text form apdu) result
+abbrev pub ShowsApdu : Form → Handles (Option (List ℕ)) ToolFault
+ShowsApdu form before apdu result after = WritesText before after (apdu_text form apdu) result
 
 -- The command: the text of each APDU of the input was written. The input went from `old` to `new`, and the
 -- output from `before` to `after`.
 abbrev pub RunsShow : Form → Option (List ℕ) → Option (List ℕ) → Option (List ℕ) → Option (List ℕ) →
     Result ℕ ToolFault → Type 0
-RunsShow form old new before after result = ReadsInput (shows form) old new before result after
+RunsShow form old new before after result = ReadsInput (ShowsApdu form) old new before result after

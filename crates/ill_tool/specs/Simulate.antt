@@ -23,8 +23,8 @@ tool_answer (Ok count) = Ok count
 tool_answer (Err fault) = Err (sim_fault fault)
 
 -- `result` is the answer of the command for an answer that satisfies `Simulated`.
-abbrev pub TellsOf : (Result ℕ SimFault → Type 0) → Result ℕ ToolFault → Type 0
-TellsOf Simulated result =
+abbrev pub GivesAnswerOf : (Result ℕ SimFault → Type 0) → Result ℕ ToolFault → Type 0
+GivesAnswerOf Simulated result =
     (simulated : Result ℕ SimFault) × Simulated simulated × (result ≡ tool_answer simulated)
 
 -- The command `simulate`: a simulation of the transaction. It reads the input from `old` to `new`, and the
@@ -32,14 +32,14 @@ TellsOf Simulated result =
 -- and nothing is read or written.
 abbrev pub Performs : Result Qualifiers TextFault → Option (List ℕ) → Option (List ℕ) →
     Option (List ℕ) → Option (List ℕ) → Result ℕ ToolFault → Type 0
-Performs (Ok txn) old new before after result = TellsOf (Simulates txn old new before after) result
+Performs (Ok txn) old new before after result = GivesAnswerOf (Simulates txn old new before after) result
 Performs (Err fault) old new before after result =
     (result ≡ Err Arguments) × Consumes old new [] × Appends before after []
 
 -- The command `simulate-desks`: a simulation of two desks.
 abbrev pub PerformsDesks : Option (List ℕ) → Option (List ℕ) → Option (List ℕ) → Option (List ℕ) →
     Result ℕ ToolFault → Type 0
-PerformsDesks old new before after result = TellsOf (SimulatesDesks old new before after) result
+PerformsDesks old new before after result = GivesAnswerOf (SimulatesDesks old new before after) result
 
 -- The second result is the transaction id of the first. If memory ran out, it is that fault. If there is no
 -- id, it is the fault `Arguments`.

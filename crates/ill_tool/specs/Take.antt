@@ -86,13 +86,13 @@ progress view came written fine = record { view = view; came = came; written = w
 
 -- The message `a` was handed to its side, kept and saved if it was taken, and its outcome written. If memory
 -- ran out to read it, nothing changed. After any other fault this was done up to the fault.
-abbrev pub takes_each : {L K : Type 0} → Bool → Wording → Effects L K → Handles (Progress L) ToolFault
-takes_each is_kept told effects old a (Ok done) new =
+abbrev pub TakesMessage : {L K : Type 0} → Bool → Wording → Effects L K → Handles (Progress L) ToolFault
+TakesMessage is_kept told effects old a (Ok done) new =
     (outcome : DeskOutcome) × TakesAndSaves effects old.view a (Ok outcome) new.view
     × KeepsTaken is_kept a (Ok outcome) old.came new.came old.view new.view
     × Appends old.written new.written (told a outcome (effects.side_for (effects.key_of a) new.view.live))
     × (new.fine ≡ old.fine && is_fine outcome)
-takes_each is_kept told effects old a (Err fault) new =
+TakesMessage is_kept told effects old a (Err fault) new =
     ((fault ≡ OutOfMemory) × (new ≡ old))
     ⊎ ((performed : Result DeskOutcome ToolFault) × (text : List ℕ)
     × TakesAndSaves effects old.view a performed new.view
@@ -113,7 +113,7 @@ abbrev pub RunsTaking : {L K : Type 0} → Bool → Wording → Effects L K → 
     HeldAndLanded L → Type 0
 RunsTaking is_kept told effects old new kept_before kept_after before after from result to =
     (ended : Result ℕ ToolFault) × (fine : Bool) × (result ≡ answer_of ended fine)
-    × ReadsInput (takes_each is_kept told effects) old new (progress from kept_before before true) ended
+    × ReadsInput (TakesMessage is_kept told effects) old new (progress from kept_before before true) ended
     (progress to kept_after after fine)
 
 -- The command `take`, which keeps no message.

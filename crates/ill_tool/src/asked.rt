@@ -3,7 +3,7 @@
 ghost use Rattle.std.specs.Prelude.{◌≡◌, ◌++◌, Ok, slice_get, IfOk, OnOk};
 ghost use Rattle.std.specs.List.{zip};
 ghost use Rattle.ill_saved.specs.Sides.{side_with};
-ghost use Rattle.ill_tool.specs.Outbox.{asked_by, asks, asks_at, asks_of, is_held_over};
+ghost use Rattle.ill_tool.specs.Outbox.{asked_by, asking_bytes, asking_bytes_at, asking_bytes_of_mail, is_held_over};
 ghost use Rattle.ill_tool.specs.Inbox.{message_in};
 
 use crate::inbox::message_in;
@@ -39,7 +39,7 @@ fn push_asking_at<S: Store>(
     place: usize,
 ) -> Result<(), OutOfMemory>
     ensures { OnOk result (asked.new.items ≡ asked.old.items
-        ++ asks_at desk.now.live (slice_get mails.now place) (slice_get verdicts.now place)) }
+        ++ asking_bytes_at desk.now.live (slice_get mails.now place) (slice_get verdicts.now place)) }
 {
     match (mails.get(place), verdicts.get(place)) {
         (Some(mail), Some(verdict)) => push_asking(asked, desk, mail, *verdict),
@@ -54,7 +54,7 @@ fn push_asking<S: Store>(
     mail: &Mail,
     verdict: Verdict,
 ) -> Result<(), OutOfMemory>
-    ensures { OnOk result (asked.new.items ≡ asked.old.items ++ asks_of desk.now.live mail.now verdict) }
+    ensures { OnOk result (asked.new.items ≡ asked.old.items ++ asking_bytes_of_mail desk.now.live mail.now verdict) }
 {
     match (&mail.bytes, verdict) {
         (Some(bytes), Verdict::Done(_)) => push_asking_bytes(asked, desk, bytes),
@@ -68,7 +68,7 @@ fn push_asking_bytes<S: Store>(
     desk: &Desk<S>,
     bytes: &[u8],
 ) -> Result<(), OutOfMemory>
-    ensures { OnOk result (asked.new.items ≡ asked.old.items ++ asks desk.now.live bytes.now (message_in bytes.now)) }
+    ensures { OnOk result (asked.new.items ≡ asked.old.items ++ asking_bytes desk.now.live bytes.now (message_in bytes.now)) }
 {
     let alloc = *asked.allocator();
     if let Ok(read) = message_in(bytes) {

@@ -1,6 +1,6 @@
 //! The command `check`.
 
-ghost use Rattle.ill_tool.specs.Check.{passes, Counts, Checks, WritesCount};
+ghost use Rattle.ill_tool.specs.Check.{SkipsApdu, Counts, Checks, WritesCount};
 
 use crate::fault::ToolFault;
 use crate::input::{Counted, handle_input};
@@ -52,7 +52,7 @@ struct Passing;
 impl Handler<()> for Passing {
     type Fault = ToolFault;
 
-    ghost handles = { λ _ apdu result _. passes tt apdu result tt };
+    ghost handles = { λ _ apdu result _. SkipsApdu tt apdu result tt };
 
     fn handle(
         &mut self,

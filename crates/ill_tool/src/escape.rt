@@ -1,7 +1,7 @@
 //! Texts on which no terminal acts.
 
 ghost use Rattle.std.specs.Prelude.{◌≡◌, ◌≤◌, ◌++◌, ◌∷◌, length, option_map, IfOk, OnOk};
-ghost use Rattle.ill_tool.specs.Escape.{IsActingPrefix, byte_text, escape, escaped, goes_on, is_acting, is_control, is_marked, number_of_three, number_of_two, three_act, two_act, written};
+ghost use Rattle.ill_tool.specs.Escape.{IsActingPrefix, byte_text, escape, escaped, is_continuation, is_acting, is_control, needs_backslash, number_of_three, number_of_two, is_acting_triple, is_acting_pair, written};
 ghost use Rattle.ill_tool.specs.declared.escape.Escaping.TheVariants as escapings;
 
 use ill_values::OutOfMemory;
@@ -70,13 +70,13 @@ fn acting_prefix(_escaping: Escaping, first: u8, after: &[u8]) -> Option<(u32, &
     let Some((second, rest)) = after.split_first() else {
         return None;
     };
-    if two_act(first, *second) {
+    if is_acting_pair(first, *second) {
         return Some((number_of_two(first, *second), rest));
     }
     let Some((third, rest)) = rest.split_first() else {
         return None;
     };
-    if three_act(first, *second, *third) {
+    if is_acting_triple(first, *second, *third) {
         return Some((number_of_three(first, *second, *third), rest));
     }
     None
@@ -108,7 +108,7 @@ fn push_screen_byte(text: &mut Vec<u8>, byte: u8) -> Result<(), OutOfMemory>
 fn push_json_byte(text: &mut Vec<u8>, byte: u8) -> Result<(), OutOfMemory>
     ensures { OnOk result (text.new.items ≡ text.old.items ++ byte_text escapings.Json byte) }
 {
-    if is_marked(byte) {
+    if needs_backslash(byte) {
         text.push(b'\\')?;
     } else if is_control(byte) {
         return push_escape(text, Escaping::Json, byte.into());
@@ -135,8 +135,8 @@ fn push_escape(text: &mut Vec<u8>, escaping: Escaping, number: u32) -> Result<()
 }
 
 /// Returns true if `byte` has a backslash before it in a string of JSON.
-fn is_marked(byte: u8) -> bool
-    ensures { result ≡ is_marked byte }
+fn needs_backslash(byte: u8) -> bool
+    ensures { result ≡ needs_backslash byte }
 {
     matches!(byte, b'"' | b'\\')
 }
@@ -149,25 +149,25 @@ fn is_control(byte: u8) -> bool
 }
 
 /// Returns true if the two bytes encode a character on which a terminal may act.
-fn two_act(first: u8, second: u8) -> bool
-    ensures { result ≡ two_act first second }
+fn is_acting_pair(first: u8, second: u8) -> bool
+    ensures { result ≡ is_acting_pair first second }
 {
-    matches!(first, 0xC0..=0xDF) && goes_on(second) && is_acting(number_of_two(first, second))
+    matches!(first, 0xC0..=0xDF) && is_continuation(second) && is_acting(number_of_two(first, second))
 }
 
 /// Returns true if the three bytes encode a character on which a terminal may act.
-fn three_act(first: u8, second: u8, third: u8) -> bool
-    ensures { result ≡ three_act first second third }
+fn is_acting_triple(first: u8, second: u8, third: u8) -> bool
+    ensures { result ≡ is_acting_triple first second third }
 {
     matches!(first, 0xE0..=0xEF)
-        && goes_on(second)
-        && goes_on(third)
+        && is_continuation(second)
+        && is_continuation(third)
         && is_acting(number_of_three(first, second, third))
 }
 
 /// Returns true if `byte` can follow the first byte of a character.
-fn goes_on(byte: u8) -> bool
-    ensures { result ≡ goes_on byte }
+fn is_continuation(byte: u8) -> bool
+    ensures { result ≡ is_continuation byte }
 {
     matches!(byte, 0x80..=0xBF)
 }

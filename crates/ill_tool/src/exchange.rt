@@ -2,7 +2,7 @@
 //! the lock of the desk's file from before the load to its end.
 
 ghost use Rattle.std.specs.Prelude.{◌≡◌, Ok, is_some, IfErr};
-ghost use Rattle.ill_tool.specs.Commands.{Departs, ExchangesAt, ExchangesAtFile, GoesOn, InboxAtFile, IsOpenFault, OutboxAtFile, SaysDates, SendsAll, SendsAsked, SendsFrom, SendsOn, SendsTo, SettlesRun, TakesMails, ending_of, night_ending, taken_of};
+ghost use Rattle.ill_tool.specs.Commands.{EndsAfterSending, ExchangesAt, ExchangesAtFile, FinishesNight, InboxAtFile, IsOpenFault, OutboxAtFile, PerformsDueDeeds, SendsAll, SendsAsked, SendsFrom, SendsOn, SendsTo, SettlesRun, TakesMails, ending_of, night_ending, taken_of};
 ghost use Rattle.ill_tool.specs.Inbox.{EndedWell, answered_with};
 ghost use Rattle.ill_tool.specs.Performing.{view_of};
 ghost use Rattle.ill_tool.specs.Outbox.{IsFileFault};
@@ -407,7 +407,7 @@ fn go_on<T: Files, S: Store, W: Write, E: Write>(
     writer: &mut W,
     errors: &mut E,
 ) -> Result<bool, ToolFault>
-    ensures { GoesOn night.now.dates (Ok (taken_of taken.now)) (W.contents writer.old) (W.contents writer.new)
+    ensures { FinishesNight night.now.dates (Ok (taken_of taken.now)) (W.contents writer.old) (W.contents writer.new)
         (view_of S.state desk.old) result (view_of S.state desk.new) }
 {
     match say_dates(alloc, desk, night.dates, writer) {
@@ -439,7 +439,7 @@ fn say_dates<S: Store, W: Write>(
     dates: Option<(Day, Dates)>,
     writer: &mut W,
 ) -> Result<(), ToolFault>
-    ensures { SaysDates dates (W.contents writer.old) (W.contents writer.new)
+    ensures { PerformsDueDeeds dates (W.contents writer.old) (W.contents writer.new)
         (view_of S.state desk.old) result (view_of S.state desk.new) }
 {
     match dates {
@@ -559,7 +559,7 @@ fn finish<T: Files, S: Store, E: Write>(
     taken: &Taken,
     errors: &mut E,
 ) -> Result<bool, ToolFault>
-    ensures { Departs (night_ending desk.now.live.role (taken_of taken.now)) (Ok tt) result }
+    ensures { EndsAfterSending (night_ending desk.now.live.role (taken_of taken.now)) (Ok tt) result }
 {
     match beat(rt, alloc, path, errors) {
         Ok(()) => ending(desk, taken),

@@ -6,7 +6,7 @@ ghost use Rattle.ill_tool.specs.declared.fault.ToolFault.TheVariants.{OutOfMemor
 ghost use Rattle.ill_saved.specs.ManySides.{many_sides};
 ghost use Rattle.ill_tool.specs.Performing.{SavesOnce, is_change, view_of};
 ghost use Rattle.ill_tool.specs.Take.{KeepsBefore};
-ghost use Rattle.ill_tool.specs.Inbox.{EndedWell, HandsOver, RunsInbox, after_mail, after_mails, after_message, answered_with, concluded, message_in, one_message, settled, sorting_of, told_of, verdict_line, verdict_of};
+ghost use Rattle.ill_tool.specs.Inbox.{EndedWell, HandsOver, RunsInbox, after_mail, after_mails, after_message, answered_with, concluded, message_in, one_message, with_verdict, sorting_of, with_message, verdict_line, verdict_of};
 
 use crate::fault::{ToolFault, refused};
 use crate::output::write_and_flush;
@@ -208,8 +208,8 @@ impl Sorted {
     ) -> Result<(), ToolFault>
         requires same { read.now ≡ apdu.now }
         ensures sorted { OnOk result (sorting_of desk.now.live self.new
-            ≡ settled name.now (verdict_of (H.effects.role desk.now.live) outcome)
-            (told_of H.effects bytes.now apdu.now outcome desk.now.live
+            ≡ with_verdict name.now (verdict_of (H.effects.role desk.now.live) outcome)
+            (with_message H.effects bytes.now apdu.now outcome desk.now.live
             (sorting_of desk.now.live self.old))) }
         ensures fault { IfErr result (λ fault. fault ≡ OutOfMemory) }
     {
@@ -230,7 +230,7 @@ impl Sorted {
     ) -> Result<(), ToolFault>
         requires same { read.now ≡ apdu.now }
         ensures told { OnOk result (sorting_of desk.now.live self.new
-            ≡ told_of H.effects bytes.now apdu.now outcome desk.now.live
+            ≡ with_message H.effects bytes.now apdu.now outcome desk.now.live
             (sorting_of desk.now.live self.old)) }
         ensures fault { IfErr result (λ fault. fault ≡ OutOfMemory) }
     {

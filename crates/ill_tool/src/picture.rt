@@ -4,7 +4,7 @@ ghost use Rattle.std.specs.Prelude.{◌≡◌, ◌≤◌, ◌++◌, length, IfOk
 ghost use Rattle.ill_saved.specs.Side.{txn_of, issued_of};
 ghost use Rattle.ill_saved.specs.ManySides.{found_by, txn_held};
 ghost use Rattle.ill_tool.specs.Kept.{RunsKeptLoan, WritesKept};
-ghost use Rattle.ill_tool.specs.Picture.{answers, arrow, arrows, not_linked, comes_before, drawn, drawn_byte, is_linked, is_plain, label_of, linked, picture, picture_of, theirs_of, through, way_of, with_own, with_request, without_last};
+ghost use Rattle.ill_tool.specs.Picture.{answers, arrow, arrows, not_linked, comes_before, drawn, drawn_byte, is_linked, is_plain, label_of, linked, picture, picture_of, theirs_of, through, arrow_of, with_own, with_request, without_last};
 
 use crate::fault::ToolFault;
 use crate::kept::{apdus_in, is_among, kept_of};
@@ -198,7 +198,7 @@ fn push_arrow(lines: &mut Vec<u8>, apdu: &Apdu) -> Result<(), OutOfMemory>
 
 /// Returns the text with the sender and the receiver of a message.
 fn way(body: &Body) -> &'static str
-    ensures { result.now ≡ way_of body.now }
+    ensures { result.now ≡ arrow_of body.now }
 {
     if is_requesters(body) {
         "  requester->>responder: "

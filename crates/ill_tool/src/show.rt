@@ -3,7 +3,7 @@
 ghost use Rattle.std.specs.Prelude.{◌≡◌, ◌++◌, OnOk};
 ghost use Rattle.ill_tool.specs.declared.form.Form.TheVariants.{Lines};
 ghost use Rattle.ill_tool.specs.Objects.{apdu_text};
-ghost use Rattle.ill_tool.specs.Show.{form_of, shows, RunsShow};
+ghost use Rattle.ill_tool.specs.Show.{form_of, ShowsApdu, RunsShow};
 
 use crate::fault::ToolFault;
 use crate::form::Form;
@@ -70,7 +70,7 @@ struct Showing<const JSON: bool> {
 impl<W: Write, const JSON: bool> Handler<W> for Showing<JSON> {
     type Fault = ToolFault;
 
-    ghost handles = { λ old apdu result new. shows (form_of JSON) (W.contents old.1) apdu result (W.contents new.1) };
+    ghost handles = { λ old apdu result new. ShowsApdu (form_of JSON) (W.contents old.1) apdu result (W.contents new.1) };
 
     fn handle(
         &mut self,

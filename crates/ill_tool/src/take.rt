@@ -5,7 +5,7 @@ ghost use Rattle.ill_der.specs.ShortForm.{spelling};
 ghost use Rattle.ill_saved.specs.OneSide.{one_side};
 ghost use Rattle.ill_saved.specs.ManySides.{many_sides};
 ghost use Rattle.ill_tool.specs.Performing.{view_of, CountsToolFailure};
-ghost use Rattle.ill_tool.specs.Take.{CountsTaking, KeepsBefore, KeepsDesk, KeepsPrefix, KeepsTaken, RunsKeptTake, RunsTake, RunsTaking, SavesTaken, TakesAndSaves, kept_text, progress, takes_each};
+ghost use Rattle.ill_tool.specs.Take.{CountsTaking, KeepsBefore, KeepsDesk, KeepsPrefix, KeepsTaken, RunsKeptTake, RunsTake, RunsTaking, SavesTaken, TakesAndSaves, kept_text, progress, TakesMessage};
 ghost use Rattle.ill_tool.specs.Telling.{long, short, wording};
 
 use crate::came::STORE_FAILED;
@@ -198,7 +198,7 @@ impl<H: Holdings, S: Store, F: Write, const LONG: bool, const KEEP: bool> TakesE
         read: &ApduView<'_>,
     ) -> Result<(), ToolFault>
         requires same { read.now ≡ apdu.now }
-        ensures takes { takes_each KEEP (wording LONG) H.effects
+        ensures takes { TakesMessage KEEP (wording LONG) H.effects
             (progress (view_of S.state self.old.desk.now)
             (F.contents self.old.came.now) (W.contents writer.old) self.old.all_fine)
             apdu.now result
@@ -232,7 +232,7 @@ impl<H: Holdings, S: Store, F: Write, W: Write, const LONG: bool, const KEEP: bo
     for TakesEach<'_, '_, H, S, F, LONG, KEEP> {
     type Fault = ToolFault;
 
-    ghost handles = { λ old apdu result new. takes_each KEEP (wording LONG) H.effects
+    ghost handles = { λ old apdu result new. TakesMessage KEEP (wording LONG) H.effects
         (progress (view_of S.state old.0.desk.now)
         (F.contents old.0.came.now) (W.contents old.1) old.0.all_fine)
         apdu result

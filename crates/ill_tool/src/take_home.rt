@@ -3,7 +3,7 @@
 ghost use Rattle.std.specs.Prelude.{◌≡◌, IfErr, IfOk};
 ghost use Rattle.ill_der.specs.ShortForm.{spelling};
 ghost use Rattle.ill_tool.specs.Commands.{IsOpenFault};
-ghost use Rattle.ill_tool.specs.Shelf.{TakesAtShelf, takes_home};
+ghost use Rattle.ill_tool.specs.Shelf.{TakesAtShelf, TakesAtHome};
 
 use crate::fault::ToolFault;
 use crate::file::take;
@@ -57,7 +57,7 @@ struct TakesHome<'a, T: LockFiles> {
 impl<T: LockFiles, W: Write> Handler<W> for TakesHome<'_, T> {
     type Fault = ToolFault;
 
-    ghost handles = { λ old apdu result new. takes_home
+    ghost handles = { λ old apdu result new. TakesAtHome
         (record { is_kept = old.0.is_kept; is_long = old.0.is_long; all_fine = old.0.all_fine; written = W.contents old.1 })
         apdu result
         (record { is_kept = new.0.is_kept; is_long = new.0.is_long; all_fine = new.0.all_fine; written = W.contents new.1 }) };

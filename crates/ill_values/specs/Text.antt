@@ -52,6 +52,6 @@ abbrev pub item_of : List ℕ → Result (List ℕ) TextFault
 item_of text = item_check text >>= λ _. Ok text
 
 -- The result of a call is the expected fault. If a value is expected, the result is this value or `OutOfMemory`.
-abbrev pub MakesText : {V : Type 0} → Result V TextFault → Result V TextFault → Type 0
-MakesText (Err fault) result = result ≡ Err fault
-MakesText (Ok value) result = MatchResult result (λ made. made ≡ value) (λ fault. fault ≡ OutOfMemory)
+abbrev pub ReturnsText : {V : Type 0} → Result V TextFault → Result V TextFault → Type 0
+ReturnsText (Err fault) result = result ≡ Err fault
+ReturnsText (Ok value) result = MatchResult result (λ made. made ≡ value) (λ fault. fault ≡ OutOfMemory)

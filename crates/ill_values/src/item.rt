@@ -4,7 +4,7 @@ ghost use Rattle.std.specs.Prelude.{◌≡◌, ◌≤◌, ℕ, List, length, is_
 ghost use Rattle.std.specs.Str.{bytes_eq};
 ghost use Rattle.std.specs.Cmp.Rules.{comparing};
 ghost use Rattle.std.proofs.Common.{rules};
-ghost use Rattle.ill_values.specs.Text.{item_check, item_of, IsItem, MakesText};
+ghost use Rattle.ill_values.specs.Text.{item_check, item_of, IsItem, ReturnsText};
 
 use crate::fault::TextFault;
 use crate::text::check_item;
@@ -43,7 +43,7 @@ impl Eq for Item {
 impl Item {
     /// Returns the item with bytes `text`, in memory of its own, or the first fault of `text`.
     pub fn new(alloc: Global, text: &[u8]) -> Result<Item, TextFault>
-        ensures { MakesText (item_of text.now) result }
+        ensures { ReturnsText (item_of text.now) result }
     {
         check_item(text)?;
         Ok(Item {

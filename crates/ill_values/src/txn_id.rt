@@ -5,7 +5,7 @@ ghost use Rattle.std.specs.Str.{bytes_eq};
 ghost use Rattle.std.specs.Hash as fed;
 ghost use Rattle.std.specs.Cmp.Rules.{comparing, hashing};
 ghost use Rattle.std.proofs.Common.{rules};
-ghost use Rattle.ill_values.specs.Text.{qualifier_check, MakesText};
+ghost use Rattle.ill_values.specs.Text.{qualifier_check, ReturnsText};
 ghost use Rattle.ill_values.specs.TxnId.{Qualifiers, AreQualifiers, txn_id_of};
 
 use crate::fault::TextFault;
@@ -60,7 +60,7 @@ impl TxnId {
     /// Returns the id with these qualifiers, in memory of its own, or the first fault. The faults of `group` come
     /// first, then those of `transaction`, then `OutOfMemory`.
     pub fn new(alloc: Global, group: &[u8], transaction: &[u8]) -> Result<TxnId, TextFault>
-        ensures { MakesText (txn_id_of group.now transaction.now) result }
+        ensures { ReturnsText (txn_id_of group.now transaction.now) result }
     {
         check_qualifier(group)?;
         check_qualifier(transaction)?;

@@ -11,7 +11,7 @@ use Rattle.ill_core.specs.declared.state.State.TheVariants as states
 use Rattle.ill_core.specs.State.{is_among}
 use Rattle.ill_core.specs.Bodies.{is_cancelled, is_shipped, is_ill_request, is_cancel, is_received, is_returned, is_checked_in}
 use Rattle.ill_core.specs.Bodies.{accepts}
-use Rattle.ill_core.specs.Issued.{message, has, was, is_there}
+use Rattle.ill_core.specs.Issued.{message, has_message_with, is_message_with, is_there}
 use Rattle.ill_core.specs.Requester.{RequesterRecord, later}
 use Rattle.ill_core.specs.RequesterEvidence as requester
 use Rattle.ill_core.specs.Responder.{ResponderRecord, later as shipped_states}
@@ -22,7 +22,7 @@ use Rattle.ill_saved.specs.Side.{issued_of}
 use Rattle.ill_world.specs.World.{Party, Parties, sent_message}
 use Rattle.ill_world.specs.Safety.{OfBoth}
 use Rattle.ill_world.specs.Agreement.{AnswersOnce, EndsOnce, Facing, AcceptedBy, IsNotLater, SaysTrue, Agrees}
-use Rattle.ill_world.specs.Invariant.{RequesterStands, ResponderStands, RequesterSideStands, ResponderSideStands, SendsSaved}
+use Rattle.ill_world.specs.Invariant.{RequesterInvariant, ResponderInvariant, RequesterSideInvariant, ResponderSideInvariant, SendsSaved}
 use Rattle.ill_world.specs.Invariant.{Invariant}
 use Rattle.ill_core.proofs.GrantLemmas.{granted_not_later}
 use Rattle.ill_core.proofs.MessageLemmas.{message_says, says_message}
@@ -89,12 +89,12 @@ is_in_checked_in state e = search rules
 
 -- ---- a requester's record and a responder's
 
--- `P` holds of two records that satisfy `RequesterStands` and `ResponderStands`. Each has issued all messages that were
+-- `P` holds of two records that satisfy `RequesterInvariant` and `ResponderInvariant`. Each has issued all messages that were
 -- sent to the other.
 abbrev pub PairOf : (RequesterRecord → ResponderRecord → Type 0) → Type 0
 PairOf P =
     (txn : Qualifiers) (x : RequesterRecord) (y : ResponderRecord) (requester_sent responder_sent : List (Option Apdu))
-    → RequesterStands txn x requester_sent → ResponderStands txn y responder_sent → AreIssued requester_sent y.issued
+    → RequesterInvariant txn x requester_sent → ResponderInvariant txn y responder_sent → AreIssued requester_sent y.issued
     → AreIssued responder_sent x.issued → P x y
 
 -- A state among NOT-SUPPLIED, SHIPPED and later is NOT-SUPPLIED, or is SHIPPED or later.
@@ -105,16 +105,16 @@ split_final state is = inr is
 
 -- A responder that has issued a Shipped is not in CANCELLED.
 shipped_is_later : (y : ResponderRecord) (txn : Qualifiers) (responder_sent : List (Option Apdu))
-    → ResponderStands txn y responder_sent
-    → has is_shipped y.issued ≡ true → y.state ≡ states.Cancelled → ⊥
+    → ResponderInvariant txn y responder_sent
+    → has_message_with is_shipped y.issued ≡ true → y.state ≡ states.Cancelled → ⊥
 shipped_is_later y txn responder_sent responder_stands shipped e =
-    let no : has is_shipped y.issued ≡ false = responder_stands.ends.shipped ∙ ap (is_among shipped_states) e in
+    let no : has_message_with is_shipped y.issued ≡ false = responder_stands.ends.shipped ∙ ap (is_among shipped_states) e in
     let both : true ≡ false = sym shipped ∙ no in
     search rules
 
 -- If the responder is in CANCELLED, the requester is neither in NOT-SUPPLIED nor in SHIPPED or later.
 no_other_end : (txn : Qualifiers) (x : RequesterRecord) (y : ResponderRecord) (requester_sent responder_sent : List (Option Apdu))
-    → RequesterStands txn x requester_sent → ResponderStands txn y responder_sent → AreIssued requester_sent y.issued
+    → RequesterInvariant txn x requester_sent → ResponderInvariant txn y responder_sent → AreIssued requester_sent y.issued
     → y.state ≡ states.Cancelled → is_among (states.NotSupplied ∷ later) x.state ≡ false
 no_other_end txn x y requester_sent responder_sent requester_stands responder_stands issued e =
     go (is_among (states.NotSupplied ∷ later) x.state) refl
@@ -138,26 +138,26 @@ body_of a b e = let same : a ≡ b = search rules in ap (λ (x : Apdu). x.body) 
 -- If the responder has issued a Cancel-Reply yes to c, Cancel c is open at the requester.
 pub cancel_is_open : (txn : Qualifiers) (x : RequesterRecord) (y : ResponderRecord)
     (requester_sent responder_sent : List (Option Apdu))
-    → RequesterStands txn x requester_sent → ResponderStands txn y responder_sent → AreIssued requester_sent y.issued
+    → RequesterInvariant txn x requester_sent → ResponderInvariant txn y responder_sent → AreIssued requester_sent y.issued
     → AreIssued responder_sent x.issued → (m c : ℕ) (a : Apdu) → message y.issued m ≡ Some a
     → a.body ≡ types.CancelReply c true → requester.is_open x c ≡ true
 cancel_is_open txn x y requester_sent responder_sent requester_stands responder_stands issued heeded m c a at is =
     let ends : is_cancelled a.body ≡ true = ap is_cancelled is in
     let cancelled : y.state ≡ states.Cancelled =
     is_in_cancelled y.state (sym responder_stands.ends.cancelled ∙ message_says is_cancelled y.issued m a at ends) in
-    let cancels_it : responder.cancels c a.body ≡ true = ap (responder.cancels c) is ∙ eq-eqb c c refl in
+    let cancels_it : responder.is_yes_to_cancel c a.body ≡ true = ap (responder.is_yes_to_cancel c) is ∙ eq-eqb c c refl in
     let asked_for = responder_stands.knows (responder.CancelAsked c)
-    (inr (message_says (responder.cancels c) y.issued m a at cancels_it)) in
+    (inr (message_says (responder.is_yes_to_cancel c) y.issued m a at cancels_it)) in
     let there = heeded asked_for.0 asked_for.1 in
     let says = tells_cancel asked_for.0.number c asked_for.0.body asked_for.2 in
     let number : there.0 ≡ c = sym (message_number x.txn x.issued there.0 asked_for.0 requester_stands.rules.numbered there.1).1
     ∙ says.1 in
-    let issued_it : was is_cancel x.issued c ≡ true =
+    let issued_it : is_message_with is_cancel x.issued c ≡ true =
     ap (is_there is_cancel) (ap (message x.issued) (sym number) ∙ there.1) ∙ says.0 in
     let final = no_other_end txn x y requester_sent responder_sent requester_stands responder_stands issued cancelled in
     go issued_it final (requester.is_open x c) refl
   where
-    go : was is_cancel x.issued c ≡ true → is_among (states.NotSupplied ∷ later) x.state ≡ false → (b : Bool)
+    go : is_message_with is_cancel x.issued c ≡ true → is_among (states.NotSupplied ∷ later) x.state ≡ false → (b : Bool)
         → requester.is_open x c ≡ b → b ≡ true
     go issued_it final true e = refl
     go issued_it final false e =
@@ -185,7 +185,7 @@ says_true txn x y requester_sent responder_sent requester_stands responder_stand
       (tells_sent_back known.0.number known.0.body known.2));
   cancelled =
       λ e.
-      let ended : has is_cancelled y.issued ≡ true = responder_stands.ends.cancelled ∙ ap (is_among (states.Cancelled ∷ [])) e in
+      let ended : has_message_with is_cancelled y.issued ≡ true = responder_stands.ends.cancelled ∙ ap (is_among (states.Cancelled ∷ [])) e in
       let at = says_message is_cancelled y.issued ended in
       let by = cancels_with at.1.body at.3 in
       (and_parts _ _ (cancel_is_open txn x y requester_sent responder_sent requester_stands responder_stands issued heeded at.0
@@ -214,8 +214,8 @@ not_later txn x y requester_sent responder_sent requester_stands responder_stand
 -- If `P` holds of all such pairs of records, it holds of the records of two such sides.
 facing : (P : RequesterRecord → ResponderRecord → Type 0) → PairOf P
     → (txn : Qualifiers) (x y : Side) (requester_sent responder_sent : List (Option Apdu))
-    → RequesterSideStands txn x requester_sent
-    → ResponderSideStands txn y responder_sent
+    → RequesterSideInvariant txn x requester_sent
+    → ResponderSideInvariant txn y responder_sent
     → AreIssued requester_sent (issued_of y) → AreIssued responder_sent (issued_of x) → Facing P x y
 facing P pair txn (sides.Requester x) (sides.Responder y) requester_sent responder_sent requester_stands responder_stands issued
     heeded = pair txn x y requester_sent responder_sent requester_stands responder_stands issued heeded
@@ -255,7 +255,7 @@ once_sent answered p saved once = λ m n k a b at_m at_n is_a is_b.
 
 -- No two messages of a requester's side reply to one number.
 replies_once : (txn : Qualifiers) (side : Side) (requester_sent : List (Option Apdu))
-    → RequesterSideStands txn side requester_sent
+    → RequesterSideInvariant txn side requester_sent
     → AnswersOnce requester.replied_number (message (issued_of side))
 replies_once txn (sides.Requester x) requester_sent stands =
     answers_once requester.replied_number x.issued stands.replies.distinct
@@ -263,7 +263,7 @@ replies_once txn (sides.Responder y) requester_sent stands = absurd stands
 
 -- No two messages of a responder's side answer one Cancel.
 cancels_once : (txn : Qualifiers) (side : Side) (requester_sent : List (Option Apdu))
-    → ResponderSideStands txn side requester_sent
+    → ResponderSideInvariant txn side requester_sent
     → AnswersOnce (responder.answered_number responder.MayCancel) (message (issued_of side))
 cancels_once txn (sides.Responder y) requester_sent stands =
     answers_once (responder.answered_number responder.MayCancel) y.issued stands.cancels.distinct
@@ -271,7 +271,7 @@ cancels_once txn (sides.Requester x) requester_sent stands = absurd stands
 
 -- No two messages of a responder's side answer one Renew.
 renewals_once : (txn : Qualifiers) (side : Side) (requester_sent : List (Option Apdu))
-    → ResponderSideStands txn side requester_sent
+    → ResponderSideInvariant txn side requester_sent
     → AnswersOnce (responder.answered_number responder.MayRenew) (message (issued_of side))
 renewals_once txn (sides.Responder y) requester_sent stands =
     answers_once (responder.answered_number responder.MayRenew) y.issued stands.renewals.distinct
@@ -283,7 +283,7 @@ at_most_one true = omega arith
 at_most_one false = omega arith
 
 -- No two messages of a responder's side end the request.
-ends_once : (txn : Qualifiers) (side : Side) (requester_sent : List (Option Apdu)) → ResponderSideStands txn side requester_sent
+ends_once : (txn : Qualifiers) (side : Side) (requester_sent : List (Option Apdu)) → ResponderSideInvariant txn side requester_sent
     → EndsOnce side
 ends_once txn (sides.Responder y) requester_sent stands =
     λ n a at is. one_end y.txn y.issued n a stands.rules.numbered
@@ -292,7 +292,7 @@ ends_once txn (sides.Requester x) requester_sent stands = absurd stands
 
 -- If a responder's side has conditions as accepted, the requester has sent the acceptance, and has it in memory.
 accepted_by : (txn : Qualifiers) (w : Parties) (side : Side) → SendsSaved w.requester
-    → ResponderSideStands txn side w.requester.sent → AcceptedBy w side
+    → ResponderSideInvariant txn side w.requester.sent → AcceptedBy w side
 accepted_by txn w (sides.Responder y) saved stands =
     λ c e.
     let known = stands.knows (responder.Accepted c) e in

@@ -12,9 +12,9 @@ use Rattle.ill_core.specs.declared.refusal.Refusal.{Refusal}
 use Rattle.ill_core.specs.declared.taking.Taking.{Taking}
 use Rattle.ill_core.specs.declared.taking.Taking.TheVariants.{Taken, Repeat}
 use Rattle.ill_core.specs.State.{is_among}
-use Rattle.ill_core.specs.Numbers.{is_the}
+use Rattle.ill_core.specs.Numbers.{is_equal_number}
 use Rattle.ill_core.specs.Bodies.{is_unsupplied, is_shipped, is_end, is_ill_request, is_returned}
-use Rattle.ill_core.specs.Issued.{message, has, is_none, is_same_txn}
+use Rattle.ill_core.specs.Issued.{message, has_message_with, is_none, is_same_txn}
 use Rattle.ill_core.specs.Requester.{RequesterRecord, later, last_cancel}
 use Rattle.ill_core.specs.RequesterDeliveries as requester_deliveries
 use Rattle.ill_core.specs.RequesterEvidence as requester
@@ -30,7 +30,7 @@ use Rattle.ill_world.specs.declared.event.Event.TheVariants as events
 use Rattle.ill_world.specs.declared.event.Outcome.TheVariants.{Answered}
 use Rattle.ill_world.specs.World.{Party, Parties, sent_message, answer_to, receives}
 use Rattle.ill_world.specs.Agreement.{settled_by, Settles, Arrives}
-use Rattle.ill_world.specs.Invariant.{RequesterStands, ResponderStands, RequesterSideStands, ResponderSideStands, Invariant}
+use Rattle.ill_world.specs.Invariant.{RequesterInvariant, ResponderInvariant, RequesterSideInvariant, ResponderSideInvariant, Invariant}
 use Rattle.ill_core.proofs.MessageLemmas.{message_says}
 use Rattle.ill_world.proofs.Uniqueness.{message_number}
 use Rattle.ill_world.proofs.Claims.{AreIssued, has_issued, cancelled_faces, not_supplied_faces, shipped_by, landed_issues}
@@ -39,7 +39,7 @@ use Rattle.ill_world.proofs.Agreements.{tells_requested, cancel_is_open}
 
 -- These facts of the tables are assumed here. A requester that takes an end of the request gets to its states. A
 -- responder that takes a Returned gets to RETURNED or CHECKED-IN.
-pub record RowsFollow : Type 0 where
+pub record TransitionsSettle : Type 0 where
   pub shipped : (x : RequesterRecord) (a : Apdu) (due : Date) → is_same_txn a.txn x.txn ≡ true → a.body ≡ types.Shipped due
       → is_among (states.Pending ∷ states.Conditional ∷ states.CancelPending ∷ later) x.state ≡ true
       → requester.LeadsTo later (requester_deliveries.takes x a)
@@ -47,7 +47,7 @@ pub record RowsFollow : Type 0 where
       → is_among (states.Pending ∷ states.Conditional ∷ states.CancelPending ∷ states.NotSupplied ∷ []) x.state ≡ true
       → requester.LeadsTo (states.NotSupplied ∷ []) (requester_deliveries.takes x a)
   pub cancelled : (x : RequesterRecord) (a : Apdu) (c : ℕ) → is_same_txn a.txn x.txn ≡ true → a.body ≡ types.CancelReply c true
-      → is_the c (last_cancel x) ≡ true
+      → is_equal_number c (last_cancel x) ≡ true
       → is_among (states.CancelPending ∷ states.Cancelled ∷ []) x.state ≡ true
       → requester.LeadsTo (states.Cancelled ∷ []) (requester_deliveries.takes x a)
   pub returned : (y : ResponderRecord) (a : Apdu) → is_same_txn a.txn y.txn ≡ true → a.body ≡ types.Returned
@@ -118,7 +118,7 @@ not_cancelled_too state e ended = let no : is_among (states.NotSupplied ∷ []) 
     subst (λ s. is_among (states.NotSupplied ∷ []) s ≡ true) e ended in search rules
 
 -- A list with an APDU of which `says` holds is not empty.
-pub not_none : (says : Body → Bool) (apdus : List Apdu) → has says apdus ≡ true → is_none apdus ≡ false
+pub not_none : (says : Body → Bool) (apdus : List Apdu) → has_message_with says apdus ≡ true → is_none apdus ≡ false
 not_none says [] is = search rules
 not_none says (a ∷ apdus) is = refl
 
@@ -126,7 +126,7 @@ not_none says (a ∷ apdus) is = refl
 
 -- If the responder has ended the request, the requester is not in IDLE.
 was_asked : (txn : Qualifiers) (x : RequesterRecord) (y : ResponderRecord) (requester_sent responder_sent : List (Option Apdu))
-    → RequesterStands txn x requester_sent → ResponderStands txn y responder_sent → AreIssued responder_sent x.issued
+    → RequesterInvariant txn x requester_sent → ResponderInvariant txn y responder_sent → AreIssued responder_sent x.issued
     → is_among responder.ended y.state ≡ true → is_among (states.Idle ∷ []) x.state ≡ false
 was_asked txn x y requester_sent responder_sent requester_stands responder_stands heeded ended =
     let known = responder_stands.knows responder.Requested (ended_not_idle y.state ended) in
@@ -137,7 +137,7 @@ was_asked txn x y requester_sent responder_sent requester_stands responder_stand
 -- A message that the responder has issued is of the requester's transaction.
 same_txn_as : (txn : Qualifiers) (x : RequesterRecord) (y : ResponderRecord) (requester_sent responder_sent : List (Option Apdu))
     (n : ℕ) (a : Apdu)
-    → RequesterStands txn x requester_sent → ResponderStands txn y responder_sent
+    → RequesterInvariant txn x requester_sent → ResponderInvariant txn y responder_sent
     → message y.issued n ≡ Some a → is_same_txn a.txn x.txn ≡ true
 same_txn_as txn x y requester_sent responder_sent n a requester_stands responder_stands at =
     subst (λ t. is_same_txn a.txn t ≡ true) (responder_stands.same_txn ∙ sym requester_stands.same_txn)
@@ -150,11 +150,11 @@ tells_end types.Expired is = tt
 tells_end body is = search rules
 
 -- If the requester takes a Shipped that the responder has issued, it gets to SHIPPED or later.
-shipped_arrives : RowsFollow
+shipped_arrives : TransitionsSettle
     → (txn : Qualifiers) (x : RequesterRecord) (y : ResponderRecord) (requester_sent responder_sent : List (Option Apdu)) (n : ℕ)
     (a : Apdu) (due : Date)
-    → RequesterStands txn x requester_sent
-    → ResponderStands txn y responder_sent → AreIssued requester_sent y.issued → AreIssued responder_sent x.issued
+    → RequesterInvariant txn x requester_sent
+    → ResponderInvariant txn y responder_sent → AreIssued requester_sent y.issued → AreIssued responder_sent x.issued
     → message y.issued n ≡ Some a
     → a.body ≡ types.Shipped due
     → requester.LeadsTo later (requester_deliveries.takes x a)
@@ -171,11 +171,11 @@ shipped_arrives rows txn x y requester_sent responder_sent n a due requester_sta
     issued e) shipped))
 
 -- If the requester takes an end without the item that the responder has issued, it gets to NOT-SUPPLIED.
-end_arrives : RowsFollow
+end_arrives : TransitionsSettle
     → (txn : Qualifiers) (x : RequesterRecord) (y : ResponderRecord) (requester_sent responder_sent : List (Option Apdu)) (n : ℕ)
     (a : Apdu)
-    → RequesterStands txn x requester_sent
-    → ResponderStands txn y responder_sent → AreIssued requester_sent y.issued → AreIssued responder_sent x.issued
+    → RequesterInvariant txn x requester_sent
+    → ResponderInvariant txn y responder_sent → AreIssued requester_sent y.issued → AreIssued responder_sent x.issued
     → message y.issued n ≡ Some a
     → is_unsupplied a.body ≡ true
     → requester.LeadsTo (states.NotSupplied ∷ []) (requester_deliveries.takes x a)
@@ -200,11 +200,11 @@ both_of true b is = (refl, is)
 both_of false b is = search rules
 
 -- If the requester takes a Cancel-Reply yes that the responder has issued, it gets to CANCELLED.
-yes_arrives : RowsFollow
+yes_arrives : TransitionsSettle
     → (txn : Qualifiers) (x : RequesterRecord) (y : ResponderRecord) (requester_sent responder_sent : List (Option Apdu))
     (n c : ℕ) (a : Apdu)
-    → RequesterStands txn x requester_sent
-    → ResponderStands txn y responder_sent → AreIssued requester_sent y.issued → AreIssued responder_sent x.issued
+    → RequesterInvariant txn x requester_sent
+    → ResponderInvariant txn y responder_sent → AreIssued requester_sent y.issued → AreIssued responder_sent x.issued
     → message y.issued n ≡ Some a
     → a.body ≡ types.CancelReply c true
     → requester.LeadsTo (states.Cancelled ∷ []) (requester_deliveries.takes x a)
@@ -219,11 +219,11 @@ abbrev Leads : RequesterRecord → Apdu → Body → Type 0
 Leads x a body = requester.LeadsTo (settled_by body) (requester_deliveries.takes x a)
 
 -- If the requester takes an issued end of the request, it gets to the states of this end.
-arrives_as : RowsFollow
+arrives_as : TransitionsSettle
     → (txn : Qualifiers) (x : RequesterRecord) (y : ResponderRecord) (requester_sent responder_sent : List (Option Apdu)) (n : ℕ)
     (a : Apdu) (body : Body)
-    → RequesterStands txn x requester_sent
-    → ResponderStands txn y responder_sent → AreIssued requester_sent y.issued → AreIssued responder_sent x.issued
+    → RequesterInvariant txn x requester_sent
+    → ResponderInvariant txn y responder_sent → AreIssued requester_sent y.issued → AreIssued responder_sent x.issued
     → message y.issued n ≡ Some a
     → a.body ≡ body → is_end body ≡ true → Leads x a body
 arrives_as rows txn x y requester_sent responder_sent n a (types.Shipped due) requester_stands responder_stands issued heeded at
@@ -257,11 +257,11 @@ answers answer (inl taken) = inl (ap answer_to taken)
 answers answer (inr repeat) = inr (ap answer_to repeat)
 
 -- An end of the request that the responder has issued settles the requester that receives it.
-settles_requester : RowsFollow
+settles_requester : TransitionsSettle
     → (txn : Qualifiers) (p : Party) (side : Side) (requester_sent responder_sent : List (Option Apdu)) (n : ℕ) (a : Apdu)
     (found : Option Apdu)
-    → RequesterSideStands txn p.live requester_sent
-    → ResponderSideStands txn side responder_sent → AreIssued requester_sent (issued_of side)
+    → RequesterSideInvariant txn p.live requester_sent
+    → ResponderSideInvariant txn side responder_sent → AreIssued requester_sent (issued_of side)
     → AreIssued responder_sent (issued_of p.live)
     → message (issued_of side) n ≡ Some a → found ≡ Some a → is_end a.body ≡ true
     → Settles (settled_by a.body) (receives p found).0 (receives p found).1.live
@@ -270,7 +270,7 @@ settles_requester rows txn p side requester_sent responder_sent n a found reques
     subst (λ o. Settles (settled_by a.body) (receives p o).0 (receives p o).1.live) (sym is)
     (go p.live side requester_stands responder_stands issued heeded at)
   where
-    go : (live side : Side) → RequesterSideStands txn live requester_sent → ResponderSideStands txn side responder_sent
+    go : (live side : Side) → RequesterSideInvariant txn live requester_sent → ResponderSideInvariant txn side responder_sent
         → AreIssued requester_sent (issued_of side) → AreIssued responder_sent (issued_of live)
         → message (issued_of side) n ≡ Some a
         → Settles (settled_by a.body) (receives (record p { live = live }) (Some a)).0
@@ -297,19 +297,19 @@ returned_is_later state is = search rules
 -- If the requester has issued a Returned, the responder has issued a Shipped.
 pub shipped_before : (txn : Qualifiers) (x : RequesterRecord) (y : ResponderRecord)
     (requester_sent responder_sent : List (Option Apdu)) (n : ℕ) (a : Apdu)
-    → RequesterStands txn x requester_sent → ResponderStands txn y responder_sent
-    → AreIssued requester_sent y.issued → message x.issued n ≡ Some a → is_returned a.body ≡ true → has is_shipped y.issued ≡ true
+    → RequesterInvariant txn x requester_sent → ResponderInvariant txn y responder_sent
+    → AreIssued requester_sent y.issued → message x.issued n ≡ Some a → is_returned a.body ≡ true → has_message_with is_shipped y.issued ≡ true
 shipped_before txn x y requester_sent responder_sent n a requester_stands responder_stands issued at is =
     let returned = sym requester_stands.rules.issued.returned ∙ message_says is_returned x.issued n a at is in
     shipped_by txn x y requester_sent responder_sent x.due requester_stands responder_stands issued refl
     (requester_stands.rules.parts.due ∙ returned_is_later x.state returned)
 
 -- If the responder takes a Returned that the requester has issued, it gets to RETURNED or CHECKED-IN.
-returned_arrives : RowsFollow
+returned_arrives : TransitionsSettle
     → (txn : Qualifiers) (x : RequesterRecord) (y : ResponderRecord) (requester_sent responder_sent : List (Option Apdu)) (n : ℕ)
     (a : Apdu)
-    → RequesterStands txn x requester_sent
-    → ResponderStands txn y responder_sent → AreIssued requester_sent y.issued → message x.issued n ≡ Some a
+    → RequesterInvariant txn x requester_sent
+    → ResponderInvariant txn y responder_sent → AreIssued requester_sent y.issued → message x.issued n ≡ Some a
     → is_returned a.body ≡ true
     → responder.LeadsTo (states.Returned ∷ states.CheckedIn ∷ []) (responder_deliveries.takes y a)
 returned_arrives rows txn x y requester_sent responder_sent n a requester_stands responder_stands issued at is =
@@ -319,11 +319,11 @@ returned_arrives rows txn x y requester_sent responder_sent n a requester_stands
     rows.returned y a same (returned_is a.body is) (sym responder_stands.ends.shipped ∙ shipped)
 
 -- A Returned that the requester has issued settles the responder that receives it.
-settles_responder : RowsFollow
+settles_responder : TransitionsSettle
     → (txn : Qualifiers) (p : Party) (side : Side) (requester_sent responder_sent : List (Option Apdu)) (n : ℕ) (a : Apdu)
     (found : Option Apdu)
-    → RequesterSideStands txn side requester_sent
-    → ResponderSideStands txn p.live responder_sent → AreIssued requester_sent (issued_of p.live)
+    → RequesterSideInvariant txn side requester_sent
+    → ResponderSideInvariant txn p.live responder_sent → AreIssued requester_sent (issued_of p.live)
     → message (issued_of side) n ≡ Some a
     → found ≡ Some a → is_returned a.body ≡ true
     → Settles (states.Returned ∷ states.CheckedIn ∷ []) (receives p found).0 (receives p found).1.live
@@ -332,7 +332,7 @@ settles_responder rows txn p side requester_sent responder_sent n a found reques
     subst (λ o. Settles (states.Returned ∷ states.CheckedIn ∷ []) (receives p o).0 (receives p o).1.live) (sym is)
     (go side p.live requester_stands responder_stands issued at)
   where
-    go : (side live : Side) → RequesterSideStands txn side requester_sent → ResponderSideStands txn live responder_sent
+    go : (side live : Side) → RequesterSideInvariant txn side requester_sent → ResponderSideInvariant txn live responder_sent
         → AreIssued requester_sent (issued_of live) → message (issued_of side) n ≡ Some a
         → Settles (states.Returned ∷ states.CheckedIn ∷ []) (receives (record p { live = live }) (Some a)).0
         (receives (record p { live = live }) (Some a)).1.live
@@ -344,7 +344,7 @@ settles_responder rows txn p side requester_sent responder_sent n a found reques
     go (sides.Requester x) (sides.Requester y) requester_stands responder_stands issued at = absurd responder_stands
 
 -- If a world satisfies the invariant, one arrival is enough (`Arrives`).
-pub arrives : RowsFollow → (txn : Qualifiers) (w : Parties) (event : Event) → Invariant txn w → Arrives w event
+pub arrives : TransitionsSettle → (txn : Qualifiers) (w : Parties) (event : Event) → Invariant txn w → Arrives w event
 arrives rows txn w (events.Deliver who.Requester n) stands =
     λ a sent ends.
     settles_requester rows txn w.requester w.responder.landed w.responder.sent w.requester.sent n a

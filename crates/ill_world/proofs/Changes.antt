@@ -27,7 +27,7 @@ use Rattle.ill_world.specs.Invariant.{SendsSaved, Invariant}
 use Rattle.ill_world.proofs.Kept.{stays_sent}
 
 -- These facts of the tables are assumed here. A delivery that is not Taken changes nothing.
-pub record Quiet : Type 0 where
+pub record RefusalsChangeNothing : Type 0 where
   pub requester : (x : RequesterRecord) (a : Apdu)
       → ((requester_deliveries.takes x a).0 ≡ Ok Taken) ⊎ ((requester_deliveries.takes x a).1 ≡ x)
   pub responder : (y : ResponderRecord) (a : Apdu)
@@ -71,12 +71,12 @@ sends_changes p n (Some a) true = tt
 sends_changes p n (Some a) false = refl
 
 -- A delivery is Taken, or leaves the side unchanged.
-pub quiet : Quiet → (side : Side) (a : Apdu) → ((takes side a).0 ≡ Ok Taken) ⊎ ((takes side a).1 ≡ side)
+pub quiet : RefusalsChangeNothing → (side : Side) (a : Apdu) → ((takes side a).0 ≡ Ok Taken) ⊎ ((takes side a).1 ≡ side)
 quiet rows (sides.Requester x) a = elim (rows.requester x a) [ inl taken ↦ inl taken | inr same ↦ inr (ap sides.Requester same) ]
 quiet rows (sides.Responder y) a = elim (rows.responder y a) [ inl taken ↦ inl taken | inr same ↦ inr (ap sides.Responder same) ]
 
 -- The outcome of a delivery allows the change that it makes.
-receives_changes : Quiet → (p : Party) (found : Option Apdu) → MayChange OnlyLands (receives p found).0 p (receives p found).1
+receives_changes : RefusalsChangeNothing → (p : Party) (found : Option Apdu) → MayChange OnlyLands (receives p found).0 p (receives p found).1
 receives_changes rows p None = refl
 receives_changes rows p (Some a) =
     elim (quiet rows p.live a) [
@@ -86,7 +86,7 @@ receives_changes rows p (Some a) =
     ]
 
 -- The outcome of each event allows the change of its party.
-party_changes : Quiet → (p : Party) (partner_sent : List (Option Apdu)) (event : Event)
+party_changes : RefusalsChangeNothing → (p : Party) (partner_sent : List (Option Apdu)) (event : Event)
     → MayChange OnlyLands (happens_to p partner_sent event).0 p (happens_to p partner_sent event).1
 party_changes rows p partner_sent (events.Wish wish) = decides_changes p (acts p.live (actions.Wish wish))
 party_changes rows p partner_sent (events.Deed deed today) = decides_changes p (acts p.live (actions.Deed deed today))
@@ -128,7 +128,7 @@ pub same_changes : (w : Parties) (outcome : Outcome) → MayChange OnlyLandedCha
 same_changes w outcome = changes_of_one outcome w who.Requester w.requester (nothing_changes outcome w.requester)
 
 -- The outcome of each event allows the change of the world.
-pub world_changes : Quiet → (w : Parties) (event : Event) → MayChange OnlyLandedChanges (happens w event).0 w (happens w event).1
+pub world_changes : RefusalsChangeNothing → (w : Parties) (event : Event) → MayChange OnlyLandedChanges (happens w event).0 w (happens w event).1
 world_changes rows w event =
     let of = who_of event in
     changes_of_one (happens w event).0 w of _ (party_changes rows (party w of) (party w (other of)).sent event)

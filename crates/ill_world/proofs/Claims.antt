@@ -10,7 +10,7 @@ use Rattle.ill_core.specs.declared.state.State.{State}
 use Rattle.ill_core.specs.declared.state.State.TheVariants as states
 use Rattle.ill_core.specs.State.{is_among}
 use Rattle.ill_core.specs.Bodies.{is_shipped, is_renewal, grant_in}
-use Rattle.ill_core.specs.Issued.{message, has}
+use Rattle.ill_core.specs.Issued.{message, has_message_with}
 use Rattle.ill_core.specs.Requester.{RequesterRecord}
 use Rattle.ill_core.specs.RequesterEvidence as requester
 use Rattle.ill_core.specs.Responder.{ResponderRecord, ships_first}
@@ -20,7 +20,7 @@ use Rattle.ill_saved.specs.declared.side.Side.TheVariants as sides
 use Rattle.ill_saved.specs.Side.{issued_of}
 use Rattle.ill_world.specs.World.{Party, Parties}
 use Rattle.ill_world.specs.Safety.{OfBoth, EndsAlike, WasShipped, WasGranted}
-use Rattle.ill_world.specs.Invariant.{WasSent, RequesterStands, ResponderStands, RequesterSideStands, ResponderSideStands}
+use Rattle.ill_world.specs.Invariant.{WasSent, RequesterInvariant, ResponderInvariant, RequesterSideInvariant, ResponderSideInvariant}
 use Rattle.ill_world.specs.Invariant.{SendsSaved, Invariant}
 use Rattle.ill_core.proofs.MessageLemmas.{message_says}
 use Rattle.ill_world.proofs.Sendings.{prefix_message}
@@ -67,14 +67,14 @@ is_in_not_supplied states.NotSupplied e = refl
 is_in_not_supplied state e = search rules
 
 -- If each Renew-Answer yes follows a Shipped, a list with a Renew-Answer yes has a Shipped.
-pub ships_before : (apdus : List Apdu) → ships_first apdus ≡ true → has is_renewal apdus ≡ true → has is_shipped apdus ≡ true
+pub ships_before : (apdus : List Apdu) → ships_first apdus ≡ true → has_message_with is_renewal apdus ≡ true → has_message_with is_shipped apdus ≡ true
 unfolding ships_first
 ships_before [] first renewed = search rules
 ships_before (a ∷ apdus) first renewed = go (is_shipped a.body) (is_renewal a.body) (ships_before apdus) first renewed
   where
-    go : (shipped renewal : Bool) → (ships_first apdus ≡ true → has is_renewal apdus ≡ true → has is_shipped apdus ≡ true)
-        → (shipped || (not renewal && ships_first apdus)) ≡ true → (renewal || has is_renewal apdus) ≡ true
-        → (shipped || has is_shipped apdus) ≡ true
+    go : (shipped renewal : Bool) → (ships_first apdus ≡ true → has_message_with is_renewal apdus ≡ true → has_message_with is_shipped apdus ≡ true)
+        → (shipped || (not renewal && ships_first apdus)) ≡ true → (renewal || has_message_with is_renewal apdus) ≡ true
+        → (shipped || has_message_with is_shipped apdus) ≡ true
     go true renewal before first renewed = refl
     go false true before first renewed = search rules
     go false false before first renewed = before first renewed
@@ -85,22 +85,22 @@ ships_before (a ∷ apdus) first renewed = go (is_shipped a.body) (is_renewal a.
 abbrev pub AreIssued : List (Option Apdu) → List Apdu → Type 0
 AreIssued sent apdus = (a : Apdu) → WasSent sent a → (n : ℕ) × (message apdus n ≡ Some a)
 
--- `P` holds of two sides that satisfy `RequesterSideStands` and `ResponderSideStands`. The responder's side has issued
+-- `P` holds of two sides that satisfy `RequesterSideInvariant` and `ResponderSideInvariant`. The responder's side has issued
 -- all messages that were sent to the requester.
 abbrev Pair : (Side → Side → Type 0) → Type 0
 Pair P = (txn : Qualifiers) (x y : Side) (requester_sent responder_sent : List (Option Apdu))
-    → RequesterSideStands txn x requester_sent → ResponderSideStands txn y responder_sent → AreIssued requester_sent (issued_of y)
+    → RequesterSideInvariant txn x requester_sent → ResponderSideInvariant txn y responder_sent → AreIssued requester_sent (issued_of y)
     → P x y
 
 -- All sent messages were issued. So if `says` holds of a sent message, it holds of an issued one.
 pub has_issued : (apdus : List Apdu) (requester_sent : List (Option Apdu)) (says : Body → Bool) (a : Apdu)
-    → AreIssued requester_sent apdus → WasSent requester_sent a → says a.body ≡ true → has says apdus ≡ true
+    → AreIssued requester_sent apdus → WasSent requester_sent a → says a.body ≡ true → has_message_with says apdus ≡ true
 has_issued apdus requester_sent says a issued was is = let at = issued a was in message_says says apdus at.0 a at.1 is
 
 -- If the requester is in CANCELLED, the responder is in CANCELLED.
 pub cancelled_faces : (txn : Qualifiers) (x : RequesterRecord) (y : ResponderRecord)
     (requester_sent responder_sent : List (Option Apdu))
-    → RequesterStands txn x requester_sent → ResponderStands txn y responder_sent → AreIssued requester_sent y.issued
+    → RequesterInvariant txn x requester_sent → ResponderInvariant txn y responder_sent → AreIssued requester_sent y.issued
     → x.state ≡ states.Cancelled → y.state ≡ states.Cancelled
 cancelled_faces txn x y requester_sent responder_sent requester_stands responder_stands issued e =
     let known = requester_stands.knows requester.Cancelled e in
@@ -110,7 +110,7 @@ cancelled_faces txn x y requester_sent responder_sent requester_stands responder
 -- If the requester is in NOT-SUPPLIED, the responder is in NOT-SUPPLIED.
 pub not_supplied_faces : (txn : Qualifiers) (x : RequesterRecord) (y : ResponderRecord)
     (requester_sent responder_sent : List (Option Apdu))
-    → RequesterStands txn x requester_sent → ResponderStands txn y responder_sent
+    → RequesterInvariant txn x requester_sent → ResponderInvariant txn y responder_sent
     → AreIssued requester_sent y.issued → x.state ≡ states.NotSupplied → y.state ≡ states.NotSupplied
 not_supplied_faces txn x y requester_sent responder_sent requester_stands responder_stands issued e =
     let known = requester_stands.knows requester.Ended e in
@@ -143,8 +143,8 @@ grant_pair txn (sides.Requester x) (sides.Requester y) requester_sent responder_
 -- If a requester has a due date, the responder has issued a Shipped.
 pub shipped_by : (txn : Qualifiers) (x : RequesterRecord) (y : ResponderRecord)
     (requester_sent responder_sent : List (Option Apdu)) (due : Option Date)
-    → RequesterStands txn x requester_sent → ResponderStands txn y responder_sent
-    → AreIssued requester_sent y.issued → x.due ≡ due → is_some due ≡ true → has is_shipped y.issued ≡ true
+    → RequesterInvariant txn x requester_sent → ResponderInvariant txn y responder_sent
+    → AreIssued requester_sent y.issued → x.due ≡ due → is_some due ≡ true → has_message_with is_shipped y.issued ≡ true
 shipped_by txn x y requester_sent responder_sent None requester_stands responder_stands issued e some = search rules
 shipped_by txn x y requester_sent responder_sent (Some d) requester_stands responder_stands issued e some =
     let known = requester_stands.knows (requester.Granted d) e in

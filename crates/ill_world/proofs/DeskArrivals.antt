@@ -7,7 +7,7 @@ use Rattle.ill_core.specs.declared.state.State.{State}
 use Rattle.ill_core.specs.declared.state.State.TheVariants as states
 use Rattle.ill_core.specs.State.{is_among}
 use Rattle.ill_core.specs.Bodies.{is_ill_request, is_returned, is_shipped}
-use Rattle.ill_core.specs.Issued.{message, has, is_none}
+use Rattle.ill_core.specs.Issued.{message, has_message_with, is_none}
 use Rattle.ill_core.specs.Rules.{implies}
 use Rattle.ill_core.specs.ResponderEvidence as responder
 use Rattle.ill_saved.specs.declared.role.Role.{Role as Who}
@@ -28,9 +28,9 @@ use Rattle.ill_world.specs.declared.event.DeskOutcome.TheVariants.{Plain, NoSuch
 use Rattle.ill_world.specs.World.{sent_message, party, Parties, happens}
 use Rattle.ill_world.specs.Desks.{DeskParty, sent_for, DeskParties, plain, desks_happen, project, concerns, if_reached, IsSeenAs}
 use Rattle.ill_world.specs.Agreement.{Settles, settled_by, Arrives}
-use Rattle.ill_world.specs.Invariant.{RequesterSideStands, ResponderSideStands, Invariant}
+use Rattle.ill_world.specs.Invariant.{RequesterSideInvariant, ResponderSideInvariant, Invariant}
 use Rattle.ill_world.specs.DeskChanges.{IsPlain, Reaches, ReachesAt, ReachesSide}
-use Rattle.ill_world.specs.DeskSafety.{DesksStand, SettlesAt, ArrivesAt}
+use Rattle.ill_world.specs.DeskSafety.{DesksInvariant, SettlesAt, ArrivesAt}
 use Rattle.ill_world.proofs.Claims.{AreIssued, has_issued, live_issues}
 use Rattle.ill_world.proofs.Arrivals.{shipped_before}
 use Rattle.ill_world.proofs.Agreements.{tells_requested}
@@ -39,8 +39,8 @@ use Rattle.ill_world.proofs.Desks.{EachProjects, same_plain}
 -- ---- an issued message has a side
 
 -- A list with an APDU of which `says` holds is not empty.
-not_nothing : (says : _ → Bool) (apdus : List Apdu) → has says apdus ≡ true → apdus ≡ [] → ⊥
-not_nothing says apdus is none = true≢false (sym is ∙ ap (has says) none)
+not_nothing : (says : _ → Bool) (apdus : List Apdu) → has_message_with says apdus ≡ true → apdus ≡ [] → ⊥
+not_nothing says apdus is none = true≢false (sym is ∙ ap (has_message_with says) none)
 
 -- If an idle record implies five facts, the last of them holds of it.
 last_of_five : (idle a b c d none : Bool) → idle ≡ true
@@ -56,7 +56,7 @@ idle_issued (b ∷ apdus) n a none at = true≢false (sym none)
 
 -- If the responder has issued a message, the requester has issued one.
 pub asked : (txn : Qualifiers) (x y : Side) (requester_sent responder_sent : List (Option Apdu)) (n : ℕ) (a : Apdu)
-    → RequesterSideStands txn x requester_sent → ResponderSideStands txn y responder_sent → AreIssued responder_sent (issued_of x)
+    → RequesterSideInvariant txn x requester_sent → ResponderSideInvariant txn y responder_sent → AreIssued responder_sent (issued_of x)
     → message (issued_of y) n ≡ Some a → issued_of x ≡ [] → ⊥
 asked txn (sides.Requester x) (sides.Responder y) requester_sent responder_sent n a requester_stands responder_stands heeded at
     none =
@@ -77,7 +77,7 @@ asked txn (sides.Requester x) (sides.Requester y) requester_sent responder_sent 
 
 -- If the requester has issued a Returned, the responder has issued a message.
 supplied : (txn : Qualifiers) (x y : Side) (requester_sent responder_sent : List (Option Apdu)) (n : ℕ) (a : Apdu)
-    → RequesterSideStands txn x requester_sent → ResponderSideStands txn y responder_sent → AreIssued requester_sent (issued_of y)
+    → RequesterSideInvariant txn x requester_sent → ResponderSideInvariant txn y responder_sent → AreIssued requester_sent (issued_of y)
     → message (issued_of x) n ≡ Some a → is_returned a.body ≡ true → issued_of y ≡ [] → ⊥
 supplied txn (sides.Requester x) (sides.Responder y) requester_sent responder_sent n a requester_stands responder_stands issued at
     is none =
@@ -118,11 +118,11 @@ settles_as among false expected old new outcome side seen concerned is_plain set
 settles_as among true expected old new NoSuchTransaction side seen concerned is_plain settles = absurd is_plain
 settles_as among true expected old new DeskFull side seen concerned is_plain settles = absurd is_plain
 
--- `ReachesSide` holds of each event at two desks that satisfy `DesksStand`.
+-- `ReachesSide` holds of each event at two desks that satisfy `DesksInvariant`.
 abbrev pub EachReaches : Type 0
-EachReaches = (w : DeskParties) (event : DeskEvent) → DesksStand w → ReachesSide w event
+EachReaches = (w : DeskParties) (event : DeskEvent) → DesksInvariant w → ReachesSide w event
 
-module _ (projects : EachProjects) (reaches : EachReaches) (w : DeskParties) (stands : DesksStand w) (txn : Qualifiers) (n : ℕ)
+module _ (projects : EachProjects) (reaches : EachReaches) (w : DeskParties) (stands : DesksInvariant w) (txn : Qualifiers) (n : ℕ)
     (a : Apdu) where
   -- If a message settles a side that has issued a message, it settles this side at its desk.
   settles_there : (role : Who) (among : List State) → sent_message (sent_for txn (party w (other role)).sent) n ≡ Some a
@@ -142,7 +142,7 @@ module _ (projects : EachProjects) (reaches : EachReaches) (w : DeskParties) (st
 -- If one arrival is enough of two parties, it is enough at two desks (`ArrivesAt`).
 pub arrives_at : EachProjects → EachReaches
     → ((txn : Qualifiers) (w : Parties) (event : Event) → Invariant txn w → Arrives w event)
-    → (w : DeskParties) (event : DeskEvent) → DesksStand w → ArrivesAt w event
+    → (w : DeskParties) (event : DeskEvent) → DesksInvariant w → ArrivesAt w event
 arrives_at projects reaches arrives w (desk_events.Deliver who.Requester txn n) stands =
     λ a sent ends.
     let shown = stands.each txn in

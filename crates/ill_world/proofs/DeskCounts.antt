@@ -21,11 +21,11 @@ use Rattle.ill_saved.specs.declared.role.Role.TheVariants as who
 use Rattle.ill_saved.specs.declared.side.Side.{Side}
 use Rattle.ill_saved.specs.declared.side.Action.{Action}
 use Rattle.ill_saved.specs.declared.side.Action.TheVariants as actions
-use Rattle.ill_saved.specs.Side.{issued_of, txn_of, other, idle_side, acts, takes, acted, took, begins}
+use Rattle.ill_saved.specs.Side.{issued_of, txn_of, other, idle_side, acts, takes, acted, contents_after_message, begins}
 use Rattle.ill_saved.specs.Sides.{found_by, is_same_role, most_sides, side_with}
 use Rattle.ill_saved.specs.Holdings.{DeskEntry, whole}
-use Rattle.ill_saved.specs.ManySides.{txn_held, idle_held, found_or, with_held, held_or_begun, reached, is_own, acted as acted_at}
-use Rattle.ill_saved.specs.ManySides.{acts_reached, took as took_at, takes_reached}
+use Rattle.ill_saved.specs.ManySides.{txn_held, idle_held, found_or, with_held, held_or_begun, side_for_call, is_own, acted as acted_at}
+use Rattle.ill_saved.specs.ManySides.{acts_reached, contents_after_message as took_at, takes_reached}
 use Rattle.ill_saved.proofs.Finding.{same_is, same_self, apart_back, found_is, keys_put, put_last}
 use Rattle.ill_world.specs.declared.event.DeskEvent.{DeskEvent}
 use Rattle.ill_world.specs.declared.event.DeskEvent.TheVariants as desk_events
@@ -36,7 +36,7 @@ use Rattle.ill_world.specs.World.{sent_message, sends_by, happens_at, party, who
 use Rattle.ill_world.specs.Desks.{DeskParty, DeskParties, Sending, sent_for, plain, desk_decides, desk_sends, desk_receives}
 use Rattle.ill_world.specs.Desks.{desk_happens_to, desks_happen, first_desks, project}
 use Rattle.ill_world.specs.DeskCounts.{is_one_of, AreAmong, AreApart, live_txns, landed_txns, Counts, DesksCount}
-use Rattle.ill_world.specs.DeskSafety.{DesksStand}
+use Rattle.ill_world.specs.DeskSafety.{DesksInvariant}
 use Rattle.ill_world.specs.DeskChanges.{Reaches}
 use Rattle.ill_world.proofs.Parties.{RowsGrow}
 use Rattle.ill_world.proofs.Claims.{live_issues}
@@ -231,7 +231,7 @@ module _ (grows : RowsGrow) (May : Qualifiers → Type 0) (p : DeskParty) where
   -- `LeadsTo` holds of a decision.
   decides_leads : (of : Qualifiers) (action : Action) → (begins action ≡ true → May of) → (may : Bool)
       → LeadsTo May p (desk_decides p
-      (if may then acts_reached p.live action (reached p.live of (begins action)) else Err (faults.Core WrongRole))).1
+      (if may then acts_reached p.live action (side_for_call p.live of (begins action)) else Err (faults.Core WrongRole))).1
   decides_leads of action may true =
       reach_leads May p of (λ found. (desk_decides p (acts_reached p.live action found)).1)
       (λ held is. decided_puts of action held is (acts held.side action) refl) (λ fault. refl) (idle_txn p.live.role of)
@@ -244,7 +244,7 @@ module _ (grows : RowsGrow) (May : Qualifiers → Type 0) (p : DeskParty) where
   took_puts a held is (Ok _) new e =
       inr (
         record { side = new; released = held.released },
-        row_txn grows held.side new (took a (ap (λ (r : Result Taking Refusal × Side). r.1) e)) ∙ is,
+        row_txn grows held.side new (contents_after_message a (ap (λ (r : Result Taking Refusal × Side). r.1) e)) ∙ is,
         refl,
       )
   took_puts a held is (Err refusal) new e = inl refl
@@ -254,7 +254,7 @@ module _ (grows : RowsGrow) (May : Qualifiers → Type 0) (p : DeskParty) where
       → LeadsTo May p (record p {
         live =
             (if own then (Err (faults.Core WrongRole), p.live) else
-            takes_reached p.live a (reached p.live a.txn (is_ill_request a.body))).1;
+            takes_reached p.live a (side_for_call p.live a.txn (is_ill_request a.body))).1;
       })
   takes_leads a may true = stays refl refl
   takes_leads a may false =
@@ -376,7 +376,7 @@ issued_found side idle (Some there) n a none at = refl
 issued_found side idle None n a none at = absurd (idle_issued [] n a refl (subst (λ l. message l n ≡ Some a) none at))
 
 -- If the requester has sent a message in `of`, its desk has `of` as a live and a landed transaction.
-sent_known : (w : DeskParties) → DesksStand w → (of : Qualifiers) (n : ℕ) (a : Apdu)
+sent_known : (w : DeskParties) → DesksInvariant w → (of : Qualifiers) (n : ℕ) (a : Apdu)
     → sent_message (sent_for of w.requester.sent) n ≡ Some a
     → IsKnown (live_txns w.requester) (landed_txns w.requester) of
 unfolding side_with
@@ -399,7 +399,7 @@ all_permitted partner_sent (desk_events.Deliver role of n) = λ a sent. tt
 all_permitted partner_sent event = tt
 
 -- An event at the responder's desk begins only a transaction that the requester's desk has.
-known_permitted : (w : DeskParties) → DesksStand w → (event : DeskEvent) → who_of (plain event) ≡ who.Responder
+known_permitted : (w : DeskParties) → DesksInvariant w → (event : DeskEvent) → who_of (plain event) ≡ who.Responder
     → Permits (IsKnown (live_txns w.requester) (landed_txns w.requester)) w.requester.sent event
 known_permitted w stands (desk_events.Wish of wish) is = search rules
 known_permitted w stands (desk_events.Deliver role of n) is =
@@ -408,7 +408,7 @@ known_permitted w stands (desk_events.Deliver role of n) is =
 known_permitted w stands event is = tt
 
 -- After an event `DesksCount` holds of two desks.
-pub count_at : RowsGrow → (w : DeskParties) (event : DeskEvent) → DesksStand w → (role : Who)
+pub count_at : RowsGrow → (w : DeskParties) (event : DeskEvent) → DesksInvariant w → (role : Who)
     → who_of (plain event) ≡ role
     → DesksCount (happens_at w role (λ p partner. desk_happens_to p partner.sent event)).1
 count_at grows w event stands who.Requester is =
@@ -438,7 +438,7 @@ never_full true false None room reaches = room refl refl
 never_full false has_room None room reaches = search rules
 
 -- A delivery is not DeskFull, if a desk without room holds the transaction of each sent message.
-none_full : EachReaches → (w : DeskParties) → DesksStand w → (role : Who) (txn : Qualifiers) (n : ℕ)
+none_full : EachReaches → (w : DeskParties) → DesksInvariant w → (role : Who) (txn : Qualifiers) (n : ℕ)
     → ((a : Apdu) → sent_message (sent_for txn (party w (other role)).sent) n ≡ Some a
     → found_by txn_held txn (party w role).live.held ≡ None → nat_lt (length (party w role).live.held) 1000 ≡ false → ⊥)
     → (desks_happen w (desk_events.Deliver role txn n)).0 ≡ DeskFull → ⊥
@@ -454,7 +454,7 @@ none_full reaches w stands role txn n room full = go (sent_message (sent_for txn
         (found_by txn_held txn (party w role).live.held)) full (reaches w (desk_events.Deliver role txn n) stands a e))
 
 -- If the requester's desk does not hold a transaction, the responder has sent no message in it.
-pub none_sent : (w : DeskParties) → DesksStand w → (txn : Qualifiers) (n : ℕ) (a : Apdu)
+pub none_sent : (w : DeskParties) → DesksInvariant w → (txn : Qualifiers) (n : ℕ) (a : Apdu)
     → sent_message (sent_for txn w.responder.sent) n ≡ Some a → found_by txn_held txn w.requester.live.held ≡ None → ⊥
 none_sent w stands txn n a sent none =
     let shown = stands.each txn in
@@ -464,7 +464,7 @@ none_sent w stands txn n a sent none =
     (ap (λ o. issued_of (found_or (idle_held w.requester.live.role txn) o).side) none ∙ idle_issues w.requester.live.role txn)
 
 -- If the requester's desk does not hold a transaction, a delivery to it is NotSent.
-pub unheld_is_not_sent : (w : DeskParties) (txn : Qualifiers) (n : ℕ) → DesksStand w
+pub unheld_is_not_sent : (w : DeskParties) (txn : Qualifiers) (n : ℕ) → DesksInvariant w
     → found_by txn_held txn w.requester.live.held ≡ None
     → (desks_happen w (desk_events.Deliver who.Requester txn n)).0 ≡ Plain NotSent
 unheld_is_not_sent w txn n stands none = go (sent_message (sent_for txn w.responder.sent) n) refl
@@ -475,7 +475,7 @@ unheld_is_not_sent w txn n stands none = go (sent_message (sent_for txn w.respon
     go (Some a) e = absurd (none_sent w stands txn n a e none)
 
 -- If the requester has sent in a transaction, the responder's desk holds it, or has room for it.
-responder_room : (w : DeskParties) → DesksStand w → (txn : Qualifiers) (n : ℕ) (a : Apdu)
+responder_room : (w : DeskParties) → DesksInvariant w → (txn : Qualifiers) (n : ℕ) (a : Apdu)
     → sent_message (sent_for txn w.requester.sent) n ≡ Some a → found_by txn_held txn w.responder.live.held ≡ None
     → nat_lt (length w.responder.live.held) 1000 ≡ false → ⊥
 responder_room w stands txn n a sent none full =
@@ -493,8 +493,8 @@ responder_room w stands txn n a sent none full =
     let more = no_more (txn ∷ live_txns w.responder) (live_txns w.requester) (absent, known.0) all in
     omega (arith, few, more, ltb-false (length w.responder.live.held) 1000 full, length-map w.responder.live.held txn_held)
 
--- If two desks satisfy `DesksStand`, no delivery is DeskFull.
-pub finds_room : EachReaches → (w : DeskParties) (role : Who) (txn : Qualifiers) (n : ℕ) → DesksStand w
+-- If two desks satisfy `DesksInvariant`, no delivery is DeskFull.
+pub finds_room : EachReaches → (w : DeskParties) (role : Who) (txn : Qualifiers) (n : ℕ) → DesksInvariant w
     → (desks_happen w (desk_events.Deliver role txn n)).0 ≡ DeskFull → ⊥
 finds_room reaches w who.Requester txn n stands =
     none_full reaches w stands who.Requester txn n (λ a sent none full. none_sent w stands txn n a sent none)

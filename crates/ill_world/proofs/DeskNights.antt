@@ -19,7 +19,7 @@ use Rattle.ill_world.specs.declared.event.DeskEvent.TheVariants as desk_events
 use Rattle.ill_world.specs.World.{Party, Parties, party, happens, run_by, run_of}
 use Rattle.ill_world.specs.Desks.{DeskParties, desks_happen, desks_run, project}
 use Rattle.ill_world.specs.DeskCounts.{is_one_of, AreApart}
-use Rattle.ill_world.specs.DeskSafety.{DesksStand}
+use Rattle.ill_world.specs.DeskSafety.{DesksInvariant}
 use Rattle.ill_world.specs.Round.{sends_and_delivers}
 use Rattle.ill_world.specs.Night.{wants_sending, asks, half_if, asking_half, night_of}
 use Rattle.ill_world.specs.DeskNight.{desk_half_if, is_asked_by, desk_asking_half, desk_night_of}
@@ -103,7 +103,7 @@ passes_of role side = sends_and_delivers role 1 (length (issued_of side))
 
 module _ (projects : EachProjects) (reaches : EachReaches) (after : EachStands) (txn : Qualifiers) where
   -- In `txn` the half of the selected sides is the half of its side, if `wants` holds of it.
-  half_if_alike : (wants : Side → Bool) (w : DeskParties) (role : Who) → DesksStand w
+  half_if_alike : (wants : Side → Bool) (w : DeskParties) (role : Who) → DesksInvariant w
       → project txn (desks_run w (desk_half_if wants role w))
       ≡ run_of (project txn w) (half_if (wants (party (project txn w) role).live) role (project txn w))
   unfolding run_by side_with sends_and_delivers
@@ -147,7 +147,7 @@ module _ (projects : EachProjects) (reaches : EachReaches) (after : EachStands) 
           (idle_issues live.role txn)
 
   -- In `txn` a night of two desks is a night of both sides.
-  pub night_alike : (w : DeskParties) → DesksStand w
+  pub night_alike : (w : DeskParties) → DesksInvariant w
       → project txn (desks_run w (desk_night_of w)) ≡ run_of (project txn w) (night_of (project txn w))
   night_alike w stands =
       let first = desk_asking_half w in

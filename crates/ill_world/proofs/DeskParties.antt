@@ -44,19 +44,19 @@ take_faults old new a fault takes = takes.1
 -- ---- noise
 
 -- If the bytes are exactly one APDU, the outcome of noise is Forged. Else it is Garbled.
-abbrev pub HeardAs : List ℕ → Outcome → Result (Apdu × ℕ) DerFault → Type 0
-HeardAs bytes outcome (Ok (a, size)) = (size ≡ length bytes → outcome ≡ Forged) × ((size ≡ length bytes → ⊥) → outcome ≡ Garbled)
-HeardAs bytes outcome (Err OutOfMemory) = Unit {0}
-HeardAs bytes outcome (Err fault) = outcome ≡ Garbled
+abbrev pub NoiseSeenAs : List ℕ → Outcome → Result (Apdu × ℕ) DerFault → Type 0
+NoiseSeenAs bytes outcome (Ok (a, size)) = (size ≡ length bytes → outcome ≡ Forged) × ((size ≡ length bytes → ⊥) → outcome ≡ Garbled)
+NoiseSeenAs bytes outcome (Err OutOfMemory) = Unit {0}
+NoiseSeenAs bytes outcome (Err fault) = outcome ≡ Garbled
 
 -- Noise that begins with a shorter APDU is Garbled.
 heard_part : (bytes : List ℕ) (read : Result (Apdu × List ℕ) DerFault) (a : Apdu) (size : ℕ)
     → Decodes bytes read (Ok (a, size)) → (size ≡ length bytes → ⊥) → desk_hears read ≡ Garbled
 heard_part bytes read a size decodes part = let found = part_reads bytes read a size decodes part in ap desk_hears found.2
 
--- The outcome of noise satisfies `HeardAs` of the decoded APDU.
+-- The outcome of noise satisfies `NoiseSeenAs` of the decoded APDU.
 pub heard_as : (bytes : List ℕ) (read : Result (Apdu × List ℕ) DerFault) (answer : Result (Apdu × ℕ) DerFault)
-    → Decodes bytes read answer → HeardAs bytes (desk_hears read) answer
+    → Decodes bytes read answer → NoiseSeenAs bytes (desk_hears read) answer
 heard_as bytes read (Ok (a, size)) decodes =
     (λ whole. ap desk_hears (whole_reads bytes read a size decodes whole), λ part. heard_part bytes read a size decodes part)
 heard_as bytes read (Err OutOfMemory) decodes = tt

@@ -36,7 +36,7 @@ use Rattle.ill_world.specs.Desks.{IsSeenAs}
 use Rattle.ill_world.specs.DeskScript.{in_txn}
 use Rattle.ill_world.specs.DeskChanges.{Reaches}
 use Rattle.ill_world.specs.DeskCounts.{is_one_of, AreApart}
-use Rattle.ill_world.specs.DeskSafety.{DesksStand}
+use Rattle.ill_world.specs.DeskSafety.{DesksInvariant}
 use Rattle.ill_world.specs.Round.{sends_and_delivers, half_of, round_of}
 use Rattle.ill_world.specs.DeskRound.{passes_side, desk_half_of, desk_round_of}
 use Rattle.ill_world.proofs.Runs.{run_both}
@@ -136,14 +136,14 @@ module _ (projects : EachProjects) (reaches : EachReaches) (after : EachStands) 
   HappensAlike w event = project txn (desks_happen w event).1 ≡ (happens (project txn w) (plain event)).1
 
   -- An event of another transaction leaves the projection unchanged.
-  other_stays : (w : DeskParties) (event : DeskEvent) → concerns txn event ≡ false → DesksStand w
+  other_stays : (w : DeskParties) (event : DeskEvent) → concerns txn event ≡ false → DesksInvariant w
       → project txn (desks_happen w event).1 ≡ project txn w
   other_stays w event is stands =
       seen_elsewhere (concerns txn event) is (happens (project txn w) (plain event)) (project txn w)
       (project txn (desks_happen w event).1) (desks_happen w event).0 (projects txn w event stands)
 
   -- `HappensAlike` holds of an event of `txn`, if an event that reaches no side changes nothing.
-  alike : (w : DeskParties) (event : DeskEvent) → concerns txn event ≡ true → DesksStand w
+  alike : (w : DeskParties) (event : DeskEvent) → concerns txn event ≡ true → DesksInvariant w
       → ((desks_happen w event).0 ≡ DeskFull → ⊥)
       → ((desks_happen w event).0 ≡ NoSuchTransaction → (happens (project txn w) (plain event)).1 ≡ project txn w)
       → HappensAlike w event
@@ -152,7 +152,7 @@ module _ (projects : EachProjects) (reaches : EachReaches) (after : EachStands) 
       (project txn (desks_happen w event).1) (desks_happen w event).0 (projects txn w event stands) room stays
 
   -- `HappensAlike` holds of a Send in `txn`.
-  send_alike : (w : DeskParties) (role : Who) (n : ℕ) → DesksStand w → HappensAlike w (desk_events.Send role txn n)
+  send_alike : (w : DeskParties) (role : Who) (n : ℕ) → DesksInvariant w → HappensAlike w (desk_events.Send role txn n)
   send_alike w role n stands = alike w event (same_self txn) stands
       (λ full. begins_in_room has_room found (reached DeskFull full)) stays
     where
@@ -179,7 +179,7 @@ module _ (projects : EachProjects) (reaches : EachReaches) (after : EachStands) 
           ap (with_party v role) (idle_sends (party v role) n (nat_le n (party v role).released) nothing) ∙ same_party v role
 
   -- If a delivery does not reach its transaction, the side that is shown does not change.
-  idle_stays : (w : DeskParties) (role : Who) (n : ℕ) (a : Apdu) → DesksStand w
+  idle_stays : (w : DeskParties) (role : Who) (n : ℕ) (a : Apdu) → DesksInvariant w
       → sent_message (sent_for txn (party w (other role)).sent) n ≡ Some a
       → (desks_happen w (desk_events.Deliver role txn n)).0 ≡ NoSuchTransaction
       → (receives (party (project txn w) role) (Some a)).1 ≡ party (project txn w) role
@@ -206,7 +206,7 @@ module _ (projects : EachProjects) (reaches : EachReaches) (after : EachStands) 
           (ap (λ side. (takes side a).1) idle ∙ idle_takes txn a missed.1 ∙ sym idle)
 
   -- `HappensAlike` holds of a delivery in `txn`.
-  deliver_alike : (w : DeskParties) (role : Who) (n : ℕ) → DesksStand w → HappensAlike w (desk_events.Deliver role txn n)
+  deliver_alike : (w : DeskParties) (role : Who) (n : ℕ) → DesksInvariant w → HappensAlike w (desk_events.Deliver role txn n)
   deliver_alike w role n stands = alike w event (same_self txn) stands (λ full. finds_room reaches w role txn n stands full) stays
     where
       event : DeskEvent
@@ -229,7 +229,7 @@ module _ (projects : EachProjects) (reaches : EachReaches) (after : EachStands) 
   -- ---- the messages of a side
 
   -- To pass on messages of `txn` leads the projection on as two parties.
-  passes_alike : (w : DeskParties) (role : Who) (n count : ℕ) → DesksStand w
+  passes_alike : (w : DeskParties) (role : Who) (n count : ℕ) → DesksInvariant w
       → project txn (desks_run w (map (in_txn txn) (sends_and_delivers role n count)))
       ≡ run_of (project txn w) (sends_and_delivers role n count)
   unfolding sends_and_delivers run_by
@@ -245,7 +245,7 @@ module _ (projects : EachProjects) (reaches : EachReaches) (after : EachStands) 
       ∙ ap (λ v. (happens v (events.Deliver (other role) n)).1) (send_alike w role n stands))
 
   -- To pass on messages of another transaction leaves the projection unchanged.
-  others_stay : (of : Qualifiers) → is_same_txn txn of ≡ false → (w : DeskParties) (role : Who) (n count : ℕ) → DesksStand w
+  others_stay : (of : Qualifiers) → is_same_txn txn of ≡ false → (w : DeskParties) (role : Who) (n count : ℕ) → DesksInvariant w
       → project txn (desks_run w (map (in_txn of) (sends_and_delivers role n count))) ≡ project txn w
   unfolding sends_and_delivers run_by
   others_stay of apart w role n zero stands = refl
@@ -267,7 +267,7 @@ module _ (projects : EachProjects) (reaches : EachReaches) (after : EachStands) 
   passes_both w role side more = run_both desks_happen w (passes_side role side) (flat_map (passes_side role) more)
 
   -- To pass on the messages of sides of other transactions leaves the projection unchanged.
-  sides_stay : (w : DeskParties) (role : Who) (all : List Side) → is_one_of txn (map txn_of all) ≡ false → DesksStand w
+  sides_stay : (w : DeskParties) (role : Who) (all : List Side) → is_one_of txn (map txn_of all) ≡ false → DesksInvariant w
       → project txn (desks_run w (flat_map (passes_side role) all)) ≡ project txn w
   unfolding run_by
   sides_stay w role [] none stands = refl
@@ -279,7 +279,7 @@ module _ (projects : EachProjects) (reaches : EachReaches) (after : EachStands) 
 
   -- No two of the sides are of one transaction. To pass on their messages is, in `txn`, to pass on those of its side.
   pub sides_alike : (w : DeskParties) (role : Who) (idle : Side) → issued_of idle ≡ [] → (all : List Side)
-      → AreApart (map txn_of all) → DesksStand w
+      → AreApart (map txn_of all) → DesksInvariant w
       → project txn (desks_run w (flat_map (passes_side role) all))
       ≡ run_of (project txn w) (sends_and_delivers role 1 (length (issued_of (found_or idle (found_by txn_of txn all)))))
   unfolding run_by sends_and_delivers
@@ -292,7 +292,7 @@ module _ (projects : EachProjects) (reaches : EachReaches) (after : EachStands) 
       next : DeskParties
       next = desks_run w (passes_side role side)
 
-      next_stands : DesksStand next
+      next_stands : DesksInvariant next
       next_stands = desks_stand_on after w (passes_side role side) stands
 
       go : (same : Bool) → is_same_txn txn (txn_of side) ≡ same
@@ -318,14 +318,14 @@ module _ (projects : EachProjects) (reaches : EachReaches) (after : EachStands) 
   -- ---- a round
 
   -- No two sides that a desk holds are of one transaction.
-  pub held_apart : (w : DeskParties) (role : Who) → DesksStand w → AreApart (map txn_of (sides_held (party w role).live).sides)
+  pub held_apart : (w : DeskParties) (role : Who) → DesksInvariant w → AreApart (map txn_of (sides_held (party w role).live).sides)
   held_apart w who.Requester stands =
       subst AreApart (sym (map-map txn_of (λ (held : DeskEntry). held.side) w.requester.live.held)) stands.counts.0.0
   held_apart w who.Responder stands =
       subst AreApart (sym (map-map txn_of (λ (held : DeskEntry). held.side) w.responder.live.held)) stands.counts.2.0
 
   -- In `txn` the half of a round of a desk is the half of a round of its side.
-  half_alike : (w : DeskParties) (role : Who) → DesksStand w
+  half_alike : (w : DeskParties) (role : Who) → DesksInvariant w
       → project txn (desks_run w (desk_half_of role w)) ≡ run_of (project txn w) (half_of role (project txn w))
   unfolding run_by side_with
   half_alike w role stands = saved_alike
@@ -351,7 +351,7 @@ module _ (projects : EachProjects) (reaches : EachReaches) (after : EachStands) 
           (projects txn w (desk_events.Save role) stands).1
 
   -- In `txn` a round of two desks is a round of both sides.
-  pub round_alike : (w : DeskParties) → DesksStand w
+  pub round_alike : (w : DeskParties) → DesksInvariant w
       → project txn (desks_run w (desk_round_of w)) ≡ run_of (project txn w) (round_of (project txn w))
   round_alike w stands =
       let first = desk_half_of who.Requester w in

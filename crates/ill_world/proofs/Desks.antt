@@ -18,7 +18,7 @@ use Rattle.ill_saved.specs.Side.{issued_of, role_of, other, acts, takes, begins}
 use Rattle.ill_saved.specs.Sides.{is_same_role}
 use Rattle.ill_core.specs.Bodies.{is_ill_request}
 use Rattle.ill_saved.specs.Holdings.{DeskEntry}
-use Rattle.ill_saved.specs.ManySides.{held_for, reached, acted as acted_at, acts_reached, took as took_at, takes_reached, is_own}
+use Rattle.ill_saved.specs.ManySides.{held_for, side_for_call, acted as acted_at, acts_reached, contents_after_message as took_at, takes_reached, is_own}
 use Rattle.ill_saved.specs.ManySides.{found_by, txn_held}
 use Rattle.ill_saved.proofs.Finding.{same_is}
 use Rattle.ill_world.specs.declared.event.Event.{Event}
@@ -32,14 +32,14 @@ use Rattle.ill_world.specs.Desks.{DeskParty, DeskParties, Sending, sent_for, pla
 use Rattle.ill_world.specs.Desks.{desk_happens_to, desks_happen, desks_run, first_desks, party_for, project, concerns, if_reached}
 use Rattle.ill_world.specs.Desks.{is_event_of, events_for, IsSeenAs, Projects}
 use Rattle.ill_world.specs.Agreement.{KeepsDates}
-use Rattle.ill_world.specs.Invariant.{RequesterSideStands, ResponderSideStands, Invariant}
+use Rattle.ill_world.specs.Invariant.{RequesterSideInvariant, ResponderSideInvariant, Invariant}
 use Rattle.ill_world.specs.Changes.{MayChange, OnlyLandedChanges, KeepsSent}
 use Rattle.ill_world.specs.DeskChanges.{DeskMayChange}
 use Rattle.ill_world.specs.declared.event.DeskOutcome.TheVariants.{Plain, NoSuchTransaction, DeskFull}
 use Rattle.ill_world.specs.DeskCounts.{DesksCount}
-use Rattle.ill_world.specs.DeskSafety.{IsDeskOf, DesksStand}
+use Rattle.ill_world.specs.DeskSafety.{IsDeskOf, DesksInvariant}
 use Rattle.ill_world.proofs.Parties.{RowsGrow}
-use Rattle.ill_world.proofs.Changes.{Quiet, After, same_changes}
+use Rattle.ill_world.proofs.Changes.{RefusalsChangeNothing, After, same_changes}
 use Rattle.ill_world.proofs.Uniqueness.{message_number}
 use Rattle.ill_world.proofs.Worlds.{same_dates}
 use Rattle.ill_world.proofs.Projections.{PartySeen, KeepsTo, party_seen, first_project}
@@ -77,34 +77,34 @@ seen_at txn w who.Responder event seen =
 
 -- ---- the roles of two desks
 
--- If `RequesterSideStands` holds of a side, its role is the requester's.
-requesters : (txn : Qualifiers) (side : Side) (partner_sent : List (Option Apdu)) → RequesterSideStands txn side partner_sent
+-- If `RequesterSideInvariant` holds of a side, its role is the requester's.
+requesters : (txn : Qualifiers) (side : Side) (partner_sent : List (Option Apdu)) → RequesterSideInvariant txn side partner_sent
     → role_of side ≡ who.Requester
 requesters txn (sides.Requester x) partner_sent stands = refl
 requesters txn (sides.Responder y) partner_sent stands = absurd stands
 
--- If `ResponderSideStands` holds of a side, its role is the responder's.
-responders : (txn : Qualifiers) (side : Side) (partner_sent : List (Option Apdu)) → ResponderSideStands txn side partner_sent
+-- If `ResponderSideInvariant` holds of a side, its role is the responder's.
+responders : (txn : Qualifiers) (side : Side) (partner_sent : List (Option Apdu)) → ResponderSideInvariant txn side partner_sent
     → role_of side ≡ who.Responder
 responders txn (sides.Responder y) partner_sent stands = refl
 responders txn (sides.Requester x) partner_sent stands = absurd stands
 
--- If `RequesterSideStands` holds of a side, each message that it has issued is of `txn`.
+-- If `RequesterSideInvariant` holds of a side, each message that it has issued is of `txn`.
 requesters_txn : (txn : Qualifiers) (side : Side) (partner_sent : List (Option Apdu)) (n : ℕ) (a : Apdu)
-    → RequesterSideStands txn side partner_sent → message (issued_of side) n ≡ Some a → txn ≡ a.txn
+    → RequesterSideInvariant txn side partner_sent → message (issued_of side) n ≡ Some a → txn ≡ a.txn
 requesters_txn txn (sides.Requester x) partner_sent n a stands at =
     sym (same_is a.txn x.txn (message_number x.txn x.issued n a stands.rules.numbered at).0 ∙ stands.same_txn)
 requesters_txn txn (sides.Responder y) partner_sent n a stands at = absurd stands
 
--- If `ResponderSideStands` holds of a side, each message that it has issued is of `txn`.
+-- If `ResponderSideInvariant` holds of a side, each message that it has issued is of `txn`.
 responders_txn : (txn : Qualifiers) (side : Side) (partner_sent : List (Option Apdu)) (n : ℕ) (a : Apdu)
-    → ResponderSideStands txn side partner_sent → message (issued_of side) n ≡ Some a → txn ≡ a.txn
+    → ResponderSideInvariant txn side partner_sent → message (issued_of side) n ≡ Some a → txn ≡ a.txn
 responders_txn txn (sides.Responder y) partner_sent n a stands at =
     sym (same_is a.txn y.txn (message_number y.txn y.issued n a stands.rules.numbered at).0 ∙ stands.same_txn)
 responders_txn txn (sides.Requester x) partner_sent n a stands at = absurd stands
 
--- If `DesksStand` holds of two desks, `KeepsTo` holds of each.
-pub keeps_to : (w : DeskParties) (role : Who) → DesksStand w → KeepsTo role (party w role) (party w (other role)).sent
+-- If `DesksInvariant` holds of two desks, `KeepsTo` holds of each.
+pub keeps_to : (w : DeskParties) (role : Who) → DesksInvariant w → KeepsTo role (party w role) (party w (other role)).sent
 keeps_to w who.Requester stands = record {
   role_is = stands.requester.0;
   role_held = λ txn. requesters txn (held_for txn w.requester.live).side (sent_for txn w.responder.sent)
@@ -120,8 +120,8 @@ keeps_to w who.Responder stands = record {
       requesters_txn txn _ _ n a requester.landed (requester.saved.landed n a at);
 }
 
--- `Projects` holds of each event at two desks that satisfy `DesksStand`.
-pub desk_projects : RowsGrow → Quiet → (txn : Qualifiers) (w : DeskParties) (event : DeskEvent) → DesksStand w
+-- `Projects` holds of each event at two desks that satisfy `DesksInvariant`.
+pub desk_projects : RowsGrow → RefusalsChangeNothing → (txn : Qualifiers) (w : DeskParties) (event : DeskEvent) → DesksInvariant w
     → Projects txn w event
 desk_projects grows rows txn w event stands =
     let role = who_of (plain event) in
@@ -165,9 +165,9 @@ receives_role role p None is = is
 receives_role role p (Some a) is = (go (is_own p.live.role a.body), is.1)
   where
     go : (own : Bool) → (if own then (Err (faults.Core WrongRole), p.live) else
-        takes_reached p.live a (reached p.live a.txn (is_ill_request a.body))).1.role ≡ role
+        takes_reached p.live a (side_for_call p.live a.txn (is_ill_request a.body))).1.role ≡ role
     go true = is.0
-    go false = takes_role role p a (reached p.live a.txn (is_ill_request a.body)) is
+    go false = takes_role role p a (side_for_call p.live a.txn (is_ill_request a.body)) is
 
 -- A Send leaves the roles of a desk, if the sent message does.
 sends_role : (role : Who) (p : DeskParty) (after : Apdu → DeskParty) (issued : Option Apdu) (released : Bool)
@@ -186,10 +186,10 @@ send_role role p of n (Some held) is = sends_role role p _ _ _ is (λ a. is)
 role_kept : (role : Who) (p : DeskParty) (partner_sent : List Sending) (event : DeskEvent) → IsDeskOf role p
     → IsDeskOf role (desk_happens_to p partner_sent event).1
 role_kept role p partner_sent (events.Wish of wish) is =
-    decided_role role p (actions.Wish wish) (reached p.live of (begins (actions.Wish wish)))
+    decided_role role p (actions.Wish wish) (side_for_call p.live of (begins (actions.Wish wish)))
     (is_same_role p.live.role who.Requester) is
 role_kept role p partner_sent (events.Deed of deed today) is =
-    decided_role role p (actions.Deed deed today) (reached p.live of (begins (actions.Deed deed today)))
+    decided_role role p (actions.Deed deed today) (side_for_call p.live of (begins (actions.Deed deed today)))
     (is_same_role p.live.role who.Responder) is
 role_kept role p partner_sent (events.Save at) is = (is.0, is.0)
 role_kept role p partner_sent (events.SaveFault at true) is = (is.0, is.0)
@@ -217,8 +217,8 @@ seen_keeps : {P : Type 0} (F : P → Type 0) (own : Bool) (expected : Outcome ×
 seen_keeps F true expected old new outcome seen before after = subst F (sym seen.1) after
 seen_keeps F false expected old new outcome seen before after = subst F (sym seen) before
 
--- Two desks that hold nothing satisfy `DesksStand`.
-pub desks_first : DesksCount first_desks → ((txn : Qualifiers) → Invariant txn (first_world txn)) → DesksStand first_desks
+-- Two desks that hold nothing satisfy `DesksInvariant`.
+pub desks_first : DesksCount first_desks → ((txn : Qualifiers) → Invariant txn (first_world txn)) → DesksInvariant first_desks
 desks_first counts stands = record {
   requester = (refl, refl);
   responder = (refl, refl);
@@ -226,9 +226,9 @@ desks_first counts stands = record {
   each = λ txn. subst (Invariant txn) (sym (first_project txn)) (stands txn);
 }
 
--- If two desks satisfy `DesksStand`, and `DesksCount` holds after an event, `DesksStand` holds after it.
-pub desks_after : RowsGrow → Quiet → ((txn : Qualifiers) → After txn) → (w : DeskParties) (event : DeskEvent)
-    → DesksStand w → DesksCount (desks_happen w event).1 → DesksStand (desks_happen w event).1
+-- If two desks satisfy `DesksInvariant`, and `DesksCount` holds after an event, `DesksInvariant` holds after it.
+pub desks_after : RowsGrow → RefusalsChangeNothing → ((txn : Qualifiers) → After txn) → (w : DeskParties) (event : DeskEvent)
+    → DesksInvariant w → DesksCount (desks_happen w event).1 → DesksInvariant (desks_happen w event).1
 desks_after grows rows after w event stands counts =
     let roles = roles_kept w (who_of (plain event)) event stands.requester stands.responder in
     record {
@@ -243,13 +243,13 @@ desks_after grows rows after w event stands counts =
 
 -- ---- runs
 
--- `Projects` holds of each event at two desks that satisfy `DesksStand`.
+-- `Projects` holds of each event at two desks that satisfy `DesksInvariant`.
 abbrev pub EachProjects : Type 0
-EachProjects = (txn : Qualifiers) (w : DeskParties) (event : DeskEvent) → DesksStand w → Projects txn w event
+EachProjects = (txn : Qualifiers) (w : DeskParties) (event : DeskEvent) → DesksInvariant w → Projects txn w event
 
--- Each event keeps `DesksStand`.
+-- Each event keeps `DesksInvariant`.
 abbrev pub EachStands : Type 0
-EachStands = (w : DeskParties) (event : DeskEvent) → DesksStand w → DesksStand (desks_happen w event).1
+EachStands = (w : DeskParties) (event : DeskEvent) → DesksInvariant w → DesksInvariant (desks_happen w event).1
 
 -- If the event is one of the transaction, `more` after it leads to the run of both from `w`. Otherwise `more` alone
 -- leads on from `w`.
@@ -260,15 +260,15 @@ unfolding run_by
 leads_on true w event more new outcome seen = ap (λ v. run_of v more) seen.1
 leads_on false w event more new outcome seen = ap (λ v. run_of v more) seen
 
--- Any events keep `DesksStand`.
-pub desks_stand_on : EachStands → (w : DeskParties) (events : List DeskEvent) → DesksStand w → DesksStand (desks_run w events)
+-- Any events keep `DesksInvariant`.
+pub desks_stand_on : EachStands → (w : DeskParties) (events : List DeskEvent) → DesksInvariant w → DesksInvariant (desks_run w events)
 unfolding run_by
 desks_stand_on after w [] stands = stands
 desks_stand_on after w (event ∷ events) stands = desks_stand_on after (desks_happen w event).1 events (after w event stands)
 
 -- The projection of two desks after events is the world after the events of the transaction.
 pub run_projects : EachProjects → EachStands → (txn : Qualifiers) (w : DeskParties) (events : List DeskEvent)
-    → DesksStand w → project txn (desks_run w events) ≡ run_of (project txn w) (events_for txn w events)
+    → DesksInvariant w → project txn (desks_run w events) ≡ run_of (project txn w) (events_for txn w events)
 unfolding run_by events_for
 run_projects projects after txn w [] stands = refl
 run_projects projects after txn w (event ∷ events) stands =
@@ -278,7 +278,7 @@ run_projects projects after txn w (event ∷ events) stands =
     (desks_happen w event).0 (projects txn w event stands)
 
 -- The projection of two desks that held nothing at first is the world after the events of the transaction.
-pub first_run_projects : EachProjects → EachStands → DesksStand first_desks
+pub first_run_projects : EachProjects → EachStands → DesksInvariant first_desks
     → (txn : Qualifiers) (events : List DeskEvent)
     → project txn (desks_run first_desks events) ≡ run_of (first_world txn) (events_for txn first_desks events)
 first_run_projects projects after first txn events =
@@ -289,7 +289,7 @@ first_run_projects projects after first txn events =
 
 -- If an event of two parties keeps the due dates, an event of two desks keeps them in each transaction.
 pub desk_dates : EachProjects → ((txn : Qualifiers) (w : Parties) (event : Event) → Invariant txn w
-    → KeepsDates w event (happens w event).1) → (txn : Qualifiers) (w : DeskParties) (event : DeskEvent) → DesksStand w
+    → KeepsDates w event (happens w event).1) → (txn : Qualifiers) (w : DeskParties) (event : DeskEvent) → DesksInvariant w
     → KeepsDates (project txn w) (plain event) (project txn (desks_happen w event).1)
 desk_dates projects stay txn w event stands =
     seen_keeps (KeepsDates (project txn w) (plain event)) (is_event_of txn w event) (happens (project txn w) (plain event))
@@ -319,7 +319,7 @@ unchanged own expected old new DeskFull seen changes same = seen
 -- If each outcome of two parties allows its change, so does each outcome of two desks.
 pub desk_changes : EachProjects
     → ((w : Parties) (event : Event) → MayChange OnlyLandedChanges (happens w event).0 w (happens w event).1)
-    → (txn : Qualifiers) (w : DeskParties) (event : DeskEvent) → DesksStand w
+    → (txn : Qualifiers) (w : DeskParties) (event : DeskEvent) → DesksInvariant w
     → DeskMayChange (desks_happen w event).0 (project txn w) (project txn (desks_happen w event).1)
 desk_changes projects changes txn w event stands =
     unchanged (concerns txn event) (happens (project txn w) (plain event)) (project txn w) (project txn (desks_happen w event).1)
@@ -329,7 +329,7 @@ desk_changes projects changes txn w event stands =
 -- If an event of two parties keeps the sent messages, an event of two desks keeps them in each transaction.
 pub desk_keeps_sent : EachProjects
     → ((txn : Qualifiers) (w : Parties) (event : Event) → Invariant txn w → KeepsSent w (happens w event).1)
-    → (txn : Qualifiers) (w : DeskParties) (event : DeskEvent) → DesksStand w
+    → (txn : Qualifiers) (w : DeskParties) (event : DeskEvent) → DesksInvariant w
     → KeepsSent (project txn w) (project txn (desks_happen w event).1)
 desk_keeps_sent projects keeps txn w event stands =
     seen_keeps (KeepsSent (project txn w)) (is_event_of txn w event) (happens (project txn w) (plain event)) (project txn w) _ _

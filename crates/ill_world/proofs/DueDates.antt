@@ -22,7 +22,7 @@ use Rattle.ill_saved.specs.declared.role.Role.TheVariants as who
 use Rattle.ill_world.specs.declared.event.Event.{Event}
 use Rattle.ill_world.specs.declared.event.Event.TheVariants as events
 use Rattle.ill_world.specs.World.{Party, Parties, sent_message, decides, sends, receives, happens_to, happens}
-use Rattle.ill_world.specs.Invariant.{RequesterSideStands, Invariant}
+use Rattle.ill_world.specs.Invariant.{RequesterSideInvariant, Invariant}
 use Rattle.ill_world.specs.Agreement.{KeepsDates}
 
 -- A due date that is kept or raised twice is kept or raised.
@@ -39,7 +39,7 @@ keeps_on (Some x) (Some y) (Some z) (inr (inr raised)) (inr (inr again)) = inr (
 
 -- These facts of the tables are assumed here. A wish leaves the requester's due date unchanged. A message that it takes
 -- keeps or raises it.
-pub record RowsKeepDue : Type 0 where
+pub record TransitionsKeepDue : Type 0 where
   pub acts : (x new : RequesterRecord) (wish : Wish) → requester_actions.acts x wish ≡ Ok new → new.due ≡ x.due
   pub takes : (x : RequesterRecord) (a : Apdu) → is_some x.due ≡ is_among later x.state
       → KeepsDue x.due (requester_deliveries.takes x a).1.due
@@ -57,31 +57,31 @@ made_due x (Ok made) new keeps e = let is : sides.Requester made ≡ new = searc
 made_due x (Err refusal) new keeps e = search rules
 
 -- An action that is done leaves the due date of a requester's side unchanged.
-acts_due : RowsKeepDue → (txn : Qualifiers) (old new : Side) (action : Action) (partner_sent : List (Option Apdu))
-    → acts old action ≡ Ok new → RequesterSideStands txn old partner_sent → due_date_of new ≡ due_date_of old
+acts_due : TransitionsKeepDue → (txn : Qualifiers) (old new : Side) (action : Action) (partner_sent : List (Option Apdu))
+    → acts old action ≡ Ok new → RequesterSideInvariant txn old partner_sent → due_date_of new ≡ due_date_of old
 acts_due rows txn (sides.Requester x) new (actions.Wish wish) partner_sent e stands =
     made_due x (requester_actions.acts x wish) new (λ made is. rows.acts x made wish is) e
 acts_due rows txn (sides.Requester x) new (actions.Deed deed today) partner_sent e stands = search rules
 acts_due rows txn (sides.Responder y) new action partner_sent e stands = absurd stands
 
 -- A message that is taken keeps or raises the due date of a requester's side.
-takes_due : RowsKeepDue → (txn : Qualifiers) (old : Side) (a : Apdu) (partner_sent : List (Option Apdu))
-    → RequesterSideStands txn old partner_sent → KeepsDue (due_date_of old) (due_date_of (takes old a).1)
+takes_due : TransitionsKeepDue → (txn : Qualifiers) (old : Side) (a : Apdu) (partner_sent : List (Option Apdu))
+    → RequesterSideInvariant txn old partner_sent → KeepsDue (due_date_of old) (due_date_of (takes old a).1)
 takes_due rows txn (sides.Requester x) a partner_sent stands = rows.takes x a stands.rules.parts.due
 takes_due rows txn (sides.Responder y) a partner_sent stands = absurd stands
 
 -- A decision keeps or raises the requester's live due date, and leaves its landed side unchanged.
-decides_due : RowsKeepDue
+decides_due : TransitionsKeepDue
     → (txn : Qualifiers) (p : Party) (partner_sent : List (Option Apdu)) (action : Action) (result : Result Side Refusal)
-    → acts p.live action ≡ result → RequesterSideStands txn p.live partner_sent
+    → acts p.live action ≡ result → RequesterSideInvariant txn p.live partner_sent
     → KeepsDue (due_date_of p.live) (due_date_of (decides p result).1.live) × ((decides p result).1.landed ≡ p.landed)
 decides_due rows txn p partner_sent action (Ok new) e stands =
     (inr (inl (acts_due rows txn p.live new action partner_sent e stands)), refl)
 decides_due rows txn p partner_sent action (Err refusal) e stands = (stays (due_date_of p.live), refl)
 
 -- A delivery keeps or raises the requester's live due date, and leaves its landed side unchanged.
-receives_due : RowsKeepDue → (txn : Qualifiers) (p : Party) (partner_sent : List (Option Apdu)) (found : Option Apdu)
-    → RequesterSideStands txn p.live partner_sent
+receives_due : TransitionsKeepDue → (txn : Qualifiers) (p : Party) (partner_sent : List (Option Apdu)) (found : Option Apdu)
+    → RequesterSideInvariant txn p.live partner_sent
     → KeepsDue (due_date_of p.live) (due_date_of (receives p found).1.live) × ((receives p found).1.landed ≡ p.landed)
 receives_due rows txn p partner_sent None stands = (stays (due_date_of p.live), refl)
 receives_due rows txn p partner_sent (Some a) stands = (takes_due rows txn p.live a partner_sent stands, refl)
@@ -106,8 +106,8 @@ live_kept p q both kept = subst (λ side. KeepsDue (due_date_of side) (due_date_
     (keeps_on (due_date_of p.landed) (due_date_of p.live) (due_date_of q.live) kept both.0)
 
 -- After each event the requester's live due date is not earlier than its landed one, if this held before.
-pub due_after : RowsKeepDue → (txn : Qualifiers) (p : Party) (partner_sent : List (Option Apdu)) (event : Event)
-    → RequesterSideStands txn p.live partner_sent → KeepsDue (due_date_of p.landed) (due_date_of p.live)
+pub due_after : TransitionsKeepDue → (txn : Qualifiers) (p : Party) (partner_sent : List (Option Apdu)) (event : Event)
+    → RequesterSideInvariant txn p.live partner_sent → KeepsDue (due_date_of p.landed) (due_date_of p.live)
     → KeepsDue (due_date_of (happens_to p partner_sent event).1.landed) (due_date_of (happens_to p partner_sent event).1.live)
 due_after rows txn p partner_sent (events.Wish wish) stands kept =
     live_kept p (happens_to p partner_sent (events.Wish wish)).1
@@ -132,7 +132,7 @@ same_date : (a b : Side) → b ≡ a → KeepsDue (due_date_of a) (due_date_of b
 same_date a b e = inr (inl (ap due_date_of e))
 
 -- Each event keeps or raises the requester's due dates, live and landed, as `KeepsDates` states.
-pub dates_kept : RowsKeepDue → (txn : Qualifiers) (w : Parties) (event : Event) → Invariant txn w
+pub dates_kept : TransitionsKeepDue → (txn : Qualifiers) (w : Parties) (event : Event) → Invariant txn w
     → KeepsDates w event (happens w event).1
 dates_kept rows txn w (events.Wish wish) stands =
     let p = w.requester in

@@ -6,18 +6,18 @@ use Rattle.ill_core.specs.Issued.{message}
 use Rattle.ill_saved.specs.declared.side.Side.{Side}
 use Rattle.ill_saved.specs.declared.side.Action.{Action}
 use Rattle.ill_saved.specs.declared.side.Action.TheVariants as actions
-use Rattle.ill_saved.specs.Side.{issued_of, acts, takes, IsStep, Grows, acted, took}
+use Rattle.ill_saved.specs.Side.{issued_of, acts, takes, IsSideTransition, Grows, acted, took}
 use Rattle.ill_world.specs.declared.event.Event.{Event}
 use Rattle.ill_world.specs.declared.event.Event.TheVariants as events
 use Rattle.ill_world.specs.World.{Party, sent_message, decides, sends, receives, happens_to}
-use Rattle.ill_world.specs.Invariant.{WasSent, SendsSaved, PartyStands}
+use Rattle.ill_world.specs.Invariant.{WasSent, SendsSaved, PartyInvariant}
 use Rattle.ill_world.proofs.Sendings.{live_grows, saved_now, saved_by_fault, saved_at_restart, saved_by_send, sent_stays}
 
 -- ---- facts of the tables
 
 -- A transition takes no message away, and keeps the role and the transaction.
 abbrev pub RowsGrow : Type 0
-RowsGrow = (old new : Side) → IsStep old new → Grows old new
+RowsGrow = (old new : Side) → IsSideTransition old new → Grows old new
 
 -- An action keeps `K`, and so does a taken message of `partner_sent`. Further messages in `partner_sent` keep it too.
 pub record Keeps (K : Side → List (Option Apdu) → Type 0) : Type 0 where
@@ -30,11 +30,11 @@ pub record Keeps (K : Side → List (Option Apdu) → Type 0) : Type 0 where
 
 -- ---- one event
 
--- A decision keeps `PartyStands`.
+-- A decision keeps `PartyInvariant`.
 party_decides : (K : Side → List (Option Apdu) → Type 0) (p : Party) (partner_sent : List (Option Apdu)) (action : Action)
     (result : Result Side Refusal)
     → RowsGrow → Keeps K → acts p.live action ≡ result
-    → PartyStands K p partner_sent → PartyStands K (decides p result).1 partner_sent
+    → PartyInvariant K p partner_sent → PartyInvariant K (decides p result).1 partner_sent
 party_decides K p partner_sent action (Ok new) grows keeps e stands = record {
   saved = live_grows p new (grows p.live new (acted action e)).1 stands.saved;
   live = keeps.acts p.live new action partner_sent e stands.live;
@@ -42,11 +42,11 @@ party_decides K p partner_sent action (Ok new) grows keeps e stands = record {
 }
 party_decides K p partner_sent action (Err refusal) grows keeps e stands = stands
 
--- The delivery of a message of `partner_sent` keeps `PartyStands`.
+-- The delivery of a message of `partner_sent` keeps `PartyInvariant`.
 party_receives : (K : Side → List (Option Apdu) → Type 0) (p : Party) (partner_sent : List (Option Apdu)) (n : ℕ)
     (found : Option Apdu)
     → RowsGrow → Keeps K → sent_message partner_sent n ≡ found
-    → PartyStands K p partner_sent → PartyStands K (receives p found).1 partner_sent
+    → PartyInvariant K p partner_sent → PartyInvariant K (receives p found).1 partner_sent
 party_receives K p partner_sent n None grows keeps e stands = stands
 party_receives K p partner_sent n (Some a) grows keeps e stands = record {
   saved = live_grows p (takes p.live a).1 (grows p.live (takes p.live a).1 (took a refl)).1 stands.saved;
@@ -54,27 +54,27 @@ party_receives K p partner_sent n (Some a) grows keeps e stands = record {
   landed = stands.landed;
 }
 
--- A failed save keeps `PartyStands`.
+-- A failed save keeps `PartyInvariant`.
 party_fails : (K : Side → List (Option Apdu) → Type 0) (p : Party) (partner_sent : List (Option Apdu)) (who : _) (landed : Bool)
-    → PartyStands K p partner_sent → PartyStands K (happens_to p partner_sent (events.SaveFault who landed)).1 partner_sent
+    → PartyInvariant K p partner_sent → PartyInvariant K (happens_to p partner_sent (events.SaveFault who landed)).1 partner_sent
 party_fails K p partner_sent who true stands =
     record { saved = saved_by_fault p true stands.saved; live = stands.live; landed = stands.live }
 party_fails K p partner_sent who false stands = stands
 
--- A Send keeps `PartyStands`.
+-- A Send keeps `PartyInvariant`.
 party_sends : (K : Side → List (Option Apdu) → Type 0) (p : Party) (partner_sent : List (Option Apdu)) (n : ℕ)
     (found : Option Apdu) (released : Bool)
     → message (issued_of p.live) n ≡ found
-    → nat_le n p.released ≡ released → PartyStands K p partner_sent → PartyStands K (sends p n found released).1 partner_sent
+    → nat_le n p.released ≡ released → PartyInvariant K p partner_sent → PartyInvariant K (sends p n found released).1 partner_sent
 party_sends K p partner_sent n None released is e stands = stands
 party_sends K p partner_sent n (Some a) false is e stands = stands
 party_sends K p partner_sent n (Some a) true is e stands =
     record { saved = saved_by_send p n (Some a) true is e stands.saved; live = stands.live; landed = stands.landed }
 
--- Each event keeps `PartyStands`.
+-- Each event keeps `PartyInvariant`.
 pub party_kept : (K : Side → List (Option Apdu) → Type 0) (p : Party) (partner_sent : List (Option Apdu)) (event : Event)
-    → RowsGrow → Keeps K → PartyStands K p partner_sent
-    → PartyStands K (happens_to p partner_sent event).1 partner_sent
+    → RowsGrow → Keeps K → PartyInvariant K p partner_sent
+    → PartyInvariant K (happens_to p partner_sent event).1 partner_sent
 party_kept K p partner_sent (events.Wish wish) grows keeps stands =
     party_decides K p partner_sent (actions.Wish wish) (acts p.live (actions.Wish wish)) grows keeps refl stands
 party_kept K p partner_sent (events.Deed deed today) grows keeps stands =
@@ -90,10 +90,10 @@ party_kept K p partner_sent (events.Noise who bytes) grows keeps stands = stands
 party_kept K p partner_sent (events.Restart who) grows keeps stands =
     record { saved = saved_at_restart p stands.saved; live = stands.landed; landed = stands.landed }
 
--- `PartyStands` holds with `more` if it holds with `partner_sent`, and `more` has each message of `partner_sent`.
+-- `PartyInvariant` holds with `more` if it holds with `partner_sent`, and `more` has each message of `partner_sent`.
 pub more_sent : (K : Side → List (Option Apdu) → Type 0) (p : Party) (partner_sent more : List (Option Apdu)) → Keeps K
-    → ((a : Apdu) → WasSent partner_sent a → WasSent more a) → PartyStands K p partner_sent
-    → PartyStands K p more
+    → ((a : Apdu) → WasSent partner_sent a → WasSent more a) → PartyInvariant K p partner_sent
+    → PartyInvariant K p more
 more_sent K p partner_sent more keeps stays stands =
     record {
       saved = stands.saved;

@@ -20,7 +20,7 @@ use Rattle.ill_world.specs.declared.event.Event.{Event}
 use Rattle.ill_world.specs.declared.event.Event.TheVariants.{Save}
 use Rattle.ill_world.specs.World.{Parties, happens, run_by, run_of}
 use Rattle.ill_world.specs.Agreement.{Facing}
-use Rattle.ill_world.specs.Invariant.{RequesterStands, ResponderStands, RequesterSideStands, ResponderSideStands, Invariant}
+use Rattle.ill_world.specs.Invariant.{RequesterInvariant, ResponderInvariant, RequesterSideInvariant, ResponderSideInvariant, Invariant}
 use Rattle.ill_world.specs.Round.{sends_and_delivers, half_of, round_of, faced_in, AreInStep}
 use Rattle.ill_world.specs.Night.{is_nobodys, is_over, wants_sending, asks, half_if, night_of, AtRest, AreAtRest}
 use Rattle.ill_world.specs.Night.{AreInStepOrAtRest}
@@ -54,7 +54,7 @@ rest_in x y s t over at_s at_t ends faces = record {
 
 -- If the loan is over for a requester's record, it is at rest with the responder's.
 records_rest : (txn : Qualifiers) (x : RequesterRecord) (y : ResponderRecord) (requester_sent responder_sent : List (Option Apdu))
-    → RequesterStands txn x requester_sent → ResponderStands txn y responder_sent → AreIssued requester_sent y.issued
+    → RequesterInvariant txn x requester_sent → ResponderInvariant txn y responder_sent → AreIssued requester_sent y.issued
     → AreIssued responder_sent x.issued
     → is_over (sides.Requester x) ≡ true → AtRest x y
 records_rest txn x y requester_sent responder_sent requester_stands responder_stands issued heeded over =
@@ -71,8 +71,8 @@ records_rest txn x y requester_sent responder_sent requester_stands responder_st
 
 -- If the loan is over for a requester's side, it is at rest with the responder's.
 sides_rest : (txn : Qualifiers) (x y : Side) (requester_sent responder_sent : List (Option Apdu))
-    → RequesterSideStands txn x requester_sent
-    → ResponderSideStands txn y responder_sent → AreIssued requester_sent (issued_of y) → AreIssued responder_sent (issued_of x)
+    → RequesterSideInvariant txn x requester_sent
+    → ResponderSideInvariant txn y responder_sent → AreIssued requester_sent (issued_of y) → AreIssued responder_sent (issued_of x)
     → is_over x ≡ true → Facing AtRest x y
 sides_rest txn (sides.Requester x) (sides.Responder y) requester_sent responder_sent requester_stands responder_stands issued
     heeded over = records_rest txn x y requester_sent responder_sent requester_stands responder_stands issued heeded over
@@ -106,7 +106,7 @@ over_is_silent (sides.Requester x) over = ap not over
 over_is_silent (sides.Responder y) over = ap (λ b. not b || false) over
 
 -- A responder that was asked sends its messages.
-asked_wants : (txn : Qualifiers) (side : Side) (responder_sent : List (Option Apdu)) → ResponderSideStands txn side responder_sent
+asked_wants : (txn : Qualifiers) (side : Side) (responder_sent : List (Option Apdu)) → ResponderSideInvariant txn side responder_sent
     → wants_sending true side ≡ true
 asked_wants txn (sides.Responder y) responder_sent stands = or_right (not (is_over (sides.Responder y))) true refl
 asked_wants txn (sides.Requester x) responder_sent stands = absurd stands
@@ -118,7 +118,7 @@ idle_is_open s is = search rules
 
 -- If the requester has issued nothing, the loan is not over for the responder.
 unasked_is_open : (txn : Qualifiers) (side : Side) (responder_sent : List (Option Apdu)) (apdus : List Apdu)
-    → ResponderSideStands txn side responder_sent → AreIssued responder_sent apdus → is_none apdus ≡ true → is_over side ≡ false
+    → ResponderSideInvariant txn side responder_sent → AreIssued responder_sent apdus → is_none apdus ≡ true → is_over side ≡ false
 unasked_is_open txn (sides.Responder y) responder_sent apdus stands heeded none = go (is_among (states.Idle ∷ []) y.state) refl
   where
     go : (idle : Bool) → is_among (states.Idle ∷ []) y.state ≡ idle → is_over (sides.Responder y) ≡ false

@@ -18,7 +18,7 @@ use Rattle.ill_core.specs.State.{is_among}
 use Rattle.ill_core.specs.Dates.{is_same_day}
 use Rattle.ill_core.specs.Bodies.{is_ill_request, is_requesters, is_shipped, is_end, is_cancelled, is_unsupplied}
 use Rattle.ill_core.specs.Bodies.{names_conditions}
-use Rattle.ill_core.specs.Issued.{message, has, is_same_txn, next_apdu}
+use Rattle.ill_core.specs.Issued.{message, has_message_with, is_same_txn, next_apdu}
 use Rattle.ill_core.specs.Requester.{RequesterRecord, begins_with_request}
 use Rattle.ill_core.specs.RequesterDeliveries as requester_deliveries
 use Rattle.ill_core.specs.RequesterNotices as notices
@@ -34,7 +34,7 @@ use Rattle.ill_saved.specs.declared.role.Role.TheVariants as who
 use Rattle.ill_world.specs.declared.event.Event.{Event}
 use Rattle.ill_world.specs.World.{Parties, happens, run_of}
 use Rattle.ill_world.specs.Agreement.{Facing}
-use Rattle.ill_world.specs.Invariant.{RequesterStands, ResponderStands, RequesterSideStands, ResponderSideStands, Invariant}
+use Rattle.ill_world.specs.Invariant.{RequesterInvariant, ResponderInvariant, RequesterSideInvariant, ResponderSideInvariant, Invariant}
 use Rattle.ill_world.specs.Round.{half_of, round_of, InStep, AreInStep, CanAnswer}
 use Rattle.ill_core.proofs.MessageLemmas.{message_says, says_message}
 use Rattle.ill_world.proofs.Claims.{AreIssued, live_issues}
@@ -55,7 +55,7 @@ lends y a = (responder_deliveries.takes y a).1
 
 -- These facts of the tables are assumed here. If a record takes a message, `has_heard` holds of it, until a later one
 -- reopens it. A responder that takes messages issues nothing but an ILL-Answer unfilled.
-pub record RowsHear : Type 0 where
+pub record TransitionsHear : Type 0 where
   pub requester_txn : (x : RequesterRecord) (a : Apdu) → (asks x a).txn ≡ x.txn
   pub requester_issues : (x : RequesterRecord) (a : Apdu) → (asks x a).issued ≡ x.issued
   pub requester_takes : (x : RequesterRecord) (a : Apdu) → is_same_txn a.txn x.txn ≡ true → is_requesters a.body ≡ false
@@ -107,7 +107,7 @@ each p (b ∷ apdus) zero a all at = let same : b ≡ a = search rules in
 each p (b ∷ apdus) (suc i) a all at = each p apdus i a (and_parts _ _ all).1 at
 
 -- If `says` holds of no APDU of a list, it does not hold of the APDU at place i.
-none_there : (says : Body → Bool) (apdus : List Apdu) (i : ℕ) (a : Apdu) → has says apdus ≡ false
+none_there : (says : Body → Bool) (apdus : List Apdu) (i : ℕ) (a : Apdu) → has_message_with says apdus ≡ false
     → slice_get apdus i ≡ Some a → says a.body ≡ false
 none_there says apdus i a none at = go (says a.body) refl
   where
@@ -122,10 +122,10 @@ first_alone [] j b begins at = search rules
 first_alone (a ∷ apdus) j b begins at = none_there is_ill_request apdus j b (not-true _ (and_parts _ _ begins).1) at
 
 -- If `says` holds of a message of a prefix, it holds of a message of the whole list.
-has_prefix : (says : Body → Bool) (prefix apdus : List Apdu) → IsPrefix prefix apdus → has says prefix ≡ true
-    → has says apdus ≡ true
+has_prefix : (says : Body → Bool) (prefix apdus : List Apdu) → IsPrefix prefix apdus → has_message_with says prefix ≡ true
+    → has_message_with says apdus ≡ true
 has_prefix says prefix apdus is there =
-    ap (has says) is.1 ∙ (list_any-append (λ (a : Apdu). says a.body) prefix is.0 ∙ ap (λ (b : Bool). b || has says is.0) there)
+    ap (has_message_with says) is.1 ∙ (list_any-append (λ (a : Apdu). says a.body) prefix is.0 ∙ ap (λ (b : Bool). b || has_message_with says is.0) there)
 
 -- ---- messages that reopen others
 
@@ -156,7 +156,7 @@ plain_reopens first second plain order dates = search rules
 
 -- ---- the responder, while it takes all messages of the requester
 
-module _ (rows : RowsHear) where
+module _ (rows : TransitionsHear) where
   -- A responder that takes APDUs keeps all messages that it has issued.
   responder_grows : (y : ResponderRecord) (apdus : List Apdu) → IsPrefix y.issued (taking lends y apdus).issued
   unfolding taking
@@ -218,8 +218,8 @@ module _ (rows : RowsHear) where
     abbrev borrower_new : RequesterRecord
     borrower_new = taking asks x lender_new.issued
 
-    module _ (borrower : RequesterStands txn x responder_sent) (lender : ResponderStands txn y requester_sent)
-        (lender_after : ResponderStands txn lender_new requester_sent_after) where
+    module _ (borrower : RequesterInvariant txn x responder_sent) (lender : ResponderInvariant txn y requester_sent)
+        (lender_after : ResponderInvariant txn lender_new requester_sent_after) where
       -- `has_heard` holds of message i + 1 at the requester, unless a later message reopens it.
       requester_heard : (i : ℕ) (a : Apdu) → slice_get lender_new.issued i ≡ Some a
           → ((j : ℕ) (b : Apdu) → slice_get lender_new.issued j ≡ Some b → i < j → notices.reopens b.body a.body ≡ false)
@@ -261,7 +261,7 @@ module _ (rows : RowsHear) where
           refl
 
       -- A responder that has issued a message that ends the request is not undecided.
-      ended_decides : has is_end lender_new.issued ≡ true → is_among records.undecided lender_new.state ≡ true → ⊥
+      ended_decides : has_message_with is_end lender_new.issued ≡ true → is_among records.undecided lender_new.state ≡ true → ⊥
       ended_decides ended undecided =
           go (is_unsupplied at.1.body) (is_cancelled at.1.body) (is_shipped at.1.body) refl refl refl at.3
         where
@@ -293,14 +293,14 @@ module _ (rows : RowsHear) where
           go false false false a b c is = search rules
 
       -- If the responder could answer before it took the messages, and is still undecided, it has a number left.
-      number_left : (has is_end y.issued ≡ true) ⊎ (length y.issued < 255) → is_among records.undecided lender_new.state ≡ true
+      number_left : (has_message_with is_end y.issued ≡ true) ⊎ (length y.issued < 255) → is_among records.undecided lender_new.state ≡ true
           → length lender_new.issued < 255
       number_left (inl ended) undecided =
           absurd (ended_decides (has_prefix is_end y.issued lender_new.issued (responder_grows y x.issued) ended) undecided)
       number_left (inr left) undecided = subst (λ l. length l < 255) (sym (issues_nothing y x.issued undecided)) left
 
       -- If the responder could answer before the round, `HaveHeard` holds of both records after it.
-      pub have_heard : (has is_end y.issued ≡ true) ⊎ (length y.issued < 255) → HaveHeard borrower_new lender_new
+      pub have_heard : (has_message_with is_end y.issued ≡ true) ⊎ (length y.issued < 255) → HaveHeard borrower_new lender_new
       have_heard can = record { requester = plain_heard; last = last_heard; responder = all_heard; can_answer = number_left can }
         where
           -- `has_heard` holds of each plain message at the requester.
@@ -336,15 +336,15 @@ module _ (rows : RowsHear) where
 
   -- ---- worlds
 
-  -- If `RequesterSideStands` holds of a side, the side has issued at most 255 messages.
+  -- If `RequesterSideInvariant` holds of a side, the side has issued at most 255 messages.
   requester_few : (txn : Qualifiers) (side : Side) (requester_sent : List (Option Apdu))
-      → RequesterSideStands txn side requester_sent → length (issued_of side) ≤ 255
+      → RequesterSideInvariant txn side requester_sent → length (issued_of side) ≤ 255
   requester_few txn (sides.Requester x) requester_sent stands = stands.few
   requester_few txn (sides.Responder y) requester_sent stands = absurd stands
 
-  -- If `ResponderSideStands` holds of a side, the side has issued at most 255 messages.
+  -- If `ResponderSideInvariant` holds of a side, the side has issued at most 255 messages.
   responder_few : (txn : Qualifiers) (side : Side) (requester_sent : List (Option Apdu))
-      → ResponderSideStands txn side requester_sent → length (issued_of side) ≤ 255
+      → ResponderSideInvariant txn side requester_sent → length (issued_of side) ≤ 255
   responder_few txn (sides.Responder y) requester_sent stands = stands.few
   responder_few txn (sides.Requester x) requester_sent stands = absurd stands
 
@@ -352,9 +352,9 @@ module _ (rows : RowsHear) where
   -- step.
   sides_in_step : (txn : Qualifiers) (requester responder requester_after responder_after : Side)
       (responder_sent requester_sent responder_sent_after requester_sent_after : List (Option Apdu))
-      → RequesterSideStands txn requester responder_sent
-      → ResponderSideStands txn responder requester_sent → RequesterSideStands txn requester_after responder_sent_after
-      → ResponderSideStands txn responder_after requester_sent_after
+      → RequesterSideInvariant txn requester responder_sent
+      → ResponderSideInvariant txn responder requester_sent → RequesterSideInvariant txn requester_after responder_sent_after
+      → ResponderSideInvariant txn responder_after requester_sent_after
       → AreIssued responder_sent_after (issued_of responder_after)
       → AreIssued requester_sent_after (issued_of requester_after) → CanAnswer responder
       → responder_after ≡ takes_all responder (issued_of requester)
@@ -368,7 +368,7 @@ module _ (rows : RowsHear) where
       let x_too : x_after ≡ taking asks x (taking lends y x.issued).issued =
       x_is ∙ ap (λ (r : ResponderRecord). taking asks x r.issued) y_is in
       let hear = have_heard txn x y responder_sent requester_sent requester_sent_after borrower lender
-      (subst (λ r. ResponderStands txn r requester_sent_after) y_is lender_after) can in
+      (subst (λ r. ResponderInvariant txn r requester_sent_after) y_is lender_after) can in
       let hear_after : HaveHeard x_after y_after =
       subst (HaveHeard x_after) (sym y_is) (subst (λ r. HaveHeard r (taking lends y x.issued)) (sym x_too) hear) in
       in_step txn x_after y_after responder_sent_after requester_sent_after borrower_after lender_after issued heeded hear_after

@@ -12,7 +12,7 @@ use Rattle.ill_values.specs.declared.apdu.AnswerResult.TheVariants as results
 use Rattle.ill_der.specs.declared.fault.DerFault.{DerFault}
 use Rattle.ill_der.specs.ShortForm.{apdu_at}
 use Rattle.ill_core.specs.declared.state.State.TheVariants.{InProcess}
-use Rattle.ill_core.specs.Numbers.{is_the}
+use Rattle.ill_core.specs.Numbers.{is_equal_number}
 use Rattle.ill_core.specs.declared.refusal.Refusal.{Refusal}
 use Rattle.ill_core.specs.declared.refusal.Refusal.TheVariants.{OtherTransaction, WrongRole}
 use Rattle.ill_core.specs.declared.taking.Taking.{Taking}
@@ -22,7 +22,7 @@ use Rattle.ill_core.specs.declared.responder.Deed.{Deed}
 use Rattle.ill_core.specs.declared.responder.Deed.TheVariants as deeds
 use Rattle.ill_core.specs.Answers.{unless_refused, taken, repeat, stale, conflict}
 use Rattle.ill_core.specs.Bodies.{is_requesters, names_conditions}
-use Rattle.ill_core.specs.Issued.{message, was, next_number, is_same_txn}
+use Rattle.ill_core.specs.Issued.{message, is_message_with, next_number, is_same_txn}
 use Rattle.ill_core.specs.Requester.{RequesterRecord}
 use Rattle.ill_core.specs.RequesterActions as requester_actions
 use Rattle.ill_core.specs.RequesterDeliveries as requester_deliveries
@@ -40,7 +40,7 @@ use Rattle.ill_world.specs.declared.event.Outcome.{Outcome}
 use Rattle.ill_world.specs.declared.event.Outcome.TheVariants.{Forged, Refused}
 use Rattle.ill_world.specs.World.{Party, Parties, party, sent_message, decides, sends, answer_to, receives, hears, happens}
 use Rattle.ill_world.specs.Changes.{can_refuse, can_be_seen}
-use Rattle.ill_world.specs.Invariant.{RequesterSideStands, ResponderSideStands, Invariant}
+use Rattle.ill_world.specs.Invariant.{RequesterSideInvariant, ResponderSideInvariant, Invariant}
 
 -- ---- the tables of actions
 
@@ -105,7 +105,7 @@ yes_answer false false false y new = refl
 -- A responder refuses a message only with a refusal that can be an outcome.
 responder_answer : (y : ResponderRecord) (a : Apdu) (body : Body) → is_seen (responder_deliveries.take_message y a body).0 ≡ true
 responder_answer y a (types.ConditionalReply c true) =
-    yes_answer (is_the c (outstanding_number y)) (is_the c y.accepted) (was names_conditions y.issued c) y
+    yes_answer (is_equal_number c (outstanding_number y)) (is_equal_number c y.accepted) (is_message_with names_conditions y.issued c) y
     (record y { state = InProcess; accepted = Some c })
 responder_answer y a (types.ConditionalReply c false) = search (rules, no_answer y (next_number y.issued) (number_seen y.issued))
 responder_answer y a body = search rules
@@ -127,14 +127,14 @@ done_seen make (Err refusal) seen = seen
 
 -- A requester's side refuses a wish only with a refusal that can be an outcome.
 wish_seen : (txn : Qualifiers) (side : Side) (partner_sent : List (Option Apdu)) (wish : Wish)
-    → RequesterSideStands txn side partner_sent → is_seen (acts side (actions.Wish wish)) ≡ true
+    → RequesterSideInvariant txn side partner_sent → is_seen (acts side (actions.Wish wish)) ≡ true
 wish_seen txn (sides.Requester x) partner_sent wish stands =
     done_seen sides.Requester (requester_actions.acts x wish) (wish_done x _ _ (wish_line x wish) (number_seen x.issued))
 wish_seen txn (sides.Responder y) partner_sent wish stands = absurd stands
 
 -- A responder's side refuses a deed only with a refusal that can be an outcome.
 deed_seen : (txn : Qualifiers) (side : Side) (partner_sent : List (Option Apdu)) (deed : Deed) (today : Date)
-    → ResponderSideStands txn side partner_sent → is_seen (acts side (actions.Deed deed today)) ≡ true
+    → ResponderSideInvariant txn side partner_sent → is_seen (acts side (actions.Deed deed today)) ≡ true
 deed_seen txn (sides.Responder y) partner_sent deed today stands =
     done_seen sides.Responder (responder_actions.acts y deed today)
     (deed_done y _ _ (deed_line y deed today) (number_seen y.issued))
@@ -162,28 +162,28 @@ negated false is = search rules
 
 -- Each message that a responder's side has issued is of a type that no requester issues.
 pub responders_own : (txn : Qualifiers) (side : Side) (partner_sent : List (Option Apdu)) (n : ℕ) (a : Apdu)
-    → ResponderSideStands txn side partner_sent → message (issued_of side) n ≡ Some a → is_requesters a.body ≡ false
+    → ResponderSideInvariant txn side partner_sent → message (issued_of side) n ≡ Some a → is_requesters a.body ≡ false
 responders_own txn (sides.Responder y) partner_sent n a stands at =
     opposite (is_requesters a.body) (message_passes (λ a. not (is_requesters a.body)) y.issued n a at stands.rules.role)
 responders_own txn (sides.Requester x) partner_sent n a stands at = absurd stands
 
 -- Each message that a requester's side has issued is of a requester's type.
 pub requesters_own : (txn : Qualifiers) (side : Side) (partner_sent : List (Option Apdu)) (n : ℕ) (a : Apdu)
-    → RequesterSideStands txn side partner_sent → message (issued_of side) n ≡ Some a → is_requesters a.body ≡ true
+    → RequesterSideInvariant txn side partner_sent → message (issued_of side) n ≡ Some a → is_requesters a.body ≡ true
 requesters_own txn (sides.Requester x) partner_sent n a stands at =
     message_passes (λ a. is_requesters a.body) x.issued n a at stands.rules.role
 requesters_own txn (sides.Responder y) partner_sent n a stands at = absurd stands
 
 -- The answer of a requester's side to a responder's message can be an outcome.
 asking_seen : (txn : Qualifiers) (side : Side) (partner_sent : List (Option Apdu)) (a : Apdu)
-    → RequesterSideStands txn side partner_sent → is_requesters a.body ≡ false → is_seen (takes side a).0 ≡ true
+    → RequesterSideInvariant txn side partner_sent → is_requesters a.body ≡ false → is_seen (takes side a).0 ≡ true
 asking_seen txn (sides.Requester x) partner_sent a stands others =
     not_own (is_same_txn a.txn x.txn) (is_requesters a.body) x _ others (requester_answer x a a.body)
 asking_seen txn (sides.Responder y) partner_sent a stands others = absurd stands
 
 -- The answer of a responder's side to a requester's message can be an outcome.
 asked_seen : (txn : Qualifiers) (side : Side) (partner_sent : List (Option Apdu)) (a : Apdu)
-    → ResponderSideStands txn side partner_sent → is_requesters a.body ≡ true → is_seen (takes side a).0 ≡ true
+    → ResponderSideInvariant txn side partner_sent → is_requesters a.body ≡ true → is_seen (takes side a).0 ≡ true
 asked_seen txn (sides.Responder y) partner_sent a stands others =
     not_own (is_same_txn a.txn y.txn) (not (is_requesters a.body)) y _ (negated (is_requesters a.body) others)
     (responder_answer y a a.body)

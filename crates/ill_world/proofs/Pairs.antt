@@ -18,21 +18,21 @@ use Rattle.ill_core.specs.declared.state.State.TheVariants as states
 use Rattle.ill_core.specs.State.{is_among}
 use Rattle.ill_core.specs.Dates.{is_same_day, is_due_on, is_before, is_after_due}
 use Rattle.ill_core.specs.Rules.{implies}
-use Rattle.ill_core.specs.Numbers.{is_the, is_at_most, is_below}
+use Rattle.ill_core.specs.Numbers.{is_equal_number, is_at_most, is_below}
 use Rattle.ill_core.specs.Bodies.{is_ill_request, is_cancel, is_received, is_renew, is_returned, is_shipped, is_checked_in}
 use Rattle.ill_core.specs.Bodies.{is_cancelled, is_unsupplied, is_end, is_renewal, grant_in, names_conditions, declines, accepts}
-use Rattle.ill_core.specs.Issued.{message, has, was, is_there, is_none, last_of, accepted_in, granted_day}
+use Rattle.ill_core.specs.Issued.{message, has_message_with, is_message_with, is_there, is_none, last_of, accepted_in, granted_day}
 use Rattle.ill_core.specs.Requester.{RequesterRecord, later, begins_with_request, is_declined, is_received_by, accepted_number}
 use Rattle.ill_core.specs.Requester.{last_cancel, last_renew}
 use Rattle.ill_core.specs.RequesterEvidence as requester
 use Rattle.ill_core.specs.RequesterNotices as notices
-use Rattle.ill_core.specs.RequesterNotices.{awaits, awaits_cancel, is_due_after, in_time, undecided, lent}
+use Rattle.ill_core.specs.RequesterNotices.{is_awaiting_answer, is_awaiting_cancel_reply, is_due_after, states_before_overdue, undecided, lent}
 use Rattle.ill_core.specs.Responder.{ResponderRecord, due_of, later as shipped_states, outstanding_number, ships_first}
 use Rattle.ill_core.specs.ResponderEvidence as responder
 use Rattle.ill_core.specs.ResponderEvidence.{Question, MayCancel, MayRenew, answered_number}
 use Rattle.ill_core.specs.ResponderNotices as records
 use Rattle.ill_core.specs.ResponderNotices.{is_recall, is_overdue_of, grant, grant_of}
-use Rattle.ill_world.specs.Invariant.{RequesterStands, ResponderStands}
+use Rattle.ill_world.specs.Invariant.{RequesterInvariant, ResponderInvariant}
 use Rattle.ill_world.specs.Round.{faced_in, InStep}
 use Rattle.ill_core.proofs.MessageLemmas.{message_says, says_message}
 use Rattle.ill_core.proofs.GrantLemmas.{same_itself, itself_not_before, granted_not_later}
@@ -119,9 +119,9 @@ no_heard y n body is responder_sent is_open = search rules
 
 -- If `has_heard` holds of a Conditional-Reply yes, the responder does not wait for an answer to these conditions.
 yes_heard : (y : ResponderRecord) (n c : ℕ) (body : Body) → accepts body ≡ Some c → records.has_heard y n body ≡ true
-    → is_the c (outstanding_number y) ≡ false
+    → is_equal_number c (outstanding_number y) ≡ false
 yes_heard y n c (types.ConditionalReply k true) is responder_sent = let same : k ≡ c = search rules in
-    subst (λ i. is_the i (outstanding_number y) ≡ false) same (not-true _ responder_sent)
+    subst (λ i. is_equal_number i (outstanding_number y) ≡ false) same (not-true _ responder_sent)
 yes_heard y n c (types.ConditionalReply k false) is responder_sent = search rules
 yes_heard y n c body is responder_sent = search rules
 
@@ -139,9 +139,9 @@ checked_in_heard x n body is responder_sent back = search rules
 
 -- If `has_heard` holds of an answer to Cancel c, the requester does not wait for an answer to Cancel c.
 cancel_reply_heard : (x : RequesterRecord) (n c : ℕ) (body : Body) → answered_number MayCancel body ≡ Some c
-    → notices.has_heard x n body ≡ true → awaits_cancel x c ≡ false
+    → notices.has_heard x n body ≡ true → is_awaiting_cancel_reply x c ≡ false
 cancel_reply_heard x n c (types.CancelReply k is_yes) is responder_sent = let same : k ≡ c = search rules in
-    subst (λ i. awaits_cancel x i ≡ false) same (not-true _ responder_sent)
+    subst (λ i. is_awaiting_cancel_reply x i ≡ false) same (not-true _ responder_sent)
 cancel_reply_heard x n c body is responder_sent = search rules
 
 -- ---- states
@@ -246,10 +246,10 @@ waits_left states.CancelPending may cancelled = refl
 waits_left s may cancelled = search rules
 
 -- A responder in SHIPPED or later is in none of IDLE, CANCELLED and NOT-SUPPLIED.
-out : (t : State) → is_among shipped_states t ≡ true
+shipped_has_not_ended : (t : State) → is_among shipped_states t ≡ true
     → (is_among (states.Idle ∷ []) t ≡ false) × (is_among (states.Cancelled ∷ []) t ≡ false)
     × (is_among (states.NotSupplied ∷ []) t ≡ false)
-out t is = search rules
+shipped_has_not_ended t is = search rules
 
 -- A requester in none of IDLE, CANCELLED, NOT-SUPPLIED and the undecided states is in SHIPPED or later.
 later_left : (s : State) → is_among (states.InProcess ∷ states.CheckedIn ∷ []) s ≡ false
@@ -265,18 +265,18 @@ unsupplied_left states.NotSupplied role idle cancelled shipped decided = refl
 unsupplied_left s role idle cancelled shipped decided = search rules
 
 -- A responder in NOT-SUPPLIED is in none of IDLE, CANCELLED, SHIPPED or later.
-given_up : (t : State) → is_among (states.NotSupplied ∷ []) t ≡ true
+not_supplied_alone : (t : State) → is_among (states.NotSupplied ∷ []) t ≡ true
     → (is_among (states.Idle ∷ []) t ≡ false) × (is_among (states.Cancelled ∷ []) t ≡ false) × (is_among shipped_states t ≡ false)
-given_up states.NotSupplied is = (refl, refl, refl)
-given_up t is = search rules
+not_supplied_alone states.NotSupplied is = (refl, refl, refl)
+not_supplied_alone t is = search rules
 
 -- A side in CANCEL-PENDING may have an open Cancel, and is in no other group of states.
-waiting : (s : State) → is_among (states.CancelPending ∷ []) s ≡ true
+cancel_pending_alone : (s : State) → is_among (states.CancelPending ∷ []) s ≡ true
     → (is_among (states.Idle ∷ []) s ≡ false) × (is_among (states.Cancelled ∷ []) s ≡ false)
     × (is_among (states.NotSupplied ∷ []) s ≡ false) × (is_among later s ≡ false) × (is_among shipped_states s ≡ false)
     × (is_among (states.CancelPending ∷ states.Cancelled ∷ []) s ≡ true)
-waiting states.CancelPending is = (refl, refl, refl, refl, refl, refl)
-waiting s is = search rules
+cancel_pending_alone states.CancelPending is = (refl, refl, refl, refl, refl, refl)
+cancel_pending_alone s is = search rules
 
 -- A responder that has begun, has not ended or shipped, and is not undecided, is in CANCEL-PENDING.
 cancel_left : (t : State) → is_among (states.Pending ∷ states.Received ∷ states.NotReceivedOverdue ∷ []) t ≡ false
@@ -384,8 +384,8 @@ most : (k : ℕ) (o : Option ℕ) → is_at_most k o ≡ true → (m : ℕ) × (
 most k None is = search rules
 most k (Some m) is = (m, refl, leb-true k m is)
 
--- If `o` has the value n, `is_the` holds of n and `o`.
-itself : (n : ℕ) (o : Option ℕ) → o ≡ Some n → is_the n o ≡ true
+-- If `o` has the value n, `is_equal_number` holds of n and `o`.
+itself : (n : ℕ) (o : Option ℕ) → o ≡ Some n → is_equal_number n o ≡ true
 itself n None is = search rules
 itself n (Some m) is = search rules
 
@@ -417,7 +417,7 @@ second_false : (a b : Bool) → (a && b) ≡ false → a ≡ true → b ≡ fals
 second_false a b none is = search rules
 
 -- If the last message of a list names conditions, the list has a last message, and it names them.
-last_names : (apdus : List Apdu) → was names_conditions apdus (length apdus) ≡ true
+last_names : (apdus : List Apdu) → is_message_with names_conditions apdus (length apdus) ≡ true
     → (a : Apdu) × (message apdus (length apdus) ≡ Some a) × (names_conditions a.body ≡ true)
 last_names apdus is = go (message apdus (length apdus)) refl is
   where
@@ -441,7 +441,7 @@ message_within apdus (suc i) a at = omega (arith, slice_get_within apdus i a at)
 -- If message n is the last and the responder is in CONDITIONAL, n is outstanding.
 waits_outstanding : (y : ResponderRecord) (n : ℕ) {a : Apdu} → is_among (states.Conditional ∷ []) y.state ≡ true
     → n ≡ length y.issued → message y.issued (length y.issued) ≡ Some a
-    → is_the n (outstanding_number y) ≡ true
+    → is_equal_number n (outstanding_number y) ≡ true
 waits_outstanding y n is same at = search rules
 
 -- The state of a requester faces each state that fits it.
@@ -464,7 +464,7 @@ grant_kind body due is = search rules
 
 -- A responder that has granted a date has issued a Shipped.
 grants_shipped : (apdus : List Apdu) (n : ℕ) (a : Apdu) (due : Date) → ships_first apdus ≡ true
-    → message apdus n ≡ Some a → grant_in a.body ≡ Some due → has is_shipped apdus ≡ true
+    → message apdus n ≡ Some a → grant_in a.body ≡ Some due → has_message_with is_shipped apdus ≡ true
 grants_shipped apdus n a due first at is = elim (grant_kind a.body due is) [
   | inl shipped ↦ message_says is_shipped apdus n a at (ap is_shipped shipped)
   | inr renewal ↦ ships_before apdus first (message_says is_renewal apdus n a at (ap is_renewal renewal.1))
@@ -494,7 +494,7 @@ first_false a b none is = search rules
 
 -- If `has_heard` holds of an Overdue for its due date, the requester is not in time.
 overdue_heard : (x : RequesterRecord) (n : ℕ) (due : Date) (body : Body) → is_overdue_of due body ≡ true
-    → x.due ≡ Some due → notices.has_heard x n body ≡ true → is_among in_time x.state ≡ false
+    → x.due ≡ Some due → notices.has_heard x n body ≡ true → is_among states_before_overdue x.state ≡ false
 overdue_heard x n due (types.Overdue day) is its responder_sent =
     first_false _ _ (not-true _ responder_sent) (subst (λ o. is_due_on day o ≡ true) (sym its) is)
 overdue_heard x n due body is its responder_sent = search rules
@@ -532,7 +532,7 @@ overdue_left t may recalled returned = search rules
 
 -- A requester in SHIPPED or later that is not in time, and is in neither RECALL nor RETURNED, is overdue.
 overdue_at : (s : State) → is_among later s ≡ true → is_among (states.Recall ∷ []) s ≡ false
-    → is_among (states.Returned ∷ []) s ≡ false → is_among in_time s ≡ false
+    → is_among (states.Returned ∷ []) s ≡ false → is_among states_before_overdue s ≡ false
     → is_among (states.NotReceivedOverdue ∷ states.Overdue ∷ states.RenewOverdue ∷ []) s ≡ true
 overdue_at states.NotReceivedOverdue shipped recalled returned late = refl
 overdue_at states.Overdue shipped recalled returned late = refl
@@ -542,7 +542,7 @@ overdue_at s shipped recalled returned late = search rules
 -- ---- a requester's record and a responder's
 
 module _ (txn : Qualifiers) (x : RequesterRecord) (y : ResponderRecord) (requester_sent responder_sent : List (Option Apdu))
-    (borrower : RequesterStands txn x requester_sent) (lender : ResponderStands txn y responder_sent)
+    (borrower : RequesterInvariant txn x requester_sent) (lender : ResponderInvariant txn y responder_sent)
     (issued : AreIssued requester_sent y.issued) (heeded : AreIssued responder_sent x.issued) (hear : HaveHeard x y) where
   -- ---- IDLE
 
@@ -610,7 +610,7 @@ module _ (txn : Qualifiers) (x : RequesterRecord) (y : ResponderRecord) (request
   later_here : is_among shipped_states y.state ≡ true → is_among later x.state ≡ true
   later_here is =
       let at = says_message is_shipped y.issued (lender.ends.shipped ∙ is) in
-      let no = out y.state is in
+      let no = shipped_has_not_ended y.state is in
       later_left x.state borrower.rules.parts.role (idle_alike ∙ no.0) (cancelled_alike ∙ no.1)
       (false_from_ne_true _ (λ ended. both_ways _ no.2 (unsupplied_there ended)))
       (shipped_heard x at.1.number at.1.body at.3 (hear.requester at.0 at.1 at.2 (shipped_is_plain at.1.body at.3)))
@@ -623,7 +623,7 @@ module _ (txn : Qualifiers) (x : RequesterRecord) (y : ResponderRecord) (request
   unsupplied_here : is_among (states.NotSupplied ∷ []) y.state ≡ true → is_among (states.NotSupplied ∷ []) x.state ≡ true
   unsupplied_here is =
       let at = says_message is_unsupplied y.issued (lender.ends.unsupplied ∙ is) in
-      let no = given_up y.state is in
+      let no = not_supplied_alone y.state is in
       unsupplied_left x.state borrower.rules.parts.role (idle_alike ∙ no.0) (cancelled_alike ∙ no.1) (later_alike ∙ no.2)
       (end_heard x at.1.number at.1.body at.3 (hear.requester at.0 at.1 at.2 (unsupplied_is_plain at.1.body at.3)))
 
@@ -663,7 +663,7 @@ module _ (txn : Qualifiers) (x : RequesterRecord) (y : ResponderRecord) (request
   -- A requester in CANCEL-PENDING does not face an undecided responder.
   not_open : is_among (states.CancelPending ∷ []) x.state ≡ true → is_among records.undecided y.state ≡ true → ⊥
   not_open is is_open =
-      let own = has_last is_cancel None x.issued (implied _ _ borrower.rules.issued.cancel (waiting x.state is).5) in
+      let own = has_last is_cancel None x.issued (implied _ _ borrower.rules.issued.cancel (cancel_pending_alone x.state is).5) in
       let there = was_last is_cancel x.txn x.issued own.0 borrower.rules.numbered own.1 in
       let heard_it = most there.0.number y.last_cancel
       (cancel_heard y there.0.number there.0.body there.2 (hear.responder own.0 there.0 there.1) is_open) in
@@ -674,7 +674,7 @@ module _ (txn : Qualifiers) (x : RequesterRecord) (y : ResponderRecord) (request
   -- The responder is in CANCEL-PENDING if the requester is.
   waits_there : is_among (states.CancelPending ∷ []) x.state ≡ true → is_among (states.CancelPending ∷ []) y.state ≡ true
   waits_there is =
-      let no = waiting x.state is in
+      let no = cancel_pending_alone x.state is in
       cancel_left y.state lender.rules.parts.role (sym idle_alike ∙ no.0) (sym cancelled_alike ∙ no.1)
       (sym unsupplied_alike ∙ no.2) (sym later_alike ∙ no.3) (false_from_ne_true _ (not_open is))
 
@@ -682,12 +682,12 @@ module _ (txn : Qualifiers) (x : RequesterRecord) (y : ResponderRecord) (request
   cancel_is_waiting : (c : ℕ) → is_among (states.CancelPending ∷ []) y.state ≡ true → y.last_cancel ≡ Some c
       → requester.is_open x c ≡ true
   cancel_is_waiting c is last =
-      let no = waiting y.state is in
+      let no = cancel_pending_alone y.state is in
       let known = lender.knows (responder.CancelAsked c) (inl last) in
       let at = heeded known.0 known.1 in
       let says = tells_cancel known.0.number c known.0.body known.2 in
       let number = sym (message_number x.txn x.issued at.0 known.0 borrower.rules.numbered at.1).1 ∙ says.1 in
-      let issued_it : was is_cancel x.issued c ≡ true =
+      let issued_it : is_message_with is_cancel x.issued c ≡ true =
       ap (is_there is_cancel) (ap (message x.issued) (sym number) ∙ at.1) ∙ says.0 in
       true_from_ne_false _ (λ closed.
       let refused = borrower.knows (requester.Refused c)
@@ -700,7 +700,7 @@ module _ (txn : Qualifiers) (x : RequesterRecord) (y : ResponderRecord) (request
   -- The requester is in CANCEL-PENDING if the responder is.
   waits_here : is_among (states.CancelPending ∷ []) y.state ≡ true → is_among (states.CancelPending ∷ []) x.state ≡ true
   waits_here is =
-      let no = waiting y.state is in
+      let no = cancel_pending_alone y.state is in
       let last = some_of y.last_cancel (implied _ _ lender.rules.parts.cancel no.5) in
       waits_left x.state (and_parts _ _ (cancel_is_waiting last.0 is last.1)).0 (cancelled_alike ∙ no.1)
 
@@ -754,25 +754,25 @@ module _ (txn : Qualifiers) (x : RequesterRecord) (y : ResponderRecord) (request
   -- ---- RENEW/PENDING and RENEW/OVERDUE
 
   -- If the requester awaits the answer to Renew n, the responder has not granted it.
-  not_granted : (n : ℕ) (due granted : Date) (i : ℕ) (a : Apdu) → 0 < n → awaits x n ≡ true → x.due ≡ Some due
+  not_granted : (n : ℕ) (due granted : Date) (i : ℕ) (a : Apdu) → 0 < n → is_awaiting_answer x n ≡ true → x.due ≡ Some due
       → message y.issued i ≡ Some a → a.body ≡ types.RenewAnswer n (Some granted) → ⊥
   not_granted n due granted i a some waits is at body =
       let known = borrower.notices (notices.GrantedBefore n due) (is, inl waits) in
       let there = issued known.0 known.1 in
       let before = attests_grant known.0.number n due known.0.body some known.2 in
       let rises = lender.grants there.0 i before.0 n known.0 a due granted there.1 at before.1 (ap grant_of body) before.2 in
-      let unheard : not (awaits x n && is_after_due granted x.due) ≡ true =
+      let unheard : not (is_awaiting_answer x n && is_after_due granted x.due) ≡ true =
       ap (notices.has_heard x a.number) (sym body) ∙ hear.requester i a at (ap names_conditions body) in
       both_ways _ (subst (λ o. is_after_due granted o ≡ false) is (second_false _ _ (not-true _ unheard) waits)) rises
 
   -- If the requester awaits the answer to Renew n, the responder has not answered it.
-  renew_answered : (n : ℕ) (due : Date) → 0 < n → awaits x n ≡ true → x.due ≡ Some due
+  renew_answered : (n : ℕ) (due : Date) → 0 < n → is_awaiting_answer x n ≡ true → x.due ≡ Some due
       → Finds (λ a. answered_number MayRenew a.body) y.issued n → ⊥
   renew_answered n due some waits is (i, a, at, answers) = go (renew_answer a.body n answers)
     where
       go : (granted : Option Date) × (a.body ≡ types.RenewAnswer n granted) → ⊥
       go (None, body) =
-          let unheard : not (awaits x n) ≡ true =
+          let unheard : not (is_awaiting_answer x n) ≡ true =
           ap (notices.has_heard x a.number) (sym body) ∙ hear.requester i a at (ap names_conditions body) in
           both_ways _ (not-true _ unheard) waits
       go (Some granted, body) = not_granted n due granted i a some waits is at body
@@ -807,14 +807,14 @@ module _ (txn : Qualifiers) (x : RequesterRecord) (y : ResponderRecord) (request
 
   -- If the responder is in RENEW/PENDING or RENEW/OVERDUE, the requester awaits the answer to its last Renew.
   renew_is_waiting : (n : ℕ) → is_among (states.RenewPending ∷ states.RenewOverdue ∷ []) y.state ≡ true → y.last_renew ≡ Some n
-      → awaits x n ≡ true
+      → is_awaiting_answer x n ≡ true
   renew_is_waiting n is last =
       let no = renewing y.state is in
       let due = some_of x.due (borrower.rules.parts.due ∙ (later_alike ∙ no.1)) in
       let asked = lender.asked MayRenew n (inl last) in
       let at = heeded asked.0 asked.1 in
       let number = sym (message_number x.txn x.issued at.0 asked.0 borrower.rules.numbered at.1).1 ∙ asked.3 in
-      let issued_it : was is_renew x.issued n ≡ true =
+      let issued_it : is_message_with is_renew x.issued n ≡ true =
       ap (is_there is_renew) (ap (message x.issued) (sym number) ∙ at.1) ∙ asked.2 in
       true_from_ne_false _ (λ over.
       let not_past : is_due_after due.0 x.due ≡ false =
@@ -850,8 +850,8 @@ module _ (txn : Qualifiers) (x : RequesterRecord) (y : ResponderRecord) (request
       let own = heeded asked.0 asked.1 in
       let number = sym (message_number x.txn x.issued own.0 asked.0 borrower.rules.numbered own.1).1 ∙ asked.3 in
       let there : message x.issued c ≡ Some asked.0 = ap (message x.issued) (sym number) ∙ own.1 in
-      let issued_it : was is_renew x.issued c ≡ true = ap (is_there is_renew) there ∙ asked.2 in
-      let over : awaits x c ≡ false =
+      let issued_it : is_message_with is_renew x.issued c ≡ true = ap (is_there is_renew) there ∙ asked.2 in
+      let over : is_awaiting_answer x c ≡ false =
       false_from_ne_true _ (λ waits. renew_answered c due (message_some x.issued c asked.0 there) waits is
       (j, b, at, answers)) in
       let not_past : is_due_after due x.due ≡ false = subst (λ o. is_due_after due o ≡ false) (sym is) (itself_not_before due) in
@@ -903,7 +903,7 @@ module _ (txn : Qualifiers) (x : RequesterRecord) (y : ResponderRecord) (request
       nothing None e is = refl
       nothing (Some d) e is =
           let found = finds_last granted_day y.issued d e in
-          let shipped : has is_shipped y.issued ≡ true =
+          let shipped : has_message_with is_shipped y.issued ≡ true =
           grants_shipped y.issued found.0 found.1 d lender.rules.ships_first found.2 found.3 in
           let not_some : is_some x.due ≡ true = borrower.rules.parts.due ∙ (later_alike ∙ (sym lender.ends.shipped ∙ shipped)) in
           absurd (both_ways _ (ap is_some is) not_some)

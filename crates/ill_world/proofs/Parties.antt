@@ -7,14 +7,14 @@ use Rattle.ill_core.specs.declared.taking.Taking.{Taking}
 use Rattle.ill_saved.specs.declared.side.Side.{Side}
 use Rattle.ill_saved.specs.declared.fault.DeskFault.{DeskFault}
 use Rattle.ill_saved.specs.declared.fault.DeskFault.TheVariants as faults
-use Rattle.ill_saved.specs.Side.{idle_of, takes, IsStep, Grows, took}
+use Rattle.ill_saved.specs.Side.{idle_of, takes, IsSideTransition, Grows, took}
 use Rattle.ill_saved.specs.Holdings.{DeskEntry}
 use Rattle.ill_saved.specs.OneSide.{one_acts, one_side, with_side}
 use Rattle.ill_saved.specs.Desk.{DeskTakes}
 
 -- A transition keeps the role and the transaction, and takes no message away.
 abbrev pub RowsGrow : Type 0
-RowsGrow = (old new : Side) → IsStep old new → Grows old new
+RowsGrow = (old new : Side) → IsSideTransition old new → Grows old new
 
 -- If two results are equal, their values are equal.
 done_is : (held new : DeskEntry) → ◌≡◌ {A = Result DeskEntry DeskFault} (Ok held) (Ok new) → held ≡ new

@@ -18,12 +18,12 @@ use Rattle.ill_saved.specs.declared.side.Side.{Side}
 use Rattle.ill_saved.specs.declared.side.Side.TheVariants as sides
 use Rattle.ill_saved.specs.declared.side.Action.{Action}
 use Rattle.ill_saved.specs.declared.side.Action.TheVariants as actions
-use Rattle.ill_saved.specs.Side.{issued_of, txn_of, role_of, idle_side, acts, takes, acted, took, IsStep, role_for, begins}
+use Rattle.ill_saved.specs.Side.{issued_of, txn_of, role_of, idle_side, acts, takes, acted, contents_after_message, IsSideTransition, role_for, begins}
 use Rattle.ill_saved.specs.Sides.{SidesOf, is_same_role, most_sides, side_with}
 use Rattle.ill_saved.specs.Holdings.{DeskEntry, whole}
 use Rattle.ill_saved.specs.ManySides.{DeskContents, found_by, txn_held, idle_held, found_or, held_for, with_held, side_for}
-use Rattle.ill_saved.specs.ManySides.{sides_held, whole_of, is_own, held_or_begun, reached, acted as acted_at, acts_reached}
-use Rattle.ill_saved.specs.ManySides.{desk_acts, took as took_at, takes_reached}
+use Rattle.ill_saved.specs.ManySides.{sides_held, whole_of, is_own, held_or_begun, side_for_call, acted as acted_at, acts_reached}
+use Rattle.ill_saved.specs.ManySides.{desk_acts, contents_after_message as took_at, takes_reached}
 use Rattle.ill_saved.proofs.Finding.{same_is, same_self, found_is, found_put, found_mapped, side_of_held}
 use Rattle.ill_world.specs.declared.event.DeskEvent.{DeskEvent}
 use Rattle.ill_world.specs.declared.event.DeskEvent.TheVariants as events
@@ -38,7 +38,7 @@ use Rattle.ill_world.specs.Desks.{desk_saves, desk_fails_to_save, desk_sends, ta
 use Rattle.ill_world.specs.Desks.{desk_happens_to, first_desks, party_for, project, concerns, if_reached, IsSeenAs}
 use Rattle.ill_world.specs.DeskChanges.{ProjectsTo}
 use Rattle.ill_world.proofs.Parties.{RowsGrow}
-use Rattle.ill_world.proofs.Changes.{Quiet, quiet}
+use Rattle.ill_world.proofs.Changes.{RefusalsChangeNothing, quiet}
 
 -- ---- one transaction of a desk
 
@@ -108,7 +108,7 @@ pub held_txn : (txn : Qualifiers) (live : DeskContents) → txn_held (held_for t
 held_txn txn live = found_txn live.role txn live.held (found_by txn_held txn live.held) refl
 
 -- A transition keeps the transaction of a side.
-pub row_txn : RowsGrow → (old new : Side) → IsStep old new → txn_of new ≡ txn_of old
+pub row_txn : RowsGrow → (old new : Side) → IsSideTransition old new → txn_of new ≡ txn_of old
 row_txn grows old new row =
     sym (idle_txn (role_of new) (txn_of new)) ∙ ap txn_of (grows old new row).0 ∙ idle_txn (role_of old) (txn_of old)
 
@@ -236,7 +236,7 @@ desk_decides_seen : RowsGrow → (p : DeskParty) (of : Qualifiers) (action : Act
     → is_same_role p.live.role (role_for action) ≡ true → (txn : Qualifiers)
     → Seen (decided p action) of p txn (desk_decides p (desk_acts p.live of action))
 desk_decides_seen grows p of action may txn =
-    let found = reached p.live of (begins action) in
+    let found = side_for_call p.live of (begins action) in
     subst (λ b. Seen (decided p action) of p txn
     (desk_decides p (if b then acts_reached p.live action found else Err (faults.Core WrongRole)))) (sym may)
     (decides_reached grows p of action found
@@ -250,7 +250,7 @@ abbrev received : DeskParty → List Sending → ℕ → Qualifiers → Outcome 
 received p partner_sent n txn = receives (party_for txn p) (sent_message (sent_for txn partner_sent) n)
 
 -- A side that refuses a message is unchanged.
-taken_by : Quiet → (side new : Side) (a : Apdu) (refusal : Refusal) → takes side a ≡ (Err refusal, new) → new ≡ side
+taken_by : RefusalsChangeNothing → (side new : Side) (a : Apdu) (refusal : Refusal) → takes side a ≡ (Err refusal, new) → new ≡ side
 taken_by rows side new a refusal e =
     elim (quiet rows side a) [
       | inl taken ↦ let no : ◌≡◌ {A = Result Taking Refusal} (Err refusal) (Ok Taken) =
@@ -258,7 +258,7 @@ taken_by rows side new a refusal e =
       | inr same ↦ sym (ap (λ (r : Result Taking Refusal × Side). r.1) e) ∙ same
     ]
 
-module _ (grows : RowsGrow) (rows : Quiet) (p : DeskParty) (partner_sent : List Sending) (n : ℕ) (a : Apdu)
+module _ (grows : RowsGrow) (rows : RefusalsChangeNothing) (p : DeskParty) (partner_sent : List Sending) (n : ℕ) (a : Apdu)
     (was : sent_message (sent_for a.txn partner_sent) n ≡ Some a) where
   -- Returns the outcome and the desk after a message was taken with this answer.
   abbrev desk_took : Result Taking DeskFault × DeskContents → DeskOutcome × DeskParty
@@ -276,7 +276,7 @@ module _ (grows : RowsGrow) (rows : Quiet) (p : DeskParty) (partner_sent : List 
       → Seen (received p partner_sent n) a.txn p txn (desk_took (took_at p.live (held_for a.txn p.live) (answer, new)))
   takes_held (Ok taking) new e txn =
       goes_on (received p partner_sent n) a.txn p new (Answered taking)
-      (row_txn grows (held_for a.txn p.live).side new (took a (ap (λ (r : Result Taking Refusal × Side). r.1) e))
+      (row_txn grows (held_for a.txn p.live).side new (contents_after_message a (ap (λ (r : Result Taking Refusal × Side). r.1) e))
       ∙ held_txn a.txn p.live) (here (Ok taking) new e) txn
   takes_held (Err refusal) new e txn =
       nothing_done (received p partner_sent n) a.txn p (Refused refusal)
@@ -299,16 +299,16 @@ module _ (grows : RowsGrow) (rows : Quiet) (p : DeskParty) (partner_sent : List 
   desk_takes_seen own e refused txn =
       subst (λ b. Seen (received p partner_sent n) a.txn p txn
       (desk_took (if b then (Err (faults.Core WrongRole), p.live) else
-      takes_reached p.live a (reached p.live a.txn (is_ill_request a.body))))) (sym e) (go own refused)
+      takes_reached p.live a (side_for_call p.live a.txn (is_ill_request a.body))))) (sym e) (go own refused)
     where
       go : (own : Bool) → (own ≡ true → takes (held_for a.txn p.live).side a ≡ (Err WrongRole, (held_for a.txn p.live).side))
           → Seen (received p partner_sent n) a.txn p txn
           (desk_took (if own then (Err (faults.Core WrongRole), p.live) else
-          takes_reached p.live a (reached p.live a.txn (is_ill_request a.body))))
+          takes_reached p.live a (side_for_call p.live a.txn (is_ill_request a.body))))
       go true refused = nothing_done (received p partner_sent n) a.txn p (Refused WrongRole)
           (here (Err WrongRole) (held_for a.txn p.live).side (refused refl)) txn
       go false refused =
-          takes_found (reached p.live a.txn (is_ill_request a.body))
+          takes_found (side_for_call p.live a.txn (is_ill_request a.body))
           (reaches (is_ill_request a.body) (nat_lt (length p.live.held) most_sides) (idle_held p.live.role a.txn)
           (found_by txn_held a.txn p.live.held)) txn
 
@@ -399,7 +399,7 @@ own_refused (sides.Responder y) a is own =
     rw (same, own) refl
 
 -- `PartySeen` holds of a delivery at a desk that satisfies `KeepsTo`.
-delivers_seen : RowsGrow → Quiet → (role : Who) (p : DeskParty) (partner_sent : List Sending) → KeepsTo role p partner_sent
+delivers_seen : RowsGrow → RefusalsChangeNothing → (role : Who) (p : DeskParty) (partner_sent : List Sending) → KeepsTo role p partner_sent
     → (to : Who) (of : Qualifiers) (n : ℕ) (found : Option Apdu) → sent_message (sent_for of partner_sent) n ≡ found
     → (txn : Qualifiers)
     → Seen (received p partner_sent n) of p txn (desk_receives p found)
@@ -423,7 +423,7 @@ pub may_act : (p : DeskParty) (role : Who) → p.live.role ≡ role → is_same_
 may_act p role is = ap (λ r. is_same_role r role) is ∙ same_role role
 
 -- `PartySeen` holds of each event at a desk that satisfies `KeepsTo`.
-pub party_seen : RowsGrow → Quiet → (p : DeskParty) (partner_sent : List Sending) (event : DeskEvent)
+pub party_seen : RowsGrow → RefusalsChangeNothing → (p : DeskParty) (partner_sent : List Sending) (event : DeskEvent)
     → KeepsTo (who_of (plain event)) p partner_sent → (txn : Qualifiers) → PartySeen txn p partner_sent event
 party_seen grows rows p partner_sent (events.Wish of wish) keeps txn =
     desk_decides_seen grows p of (actions.Wish wish) (may_act p who.Requester keeps.role_is) txn

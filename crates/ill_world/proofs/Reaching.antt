@@ -16,15 +16,15 @@ use Rattle.ill_saved.specs.declared.side.Action.TheVariants as actions
 use Rattle.ill_saved.specs.Side.{other, acts, takes, role_for, begins}
 use Rattle.ill_saved.specs.Sides.{is_same_role, most_sides}
 use Rattle.ill_saved.specs.Holdings.{DeskEntry}
-use Rattle.ill_saved.specs.ManySides.{DeskContents, found_by, txn_held, idle_held, held_or_begun, reached, acted as acted_at}
-use Rattle.ill_saved.specs.ManySides.{acts_reached, desk_acts, took as took_at, takes_reached, is_own}
+use Rattle.ill_saved.specs.ManySides.{DeskContents, found_by, txn_held, idle_held, held_or_begun, side_for_call, acted as acted_at}
+use Rattle.ill_saved.specs.ManySides.{acts_reached, desk_acts, contents_after_message as took_at, takes_reached, is_own}
 use Rattle.ill_world.specs.declared.event.DeskEvent.{DeskEvent}
 use Rattle.ill_world.specs.declared.event.DeskEvent.TheVariants as events
 use Rattle.ill_world.specs.declared.event.DeskOutcome.{DeskOutcome}
 use Rattle.ill_world.specs.World.{party, sent_message}
 use Rattle.ill_world.specs.Desks.{DeskParty, DeskParties, sent_for, fault_seen, desk_decides, desk_sends, taking_seen}
 use Rattle.ill_world.specs.Desks.{desk_receives}
-use Rattle.ill_world.specs.DeskSafety.{DesksStand}
+use Rattle.ill_world.specs.DeskSafety.{DesksInvariant}
 use Rattle.ill_world.specs.DeskChanges.{IsPlain, Reaches, ReachesAt, ReachesSide}
 use Rattle.ill_world.proofs.Outcomes.{responders_own, requesters_own}
 use Rattle.ill_world.proofs.Projections.{may_act}
@@ -52,7 +52,7 @@ decides_reaches : (p : DeskParty) (txn : Qualifiers) (action : Action)
     → ReachesAt (begins action) p txn (desk_decides p (desk_acts p.live txn action)).0
 decides_reaches p txn action may =
     subst (λ b. ReachesAt (begins action) p txn
-    (desk_decides p (if b then acts_reached p.live action (reached p.live txn (begins action)) else
+    (desk_decides p (if b then acts_reached p.live action (side_for_call p.live txn (begins action)) else
     Err (faults.Core WrongRole))).0) (sym may)
     (reach (λ found. (desk_decides p (acts_reached p.live action found)).0)
     (λ held. decided_plainly p held (acts held.side action)) (λ fault. refl) (begins action)
@@ -77,13 +77,13 @@ takes_reaches : (p : DeskParty) (a : Apdu) → is_own p.live.role a.body ≡ fal
 takes_reaches p a others =
     subst (λ b. ReachesAt (is_ill_request a.body) p a.txn
     (taking_seen (if b then (Err (faults.Core WrongRole), p.live) else
-    takes_reached p.live a (reached p.live a.txn (is_ill_request a.body))).0)) (sym others)
+    takes_reached p.live a (side_for_call p.live a.txn (is_ill_request a.body))).0)) (sym others)
     (reach (λ found. taking_seen (takes_reached p.live a found).0)
     (λ held. took_plainly p.live held (takes held.side a).0 (takes held.side a).1) (λ fault. refl) (is_ill_request a.body)
     (nat_lt (length p.live.held) most_sides) (idle_held p.live.role a.txn) (found_by txn_held a.txn p.live.held))
 
 -- A message that the other desk has sent is of a type that this role does not issue.
-sent_by_other : (w : DeskParties) (role : Who) → DesksStand w → (txn : Qualifiers) (n : ℕ) (a : Apdu)
+sent_by_other : (w : DeskParties) (role : Who) → DesksInvariant w → (txn : Qualifiers) (n : ℕ) (a : Apdu)
     → sent_message (sent_for txn (party w (other role)).sent) n ≡ Some a → is_own role a.body ≡ false
 sent_by_other w who.Requester stands txn n a sent =
     let responder = (stands.each txn).responder in responders_own txn _ _ n a responder.landed (responder.saved.landed n a sent)
@@ -92,7 +92,7 @@ sent_by_other w who.Responder stands txn n a sent =
     ap not (requesters_own txn _ _ n a requester.landed (requester.saved.landed n a sent))
 
 -- A delivery of a sent message reaches the side that is held, or one that it begins.
-delivers_reaches : (w : DeskParties) (role : Who) → DesksStand w
+delivers_reaches : (w : DeskParties) (role : Who) → DesksInvariant w
     → (txn : Qualifiers) (n : ℕ) (a : Apdu) (found : Option Apdu) → found ≡ Some a
     → sent_message (sent_for txn (party w (other role)).sent) n ≡ Some a
     → ReachesAt (is_ill_request a.body) (party w role) txn (desk_receives (party w role) found).0
@@ -103,8 +103,8 @@ delivers_reaches w role stands txn n a found is sent =
     (sym (keeps.txn_of_sent txn n a sent))
     (takes_reaches (party w role) a (ap (λ r. is_own r a.body) keeps.role_is ∙ sent_by_other w role stands txn n a sent)))
 
--- `ReachesSide` holds of each event at two desks that satisfy `DesksStand`.
-pub reaches_side : (w : DeskParties) (event : DeskEvent) → DesksStand w → ReachesSide w event
+-- `ReachesSide` holds of each event at two desks that satisfy `DesksInvariant`.
+pub reaches_side : (w : DeskParties) (event : DeskEvent) → DesksInvariant w → ReachesSide w event
 reaches_side w (events.Wish txn wish) stands =
     decides_reaches w.requester txn (actions.Wish wish) (may_act w.requester who.Requester stands.requester.0)
 reaches_side w (events.Deed txn deed today) stands =

@@ -5,8 +5,8 @@ use Rattle.std.specs.List.{onto_first}
 use Rattle.std.proofs.lemmas.Bool.{le-leb, lt-leb}
 use Rattle.ill_world.specs.declared.script.ScriptLine.{ScriptLine}
 use Rattle.ill_world.specs.declared.script.ScriptLine.TheVariants as lines
-use Rattle.ill_world.specs.Play.{Play, Said, says_nothing, is_within, line_at, then_says, ends, breaks_off, says_from, lines_in}
-use Rattle.ill_world.specs.Play.{says_on}
+use Rattle.ill_world.specs.Play.{Play, Said, empty_reading, is_within, line_at, then_says, end_reading, broken_reading, says_from, lines_in}
+use Rattle.ill_world.specs.Play.{reading_from}
 use Rattle.ill_world.specs.Simulating.{has_lf}
 use Rattle.ill_world.proofs.Texts.{line_first, line_alone, some_line, line_begins}
 
@@ -47,9 +47,9 @@ too_many n bytes many = ap (λ (a : Bool). a && nat_le (length bytes) 1024) (le_
 
 -- If bytes are within the limits, and the reader fails after them, their reading is empty.
 pub breaks_nothing : {E C : Type 0} → (c : C) (n : ℕ) (bytes : List ℕ) → is_within n bytes ≡ true
-    → ◌≡◌ {A = Said E} (breaks_off c n bytes) says_nothing
+    → ◌≡◌ {A = Said E} (broken_reading c n bytes) empty_reading
 breaks_nothing c n [] is = refl
-breaks_nothing {E = E} c n (byte ∷ bytes) is = ap (λ (b : Bool). if b then says_nothing {E = E} else only_bad n) is
+breaks_nothing {E = E} c n (byte ∷ bytes) is = ap (λ (b : Bool). if b then empty_reading {E = E} else only_bad n) is
 
 module _ {W E C : Type 0} (play : Play W E C) where
   -- A line within the limits has the meaning of its bytes.
@@ -77,8 +77,8 @@ module _ {W E C : Type 0} (play : Play W E C) where
 
   -- If an LF closes a line, the reading is that of the line, and then that of the rest.
   pub says_line : (end : C → ℕ → List ℕ → Said E) (c : C) (n : ℕ) (bytes rest : List ℕ) → has_lf bytes ≡ false
-      → says_on play end c n (bytes ++ 10 ∷ rest)
-      ≡ then_says (line_at play c n bytes).0 n (says_on play end (line_at play c n bytes).1 (n + 1) rest)
+      → reading_from play end c n (bytes ++ 10 ∷ rest)
+      ≡ then_says (line_at play c n bytes).0 n (reading_from play end (line_at play c n bytes).1 (n + 1) rest)
   says_line end c n bytes rest none =
       let some = some_line rest in
       let line = line_at play c n bytes in
@@ -88,53 +88,53 @@ module _ {W E C : Type 0} (play : Play W E C) where
 
   -- If no LF closes the bytes, `end` reads them.
   pub says_rest : (end : C → ℕ → List ℕ → Said E) (c : C) (n : ℕ) (bytes : List ℕ) → has_lf bytes ≡ false
-      → says_on play end c n bytes ≡ end c n bytes
+      → reading_from play end c n bytes ≡ end c n bytes
   says_rest end c n bytes none = ap (says_from play end c n) (line_alone bytes none) ∙ says_last end c n bytes
 
   -- At the end of a text, bytes that are not empty are a line.
   pub ends_line : (c : C) (n : ℕ) (bytes : List ℕ) → 1 ≤ length bytes
-      → ends play c n bytes ≡ then_says (line_at play c n bytes).0 n says_nothing
+      → end_reading play c n bytes ≡ then_says (line_at play c n bytes).0 n empty_reading
   ends_line c n [] some = absurd (omega (arith, some))
   ends_line c n (byte ∷ bytes) some = refl
 
   -- ---- beyond the limits
 
   -- At the end of a text, bytes beyond the limits are a bad line.
-  bad_ends : (c : C) (n : ℕ) (bytes : List ℕ) → 1 ≤ length bytes → is_within n bytes ≡ false → ends play c n bytes ≡ only_bad n
+  bad_ends : (c : C) (n : ℕ) (bytes : List ℕ) → 1 ≤ length bytes → is_within n bytes ≡ false → end_reading play c n bytes ≡ only_bad n
   bad_ends c n bytes some out = ends_line c n bytes some
-      ∙ ap (λ (line : ScriptLine E × C). then_says line.0 n says_nothing) (line_bad c n bytes out)
+      ∙ ap (λ (line : ScriptLine E × C). then_says line.0 n empty_reading) (line_bad c n bytes out)
 
   -- If a first line is beyond the limits, and lines follow, it is bad.
   bad_first : (c : C) (n : ℕ) (first second : List ℕ) (more : List (List ℕ)) → is_within n first ≡ false
-      → says_from play (ends play) c n (first ∷ second ∷ more) ≡ only_bad n
+      → says_from play (end_reading play) c n (first ∷ second ∷ more) ≡ only_bad n
   bad_first c n first second more out =
-      says_first (ends play) c n first second more
-      ∙ ap (λ (line : ScriptLine E × C). then_says line.0 n (says_from play (ends play) line.1 (n + 1) (second ∷ more)))
+      says_first (end_reading play) c n first second more
+      ∙ ap (λ (line : ScriptLine E × C). then_says line.0 n (says_from play (end_reading play) line.1 (n + 1) (second ∷ more)))
       (line_bad c n first out)
 
   -- If a first line is beyond the limits, and is not empty, it is bad.
   first_bad : (c : C) (n : ℕ) (first : List ℕ) (more : List (List ℕ)) → is_within n first ≡ false → 1 ≤ length first
-      → says_from play (ends play) c n (first ∷ more) ≡ only_bad n
-  first_bad c n first [] out some = says_last (ends play) c n first ∙ bad_ends c n first some out
+      → says_from play (end_reading play) c n (first ∷ more) ≡ only_bad n
+  first_bad c n first [] out some = says_last (end_reading play) c n first ∙ bad_ends c n first some out
   first_bad c n first (second ∷ more) out some = bad_first c n first second more out
 
   -- If bytes without an LF are too long for a line, they are a bad line, whatever follows them.
   pub says_too_long : (c : C) (n : ℕ) (bytes rest : List ℕ) → has_lf bytes ≡ false → 1025 ≤ length bytes
-      → says_on play (ends play) c n (bytes ++ rest) ≡ only_bad n
+      → reading_from play (end_reading play) c n (bytes ++ rest) ≡ only_bad n
   says_too_long c n bytes rest none long =
       let some = some_line rest in
       let longer : 1025 ≤ length (bytes ++ some.0) = omega (arith, long, length-append bytes some.0) in
-      ap (says_from play (ends play) c n) (line_begins bytes rest some.0 some.1 none some.2)
+      ap (says_from play (end_reading play) c n) (line_begins bytes rest some.0 some.1 none some.2)
       ∙ first_bad c n (bytes ++ some.0) some.1 (too_long n (bytes ++ some.0) longer) (omega (arith, longer))
 
   -- Bytes after line 100,000 are a bad line.
-  pub says_too_many : (c : C) (n byte : ℕ) (text : List ℕ) → 100001 ≤ n → says_on play (ends play) c n (byte ∷ text) ≡ only_bad n
+  pub says_too_many : (c : C) (n byte : ℕ) (text : List ℕ) → 100001 ≤ n → reading_from play (end_reading play) c n (byte ∷ text) ≡ only_bad n
   says_too_many c n byte text many = go (byte == 10) (some_line text)
     where
       go : (is_lf : Bool) → ((first : List ℕ) × (more : List (List ℕ)) × (lines_in text ≡ first ∷ more))
-          → says_from play (ends play) c n (cond is_lf ([] ∷ lines_in text) (onto_first byte (lines_in text))) ≡ only_bad n
-      go true some = ap (λ parts. says_from play (ends play) c n ([] ∷ parts)) some.2
+          → says_from play (end_reading play) c n (cond is_lf ([] ∷ lines_in text) (onto_first byte (lines_in text))) ≡ only_bad n
+      go true some = ap (λ parts. says_from play (end_reading play) c n ([] ∷ parts)) some.2
           ∙ bad_first c n [] some.0 some.1 (too_many n [] many)
       go false some =
-          ap (λ parts. says_from play (ends play) c n (onto_first byte parts)) some.2
+          ap (λ parts. says_from play (end_reading play) c n (onto_first byte parts)) some.2
           ∙ first_bad c n (byte ∷ some.0) some.1 (too_many n (byte ∷ some.0) many) (omega arith)

@@ -19,7 +19,7 @@ use Rattle.ill_world.specs.declared.event.DeskEvent.{DeskEvent}
 use Rattle.ill_world.specs.Desks.{DeskParties, first_desks, desks_happen, desks_run}
 use Rattle.ill_world.specs.DeskScript.{in_txn}
 use Rattle.ill_world.specs.DeskCounts.{is_one_of}
-use Rattle.ill_world.specs.DeskSafety.{DesksStand}
+use Rattle.ill_world.specs.DeskSafety.{DesksInvariant}
 use Rattle.ill_world.specs.Round.{sends_and_delivers}
 use Rattle.ill_world.specs.DeskRound.{passes_side}
 use Rattle.ill_world.specs.Night.{wants_sending}
@@ -132,7 +132,7 @@ module _ (group : List ℕ) where
       )
 
   -- All events of a night of the desks of a group, given with the group, have their home there.
-  pub night_at : RowsGrow → EachStands → DesksStand first_desks → (all : List ShelfEvent)
+  pub night_at : RowsGrow → EachStands → DesksInvariant first_desks → (all : List ShelfEvent)
       → let night = desk_night_of (desks_run first_desks (events_at group all)) in events_at group (said_in group night) ≡ night
   night_at grows after first all =
       let w = desks_run first_desks (events_at group all) in

@@ -20,7 +20,7 @@ use Rattle.ill_world.specs.World.{Parties, party, happens, happens_at, first_wor
 use Rattle.ill_world.specs.Desks.{DeskParty, DeskParties, Sending, sent_for, plain, first_desks, desk_happens_to, desks_happen}
 use Rattle.ill_world.specs.Desks.{desks_run, project, concerns, if_reached, IsSeenAs}
 use Rattle.ill_world.specs.DeskCounts.{is_one_of, live_txns, landed_txns}
-use Rattle.ill_world.specs.DeskSafety.{DesksStand}
+use Rattle.ill_world.specs.DeskSafety.{DesksInvariant}
 use Rattle.ill_world.specs.BadDesks.{Names}
 use Rattle.ill_world.specs.Shelves.{Shelves, ShelfEvent, first_shelves, group_of, home, shelves_happen, shelves_run, events_at}
 use Rattle.ill_world.proofs.Parties.{RowsGrow}
@@ -120,7 +120,7 @@ permits_other txn partner_sent (events.Deliver role of n) txn_of_sent names = λ
 permits_other txn partner_sent event txn_of_sent names = tt
 
 -- If both desks lack `txn`, they lack it after an event that names another transaction.
-lack_at : RowsGrow → (txn : Qualifiers) (w : DeskParties) (event : DeskEvent) → DesksStand w → NamesOther txn event
+lack_at : RowsGrow → (txn : Qualifiers) (w : DeskParties) (event : DeskEvent) → DesksInvariant w → NamesOther txn event
     → BothLack txn w → (role : Who)
     → BothLack txn (happens_at w role (λ p partner. desk_happens_to p partner.sent event)).1
 lack_at grows txn w event stands names lack who.Requester =
@@ -169,12 +169,12 @@ kept_at P group keeps w (e ∷ more) holds = go (λ v. kept_at P group keeps v m
     go further true same = further (desks_happen w e.event).1 (keeps w e (sym ((bytes_eq-Decides group (home e)).0 same)) holds)
     go further false same = further w holds
 
--- `DesksStand` holds, and both desks lack `txn`.
+-- `DesksInvariant` holds, and both desks lack `txn`.
 abbrev pub StandWithout : Qualifiers → DeskParties → Type 0
-StandWithout txn w = DesksStand w × BothLack txn w
+StandWithout txn w = DesksInvariant w × BothLack txn w
 
 -- The desks of a group lack each transaction of another group.
-pub lack_elsewhere : RowsGrow → EachStands → DesksStand first_desks
+pub lack_elsewhere : RowsGrow → EachStands → DesksInvariant first_desks
     → (txn : Qualifiers) (group : List ℕ) (all : List ShelfEvent) → (txn.group ≡ group → ⊥)
     → StandWithout txn (desks_run first_desks (events_at group all))
 lack_elsewhere grows after first txn group all apart =
@@ -200,7 +200,7 @@ neither_holds txn w who.Requester lack = none_held txn w.requester lack.0
 neither_holds txn w who.Responder lack = none_held txn w.responder lack.1
 
 -- The desks of a group hold no transaction of another group.
-pub none_elsewhere : RowsGrow → EachStands → DesksStand first_desks
+pub none_elsewhere : RowsGrow → EachStands → DesksInvariant first_desks
     → (txn : Qualifiers) (group : List ℕ) (all : List ShelfEvent) (role : Who) → (txn.group ≡ group → ⊥)
     → found_by txn_held txn (party (shelves_run first_shelves all group) role).live.held ≡ None
 none_elsewhere grows after first txn group all role apart =
@@ -236,9 +236,9 @@ seen_idle false expected old new idle (Plain outcome) seen stay is = seen ∙ is
 seen_idle own expected old new idle NoSuchTransaction seen stay is = seen ∙ is
 seen_idle own expected old new idle DeskFull seen stay is = seen ∙ is
 
--- `DesksStand` holds, and the projection to `txn` has idle sides.
+-- `DesksInvariant` holds, and the projection to `txn` has idle sides.
 abbrev StandIdle : Qualifiers → DeskParties → Type 0
-StandIdle txn w = DesksStand w × (project txn w ≡ first_world txn)
+StandIdle txn w = DesksInvariant w × (project txn w ≡ first_world txn)
 
 -- If `StandIdle` holds, the sides of `txn` are idle after an event that names another transaction.
 idle_on : EachProjects → (txn : Qualifiers) (w : DeskParties) (event : DeskEvent) → NamesOther txn event
@@ -249,7 +249,7 @@ idle_on projects txn w event names holds =
     (λ own. ap (λ v. (happens v (plain event)).1) holds.1 ∙ whole_idle txn event names own) holds.1
 
 -- The desks of a group show idle sides of each transaction of another group.
-pub idle_elsewhere : EachProjects → EachStands → DesksStand first_desks
+pub idle_elsewhere : EachProjects → EachStands → DesksInvariant first_desks
     → (txn : Qualifiers) (group : List ℕ) (all : List ShelfEvent) → (txn.group ≡ group → ⊥)
     → project txn (shelves_run first_shelves all group) ≡ first_world txn
 idle_elsewhere projects after first txn group all apart =

@@ -12,7 +12,7 @@ use Rattle.ill_world.specs.declared.fault.SimFault.{SimFault}
 use Rattle.ill_world.specs.declared.fault.SimFault.TheVariants.{Script, Read, Write, OutOfMemory}
 use Rattle.ill_world.specs.World.{Parties, first_world, happens, run_by, run_of}
 use Rattle.ill_world.specs.Trace.{line}
-use Rattle.ill_world.specs.Play.{Play, Said, line_at, then_says, ends, breaks_off, says_on, trace_from, Answers, Plays}
+use Rattle.ill_world.specs.Play.{Play, Said, line_at, then_says, end_reading, broken_reading, reading_from, trace_from, Answers, Plays}
 use Rattle.ill_world.specs.Simulation.{two_sides, trace_of, line_after}
 use Rattle.ill_world.specs.Simulating.{IsLine, PerformsLine, StepsLine}
 use Rattle.ill_world.proofs.Scripts.{says_line}
@@ -177,7 +177,7 @@ module _ {W E C : Type 0} (play : Play W E C) where
   plays_after : (c kept : C) (n m : ℕ) (w next : W) (count next_count : ℕ) (prefix shown : List ℕ) (events : List E)
       (old middle new before between after : Option (List ℕ)) (result : Result ℕ SimFault)
       → ((end : C → ℕ → List ℕ → Said E) (text : List ℕ)
-      → says_on play end c n (prefix ++ text) ≡ with_events events (says_on play end kept m text))
+      → reading_from play end c n (prefix ++ text) ≡ with_events events (reading_from play end kept m text))
       → ((more : List E) → trace_from play (count + 1) w (events ++ more) ≡ shown ++ trace_from play (next_count + 1) next more)
       → next_count ≡ count + length events
       → Consumes old middle prefix → Appends before between shown
@@ -188,20 +188,20 @@ module _ {W E C : Type 0} (play : Play W E C) where
         shown ++ rest.1,
         Consumes-trans old middle new prefix rest.0 read rest.2,
         Appends-trans before between after shown rest.1 written rest.3,
-        answers_on (says_on play (ends play) c n) (says_on play breaks_off c n) (says_on play (ends play) kept m)
-            (says_on play breaks_off kept m) (trace_from play (count + 1) w) (trace_from play (next_count + 1) next) count
+        answers_on (reading_from play (end_reading play) c n) (reading_from play broken_reading c n) (reading_from play (end_reading play) kept m)
+            (reading_from play broken_reading kept m) (trace_from play (count + 1) w) (trace_from play (next_count + 1) next) count
             next_count
-            prefix shown events (says (ends play)) (says breaks_off) shows counts result rest.0 new rest.1 rest.4,
+            prefix shown events (says (end_reading play)) (says broken_reading) shows counts result rest.0 new rest.1 rest.4,
       )
 
   -- If an LF closes line n, the reading is that of the line, and then that of the rest.
   says_closed : (c kept : C) (n : ℕ) (bytes : List ℕ) (says : ScriptLine E) → IsLine bytes → (line_at play c n bytes).0 ≡ says
       → kept ≡ (line_at play c n bytes).1 → (end : C → ℕ → List ℕ → Said E) (text : List ℕ)
-      → says_on play end c n ((bytes ++ 10 ∷ []) ++ text) ≡ then_says says n (says_on play end kept (n + 1) text)
+      → reading_from play end c n ((bytes ++ 10 ∷ []) ++ text) ≡ then_says says n (reading_from play end kept (n + 1) text)
   says_closed c kept n bytes says is e leaves end text =
-      ap (says_on play end c n) (append_assoc bytes (10 ∷ []) text) ∙ says_line play end c n bytes text is.0
-      ∙ ap (λ line. then_says line n (says_on play end (line_at play c n bytes).1 (n + 1) text)) e
-      ∙ ap (λ l. then_says says n (says_on play end l (n + 1) text)) (sym leaves)
+      ap (reading_from play end c n) (append_assoc bytes (10 ∷ []) text) ∙ says_line play end c n bytes text is.0
+      ∙ ap (λ line. then_says line n (reading_from play end (line_at play c n bytes).1 (n + 1) text)) e
+      ∙ ap (λ l. then_says says n (reading_from play end l (n + 1) text)) (sym leaves)
 
   -- If line n was performed, and then the rest of the script, the script was performed from line n on.
   line_first : (c kept : C) (n : ℕ) (w next : W) (count next_count : ℕ) (bytes : List ℕ) (says : ScriptLine E)

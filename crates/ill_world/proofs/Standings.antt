@@ -33,9 +33,9 @@ use Rattle.ill_world.specs.World.{Parties, first_party, first_world, with_party,
 use Rattle.ill_saved.specs.declared.role.Role.{Role as Who}
 use Rattle.ill_saved.specs.declared.role.Role.TheVariants as who
 use Rattle.ill_world.specs.declared.event.Event.{Event}
-use Rattle.ill_world.specs.Invariant.{WasSent, RequesterStands, ResponderStands, RequesterSideStands, ResponderSideStands}
-use Rattle.ill_world.specs.Invariant.{PartyStands, Invariant}
-use Rattle.ill_world.proofs.DueDates.{RowsKeepDue, due_after}
+use Rattle.ill_world.specs.Invariant.{WasSent, RequesterInvariant, ResponderInvariant, RequesterSideInvariant, ResponderSideInvariant}
+use Rattle.ill_world.specs.Invariant.{PartyInvariant, Invariant}
+use Rattle.ill_world.proofs.DueDates.{TransitionsKeepDue, due_after}
 use Rattle.ill_world.proofs.Sendings.{prefix_of_itself}
 use Rattle.ill_world.proofs.Kept.{RowsGrow, Keeps, party_kept, more_sent, was_sent_still}
 use Rattle.ill_core.specs.declared.state.State.{State}
@@ -55,7 +55,7 @@ cancel_is_there state there = go (place_of CancelPending == place_of state) (pla
 
 -- If a responder waits to answer a question, it has the number of this question.
 pub question_is_there : (y : ResponderRecord) → ResponderRules y → (question : Question)
-    → implies (responder.waits question y.state) (is_some (responder.last_asked question y)) ≡ true
+    → implies (responder.is_question_open question y.state) (is_some (responder.last_asked question y)) ≡ true
 question_is_there y rules MayCancel = cancel_is_there y.state (is_some y.last_cancel) rules.parts.cancel
 question_is_there y rules MayRenew = rules.parts.renew
 
@@ -116,9 +116,9 @@ responder_rules : (txn : Qualifiers) → ResponderRules (responder_of txn Idle N
 unfolding are_numbered rise_from ships_first
 responder_rules txn = search rules
 
--- `RequesterStands` holds of the idle record of a requester, with any sent messages.
+-- `RequesterInvariant` holds of the idle record of a requester, with any sent messages.
 requester_first : (txn : Qualifiers) (sent : List (Option Apdu))
-    → RequesterStands txn (requester_of txn Idle None false None []) sent
+    → RequesterInvariant txn (requester_of txn Idle None false None []) sent
 unfolding are_distinct
 requester_first txn sent = record {
   same_txn = refl;
@@ -129,9 +129,9 @@ requester_first txn sent = record {
   few = omega arith;
 }
 
--- `ResponderStands` holds of the idle record of a responder, with any sent messages.
+-- `ResponderInvariant` holds of the idle record of a responder, with any sent messages.
 responder_first : (txn : Qualifiers) (sent : List (Option Apdu))
-    → ResponderStands txn (responder_of txn Idle None None None false None []) sent
+    → ResponderInvariant txn (responder_of txn Idle None None None false None []) sent
 unfolding are_distinct
 responder_first txn sent = record {
   same_txn = refl;
@@ -156,28 +156,28 @@ responder_first txn sent = record {
 
 -- ---- the rows of either role
 
--- A wish that is done keeps `RequesterStands`.
+-- A wish that is done keeps `RequesterInvariant`.
 abbrev pub RequesterActs : Type 0
 RequesterActs = (txn : Qualifiers) (x new : RequesterRecord) (wish : Wish) (sent : List (Option Apdu))
-    → requester_actions.acts x wish ≡ Ok new → RequesterStands txn x sent → RequesterStands txn new sent
+    → requester_actions.acts x wish ≡ Ok new → RequesterInvariant txn x sent → RequesterInvariant txn new sent
 
--- A message of `sent` that is taken keeps `RequesterStands`.
+-- A message of `sent` that is taken keeps `RequesterInvariant`.
 abbrev pub RequesterTakes : Type 0
 RequesterTakes = (txn : Qualifiers) (x : RequesterRecord) (a : Apdu) (sent : List (Option Apdu)) → WasSent sent a
-    → RequesterStands txn x sent
-    → RequesterStands txn (requester_deliveries.takes x a).1 sent
+    → RequesterInvariant txn x sent
+    → RequesterInvariant txn (requester_deliveries.takes x a).1 sent
 
--- A deed that is done keeps `ResponderStands`.
+-- A deed that is done keeps `ResponderInvariant`.
 abbrev pub ResponderActs : Type 0
 ResponderActs = (txn : Qualifiers) (y new : ResponderRecord) (deed : Deed) (today : Date) (sent : List (Option Apdu))
-    → responder_actions.acts y deed today ≡ Ok new → ResponderStands txn y sent
-    → ResponderStands txn new sent
+    → responder_actions.acts y deed today ≡ Ok new → ResponderInvariant txn y sent
+    → ResponderInvariant txn new sent
 
--- A message of `sent` that is taken keeps `ResponderStands`.
+-- A message of `sent` that is taken keeps `ResponderInvariant`.
 abbrev pub ResponderTakes : Type 0
 ResponderTakes = (txn : Qualifiers) (y : ResponderRecord) (a : Apdu) (sent : List (Option Apdu)) → WasSent sent a
-    → ResponderStands txn y sent
-    → ResponderStands txn (responder_deliveries.takes y a).1 sent
+    → ResponderInvariant txn y sent
+    → ResponderInvariant txn (responder_deliveries.takes y a).1 sent
 
 -- If `done_by make` gives a side, `result` gives a record, and `make` makes the side of it.
 done_is : {R : Type 0} (make : R → Side) (result : Result R Refusal) (new : Side) → done_by make result ≡ Ok new
@@ -185,26 +185,26 @@ done_is : {R : Type 0} (make : R → Side) (result : Result R Refusal) (new : Si
 done_is make (Ok made) new e = (made, refl, search rules)
 done_is make (Err refusal) new e = search rules
 
--- By `RequesterActs`, an action that is done keeps `RequesterSideStands`.
+-- By `RequesterActs`, an action that is done keeps `RequesterSideInvariant`.
 requester_acts : RequesterActs → (txn : Qualifiers) (old new : Side) (action : Action) (partner_sent : List (Option Apdu))
-    → acts old action ≡ Ok new → RequesterSideStands txn old partner_sent → RequesterSideStands txn new partner_sent
+    → acts old action ≡ Ok new → RequesterSideInvariant txn old partner_sent → RequesterSideInvariant txn new partner_sent
 requester_acts law txn (sides.Requester x) new (actions.Wish wish) partner_sent e stands =
     let is = done_is sides.Requester (requester_actions.acts x wish) new e in
-    subst (λ side. RequesterSideStands txn side partner_sent) is.2 (law txn x is.0 wish partner_sent is.1 stands)
+    subst (λ side. RequesterSideInvariant txn side partner_sent) is.2 (law txn x is.0 wish partner_sent is.1 stands)
 requester_acts law txn (sides.Requester x) new (actions.Deed deed today) partner_sent e stands = search rules
 requester_acts law txn (sides.Responder y) new action partner_sent e stands = absurd stands
 
--- By `RequesterTakes`, a message of `partner_sent` that is taken keeps `RequesterSideStands`.
+-- By `RequesterTakes`, a message of `partner_sent` that is taken keeps `RequesterSideInvariant`.
 requester_takes : RequesterTakes → (txn : Qualifiers) (old : Side) (a : Apdu) (partner_sent : List (Option Apdu))
-    → WasSent partner_sent a → RequesterSideStands txn old partner_sent → RequesterSideStands txn (takes old a).1 partner_sent
+    → WasSent partner_sent a → RequesterSideInvariant txn old partner_sent → RequesterSideInvariant txn (takes old a).1 partner_sent
 requester_takes law txn (sides.Requester x) a partner_sent was stands = law txn x a partner_sent was stands
 requester_takes law txn (sides.Responder y) a partner_sent was stands = absurd stands
 
--- `RequesterSideStands` holds with `more` if it holds with `partner_sent`, and `more` has each message of
+-- `RequesterSideInvariant` holds with `more` if it holds with `partner_sent`, and `more` has each message of
 -- `partner_sent`.
 requester_more : (txn : Qualifiers) (side : Side) (partner_sent more : List (Option Apdu))
-    → ((a : Apdu) → WasSent partner_sent a → WasSent more a) → RequesterSideStands txn side partner_sent
-    → RequesterSideStands txn side more
+    → ((a : Apdu) → WasSent partner_sent a → WasSent more a) → RequesterSideInvariant txn side partner_sent
+    → RequesterSideInvariant txn side more
 requester_more txn (sides.Requester x) partner_sent more stays stands = record {
   same_txn = stands.same_txn;
   rules = stands.rules;
@@ -215,26 +215,26 @@ requester_more txn (sides.Requester x) partner_sent more stays stands = record {
 }
 requester_more txn (sides.Responder y) partner_sent more stays stands = absurd stands
 
--- By `ResponderActs`, an action that is done keeps `ResponderSideStands`.
+-- By `ResponderActs`, an action that is done keeps `ResponderSideInvariant`.
 responder_acts : ResponderActs → (txn : Qualifiers) (old new : Side) (action : Action) (partner_sent : List (Option Apdu))
-    → acts old action ≡ Ok new → ResponderSideStands txn old partner_sent → ResponderSideStands txn new partner_sent
+    → acts old action ≡ Ok new → ResponderSideInvariant txn old partner_sent → ResponderSideInvariant txn new partner_sent
 responder_acts law txn (sides.Responder y) new (actions.Deed deed today) partner_sent e stands =
     let is = done_is sides.Responder (responder_actions.acts y deed today) new e in
-    subst (λ side. ResponderSideStands txn side partner_sent) is.2 (law txn y is.0 deed today partner_sent is.1 stands)
+    subst (λ side. ResponderSideInvariant txn side partner_sent) is.2 (law txn y is.0 deed today partner_sent is.1 stands)
 responder_acts law txn (sides.Responder y) new (actions.Wish wish) partner_sent e stands = search rules
 responder_acts law txn (sides.Requester x) new action partner_sent e stands = absurd stands
 
--- By `ResponderTakes`, a message of `partner_sent` that is taken keeps `ResponderSideStands`.
+-- By `ResponderTakes`, a message of `partner_sent` that is taken keeps `ResponderSideInvariant`.
 responder_takes : ResponderTakes → (txn : Qualifiers) (old : Side) (a : Apdu) (partner_sent : List (Option Apdu))
-    → WasSent partner_sent a → ResponderSideStands txn old partner_sent → ResponderSideStands txn (takes old a).1 partner_sent
+    → WasSent partner_sent a → ResponderSideInvariant txn old partner_sent → ResponderSideInvariant txn (takes old a).1 partner_sent
 responder_takes law txn (sides.Responder y) a partner_sent was stands = law txn y a partner_sent was stands
 responder_takes law txn (sides.Requester x) a partner_sent was stands = absurd stands
 
--- `ResponderSideStands` holds with `more` if it holds with `partner_sent`, and `more` has each message of
+-- `ResponderSideInvariant` holds with `more` if it holds with `partner_sent`, and `more` has each message of
 -- `partner_sent`.
 responder_more : (txn : Qualifiers) (side : Side) (partner_sent more : List (Option Apdu))
-    → ((a : Apdu) → WasSent partner_sent a → WasSent more a) → ResponderSideStands txn side partner_sent
-    → ResponderSideStands txn side more
+    → ((a : Apdu) → WasSent partner_sent a → WasSent more a) → ResponderSideInvariant txn side partner_sent
+    → ResponderSideInvariant txn side more
 responder_more txn (sides.Responder y) partner_sent more stays stands = record {
   same_txn = stands.same_txn;
   rules = stands.rules;
@@ -255,14 +255,14 @@ responder_more txn (sides.Responder y) partner_sent more stays stands = record {
 responder_more txn (sides.Requester x) partner_sent more stays stands = absurd stands
 
 -- By `RequesterActs` and `RequesterTakes`, actions, taken messages and further sent messages keep
--- `RequesterSideStands`.
-pub requester_keeps : RequesterActs → RequesterTakes → (txn : Qualifiers) → Keeps (RequesterSideStands txn)
+-- `RequesterSideInvariant`.
+pub requester_keeps : RequesterActs → RequesterTakes → (txn : Qualifiers) → Keeps (RequesterSideInvariant txn)
 requester_keeps acted took txn =
     record { acts = requester_acts acted txn; more = requester_more txn; takes = requester_takes took txn }
 
 -- By `ResponderActs` and `ResponderTakes`, actions, taken messages and further sent messages keep
--- `ResponderSideStands`.
-pub responder_keeps : ResponderActs → ResponderTakes → (txn : Qualifiers) → Keeps (ResponderSideStands txn)
+-- `ResponderSideInvariant`.
+pub responder_keeps : ResponderActs → ResponderTakes → (txn : Qualifiers) → Keeps (ResponderSideInvariant txn)
 responder_keeps acted took txn =
     record { acts = responder_acts acted txn; more = responder_more txn; takes = responder_takes took txn }
 
@@ -279,9 +279,9 @@ pub none_sent : (n : ℕ) (a : Apdu) → sent_message (replicate 255 None) n ≡
 none_sent zero a e = search rules
 none_sent (suc n) a e = none_there 255 n a e
 
--- `PartyStands` holds of a first party, if `K` holds of its idle side with `partner_sent`.
+-- `PartyInvariant` holds of a first party, if `K` holds of its idle side with `partner_sent`.
 first_stands : (K : Side → List (Option Apdu) → Type 0) (idle : Side) (partner_sent : List (Option Apdu)) → K idle partner_sent
-    → PartyStands K (first_party idle) partner_sent
+    → PartyInvariant K (first_party idle) partner_sent
 first_stands K idle partner_sent stands = record {
   saved = record {
     landed = λ n a e. absurd (none_sent n a e);
@@ -296,32 +296,32 @@ first_stands K idle partner_sent stands = record {
 -- The first world satisfies the invariant.
 pub world_first : (txn : Qualifiers) → Invariant txn (first_world txn)
 world_first txn = record {
-  requester = first_stands (RequesterSideStands txn) _ _ (requester_first txn _);
-  responder = first_stands (ResponderSideStands txn) _ _ (responder_first txn _);
+  requester = first_stands (RequesterSideInvariant txn) _ _ (requester_first txn _);
+  responder = first_stands (ResponderSideInvariant txn) _ _ (responder_first txn _);
   due = inl refl;
 }
 
 -- If an event happens to the party `of`, and the other party stays, the invariant is kept.
-world_kept : RowsKeepDue → (txn : Qualifiers) (w : Parties) (of : Who) (event : Event) → RowsGrow
-    → Keeps (RequesterSideStands txn) → Keeps (ResponderSideStands txn) → Invariant txn w
+world_kept : TransitionsKeepDue → (txn : Qualifiers) (w : Parties) (of : Who) (event : Event) → RowsGrow
+    → Keeps (RequesterSideInvariant txn) → Keeps (ResponderSideInvariant txn) → Invariant txn w
     → Invariant txn (with_party w of (happens_to (party w of) (party w (other of)).sent event).1)
 world_kept rows txn w who.Requester event grows requester_kept responder_kept stands = record {
-  requester = party_kept (RequesterSideStands txn) w.requester w.responder.sent event grows requester_kept stands.requester;
+  requester = party_kept (RequesterSideInvariant txn) w.requester w.responder.sent event grows requester_kept stands.requester;
   responder =
-      more_sent (ResponderSideStands txn) w.responder w.requester.sent _ responder_kept
+      more_sent (ResponderSideInvariant txn) w.responder w.requester.sent _ responder_kept
       (was_sent_still w.requester w.responder.sent event stands.requester.saved) stands.responder;
   due = due_after rows txn w.requester w.responder.sent event stands.requester.live stands.due;
 }
 world_kept rows txn w who.Responder event grows requester_kept responder_kept stands = record {
   requester =
-      more_sent (RequesterSideStands txn) w.requester w.responder.sent _ requester_kept
+      more_sent (RequesterSideInvariant txn) w.requester w.responder.sent _ requester_kept
       (was_sent_still w.responder w.requester.sent event stands.responder.saved) stands.requester;
-  responder = party_kept (ResponderSideStands txn) w.responder w.requester.sent event grows responder_kept stands.responder;
+  responder = party_kept (ResponderSideInvariant txn) w.responder w.requester.sent event grows responder_kept stands.responder;
   due = stands.due;
 }
 
 -- Each event keeps the invariant.
-pub world_after : RowsKeepDue → (txn : Qualifiers) (w : Parties) (event : Event) → RowsGrow → Keeps (RequesterSideStands txn)
-    → Keeps (ResponderSideStands txn) → Invariant txn w → Invariant txn (happens w event).1
+pub world_after : TransitionsKeepDue → (txn : Qualifiers) (w : Parties) (event : Event) → RowsGrow → Keeps (RequesterSideInvariant txn)
+    → Keeps (ResponderSideInvariant txn) → Invariant txn w → Invariant txn (happens w event).1
 world_after rows txn w event grows requester_kept responder_kept stands =
     world_kept rows txn w (who_of event) event grows requester_kept responder_kept stands

@@ -11,7 +11,7 @@ use Rattle.ill_world.specs.declared.script.ScriptLine.{ScriptLine}
 use Rattle.ill_world.specs.declared.script.ScriptLine.TheVariants as lines
 use Rattle.ill_world.specs.declared.fault.SimFault.{SimFault}
 use Rattle.ill_world.specs.declared.fault.SimFault.TheVariants.{Script, Read, Write, OutOfMemory}
-use Rattle.ill_world.specs.Play.{Play, Said, says_nothing, line_at, then_says, ends, breaks_off, says_from, says_on, trace_from}
+use Rattle.ill_world.specs.Play.{Play, Said, empty_reading, line_at, then_says, end_reading, broken_reading, says_from, reading_from, trace_from}
 use Rattle.ill_world.specs.Play.{OfAll, Answers, Plays}
 use Rattle.ill_world.specs.Simulating.{IsLine, ReadsLine, PerformsLine, StepsLine, IsBeforeEnd, FindsEnd, IsUsedUp}
 use Rattle.ill_world.proofs.Scripts.{within, line_within, says_line, says_rest, ends_line, breaks_nothing, says_too_long}
@@ -28,15 +28,15 @@ module _ {W E C : Type 0} (play : Play W E C) where
   -- The text, with all bytes that the reader has left, has `bytes` as line n. A rest follows it.
   abbrev pub Begins : C → ℕ → List ℕ → List ℕ → Option (List ℕ) → Type 0
   Begins c n bytes text left = (more : List ℕ) → left ≡ Some more → (rest : Said E)
-      × (says_on play (ends play) c n (text ++ more) ≡ then_says (line_at play c n bytes).0 n rest)
+      × (reading_from play (end_reading play) c n (text ++ more) ≡ then_says (line_at play c n bytes).0 n rest)
 
   -- The text `bytes` with an LF has `bytes` as line n.
   pub begins_closed : (c : C) (n : ℕ) (bytes : List ℕ) (left : Option (List ℕ)) → IsLine bytes
       → Begins c n bytes (bytes ++ 10 ∷ []) left
   begins_closed c n bytes left is =
       λ more e. (
-        says_on play (ends play) (line_at play c n bytes).1 (n + 1) more,
-        ap (says_on play (ends play) c n) (append_assoc bytes (10 ∷ []) more) ∙ says_line play (ends play) c n bytes more is.0,
+        reading_from play (end_reading play) (line_at play c n bytes).1 (n + 1) more,
+        ap (reading_from play (end_reading play) c n) (append_assoc bytes (10 ∷ []) more) ∙ says_line play (end_reading play) c n bytes more is.0,
       )
 
   -- The text `bytes` at the end of the reader has `bytes` as line n, if they are not empty.
@@ -45,8 +45,8 @@ module _ {W E C : Type 0} (play : Play W E C) where
   begins_last c n bytes left is some at_end =
       λ more e.
       let all : bytes ++ more ≡ bytes = ap (λ m. bytes ++ m) (nothing_left left more at_end e) ∙ append-nil bytes in (
-        says_nothing,
-        ap (says_on play (ends play) c n) all ∙ says_rest play (ends play) c n bytes is.0
+        empty_reading,
+        ap (reading_from play (end_reading play) c n) all ∙ says_rest play (end_reading play) c n bytes is.0
             ∙ ends_line play c n bytes some,
       )
 
@@ -55,7 +55,7 @@ module _ {W E C : Type 0} (play : Play W E C) where
   -- The result and `trace` fit the rest of a script, from line n on.
   abbrev pub AnswersFrom : C → ℕ → W → ℕ → Result ℕ SimFault → List ℕ → Option (List ℕ) → List ℕ → Type 0
   AnswersFrom c n w count result text left trace =
-      Answers (says_on play (ends play) c n) (says_on play breaks_off c n) (trace_from play (count + 1) w) count result text left
+      Answers (reading_from play (end_reading play) c n) (reading_from play broken_reading c n) (trace_from play (count + 1) w) count result text left
       trace
 
   -- The rest of a script ends with `fault`. The trace that was written, from `before` to `after`, fits it.
@@ -71,7 +71,7 @@ module _ {W E C : Type 0} (play : Play W E C) where
     nothing,
     λ more e. (
       [],
-      ((says_on play (ends play) c n (text ++ more)).events, refl),
+      ((reading_from play (end_reading play) c n (text ++ more)).events, refl),
       sym (trace_of_none play (count + 1) w),
     ),
   )
@@ -150,8 +150,8 @@ module _ {W E C : Type 0} (play : Play W E C) where
       → n ≤ 100000 → ReadsLine old new bytes (Err fault)
       → Plays play c n w count old new before before (Err fault)
   not_read c n w count old new before bytes Read few read =
-      let said : says_on play breaks_off c n bytes ≡ says_nothing =
-      says_rest play breaks_off c n bytes read.0.0 ∙ breaks_nothing c n bytes (within n bytes few read.0.1) in (
+      let said : reading_from play broken_reading c n bytes ≡ empty_reading =
+      says_rest play broken_reading c n bytes read.0.0 ∙ breaks_nothing c n bytes (within n bytes few read.0.1) in (
         bytes,
         [],
         read.1,
@@ -191,7 +191,7 @@ module _ {W E C : Type 0} (play : Play W E C) where
   -- If no LF closes the last line, and it was performed, the rest of the script ends well.
   last_performed : (c : C) (n : ℕ) (w next : W) (count next_count : ℕ) (old new before after : Option (List ℕ)) (bytes : List ℕ)
       (says : ScriptLine E) → Consumes old new bytes → IsAtEnd new
-      → says_on play (ends play) c n bytes ≡ then_says says n says_nothing
+      → reading_from play (end_reading play) c n bytes ≡ then_says says n empty_reading
       → PerformsLine play says n w count before after (Ok tt) next next_count
       → Plays play c n w count old new before after (Ok next_count)
   last_performed c n w next count next_count old new before after bytes lines.Skipped read at_end said done = (
@@ -203,7 +203,7 @@ module _ {W E C : Type 0} (play : Play W E C) where
       at_end,
       ap (λ (s : Said E). s.bad) said,
       sym (trace_of_none play (count + 1) w) ∙ ap (λ (s : Said E). trace_from play (count + 1) w s.events) (sym said),
-      (let zero : next_count ≡ count + length (then_says {E = E} lines.Skipped n says_nothing).events = omega (arith, done.1) in
+      (let zero : next_count ≡ count + length (then_says {E = E} lines.Skipped n empty_reading).events = omega (arith, done.1) in
           zero) ∙ ap (λ (s : Said E). count + length s.events) (sym said),
     ),
   )
@@ -216,7 +216,7 @@ module _ {W E C : Type 0} (play : Play W E C) where
       at_end,
       ap (λ (s : Said E). s.bad) said,
       sym (trace_of_one play (count + 1) w event) ∙ ap (λ (s : Said E). trace_from play (count + 1) w s.events) (sym said),
-      (let one : next_count ≡ count + length (then_says (lines.Event event) n says_nothing).events = omega (arith, done.1) in one)
+      (let one : next_count ≡ count + length (then_says (lines.Event event) n empty_reading).events = omega (arith, done.1) in one)
           ∙ ap (λ (s : Said E). count + length s.events) (sym said),
     ),
   )
@@ -230,7 +230,7 @@ module _ {W E C : Type 0} (play : Play W E C) where
       → Plays play c n w count old new before after (Ok next_count)
   ended_with_line c n w next count next_count old new before after bytes few is some read at_end done =
       last_performed c n w next count next_count old new before after bytes (line_at play c n bytes).0 read at_end
-      (says_rest play (ends play) c n bytes is.0 ∙ ends_line play c n bytes some)
+      (says_rest play (end_reading play) c n bytes is.0 ∙ ends_line play c n bytes some)
       (performs_at c n w next count next_count bytes before after (Ok tt) few is done)
 
   -- If line n is too long, the rest of the script ends with line n as the bad line.
@@ -252,7 +252,7 @@ module _ {W E C : Type 0} (play : Play W E C) where
   -- ---- the end
 
   -- If bytes follow line 100,000, line 100,001 is bad.
-  too_many_follow : (c : C) (text : List ℕ) → 1 ≤ length text → says_on play (ends play) c 100001 text ≡ only_bad 100001
+  too_many_follow : (c : C) (text : List ℕ) → 1 ≤ length text → reading_from play (end_reading play) c 100001 text ≡ only_bad 100001
   too_many_follow c [] some = absurd (omega (arith, some))
   too_many_follow c (byte ∷ text) some = says_too_many play c 100001 byte text (omega arith)
 
@@ -351,7 +351,7 @@ module _ {W E C : Type 0} (play : Play W E C) where
         trace,
         consumes_ahead old text ahead rest plays.2,
         plays.3,
-        answers_of_all (says_on play (ends play) c n) (says_on play breaks_off c n) (trace_from play (count + 1) w) count text
+        answers_of_all (reading_from play (end_reading play) c n) (reading_from play broken_reading c n) (trace_from play (count + 1) w) count text
             ahead rest trace result used plays.4,
       )
 

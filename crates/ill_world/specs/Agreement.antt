@@ -10,7 +10,7 @@ use Rattle.ill_core.specs.declared.taking.Taking.TheVariants.{Taken, Repeat}
 use Rattle.ill_core.specs.State.{is_among}
 use Rattle.ill_core.specs.Dates.{is_before}
 use Rattle.ill_core.specs.Bodies.{is_end, is_received, is_returned, accepts}
-use Rattle.ill_core.specs.Issued.{message, has, last_of, number_of_end}
+use Rattle.ill_core.specs.Issued.{message, has_message_with, last_of, number_of_end}
 use Rattle.ill_core.specs.Requester.{RequesterRecord}
 use Rattle.ill_core.specs.Requester as requester
 use Rattle.ill_core.specs.RequesterEvidence.{replied_number, KeepsDue}
@@ -76,7 +76,7 @@ pub record SaysTrue (x : RequesterRecord) (y : ResponderRecord) : Type 0 where
   pub returned : is_among (states.Returned ∷ states.CheckedIn ∷ []) y.state ≡ true → x.state ≡ states.Returned
   pub cancelled : y.state ≡ states.Cancelled →
       is_among (states.CancelPending ∷ states.Cancelled ∷ []) x.state ≡ true
-  pub received : y.received ≡ true → has is_received x.issued ≡ true
+  pub received : y.received ≡ true → has_message_with is_received x.issued ≡ true
   pub checked_in : x.checked_in ≡ true → y.state ≡ states.CheckedIn
 
 -- ---- worlds

@@ -13,7 +13,7 @@ use Rattle.ill_core.specs.declared.taking.Taking.TheVariants.{Taken, Repeat}
 use Rattle.ill_core.specs.State.{is_among}
 use Rattle.ill_core.specs.Dates.{is_before}
 use Rattle.ill_core.specs.Bodies.{is_end, is_final, is_received, is_shipped, accepts, grant_in}
-use Rattle.ill_core.specs.Issued.{message, has}
+use Rattle.ill_core.specs.Issued.{message, has_message_with}
 use Rattle.ill_core.specs.Requester.{RequesterRecord, later}
 use Rattle.ill_core.specs.Responder.{ResponderRecord, due_of}
 use Rattle.ill_saved.specs.declared.side.Side.{Side}
@@ -50,7 +50,7 @@ pub data Contradicts (requester responder : Side) : Type 0 where
       (state_of responder ≡ states.Cancelled → ⊥) → Contradicts requester responder
   -- The requester is in SHIPPED or later, and the responder has issued no Shipped.
   never_shipped : is_among later (state_of requester) ≡ true →
-      has is_shipped (issued_of responder) ≡ false → Contradicts requester responder
+      has_message_with is_shipped (issued_of responder) ≡ false → Contradicts requester responder
   -- The requester has a due date that the responder has not granted.
   never_granted : (due : Date) → due_date_of requester ≡ Some due →
       NoneSays (message (issued_of responder)) (λ body. grant_in body ≡ Some due) → Contradicts requester responder
@@ -71,7 +71,7 @@ pub data Misleads (x : RequesterRecord) (y : ResponderRecord) : Type 0 where
   checked_in_unreturned : y.state ≡ states.CheckedIn → (x.state ≡ states.Returned → ⊥) → Misleads x y
   cancelled_unasked : y.state ≡ states.Cancelled → (x.state ≡ states.CancelPending → ⊥) →
       (x.state ≡ states.Cancelled → ⊥) → Misleads x y
-  not_received : y.received ≡ true → has is_received x.issued ≡ false → Misleads x y
+  not_received : y.received ≡ true → has_message_with is_received x.issued ≡ false → Misleads x y
   not_checked_in : x.checked_in ≡ true → (y.state ≡ states.CheckedIn → ⊥) → Misleads x y
 
 -- `at` gives the messages of the live side of `p`, or those that `p` has sent.

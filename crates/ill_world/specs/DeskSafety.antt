@@ -27,7 +27,7 @@ abbrev pub IsDeskOf : Who → DeskParty → Type 0
 IsDeskOf role p = (p.live.role ≡ role) × (p.landed.role ≡ role)
 
 -- Each desk has its role, and `DesksCount` holds. The projection to each transaction satisfies the invariant.
-pub record DesksStand (w : DeskParties) : Type 0 where
+pub record DesksInvariant (w : DeskParties) : Type 0 where
   pub requester : IsDeskOf Requester w.requester
   pub responder : IsDeskOf Responder w.responder
   pub counts : DesksCount w

@@ -43,14 +43,14 @@ RequesterNotes x sent =
     (notice : Notice) → Reflects x notice → (a : Apdu) × WasSent sent a × Attests a.number a.body notice
 
 -- For each Cancel and each Renew that a responder was asked, the requester has sent a message with this number.
-abbrev pub ResponderHeard : ResponderRecord → List (Option Apdu) → Type 0
-ResponderHeard y sent =
+abbrev pub ResponderWasAsked : ResponderRecord → List (Option Apdu) → Type 0
+ResponderWasAsked y sent =
     (question : Question) (number : ℕ) → WasAsked question y number →
     (a : Apdu) × WasSent sent a × (asks question a.body ≡ true) × (a.number ≡ number)
 
 -- A requester's record is of `txn`, keeps its rules, and replies to no conditions twice. The messages in `sent` are
 -- evidence of its claims. It has at most 255 messages.
-pub record RequesterStands (txn : Qualifiers) (x : RequesterRecord) (sent : List (Option Apdu)) : Type 0 where
+pub record RequesterInvariant (txn : Qualifiers) (x : RequesterRecord) (sent : List (Option Apdu)) : Type 0 where
   pub same_txn : x.txn ≡ txn
   pub rules : RequesterRules x
   pub replies : requester.AnswersOnce x
@@ -61,14 +61,14 @@ pub record RequesterStands (txn : Qualifiers) (x : RequesterRecord) (sent : List
 -- A responder's record is of `txn`, and keeps its rules. It ends the request once at most, and answers each question
 -- once. The messages in `sent` are evidence of its claims. The other parts are of the order of its messages, and of
 -- their number.
-pub record ResponderStands (txn : Qualifiers) (y : ResponderRecord) (sent : List (Option Apdu)) : Type 0 where
+pub record ResponderInvariant (txn : Qualifiers) (y : ResponderRecord) (sent : List (Option Apdu)) : Type 0 where
   pub same_txn : y.txn ≡ txn
   pub rules : ResponderRules y
   pub ends : responder.EndsOnce y
   pub cancels : responder.AnswersOnce responder.MayCancel y
   pub renewals : responder.AnswersOnce responder.MayRenew y
   pub knows : ResponderKnows y sent
-  pub asked : ResponderHeard y sent
+  pub asked : ResponderWasAsked y sent
   pub answered : (question : Question) → HasAnsweredLast question y
   pub recall : RecallFits y
   pub ships_first : ShipsBeforeRecall y.issued
@@ -77,15 +77,15 @@ pub record ResponderStands (txn : Qualifiers) (y : ResponderRecord) (sent : List
   pub grants_first : GrantsBeforeOverdue y.issued
   pub few : length y.issued ≤ 255
 
--- The side is a requester's, and its record satisfies `RequesterStands` with `sent`.
-abbrev pub RequesterSideStands : Qualifiers → Side → List (Option Apdu) → Type 0
-RequesterSideStands txn (sides.Requester x) sent = RequesterStands txn x sent
-RequesterSideStands txn (sides.Responder y) sent = ⊥
+-- The side is a requester's, and its record satisfies `RequesterInvariant` with `sent`.
+abbrev pub RequesterSideInvariant : Qualifiers → Side → List (Option Apdu) → Type 0
+RequesterSideInvariant txn (sides.Requester x) sent = RequesterInvariant txn x sent
+RequesterSideInvariant txn (sides.Responder y) sent = ⊥
 
--- The side is a responder's, and its record satisfies `ResponderStands` with `sent`.
-abbrev pub ResponderSideStands : Qualifiers → Side → List (Option Apdu) → Type 0
-ResponderSideStands txn (sides.Requester x) sent = ⊥
-ResponderSideStands txn (sides.Responder y) sent = ResponderStands txn y sent
+-- The side is a responder's, and its record satisfies `ResponderInvariant` with `sent`.
+abbrev pub ResponderSideInvariant : Qualifiers → Side → List (Option Apdu) → Type 0
+ResponderSideInvariant txn (sides.Requester x) sent = ⊥
+ResponderSideInvariant txn (sides.Responder y) sent = ResponderInvariant txn y sent
 
 -- ---- a party, and the messages that it has sent
 
@@ -99,16 +99,16 @@ pub record SendsSaved (p : Party) : Type 0 where
 
 -- A party sends only messages that have landed. `K` holds of its live and its landed side with `partner_sent`, the
 -- messages that the other party has sent.
-pub record PartyStands (K : Side → List (Option Apdu) → Type 0) (p : Party) (partner_sent : List (Option Apdu)) : Type 0 where
+pub record PartyInvariant (K : Side → List (Option Apdu) → Type 0) (p : Party) (partner_sent : List (Option Apdu)) : Type 0 where
   pub saved : SendsSaved p
   pub live : K p.live partner_sent
   pub landed : K p.landed partner_sent
 
 -- ---- a world
 
--- Both parties of `w` satisfy `PartyStands` for `txn`. The requester's live due date is not earlier than its landed
+-- Both parties of `w` satisfy `PartyInvariant` for `txn`. The requester's live due date is not earlier than its landed
 -- one.
 pub record Invariant (txn : Qualifiers) (w : Parties) : Type 0 where
-  pub requester : PartyStands (RequesterSideStands txn) w.requester w.responder.sent
-  pub responder : PartyStands (ResponderSideStands txn) w.responder w.requester.sent
+  pub requester : PartyInvariant (RequesterSideInvariant txn) w.requester w.responder.sent
+  pub responder : PartyInvariant (ResponderSideInvariant txn) w.responder w.requester.sent
   pub due : KeepsDue (due_date_of w.requester.landed) (due_date_of w.requester.live)

@@ -24,8 +24,8 @@ pub record Said (E : Type 0) : Type 0 where
   pub bad : Option ℕ
 
 -- The reading of an empty text has no event and no bad line.
-abbrev pub says_nothing : {E : Type 0} → Said E
-says_nothing = record { events = []; bad = None }
+abbrev pub empty_reading : {E : Type 0} → Said E
+empty_reading = record { events = []; bad = None }
 
 -- Returns true if n is at most 100,000, and `bytes` has at most 1,024 bytes.
 abbrev pub is_within : ℕ → List ℕ → Bool
@@ -42,21 +42,21 @@ then_says (lines.Event event) n more = record { events = event ∷ more.events; 
 then_says lines.Bad n more = record { events = []; bad = Some n }
 
 -- Returns the reading of the bytes after the last LF of a whole text. They are line n, unless they are empty.
-abbrev pub ends : {W E C : Type 0} → Play W E C → C → ℕ → List ℕ → Said E
-ends play c n [] = says_nothing
-ends play c n (byte ∷ bytes) = then_says (line_at play c n (byte ∷ bytes)).0 n says_nothing
+abbrev pub end_reading : {W E C : Type 0} → Play W E C → C → ℕ → List ℕ → Said E
+end_reading play c n [] = empty_reading
+end_reading play c n (byte ∷ bytes) = then_says (line_at play c n (byte ∷ bytes)).0 n empty_reading
 
 -- Returns the reading of the bytes after the last LF if the reader fails. They are no line, or a bad one beyond the
 -- limits.
-abbrev pub breaks_off : {E C : Type 0} → C → ℕ → List ℕ → Said E
-breaks_off c n [] = says_nothing
-breaks_off c n (byte ∷ bytes) =
-    if is_within n (byte ∷ bytes) then says_nothing else record { events = []; bad = Some n }
+abbrev pub broken_reading : {E C : Type 0} → C → ℕ → List ℕ → Said E
+broken_reading c n [] = empty_reading
+broken_reading c n (byte ∷ bytes) =
+    if is_within n (byte ∷ bytes) then empty_reading else record { events = []; bad = Some n }
 
 -- Returns the reading of these lines, from line n on. `end` reads the last, which follows the last LF.
 unfoldable pub says_from : {W E C : Type 0} → Play W E C → (C → ℕ → List ℕ → Said E) → C → ℕ →
     List (List ℕ) → Said E
-says_from play end c n [] = says_nothing
+says_from play end c n [] = empty_reading
 says_from play end c n (rest ∷ []) = end c n rest
 says_from play end c n (first ∷ second ∷ more) =
     then_says (line_at play c n first).0 n (says_from play end (line_at play c n first).1 (n + 1) (second ∷ more))
@@ -66,8 +66,8 @@ abbrev pub lines_in : List ℕ → List (List ℕ)
 lines_in text = slice_split (λ byte. byte == 10) text
 
 -- Returns the reading of `text`, from line n on. `end` reads the bytes after the last LF.
-abbrev pub says_on : {W E C : Type 0} → Play W E C → (C → ℕ → List ℕ → Said E) → C → ℕ → List ℕ → Said E
-says_on play end c n text = says_from play end c n (lines_in text)
+abbrev pub reading_from : {W E C : Type 0} → Play W E C → (C → ℕ → List ℕ → Said E) → C → ℕ → List ℕ → Said E
+reading_from play end c n text = says_from play end c n (lines_in text)
 
 -- ---- the trace of a run
 
@@ -104,5 +104,5 @@ abbrev pub Plays : {W E C : Type 0} → Play W E C → C → ℕ → W → ℕ �
     Option (List ℕ) → Option (List ℕ) → Result ℕ SimFault → Type 0
 Plays play c n w count old new before after result =
     (text : List ℕ) × (trace : List ℕ) × Consumes old new text × Appends before after trace
-    × Answers (says_on play (ends play) c n) (says_on play breaks_off c n) (trace_from play (count + 1) w) count
+    × Answers (reading_from play (end_reading play) c n) (reading_from play broken_reading c n) (trace_from play (count + 1) w) count
     result text new trace

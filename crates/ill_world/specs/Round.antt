@@ -5,7 +5,7 @@ use Rattle.ill_core.specs.declared.state.State.{State}
 use Rattle.ill_core.specs.declared.state.State.TheVariants as states
 use Rattle.ill_core.specs.State.{is_among}
 use Rattle.ill_core.specs.Bodies.{is_end, is_received, declines}
-use Rattle.ill_core.specs.Issued.{has}
+use Rattle.ill_core.specs.Issued.{has_message_with}
 use Rattle.ill_core.specs.Requester.{RequesterRecord, is_declined, is_received_by}
 use Rattle.ill_core.specs.Responder.{ResponderRecord, due_of, later}
 use Rattle.ill_saved.specs.declared.side.Side.{Side}
@@ -73,7 +73,7 @@ AreInStep w = Facing InStep w.requester.live w.responder.live
 
 -- The responder can answer a Conditional-Reply no: it has ended the request, or has a number left.
 abbrev pub CanAnswer : Side → Type 0
-CanAnswer side = (has is_end (issued_of side) ≡ true) ⊎ (length (issued_of side) < 255)
+CanAnswer side = (has_message_with is_end (issued_of side) ≡ true) ⊎ (length (issued_of side) < 255)
 
 -- ---- two records that are not in step
 
@@ -98,10 +98,10 @@ facing_in other = []
 pub data OutOfStep (x : RequesterRecord) (y : ResponderRecord) : Type 0 where
   unfaced : is_among (facing_in y.state) x.state ≡ false → OutOfStep x y
   -- The conditions were declined, and the requester is still in CONDITIONAL.
-  declined : x.state ≡ states.Conditional → has declines x.issued ≡ true → OutOfStep x y
+  declined : x.state ≡ states.Conditional → has_message_with declines x.issued ≡ true → OutOfStep x y
   -- The item was received, and the responder lacks the mark. Or it was not, and the responder has the mark.
-  unmarked : is_among later y.state ≡ true → has is_received x.issued ≡ true → y.received ≡ false → OutOfStep x y
-  unreceived : is_among later y.state ≡ true → has is_received x.issued ≡ false → y.received ≡ true → OutOfStep x y
+  unmarked : is_among later y.state ≡ true → has_message_with is_received x.issued ≡ true → y.received ≡ false → OutOfStep x y
+  unreceived : is_among later y.state ≡ true → has_message_with is_received x.issued ≡ false → y.received ≡ true → OutOfStep x y
   -- The item was checked in, and the requester lacks the mark. Or it was not, and the requester has the mark.
   not_yet_checked_in : y.state ≡ states.CheckedIn → x.checked_in ≡ false → OutOfStep x y
   checked_in_early : (y.state ≡ states.CheckedIn → ⊥) → x.checked_in ≡ true → OutOfStep x y

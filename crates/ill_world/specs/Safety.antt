@@ -6,7 +6,7 @@ use Rattle.ill_values.specs.declared.apdu.Apdu.{Apdu}
 use Rattle.ill_core.specs.declared.state.State.TheVariants.{Cancelled, NotSupplied}
 use Rattle.ill_core.specs.State.{is_among}
 use Rattle.ill_core.specs.Bodies.{is_shipped, grant_in}
-use Rattle.ill_core.specs.Issued.{message, has}
+use Rattle.ill_core.specs.Issued.{message, has_message_with}
 use Rattle.ill_core.specs.Requester.{later}
 use Rattle.ill_saved.specs.declared.side.Side.{Side}
 use Rattle.ill_saved.specs.Side.{state_of, due_date_of, issued_of}
@@ -24,7 +24,7 @@ EndsAlike requester responder =
 -- If the requester is in SHIPPED or later, the responder has issued a Shipped.
 abbrev pub WasShipped : Side → Side → Type 0
 WasShipped requester responder =
-    is_among later (state_of requester) ≡ true → has is_shipped (issued_of responder) ≡ true
+    is_among later (state_of requester) ≡ true → has_message_with is_shipped (issued_of responder) ≡ true
 
 -- One of `apdus` is a Shipped or a Renew-Answer yes with the date `due`.
 abbrev pub Grants : List Apdu → Date → Type 0

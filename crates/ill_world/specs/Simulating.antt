@@ -17,12 +17,12 @@ use Rattle.ill_world.specs.Play.{Play, line_at, Plays}
 -- ---- reading ahead
 
 -- The call that reads ahead loses no byte of the text. It returns true if bytes are ahead now, and false at the end.
-abbrev pub Fills : List ℕ → List ℕ → Option (List ℕ) → Option (List ℕ) → Result Bool SimFault → Type 0
-Fills before ahead old new (Ok true) =
+abbrev pub ReadsAhead : List ℕ → List ℕ → Option (List ℕ) → Option (List ℕ) → Result Bool SimFault → Type 0
+ReadsAhead before ahead old new (Ok true) =
     Consumes (prepend_known before old) (prepend_known ahead new) [] × (1 ≤ length ahead)
-Fills before ahead old new (Ok false) =
+ReadsAhead before ahead old new (Ok false) =
     Consumes (prepend_known before old) (prepend_known ahead new) [] × IsAtEnd (prepend_known ahead new)
-Fills before ahead old new (Err fault) =
+ReadsAhead before ahead old new (Err fault) =
     (fault ≡ Read) × Consumes (prepend_known before old) (prepend_known ahead new) [] × (ahead ≡ [])
 
 -- If the reader failed, no bytes are ahead.

@@ -6,7 +6,7 @@ use Rattle.ill_world.specs.declared.fault.SimFault.{SimFault}
 use Rattle.ill_world.specs.World.{Parties, first_world, happens, run_of}
 use Rattle.ill_world.specs.Script.{meaning}
 use Rattle.ill_world.specs.Trace.{line}
-use Rattle.ill_world.specs.Play.{Play, Said, ends, breaks_off, says_on, trace_from, Plays}
+use Rattle.ill_world.specs.Play.{Play, Said, end_reading, broken_reading, reading_from, trace_from, Plays}
 
 -- In the play of two sides each line has its own meaning. No value is carried from line to line.
 abbrev pub two_sides : Play Parties Event (Unit {0})
@@ -18,11 +18,11 @@ two_sides = record {
 
 -- Returns the reading of a whole text.
 abbrev pub script : List ℕ → Said Event
-script text = says_on two_sides (ends two_sides) tt 1 text
+script text = reading_from two_sides (end_reading two_sides) tt 1 text
 
 -- Returns the reading of a text at whose end the reader failed.
 abbrev pub script_read : List ℕ → Said Event
-script_read text = says_on two_sides breaks_off tt 1 text
+script_read text = reading_from two_sides broken_reading tt 1 text
 
 -- Returns the trace of `events`, from two idle sides of `txn` on.
 abbrev pub trace_of : Qualifiers → List Event → List ℕ

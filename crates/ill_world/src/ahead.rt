@@ -1,7 +1,7 @@
 //! Bytes are read ahead, in pieces.
 
 ghost use Rattle.std.specs.Prelude.{◌≡◌, ◌≤◌, ℕ, List, [], length, drop, slice_range};
-ghost use Rattle.ill_world.specs.Simulating.{Fills};
+ghost use Rattle.ill_world.specs.Simulating.{ReadsAhead};
 
 use crate::fault::SimFault;
 use std::io::Read;
@@ -55,7 +55,7 @@ impl Ahead {
 
     /// Reads a piece if no bytes are ahead. Returns true if bytes are ahead now, and false if the text has ended.
     pub fn fill<R: Read>(&mut self, reader: &mut R) -> Result<bool, SimFault>
-        ensures { Fills self.old self.new (R.remaining reader.old) (R.remaining reader.new) result }
+        ensures { ReadsAhead self.old self.new (R.remaining reader.old) (R.remaining reader.new) result }
     {
         if self.start < self.end {
             return Ok(true);

@@ -32,7 +32,7 @@ ghost use Rattle.ill_world.specs.Round.{round_of, CanAnswer, AreInStep};
 ghost use Rattle.ill_world.specs.DeskRound.{desk_round_of};
 ghost use Rattle.ill_world.specs.Night.{night_of, AreInStepOrAtRest};
 ghost use Rattle.ill_world.specs.DeskNight.{desk_night_of};
-ghost use Rattle.ill_world.specs.DeskSafety.{ArrivesAt, DesksStand, IsRunOfEach, IsSafeDeskRun, IsAgreeingDeskRun};
+ghost use Rattle.ill_world.specs.DeskSafety.{ArrivesAt, DesksInvariant, IsRunOfEach, IsSafeDeskRun, IsAgreeingDeskRun};
 
 use crate::laws;
 
@@ -42,9 +42,9 @@ pub fn desks_show_what_they_hold()
         × ProjectsTo w.responder txn (project txn w).responder }
 {}
 
-/// If two desks satisfy `DesksStand`, an event is one event of a transaction, or leaves the projection unchanged.
+/// If two desks satisfy `DesksInvariant`, an event is one event of a transaction, or leaves the projection unchanged.
 pub fn desk_events_are_events()
-    ensures { (txn : Qualifiers) (w : DeskParties) (event : DeskEvent) → DesksStand w →
+    ensures { (txn : Qualifiers) (w : DeskParties) (event : DeskEvent) → DesksInvariant w →
         Projects txn w event }
 {
     ill_saved::laws::rows_grow();
@@ -52,11 +52,11 @@ pub fn desk_events_are_events()
     ill_core::laws::responder_is_quiet();
 }
 
-/// Two desks that hold nothing satisfy `DesksStand`, and every event keeps it.
+/// Two desks that hold nothing satisfy `DesksInvariant`, and every event keeps it.
 pub fn desks_stand()
-    ensures first { DesksStand first_desks }
-    ensures after { (w : DeskParties) (event : DeskEvent) → DesksStand w →
-        DesksStand (desks_happen w event).1 }
+    ensures first { DesksInvariant first_desks }
+    ensures after { (w : DeskParties) (event : DeskEvent) → DesksInvariant w →
+        DesksInvariant (desks_happen w event).1 }
 {
     laws::world_stands();
     ill_saved::laws::rows_grow();
@@ -88,36 +88,36 @@ pub fn every_desk_run_agrees()
     laws::every_world_agrees();
 }
 
-/// If two desks satisfy `DesksStand`, an event keeps or raises the requester's due date in each transaction.
+/// If two desks satisfy `DesksInvariant`, an event keeps or raises the requester's due date in each transaction.
 pub fn due_dates_stay_at_desks()
-    ensures { (txn : Qualifiers) (w : DeskParties) (event : DeskEvent) → DesksStand w →
+    ensures { (txn : Qualifiers) (w : DeskParties) (event : DeskEvent) → DesksInvariant w →
         KeepsDates (project txn w) (plain event) (project txn (desks_happen w event).1) }
 {
     desk_events_are_events();
     laws::due_dates_stay();
 }
 
-/// If two desks satisfy `DesksStand`, an event that names a transaction reaches the held side, or a new one. A Request
+/// If two desks satisfy `DesksInvariant`, an event that names a transaction reaches the held side, or a new one. A Request
 /// begins a new side at the requester, and an ILL-Request at the responder. Either needs a desk that holds fewer than
 /// 1,000 sides.
 pub fn desks_reach_what_they_hold()
-    ensures { (w : DeskParties) (event : DeskEvent) → DesksStand w → ReachesSide w event }
+    ensures { (w : DeskParties) (event : DeskEvent) → DesksInvariant w → ReachesSide w event }
 {}
 
-/// If two desks satisfy `DesksStand`, one arrival of the end of a request, or of a Returned, is enough. For its
+/// If two desks satisfy `DesksInvariant`, one arrival of the end of a request, or of a Returned, is enough. For its
 /// transaction is held.
 pub fn one_arrival_at_a_desk_is_enough()
-    ensures { (w : DeskParties) (event : DeskEvent) → DesksStand w → ArrivesAt w event }
+    ensures { (w : DeskParties) (event : DeskEvent) → DesksInvariant w → ArrivesAt w event }
 {
     desk_events_are_events();
     desks_reach_what_they_hold();
     laws::one_arrival_is_enough();
 }
 
-/// If two desks satisfy `DesksStand`, few outcomes change the projection to a transaction. They are `Done`, `Saved`,
+/// If two desks satisfy `DesksInvariant`, few outcomes change the projection to a transaction. They are `Done`, `Saved`,
 /// `Sent`, `Restarted`, `Answered(Taken)` and `Faulted`. `Faulted` changes only the landed side.
 pub fn few_desk_outcomes_change()
-    ensures { (txn : Qualifiers) (w : DeskParties) (event : DeskEvent) → DesksStand w →
+    ensures { (txn : Qualifiers) (w : DeskParties) (event : DeskEvent) → DesksInvariant w →
         let after = desks_happen w event in
         DeskMayChange after.0 (project txn w) (project txn after.1) }
 {
@@ -125,9 +125,9 @@ pub fn few_desk_outcomes_change()
     laws::few_outcomes_change();
 }
 
-/// If two desks satisfy `DesksStand`, each message that was sent in a transaction stays sent, under its number.
+/// If two desks satisfy `DesksInvariant`, each message that was sent in a transaction stays sent, under its number.
 pub fn sent_stays_sent_at_desks()
-    ensures { (txn : Qualifiers) (w : DeskParties) (event : DeskEvent) → DesksStand w →
+    ensures { (txn : Qualifiers) (w : DeskParties) (event : DeskEvent) → DesksInvariant w →
         KeepsSent (project txn w) (project txn (desks_happen w event).1) }
 {
     desk_events_are_events();
@@ -188,14 +188,14 @@ pub fn no_bad_desk_trace_is_written()
         SimulatesDesks (Some text) (Some left) (Some []) (Some written) (Err OutOfMemory) → ⊥ }
 {}
 
-/// If two desks satisfy `DesksStand`, the delivery of a message is never `DeskFull`, and so in no run. A delivery to
+/// If two desks satisfy `DesksInvariant`, the delivery of a message is never `DeskFull`, and so in no run. A delivery to
 /// the requester's desk is `NotSent` in each transaction that it does not hold.
 pub fn deliveries_find_room()
-    ensures room { (w : DeskParties) (who : Who) (txn : Qualifiers) (n : ℕ) → DesksStand w →
+    ensures room { (w : DeskParties) (who : Who) (txn : Qualifiers) (n : ℕ) → DesksInvariant w →
         (desks_happen w (Deliver who txn n)).0 ≡ DeskFull → ⊥ }
     ensures run { (events : List DeskEvent) (who : Who) (txn : Qualifiers) (n : ℕ) →
         (desks_happen (desks_run first_desks events) (Deliver who txn n)).0 ≡ DeskFull → ⊥ }
-    ensures unheld { (w : DeskParties) (txn : Qualifiers) (n : ℕ) → DesksStand w →
+    ensures unheld { (w : DeskParties) (txn : Qualifiers) (n : ℕ) → DesksInvariant w →
         found_by txn_held txn w.requester.live.held ≡ None →
         (desks_happen w (Deliver Requester txn n)).0 ≡ Plain NotSent }
 {
@@ -204,11 +204,11 @@ pub fn deliveries_find_room()
 }
 
 /// A round of two desks is a round of both sides in each transaction. After it both sides are in step, if the responder
-/// can answer a Conditional-Reply no. This holds if the desks satisfy `DesksStand`, and so after any events of a run.
+/// can answer a Conditional-Reply no. This holds if the desks satisfy `DesksInvariant`, and so after any events of a run.
 pub fn one_desk_round_is_enough()
-    ensures each { (txn : Qualifiers) (w : DeskParties) → DesksStand w →
+    ensures each { (txn : Qualifiers) (w : DeskParties) → DesksInvariant w →
         project txn (desks_run w (desk_round_of w)) ≡ run_of (project txn w) (round_of (project txn w)) }
-    ensures in_step { (txn : Qualifiers) (w : DeskParties) → DesksStand w →
+    ensures in_step { (txn : Qualifiers) (w : DeskParties) → DesksInvariant w →
         CanAnswer (project txn w).responder.live → AreInStep (project txn (desks_run w (desk_round_of w))) }
     ensures run { (txn : Qualifiers) (events : List DeskEvent) → let w = desks_run first_desks events in
         CanAnswer (project txn w).responder.live → AreInStep (project txn (desks_run w (desk_round_of w))) }
@@ -220,12 +220,12 @@ pub fn one_desk_round_is_enough()
 }
 
 /// A night of two desks is a night of both sides in each transaction. After it both sides are in step or at rest, if
-/// the responder can answer a Conditional-Reply no. This holds if the desks satisfy `DesksStand`, and so after any
+/// the responder can answer a Conditional-Reply no. This holds if the desks satisfy `DesksInvariant`, and so after any
 /// events of a run.
 pub fn one_desk_night_is_enough()
-    ensures each { (txn : Qualifiers) (w : DeskParties) → DesksStand w →
+    ensures each { (txn : Qualifiers) (w : DeskParties) → DesksInvariant w →
         project txn (desks_run w (desk_night_of w)) ≡ run_of (project txn w) (night_of (project txn w)) }
-    ensures in_step { (txn : Qualifiers) (w : DeskParties) → DesksStand w →
+    ensures in_step { (txn : Qualifiers) (w : DeskParties) → DesksInvariant w →
         CanAnswer (project txn w).responder.live → AreInStepOrAtRest (project txn (desks_run w (desk_night_of w))) }
     ensures run { (txn : Qualifiers) (events : List DeskEvent) → let w = desks_run first_desks events in
         CanAnswer (project txn w).responder.live → AreInStepOrAtRest (project txn (desks_run w (desk_night_of w))) }

@@ -7,7 +7,7 @@ ghost use Rattle.ill_world.specs.World.{party, who_of};
 ghost use Rattle.ill_world.specs.Desks as model;
 ghost use Rattle.ill_world.specs.Desks.{plain, project, Projects};
 ghost use Rattle.ill_world.specs.Agreement.{KeepsDates};
-ghost use Rattle.ill_world.specs.DeskSafety.{DesksStand, ArrivesAt, IsRunOfEach, IsSafeDeskRun, IsAgreeingDeskRun};
+ghost use Rattle.ill_world.specs.DeskSafety.{DesksInvariant, ArrivesAt, IsRunOfEach, IsSafeDeskRun, IsAgreeingDeskRun};
 ghost use Rattle.ill_world.specs.PartyRefinement.{GivesOutcome};
 ghost use Rattle.ill_world.specs.Trace.{desk_line};
 ghost use Rattle.ill_world.specs.Round.{Performs, CanAnswer, AreInStep};
@@ -35,7 +35,7 @@ impl Model for DeskWorld {
 
     ghost view = { λ w. record { requester = w.requester; responder = w.responder } };
 
-    ghost invariant = { λ w. DesksStand (record { requester = w.requester; responder = w.responder }) };
+    ghost invariant = { λ w. DesksInvariant (record { requester = w.requester; responder = w.responder }) };
 }
 
 impl DeskWorld {

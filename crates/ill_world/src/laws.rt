@@ -33,17 +33,17 @@ ghost use Rattle.ill_world.specs.Changes.{MayChange, OnlyLandedChanges, KeepsSen
 ghost use Rattle.ill_world.specs.Round.{round_of, CanAnswer, AreInStep, InStep, OutOfStep};
 ghost use Rattle.ill_world.specs.Night.{is_over, wants_sending, asks, night_of, AreAtRest, AreInStepOrAtRest, AtRest};
 ghost use Rattle.ill_world.specs.BadNights.{MisjudgesEnd, MisjudgesSending, MisjudgesAsking, Restless};
-ghost use Rattle.ill_world.specs.Invariant.{WasSent, RequesterStands, ResponderStands, Invariant};
+ghost use Rattle.ill_world.specs.Invariant.{WasSent, RequesterInvariant, ResponderInvariant, Invariant};
 
-/// Every wish of a requester keeps `RequesterStands`, and so does every delivery of a message that the responder has
+/// Every wish of a requester keeps `RequesterInvariant`, and so does every delivery of a message that the responder has
 /// sent.
 pub fn requester_stands()
     ensures acts { (txn : Qualifiers) (x new : RequesterRecord) (wish : Wish)
         (sent : List (Option Apdu)) → requester_actions.acts x wish ≡ Ok new →
-        RequesterStands txn x sent → RequesterStands txn new sent }
+        RequesterInvariant txn x sent → RequesterInvariant txn new sent }
     ensures takes { (txn : Qualifiers) (x : RequesterRecord) (a : Apdu)
         (sent : List (Option Apdu)) → WasSent sent a →
-        RequesterStands txn x sent → RequesterStands txn (requester_deliveries.takes x a).1 sent }
+        RequesterInvariant txn x sent → RequesterInvariant txn (requester_deliveries.takes x a).1 sent }
 {
     ill_core::laws::requester_keeps_txn();
     ill_core::laws::requester_keeps_rules();
@@ -54,15 +54,15 @@ pub fn requester_stands()
     ill_core::laws::requester_issues();
 }
 
-/// Every deed of a responder keeps `ResponderStands`, and so does every delivery of a message that the requester has
+/// Every deed of a responder keeps `ResponderInvariant`, and so does every delivery of a message that the requester has
 /// sent.
 pub fn responder_stands()
     ensures acts { (txn : Qualifiers) (y new : ResponderRecord) (deed : Deed) (today : Date)
         (sent : List (Option Apdu)) → responder_actions.acts y deed today ≡ Ok new →
-        ResponderStands txn y sent → ResponderStands txn new sent }
+        ResponderInvariant txn y sent → ResponderInvariant txn new sent }
     ensures takes { (txn : Qualifiers) (y : ResponderRecord) (a : Apdu)
         (sent : List (Option Apdu)) → WasSent sent a →
-        ResponderStands txn y sent → ResponderStands txn (responder_deliveries.takes y a).1 sent }
+        ResponderInvariant txn y sent → ResponderInvariant txn (responder_deliveries.takes y a).1 sent }
 {
     ill_core::laws::responder_keeps_txn();
     ill_core::laws::responder_keeps_rules();

@@ -9,7 +9,7 @@ ghost use Rattle.ill_core.specs.declared.requester.Wish.{Wish};
 ghost use Rattle.ill_core.specs.declared.state.State.TheVariants as states;
 ghost use Rattle.ill_core.specs.declared.taking.Taking.TheVariants.{Taken};
 ghost use Rattle.ill_core.specs.State.{is_among};
-ghost use Rattle.ill_core.specs.Numbers.{is_the};
+ghost use Rattle.ill_core.specs.Numbers.{is_equal_number};
 ghost use Rattle.ill_core.specs.Bodies.{is_requesters};
 ghost use Rattle.ill_core.specs.Issued.{is_same_txn, IssuesNext};
 ghost use Rattle.ill_core.specs.Requester.{RequesterRecord, IsRequester, later, last_cancel};
@@ -128,7 +128,7 @@ pub fn requester_follows()
         is_among (states.Pending ∷ states.Conditional ∷ states.CancelPending ∷ states.NotSupplied ∷ [])
         x.state ≡ true → LeadsTo (states.NotSupplied ∷ []) (takes x a) }
     ensures cancelled { (x : RequesterRecord) (a : Apdu) (c : ℕ) → is_same_txn a.txn x.txn ≡ true →
-        a.body ≡ types.CancelReply c true → is_the c (last_cancel x) ≡ true →
+        a.body ≡ types.CancelReply c true → is_equal_number c (last_cancel x) ≡ true →
         is_among (states.CancelPending ∷ states.Cancelled ∷ []) x.state ≡ true →
         LeadsTo (states.Cancelled ∷ []) (takes x a) }
 {}

@@ -17,7 +17,7 @@ ghost use Rattle.ill_core.specs.ResponderActions.{acts};
 ghost use Rattle.ill_core.specs.ResponderDeliveries.{takes};
 ghost use Rattle.ill_values.specs.declared.apdu.Body.{Body};
 ghost use Rattle.ill_core.specs.ResponderNotices.{WasAsked, HasAnsweredLast, RecallFits, ShipsBeforeRecall, GrantsRise, OverdueFits, GrantsBeforeOverdue, has_heard, reopens};
-ghost use Rattle.ill_core.specs.ResponderEvidence.{Fact, Claims, IsEvidence, KeepsRequest, IssuesUnfilled, StaysLater, Ends, EntersByEnd, EndsOnce, Question, MayCancel, MayRenew, asks, waits, last_asked, AnswersLast, KeepsLast, TakesNew, AnswersOnce, LeadsTo};
+ghost use Rattle.ill_core.specs.ResponderEvidence.{Fact, Claims, IsEvidence, KeepsRequest, IssuesUnfilled, StaysLater, Ends, EntersByEnd, EndsOnce, Question, MayCancel, MayRenew, asks, is_question_open, last_asked, AnswersLast, KeepsLast, TakesNew, AnswersOnce, LeadsTo};
 
 /// A deed issues exactly one APDU, with the next number. A message issues none, or, if it is a Conditional-Reply no,
 /// one ILL-Answer unfilled. A responder issues at most 255 APDUs.
@@ -130,7 +130,7 @@ pub fn responder_keeps_last()
 pub fn responder_answers_once()
     ensures acts { (question : Question) (y new : ResponderRecord) (deed : Deed) (today : Date) →
         acts y deed today ≡ Ok new →
-        implies (waits question y.state) (is_some (last_asked question y)) ≡ true →
+        implies (is_question_open question y.state) (is_some (last_asked question y)) ≡ true →
         AnswersOnce question y → AnswersOnce question new }
     ensures takes { (question : Question) (y : ResponderRecord) (a : Apdu) →
         AnswersOnce question y → AnswersOnce question (takes y a).1 }
@@ -141,7 +141,7 @@ pub fn responder_answers_once()
 pub fn responder_shows()
     ensures acts { (y new : ResponderRecord) (deed : Deed) (today : Date) (fact : Fact) →
         acts y deed today ≡ Ok new →
-        implies (waits MayCancel y.state) (is_some y.last_cancel) ≡ true →
+        implies (is_question_open MayCancel y.state) (is_some y.last_cancel) ≡ true →
         Claims new fact → Claims y fact }
     ensures takes { (y : ResponderRecord) (a : Apdu) (fact : Fact) →
         Claims (takes y a).1 fact → Claims y fact ⊎ IsEvidence a.number a.body fact }
@@ -158,7 +158,7 @@ pub fn responder_follows()
 pub fn responder_was_asked()
     ensures acts { (question : Question) (y new : ResponderRecord) (deed : Deed) (today : Date) (number : ℕ) →
         acts y deed today ≡ Ok new →
-        implies (waits question y.state) (is_some (last_asked question y)) ≡ true →
+        implies (is_question_open question y.state) (is_some (last_asked question y)) ≡ true →
         WasAsked question new number → WasAsked question y number }
     ensures takes { (question : Question) (y : ResponderRecord) (a : Apdu) (number : ℕ) →
         WasAsked question (takes y a).1 number →
@@ -170,7 +170,7 @@ pub fn responder_was_asked()
 pub fn responder_has_answered_last()
     ensures acts { (question : Question) (y new : ResponderRecord) (deed : Deed) (today : Date) →
         acts y deed today ≡ Ok new →
-        implies (waits question y.state) (is_some (last_asked question y)) ≡ true →
+        implies (is_question_open question y.state) (is_some (last_asked question y)) ≡ true →
         HasAnsweredLast question y → HasAnsweredLast question new }
     ensures takes { (question : Question) (y : ResponderRecord) (a : Apdu) →
         HasAnsweredLast question y → HasAnsweredLast question (takes y a).1 }

@@ -2,7 +2,7 @@
 
 ghost use Rattle.std.specs.Prelude.{◌≡◌, ◌==◌, ◌&&◌, Ok, List, filter, option_copied};
 ghost use Rattle.ill_core.specs.Bodies.{is_cancel, is_renew};
-ghost use Rattle.ill_core.specs.Issued.{was};
+ghost use Rattle.ill_core.specs.Issued.{is_message_with};
 ghost use Rattle.ill_core.specs.Dates.{is_due_on, is_after_due};
 ghost use Rattle.ill_core.specs.Tables.{are_met};
 ghost use Rattle.ill_core.specs.RequesterDeliveries.{take_message};
@@ -220,7 +220,7 @@ fn is_later(requester: &Requester, date: &Option<Day>) -> bool
 
 /// Returns true if the requester issued a Cancel with `number`.
 fn was_cancel(requester: &Requester, number: Number) -> bool
-    ensures { result ≡ was is_cancel requester.now.issued number }
+    ensures { result ≡ is_message_with is_cancel requester.now.issued number }
 {
     match requester.issued.get(number) {
         Some(apdu) => matches!(apdu.body, Body::Cancel),
@@ -230,7 +230,7 @@ fn was_cancel(requester: &Requester, number: Number) -> bool
 
 /// Returns true if the requester issued a Renew with `number`.
 fn was_renew(requester: &Requester, number: Number) -> bool
-    ensures { result ≡ was is_renew requester.now.issued number }
+    ensures { result ≡ is_message_with is_renew requester.now.issued number }
 {
     match requester.issued.get(number) {
         Some(apdu) => matches!(apdu.body, Body::Renew { .. }),

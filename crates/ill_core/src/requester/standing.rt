@@ -1,7 +1,7 @@
 //! Defines the standing of a requester: the parts of its record that a row of its tables may change.
 
 ghost use Rattle.std.specs.Prelude.{◌≡◌, ◌||◌};
-ghost use Rattle.ill_core.specs.Tables.{has, next_state};
+ghost use Rattle.ill_core.specs.Tables.{has_common_bit, next_state};
 ghost use Rattle.ill_core.specs.RequesterTables.{held_after, due_after};
 ghost use Rattle.ill_core.specs.declared.requester.standing.TheConstants.{MARK};
 
@@ -36,7 +36,7 @@ impl Standing {
     pub fn after<K>(self, row: &Row<K>, number: Number, date: Option<Day>) -> Standing
         ensures state { result.state ≡ next_state row.now.3 self.state }
         ensures held { result.held ≡ held_after row.now.4 self.held number }
-        ensures checked_in { result.checked_in ≡ (has row.now.4 MARK || self.checked_in) }
+        ensures checked_in { result.checked_in ≡ (has_common_bit row.now.4 MARK || self.checked_in) }
         ensures due { result.due ≡ due_after row.now.4 self.due date }
     {
         let changes = row.4;

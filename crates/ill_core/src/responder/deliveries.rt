@@ -2,7 +2,7 @@
 
 ghost use Rattle.std.specs.Prelude.{◌≡◌, true, OnOk, OnErr, IfErr, None, filter, option_copied};
 ghost use Rattle.ill_core.specs.Bodies.{names_conditions};
-ghost use Rattle.ill_core.specs.Issued.{is_same_txn, was};
+ghost use Rattle.ill_core.specs.Issued.{is_same_txn, is_message_with};
 ghost use Rattle.ill_core.specs.Tables.{are_met};
 ghost use Rattle.ill_core.specs.ResponderDeliveries.{MayWantMemory, takes_memory, take_message};
 ghost use Rattle.ill_core.specs.ResponderTables.{request_after, issued_after, number_refusal, IsRefused, reply_guards, past_guards, delivery_guards, delivery_rows, delivery_row};
@@ -195,7 +195,7 @@ fn past_holds(responder: &Responder, number: Number, asked: u16) -> bool
 
 /// Returns true if message `number` of the responder is an ILL-Answer conditional.
 fn was_conditional(responder: &Responder, number: Number) -> bool
-    ensures { result ≡ was names_conditions responder.now.issued number }
+    ensures { result ≡ is_message_with names_conditions responder.now.issued number }
 {
     match responder.issued.get(number) {
         Some(apdu) => names_conditions(&apdu.body),

@@ -4,7 +4,7 @@ ghost use Rattle.std.specs.Prelude.{◌≡◌, false, not, ◌&&◌, is_some};
 ghost use Rattle.std.specs.List.{list_all, filter_map, count_by};
 ghost use Rattle.ill_core.specs.Bodies.{is_requesters, is_shipped};
 ghost use Rattle.ill_core.specs.Issued.{granted_day, is_none};
-ghost use Rattle.ill_core.specs.Responder.{rises, parts_fit, issued_fits, issued_keeps_rules, is_request_of, is_named, are_rising, ships_first, ends_with_conditions};
+ghost use Rattle.ill_core.specs.Responder.{is_after_last, parts_fit, issued_fits, issued_keeps_rules, is_request_of, is_named, are_rising, ships_first, ends_with_conditions};
 
 use super::{Standing, is_later};
 use crate::body::{
@@ -184,7 +184,7 @@ pub fn dates_rise(apdus: &[Apdu]) -> bool
 
 /// Returns true if `found` is absent, or `last` is absent, or `found` is after `last`.
 fn may_follow(found: &Option<Day>, last: &Option<Day>) -> bool
-    ensures { result ≡ rises last.now found.now }
+    ensures { result ≡ is_after_last last.now found.now }
 {
     match (found, last) {
         (Some(due), Some(last)) => *last < *due,

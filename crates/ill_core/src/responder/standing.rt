@@ -1,7 +1,7 @@
 //! Defines the standing of a responder: the parts of its record that a row of either table may change.
 
 ghost use Rattle.std.specs.Prelude.{◌≡◌, ◌||◌};
-ghost use Rattle.ill_core.specs.Tables.{has, next_state};
+ghost use Rattle.ill_core.specs.Tables.{has_common_bit, next_state};
 ghost use Rattle.ill_core.specs.ResponderTables.{number_after};
 ghost use Rattle.ill_core.specs.declared.responder.standing.TheConstants.{ACCEPTS, CANCELS, RENEWS, RECEIVES};
 
@@ -45,7 +45,7 @@ impl Standing {
         ensures cancel { result.last_cancel ≡
             number_after CANCELS row.now.4 self.last_cancel number }
         ensures renew { result.last_renew ≡ number_after RENEWS row.now.4 self.last_renew number }
-        ensures received { result.received ≡ (has row.now.4 RECEIVES || self.received) }
+        ensures received { result.received ≡ (has_common_bit row.now.4 RECEIVES || self.received) }
     {
         let changes = row.4;
         Standing {

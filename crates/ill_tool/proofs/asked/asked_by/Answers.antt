@@ -2,7 +2,7 @@
 use Rattle.std.proofs.Common.{◌≡◌, ◌+◌, ◌++◌, drop, ap, ◌∙◌, append_assoc, add-one}
 use Rattle.std.specs.Prelude.{slice_get}
 use Rattle.std.specs.List.{zip}
-use Rattle.ill_tool.specs.Outbox.{asked_by, asks_at}
+use Rattle.ill_tool.specs.Outbox.{asked_by, asking_bytes_at}
 use Rattle.ill_tool.proofs.OutboxLemmas.{asking_split_at}
 use Rattle.ill_tool.proofs.asked.asked_by.Goals as goal
 
@@ -15,7 +15,7 @@ loop-place-preserved g c =
     let verdicts = c.args.verdicts.now in
     let place = c.loop-place.place in
     let so_far = c.loop-place.asked.items in
-    let here = asks_at live (slice_get mails place) (slice_get verdicts place) in
+    let here = asking_bytes_at live (slice_get mails place) (slice_get verdicts place) in
     let left = asked_by live (zip (drop (place + 1) mails) (drop (place + 1) verdicts)) in
     let further : here ++ left ≡ asked_by live (zip (drop place mails) (drop place verdicts)) =
     ap (λ n. here ++ asked_by live (zip (drop n mails) (drop n verdicts))) (add-one place)

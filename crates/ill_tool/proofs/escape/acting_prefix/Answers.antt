@@ -14,4 +14,4 @@ pub returns-in_default-split_first : goal.returns-in_default-split_first
 returns-in_default-split_first c =
     let none = nil_from_length c.in-Some.rest.now c.in_default-split_first.ensures.cases in
     first_of_two_stays c.args._escaping c.args.first c.in-Some.second.now c.args.after.now c.in-Some.rest.now
-    c.in-Some.ensures.cases.0 none (sym c.two_act.ensures ∙ c.if-two_act.false)
+    c.in-Some.ensures.cases.0 none (sym c.is_acting_pair.ensures ∙ c.if-is_acting_pair.false)

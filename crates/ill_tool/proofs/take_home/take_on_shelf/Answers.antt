@@ -2,7 +2,7 @@
 use Rattle.std.proofs.Common.{◌≡◌, inr, Ok, Err, refl, ap, subst}
 use Rattle.ill_tool.specs.Input.{ReadsInput}
 use Rattle.ill_tool.specs.declared.take_home.TakesHome.{TakesHome}
-use Rattle.ill_tool.specs.Shelf.{ShelfTaking, shelf_taking, takes_home}
+use Rattle.ill_tool.specs.Shelf.{ShelfTaking, shelf_taking, TakesAtHome}
 use Rattle.ill_tool.proofs.ShelfLemmas.{taken_home}
 use Rattle.ill_tool.proofs.take_home.take_on_shelf.Goals as goal
 
@@ -22,7 +22,7 @@ returns-in-Ok g c =
     inr (
       Ok c.in-Ok.field-0,
       view ended,
-      subst (λ (first : ShelfTaking). ReadsInput takes_home left rest first (Ok c.in-Ok.field-0) (view ended)) start taken,
+      subst (λ (first : ShelfTaking). ReadsInput TakesAtHome left rest first (Ok c.in-Ok.field-0) (view ended)) start taken,
       refl,
       refl,
     )
@@ -42,7 +42,7 @@ returns-in-Err g c =
     inr (
       Err c.in-Err.fault,
       view ended,
-      subst (λ (first : ShelfTaking). ReadsInput takes_home left rest first (Err c.in-Err.fault) (view ended)) start taken,
+      subst (λ (first : ShelfTaking). ReadsInput TakesAtHome left rest first (Err c.in-Err.fault) (view ended)) start taken,
       refl,
       refl,
     )

@@ -1,13 +1,13 @@
 -- Proves the clauses `stands` and `run` of `one_round_is_enough` (`src/laws.rt`). By the tables `has_heard` holds of
 -- each message of a round, so that the records are in step.
 use Rattle.ill_world.specs.World.{first_world}
-use Rattle.ill_world.proofs.OneRound.{RowsHear, one_round}
+use Rattle.ill_world.proofs.OneRound.{TransitionsHear, one_round}
 use Rattle.ill_world.proofs.Runs.{run_stands}
 use Rattle.ill_world.proofs.laws.one_round_is_enough.Goals as goal
 
 pub returns-clause-stands : goal.returns-clause-stands
 returns-clause-stands c =
-    let rows : RowsHear = record {
+    let rows : TransitionsHear = record {
       requester_txn = c.requester_keeps_txn.ensures.takes;
       requester_issues = c.requester_issues.ensures.takes;
       requester_takes = c.requester_has_heard.ensures.takes;

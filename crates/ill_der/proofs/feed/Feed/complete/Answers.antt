@@ -5,7 +5,7 @@ use Rattle.ill_der.specs.declared.fault.DerFault.{DerFault}
 use Rattle.ill_der.specs.ShortForm.{apdu_at}
 use Rattle.ill_der.specs.Stream.{IfShort}
 use Rattle.ill_der.specs.Handling.{HandlesEach}
-use Rattle.ill_der.specs.FeedView.{held_of, HandlesFirst, GoesOn}
+use Rattle.ill_der.specs.FeedView.{held_of, HandlesFirst, HandlesRest}
 use Rattle.ill_der.proofs.FeedLemmas.{closing_some, is_open, holds_prefix, holds_still, short_held, goes_on_from, goes_on_after}
 use Rattle.ill_der.proofs.FeedLemmas.{goes_on_alone, all_left, fault_of_all, fails_first, still_held}
 use Rattle.ill_der.proofs.feed.Feed.complete.Goals as goal
@@ -77,7 +77,7 @@ returns-in-Ok-Ok g c =
     let opened = is_open closed (take size old) c.args.self.now c.self.view_is c.requires in
     let on =
     subst (λ (k : Option DerFault).
-    GoesOn handles (held_of k (take size new))
+    HandlesRest handles (held_of k (take size new))
     (take (length c.args.piece.now - (c.in-Ok-Ok.end - size)) (drop (c.in-Ok-Ok.end - size) c.args.piece.now))
     (c.handle_first.new.handler, c.handle_first.new.context) c.go_on-in-Ok-Ok.result c.go_on-in-Ok-Ok.new.self
     (c.go_on-in-Ok-Ok.new.handler, c.go_on-in-Ok-Ok.new.context))

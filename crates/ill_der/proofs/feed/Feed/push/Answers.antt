@@ -4,7 +4,7 @@ use Rattle.std.proofs.Common.{◌≡◌, List, ◌++◌, ap, sym, subst, ◌∙�
 use Rattle.ill_values.specs.declared.apdu.Apdu.{Apdu}
 use Rattle.ill_der.specs.declared.feed.Collector.{Collector}
 use Rattle.ill_der.specs.Feed.{Feeds}
-use Rattle.ill_der.specs.FeedView.{Keeps}
+use Rattle.ill_der.specs.FeedView.{CollectsApdu}
 use Rattle.ill_der.proofs.FeedLemmas.{all_kept, fails_at_apdu}
 use Rattle.ill_der.proofs.feed.Feed.push.Goals as goal
 
@@ -14,12 +14,12 @@ returns-in-Ok c =
     let empty : Collector × Unit {0} = (record { apdus = c.new.result }, tt) in
     let full : Collector × Unit {0} = (c.each.new.handler, c.each.new.context) in
     let items = λ (s : Collector × Unit {0}). s.0.apdus.items in
-    let kept = all_kept Keeps items (λ before after apdu keeps. keeps) empty full is.1.0 is.1.2 in
+    let kept = all_kept CollectsApdu items (λ before after apdu keeps. keeps) empty full is.1.0 is.1.2 in
     let all : c.each.new.handler.apdus.items ≡ is.1.0 = kept ∙ ap (λ (x : List Apdu). x ++ is.1.0) c.new.ensures.items in
     (subst (λ (x : List Apdu). Feeds c.args.self.now c.args.piece.now x c.each.new.self) (sym all) is.1.1, is.0)
 
 pub returns-in-Err : goal.returns-in-Err
 returns-in-Err c = (
   c.in-Err.ensures.0,
-  fails_at_apdu Keeps c.args.self.now c.args.piece.now _ _ c.in-Err.fault c.in-Err.ensures.1,
+  fails_at_apdu CollectsApdu c.args.self.now c.args.piece.now _ _ c.in-Err.fault c.in-Err.ensures.1,
 )

@@ -1,7 +1,7 @@
 -- Proves the contract of `ManySides::act_first` (`src/many_sides.rt`).
 -- The action leads to the new side by a transition from the idle side of the transaction.
 use Rattle.std.proofs.Common.{rules, ◌≡◌, true, None, Ok, length, nat_lt}
-use Rattle.ill_saved.specs.Side.{acted, acts, txn_of, idle_side, IsStep}
+use Rattle.ill_saved.specs.Side.{acted, acts, txn_of, idle_side, IsSideTransition}
 use Rattle.ill_saved.specs.Sides.{most_sides, put_refusal}
 use Rattle.ill_saved.specs.ManySides.{sides_held}
 use Rattle.ill_saved.proofs.Contents.{first_may}
@@ -11,7 +11,7 @@ use Rattle.ill_saved.proofs.many_sides.ManySides.act_first.Goals as goal
 -- The side that has begun may be put. A transition led to it from the idle side of its transaction.
 may : (c : In_ok-side)
     → (put_refusal (sides_held c.args.self.now) c.in_ok-side.side ≡ None)
-    × IsStep (idle_side c.args.self.now.role (txn_of c.in_ok-side.side)) c.in_ok-side.side
+    × IsSideTransition (idle_side c.args.self.now.role (txn_of c.in_ok-side.side)) c.in_ok-side.side
 may c =
     let live = c.args.self.now in
     let room : nat_lt (length live.held) most_sides ≡ true = search rules in

@@ -1,7 +1,7 @@
 -- Proves the contract of `ManySides::hold` (`src/many_sides.rt`).
 -- A side that began by a transition is backed by the sides that back the others.
 use Rattle.std.proofs.Common.{rules, ◌≡◌, ◌++◌, ◌+◌, ◌∷◌, [], length, length-append, None, ap, sym, subst, ◌∙◌}
-use Rattle.ill_saved.specs.Side.{txn_of, idle_side, IsStep}
+use Rattle.ill_saved.specs.Side.{txn_of, idle_side, IsSideTransition}
 use Rattle.ill_saved.specs.Sides.{put_refusal, put_last}
 use Rattle.ill_saved.specs.Holdings.{StaysBacked}
 use Rattle.ill_saved.specs.ManySides.{with_held, AreBackable, ManyBack, held_of, many_sides}
@@ -16,8 +16,8 @@ invariant_of-self-in-Ok c =
     let seen = as_seen all counted c.args.self.now c.self.invariant.0 c.self.view_is in
     let may : put_refusal all c.args.side ≡ None = ap (λ held. put_refusal held c.args.side) seen ∙ c.requires.may in
     let role = ap (λ live. live.role) c.self.view_is in
-    let row : IsStep (idle_side all.role (txn_of c.args.side)) c.args.side =
-    subst (λ r. IsStep (idle_side r (txn_of c.args.side)) c.args.side) (sym role) c.requires.row in
+    let row : IsSideTransition (idle_side all.role (txn_of c.args.side)) c.args.side =
+    subst (λ r. IsSideTransition (idle_side r (txn_of c.args.side)) c.args.side) (sym role) c.requires.row in
     let put : c.put.new.self ≡ put_last all c.args.side = search rules in
     let pushed : c.push.new.self.items ≡ counted ++ 0 ∷ [] = search rules in (
       ap length pushed ∙ length-append counted (0 ∷ []) ∙ ap (λ n. n + 1) c.self.invariant.0
@@ -48,8 +48,8 @@ returns-in_ok-push-in-Ok-clause-backed c =
     let seen = as_seen all counted c.args.self.now c.self.invariant.0 c.self.view_is in
     let may : put_refusal all c.args.side ≡ None = ap (λ held. put_refusal held c.args.side) seen ∙ c.requires.may in
     let role = ap (λ live. live.role) c.self.view_is in
-    let row : IsStep (idle_side all.role (txn_of c.args.side)) c.args.side =
-    subst (λ r. IsStep (idle_side r (txn_of c.args.side)) c.args.side) (sym role) c.requires.row in
+    let row : IsSideTransition (idle_side all.role (txn_of c.args.side)) c.args.side =
+    subst (λ r. IsSideTransition (idle_side r (txn_of c.args.side)) c.args.side) (sym role) c.requires.row in
     let put : c.put.new.self ≡ put_last all c.args.side = search rules in
     let pushed : c.push.new.self.items ≡ counted ++ 0 ∷ [] = search rules in
     subst (λ old. StaysBacked many_sides ManyBack old

@@ -3,7 +3,7 @@
 use Rattle.std.proofs.Common.{rules, ◌≡◌, true, None, Ok, length, nat_lt, ap}
 use Rattle.ill_core.specs.declared.taking.Taking.TheVariants.{Taken}
 use Rattle.ill_core.specs.Bodies.{is_ill_request}
-use Rattle.ill_saved.specs.Side.{took, takes, txn_of, idle_side, IsStep}
+use Rattle.ill_saved.specs.Side.{took, takes, txn_of, idle_side, IsSideTransition}
 use Rattle.ill_saved.specs.Sides.{most_sides, put_refusal}
 use Rattle.ill_saved.specs.ManySides.{sides_held}
 use Rattle.ill_saved.proofs.Contents.{first_may, first_begins}
@@ -13,7 +13,7 @@ use Rattle.ill_saved.proofs.many_sides.ManySides.take_first.Goals as goal
 -- The side that has begun may be put. A transition led to it from the idle side of its transaction.
 may : (c : In_ok-side)
     → (put_refusal (sides_held c.args.self.now) c.in_ok-side.side ≡ None)
-    × IsStep (idle_side c.args.self.now.role (txn_of c.in_ok-side.side)) c.in_ok-side.side
+    × IsSideTransition (idle_side c.args.self.now.role (txn_of c.in_ok-side.side)) c.in_ok-side.side
 may c =
     let live = c.args.self.now in
     let a = c.args.apdu.now in

@@ -2,7 +2,7 @@
 -- Only the entry of the transaction changes, and its side keeps the transaction and the role.
 use Rattle.std.proofs.Common.{subst}
 use Rattle.std.specs.Map.{values_of}
-use Rattle.ill_saved.specs.Sides.{OnlyThat}
+use Rattle.ill_saved.specs.Sides.{ChangesOnlySideOf}
 use Rattle.ill_saved.specs.Side.{Takes}
 use Rattle.ill_saved.proofs.DeskEntry.{filed_on, only_that, takes_row}
 use Rattle.ill_saved.proofs.sides.Sides.take.Goals as goal
@@ -18,7 +18,7 @@ invariant_of-self c =
 -- Only the side of the APDU's transaction takes it.
 pub returns : goal.returns
 returns c =
-    subst (λ held. OnlyThat (λ old answer new. Takes old c.args.apdu.now answer new) c.args.apdu.now.txn held c.take_among.result
+    subst (λ held. ChangesOnlySideOf (λ old answer new. Takes old c.args.apdu.now answer new) c.args.apdu.now.txn held c.take_among.result
     (record { role = c.self.inside.role; sides = values_of c.take_among.new.map.entries })) c.self.view_is
     (only_that c.rows_grow.ensures c.rows_begin.ensures.stays (λ old answer new. Takes old c.args.apdu.now answer new)
     (λ old new answer does. takes_row old new c.args.apdu.now answer does) c.self.inside.role c.args.apdu.now.txn

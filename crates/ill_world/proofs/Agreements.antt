@@ -93,9 +93,9 @@ is_in_checked_in state e = search rules
 -- sent to the other.
 abbrev pub PairOf : (RequesterRecord → ResponderRecord → Type 0) → Type 0
 PairOf P =
-    (txn : Qualifiers) (x : RequesterRecord) (y : ResponderRecord) (requester_sent responder_sent : List (Option Apdu))
-    → RequesterInvariant txn x requester_sent → ResponderInvariant txn y responder_sent → AreIssued requester_sent y.issued
-    → AreIssued responder_sent x.issued → P x y
+    (txn : Qualifiers) (x : RequesterRecord) (y : ResponderRecord) (responder_sent requester_sent : List (Option Apdu))
+    → RequesterInvariant txn x responder_sent → ResponderInvariant txn y requester_sent → AreIssued responder_sent y.issued
+    → AreIssued requester_sent x.issued → P x y
 
 -- A state among NOT-SUPPLIED, SHIPPED and later is NOT-SUPPLIED, or is SHIPPED or later.
 split_final : (state : State) → is_among (states.NotSupplied ∷ later) state ≡ true
@@ -104,19 +104,19 @@ split_final states.NotSupplied is = inl refl
 split_final state is = inr is
 
 -- A responder that has issued a Shipped is not in CANCELLED.
-shipped_is_later : (y : ResponderRecord) (txn : Qualifiers) (responder_sent : List (Option Apdu))
-    → ResponderInvariant txn y responder_sent
+shipped_is_later : (y : ResponderRecord) (txn : Qualifiers) (requester_sent : List (Option Apdu))
+    → ResponderInvariant txn y requester_sent
     → has_message_with is_shipped y.issued ≡ true → y.state ≡ states.Cancelled → ⊥
-shipped_is_later y txn responder_sent responder_stands shipped e =
+shipped_is_later y txn requester_sent responder_stands shipped e =
     let no : has_message_with is_shipped y.issued ≡ false = responder_stands.ends.shipped ∙ ap (is_among shipped_states) e in
     let both : true ≡ false = sym shipped ∙ no in
     search rules
 
 -- If the responder is in CANCELLED, the requester is neither in NOT-SUPPLIED nor in SHIPPED or later.
-no_other_end : (txn : Qualifiers) (x : RequesterRecord) (y : ResponderRecord) (requester_sent responder_sent : List (Option Apdu))
-    → RequesterInvariant txn x requester_sent → ResponderInvariant txn y responder_sent → AreIssued requester_sent y.issued
+no_other_end : (txn : Qualifiers) (x : RequesterRecord) (y : ResponderRecord) (responder_sent requester_sent : List (Option Apdu))
+    → RequesterInvariant txn x responder_sent → ResponderInvariant txn y requester_sent → AreIssued responder_sent y.issued
     → y.state ≡ states.Cancelled → is_among (states.NotSupplied ∷ later) x.state ≡ false
-no_other_end txn x y requester_sent responder_sent requester_stands responder_stands issued e =
+no_other_end txn x y responder_sent requester_sent requester_stands responder_stands issued e =
     go (is_among (states.NotSupplied ∷ later) x.state) refl
   where
     go : (b : Bool) → is_among (states.NotSupplied ∷ later) x.state ≡ b → b ≡ false
@@ -124,10 +124,10 @@ no_other_end txn x y requester_sent responder_sent requester_stands responder_st
     go true is =
         elim (split_final x.state is) [
           | inl ended ↦ let no : states.Cancelled ≡ states.NotSupplied =
-              sym e ∙ not_supplied_faces txn x y requester_sent responder_sent requester_stands responder_stands issued ended in
+              sym e ∙ not_supplied_faces txn x y responder_sent requester_sent requester_stands responder_stands issued ended in
               search rules
-          | inr shipped ↦ absurd (shipped_is_later y txn responder_sent responder_stands
-              (shipped_by txn x y requester_sent responder_sent x.due requester_stands responder_stands issued refl
+          | inr shipped ↦ absurd (shipped_is_later y txn requester_sent responder_stands
+              (shipped_by txn x y responder_sent requester_sent x.due requester_stands responder_stands issued refl
               (requester_stands.rules.parts.due ∙ shipped)) e)
         ]
 
@@ -137,11 +137,11 @@ body_of a b e = let same : a ≡ b = search rules in ap (λ (x : Apdu). x.body) 
 
 -- If the responder has issued a Cancel-Reply yes to c, Cancel c is open at the requester.
 pub cancel_is_open : (txn : Qualifiers) (x : RequesterRecord) (y : ResponderRecord)
-    (requester_sent responder_sent : List (Option Apdu))
-    → RequesterInvariant txn x requester_sent → ResponderInvariant txn y responder_sent → AreIssued requester_sent y.issued
-    → AreIssued responder_sent x.issued → (m c : ℕ) (a : Apdu) → message y.issued m ≡ Some a
+    (responder_sent requester_sent : List (Option Apdu))
+    → RequesterInvariant txn x responder_sent → ResponderInvariant txn y requester_sent → AreIssued responder_sent y.issued
+    → AreIssued requester_sent x.issued → (m c : ℕ) (a : Apdu) → message y.issued m ≡ Some a
     → a.body ≡ types.CancelReply c true → requester.is_open x c ≡ true
-cancel_is_open txn x y requester_sent responder_sent requester_stands responder_stands issued heeded m c a at is =
+cancel_is_open txn x y responder_sent requester_sent requester_stands responder_stands issued heeded m c a at is =
     let ends : is_cancelled a.body ≡ true = ap is_cancelled is in
     let cancelled : y.state ≡ states.Cancelled =
     is_in_cancelled y.state (sym responder_stands.ends.cancelled ∙ message_says is_cancelled y.issued m a at ends) in
@@ -154,7 +154,7 @@ cancel_is_open txn x y requester_sent responder_sent requester_stands responder_
     ∙ says.1 in
     let issued_it : is_message_with is_cancel x.issued c ≡ true =
     ap (is_there is_cancel) (ap (message x.issued) (sym number) ∙ there.1) ∙ says.0 in
-    let final = no_other_end txn x y requester_sent responder_sent requester_stands responder_stands issued cancelled in
+    let final = no_other_end txn x y responder_sent requester_sent requester_stands responder_stands issued cancelled in
     go issued_it final (requester.is_open x c) refl
   where
     go : is_message_with is_cancel x.issued c ≡ true → is_among (states.NotSupplied ∷ later) x.state ≡ false → (b : Bool)
@@ -176,34 +176,34 @@ cancel_is_open txn x y requester_sent responder_sent requester_stands responder_
 
 -- `SaysTrue` holds of two such records: each record's claims on the other side are right.
 pub says_true : PairOf SaysTrue
-says_true txn x y requester_sent responder_sent requester_stands responder_stands issued heeded = record {
+says_true txn x y responder_sent requester_sent requester_stands responder_stands issued heeded = record {
   returned =
       λ is.
       let known = responder_stands.knows responder.SentBack is in
       is_in_returned x.state (sym requester_stands.rules.issued.returned
-      ∙ has_issued x.issued responder_sent is_returned known.0 heeded known.1
+      ∙ has_issued x.issued requester_sent is_returned known.0 heeded known.1
       (tells_sent_back known.0.number known.0.body known.2));
   cancelled =
       λ e.
       let ended : has_message_with is_cancelled y.issued ≡ true = responder_stands.ends.cancelled ∙ ap (is_among (states.Cancelled ∷ [])) e in
       let at = says_message is_cancelled y.issued ended in
       let by = cancels_with at.1.body at.3 in
-      (and_parts _ _ (cancel_is_open txn x y requester_sent responder_sent requester_stands responder_stands issued heeded at.0
+      (and_parts _ _ (cancel_is_open txn x y responder_sent requester_sent requester_stands responder_stands issued heeded at.0
       by.0 at.1 at.2 by.1)).0;
   received =
       λ is.
       let known = responder_stands.knows responder.Arrived is in
-      has_issued x.issued responder_sent is_received known.0 heeded known.1 (tells_arrived known.0.number known.0.body known.2);
+      has_issued x.issued requester_sent is_received known.0 heeded known.1 (tells_arrived known.0.number known.0.body known.2);
   checked_in =
       λ is.
       let known = requester_stands.knows requester.GivenBack is in
       is_in_checked_in y.state (sym responder_stands.rules.issued.checked_in
-      ∙ has_issued y.issued requester_sent is_checked_in known.0 issued known.1 (tells_given_back known.0.body known.2));
+      ∙ has_issued y.issued responder_sent is_checked_in known.0 issued known.1 (tells_given_back known.0.body known.2));
 }
 
 -- Of two such records, the requester's due date is not later than the responder's.
 not_later : PairOf IsNotLater
-not_later txn x y requester_sent responder_sent requester_stands responder_stands issued heeded =
+not_later txn x y responder_sent requester_sent requester_stands responder_stands issued heeded =
     λ d e.
     let known = requester_stands.knows (requester.Granted d) e in
     let at = issued known.0 known.1 in
@@ -213,15 +213,15 @@ not_later txn x y requester_sent responder_sent requester_stands responder_stand
 
 -- If `P` holds of all such pairs of records, it holds of the records of two such sides.
 facing : (P : RequesterRecord → ResponderRecord → Type 0) → PairOf P
-    → (txn : Qualifiers) (x y : Side) (requester_sent responder_sent : List (Option Apdu))
-    → RequesterSideInvariant txn x requester_sent
-    → ResponderSideInvariant txn y responder_sent
-    → AreIssued requester_sent (issued_of y) → AreIssued responder_sent (issued_of x) → Facing P x y
-facing P pair txn (sides.Requester x) (sides.Responder y) requester_sent responder_sent requester_stands responder_stands issued
-    heeded = pair txn x y requester_sent responder_sent requester_stands responder_stands issued heeded
-facing P pair txn (sides.Responder x) y requester_sent responder_sent requester_stands responder_stands issued heeded =
+    → (txn : Qualifiers) (x y : Side) (responder_sent requester_sent : List (Option Apdu))
+    → RequesterSideInvariant txn x responder_sent
+    → ResponderSideInvariant txn y requester_sent
+    → AreIssued responder_sent (issued_of y) → AreIssued requester_sent (issued_of x) → Facing P x y
+facing P pair txn (sides.Requester x) (sides.Responder y) responder_sent requester_sent requester_stands responder_stands issued
+    heeded = pair txn x y responder_sent requester_sent requester_stands responder_stands issued heeded
+facing P pair txn (sides.Responder x) y responder_sent requester_sent requester_stands responder_stands issued heeded =
     absurd requester_stands
-facing P pair txn (sides.Requester x) (sides.Requester y) requester_sent responder_sent requester_stands responder_stands issued
+facing P pair txn (sides.Requester x) (sides.Requester y) responder_sent requester_sent requester_stands responder_stands issued
     heeded = absurd responder_stands
 
 -- If `P` holds of all such pairs, and a world satisfies the invariant, `P` holds of its four pairs.
@@ -229,19 +229,19 @@ of_both_facing : (P : RequesterRecord → ResponderRecord → Type 0) → PairOf
     → OfBoth (Facing P) w
 of_both_facing P pair txn w stands =
     let sent = w.responder.sent in
-    let responder_sent = w.requester.sent in
+    let requester_sent = w.requester.sent in
     let live = live_issues w.responder stands.responder.saved in
     let landed = landed_issues w.responder stands.responder.saved in
     let heeded = live_issues w.requester stands.requester.saved in
     let heeded_landed = landed_issues w.requester stands.requester.saved in
     record {
-      live = facing P pair txn w.requester.live w.responder.live sent responder_sent stands.requester.live stands.responder.live
+      live = facing P pair txn w.requester.live w.responder.live sent requester_sent stands.requester.live stands.responder.live
           live heeded;
-      live_landed = facing P pair txn w.requester.live w.responder.landed sent responder_sent stands.requester.live
+      live_landed = facing P pair txn w.requester.live w.responder.landed sent requester_sent stands.requester.live
           stands.responder.landed landed heeded;
-      landed_live = facing P pair txn w.requester.landed w.responder.live sent responder_sent stands.requester.landed
+      landed_live = facing P pair txn w.requester.landed w.responder.live sent requester_sent stands.requester.landed
           stands.responder.live live heeded_landed;
-      landed = facing P pair txn w.requester.landed w.responder.landed sent responder_sent stands.requester.landed
+      landed = facing P pair txn w.requester.landed w.responder.landed sent requester_sent stands.requester.landed
           stands.responder.landed landed heeded_landed;
     }
 
@@ -254,12 +254,12 @@ once_sent answered p saved once = λ m n k a b at_m at_n is_a is_b.
     once m n k a b (saved.landed m a at_m) (saved.landed n b at_n) is_a is_b
 
 -- No two messages of a requester's side reply to one number.
-replies_once : (txn : Qualifiers) (side : Side) (requester_sent : List (Option Apdu))
-    → RequesterSideInvariant txn side requester_sent
+replies_once : (txn : Qualifiers) (side : Side) (responder_sent : List (Option Apdu))
+    → RequesterSideInvariant txn side responder_sent
     → AnswersOnce requester.replied_number (message (issued_of side))
-replies_once txn (sides.Requester x) requester_sent stands =
+replies_once txn (sides.Requester x) responder_sent stands =
     answers_once requester.replied_number x.issued stands.replies.distinct
-replies_once txn (sides.Responder y) requester_sent stands = absurd stands
+replies_once txn (sides.Responder y) responder_sent stands = absurd stands
 
 -- No two messages of a responder's side answer one Cancel.
 cancels_once : (txn : Qualifiers) (side : Side) (requester_sent : List (Option Apdu))
@@ -308,7 +308,7 @@ agrees txn w stands =
     let requester_stands = stands.requester in
     let responder_stands = stands.responder in
     let sent = w.responder.sent in
-    let responder_sent = w.requester.sent in
+    let requester_sent = w.requester.sent in
     record {
       answered = record {
         conditions = (
@@ -317,19 +317,19 @@ agrees txn w stands =
               (replies_once txn w.requester.landed sent requester_stands.landed),
         );
         cancels = (
-          cancels_once txn w.responder.live responder_sent responder_stands.live,
+          cancels_once txn w.responder.live requester_sent responder_stands.live,
           once_sent (responder.answered_number responder.MayCancel) w.responder responder_stands.saved
-              (cancels_once txn w.responder.landed responder_sent responder_stands.landed),
+              (cancels_once txn w.responder.landed requester_sent responder_stands.landed),
         );
         renewals = (
-          renewals_once txn w.responder.live responder_sent responder_stands.live,
+          renewals_once txn w.responder.live requester_sent responder_stands.live,
           once_sent (responder.answered_number responder.MayRenew) w.responder responder_stands.saved
-              (renewals_once txn w.responder.landed responder_sent responder_stands.landed),
+              (renewals_once txn w.responder.landed requester_sent responder_stands.landed),
         );
       };
       ended = (
-        ends_once txn w.responder.live responder_sent responder_stands.live,
-        ends_once txn w.responder.landed responder_sent responder_stands.landed,
+        ends_once txn w.responder.live requester_sent responder_stands.live,
+        ends_once txn w.responder.landed requester_sent responder_stands.landed,
       );
       accepted = (
         accepted_by txn w w.responder.live requester_stands.saved responder_stands.live,

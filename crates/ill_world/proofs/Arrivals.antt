@@ -125,21 +125,21 @@ not_none says (a ∷ apdus) is = refl
 -- ---- a requester's record and a responder's
 
 -- If the responder has ended the request, the requester is not in IDLE.
-was_asked : (txn : Qualifiers) (x : RequesterRecord) (y : ResponderRecord) (requester_sent responder_sent : List (Option Apdu))
-    → RequesterInvariant txn x requester_sent → ResponderInvariant txn y responder_sent → AreIssued responder_sent x.issued
+was_asked : (txn : Qualifiers) (x : RequesterRecord) (y : ResponderRecord) (responder_sent requester_sent : List (Option Apdu))
+    → RequesterInvariant txn x responder_sent → ResponderInvariant txn y requester_sent → AreIssued requester_sent x.issued
     → is_among responder.ended y.state ≡ true → is_among (states.Idle ∷ []) x.state ≡ false
-was_asked txn x y requester_sent responder_sent requester_stands responder_stands heeded ended =
+was_asked txn x y responder_sent requester_sent requester_stands responder_stands heeded ended =
     let known = responder_stands.knows responder.Requested (ended_not_idle y.state ended) in
-    let request = has_issued x.issued responder_sent is_ill_request known.0 heeded known.1
+    let request = has_issued x.issued requester_sent is_ill_request known.0 heeded known.1
     (tells_requested known.0.number known.0.body known.2) in
     sym requester_stands.rules.issued.idle ∙ not_none is_ill_request x.issued request
 
 -- A message that the responder has issued is of the requester's transaction.
-same_txn_as : (txn : Qualifiers) (x : RequesterRecord) (y : ResponderRecord) (requester_sent responder_sent : List (Option Apdu))
+same_txn_as : (txn : Qualifiers) (x : RequesterRecord) (y : ResponderRecord) (responder_sent requester_sent : List (Option Apdu))
     (n : ℕ) (a : Apdu)
-    → RequesterInvariant txn x requester_sent → ResponderInvariant txn y responder_sent
+    → RequesterInvariant txn x responder_sent → ResponderInvariant txn y requester_sent
     → message y.issued n ≡ Some a → is_same_txn a.txn x.txn ≡ true
-same_txn_as txn x y requester_sent responder_sent n a requester_stands responder_stands at =
+same_txn_as txn x y responder_sent requester_sent n a requester_stands responder_stands at =
     subst (λ t. is_same_txn a.txn t ≡ true) (responder_stands.same_txn ∙ sym requester_stands.same_txn)
     (message_number y.txn y.issued n a responder_stands.rules.numbered at).0
 
@@ -151,47 +151,47 @@ tells_end body is = search rules
 
 -- If the requester takes a Shipped that the responder has issued, it gets to SHIPPED or later.
 shipped_arrives : TransitionsSettle
-    → (txn : Qualifiers) (x : RequesterRecord) (y : ResponderRecord) (requester_sent responder_sent : List (Option Apdu)) (n : ℕ)
+    → (txn : Qualifiers) (x : RequesterRecord) (y : ResponderRecord) (responder_sent requester_sent : List (Option Apdu)) (n : ℕ)
     (a : Apdu) (due : Date)
-    → RequesterInvariant txn x requester_sent
-    → ResponderInvariant txn y responder_sent → AreIssued requester_sent y.issued → AreIssued responder_sent x.issued
+    → RequesterInvariant txn x responder_sent
+    → ResponderInvariant txn y requester_sent → AreIssued responder_sent y.issued → AreIssued requester_sent x.issued
     → message y.issued n ≡ Some a
     → a.body ≡ types.Shipped due
     → requester.LeadsTo later (requester_deliveries.takes x a)
-shipped_arrives rows txn x y requester_sent responder_sent n a due requester_stands responder_stands issued heeded at is =
+shipped_arrives rows txn x y responder_sent requester_sent n a due requester_stands responder_stands issued heeded at is =
     let shipped : is_among shipped_states y.state ≡ true =
     sym responder_stands.ends.shipped ∙ message_says is_shipped y.issued n a at (ap is_shipped is) in
-    rows.shipped x a due (same_txn_as txn x y requester_sent responder_sent n a requester_stands responder_stands at) is
+    rows.shipped x a due (same_txn_as txn x y responder_sent requester_sent n a requester_stands responder_stands at) is
     (may_ship x.state requester_stands.rules.parts.role
-    (was_asked txn x y requester_sent responder_sent requester_stands responder_stands heeded
+    (was_asked txn x y responder_sent requester_sent requester_stands responder_stands heeded
     (shipped_is_ended y.state shipped))
-    (λ e. not_cancelled y.state (cancelled_faces txn x y requester_sent responder_sent requester_stands responder_stands issued e)
+    (λ e. not_cancelled y.state (cancelled_faces txn x y responder_sent requester_sent requester_stands responder_stands issued e)
     shipped)
-    (λ e. not_unsupplied y.state (not_supplied_faces txn x y requester_sent responder_sent requester_stands responder_stands
+    (λ e. not_unsupplied y.state (not_supplied_faces txn x y responder_sent requester_sent requester_stands responder_stands
     issued e) shipped))
 
 -- If the requester takes an end without the item that the responder has issued, it gets to NOT-SUPPLIED.
 end_arrives : TransitionsSettle
-    → (txn : Qualifiers) (x : RequesterRecord) (y : ResponderRecord) (requester_sent responder_sent : List (Option Apdu)) (n : ℕ)
+    → (txn : Qualifiers) (x : RequesterRecord) (y : ResponderRecord) (responder_sent requester_sent : List (Option Apdu)) (n : ℕ)
     (a : Apdu)
-    → RequesterInvariant txn x requester_sent
-    → ResponderInvariant txn y responder_sent → AreIssued requester_sent y.issued → AreIssued responder_sent x.issued
+    → RequesterInvariant txn x responder_sent
+    → ResponderInvariant txn y requester_sent → AreIssued responder_sent y.issued → AreIssued requester_sent x.issued
     → message y.issued n ≡ Some a
     → is_unsupplied a.body ≡ true
     → requester.LeadsTo (states.NotSupplied ∷ []) (requester_deliveries.takes x a)
-end_arrives rows txn x y requester_sent responder_sent n a requester_stands responder_stands issued heeded at is =
+end_arrives rows txn x y responder_sent requester_sent n a requester_stands responder_stands issued heeded at is =
     let ended : is_among (states.NotSupplied ∷ []) y.state ≡ true =
     sym responder_stands.ends.unsupplied ∙ message_says is_unsupplied y.issued n a at is in
-    rows.ended x a (same_txn_as txn x y requester_sent responder_sent n a requester_stands responder_stands at)
+    rows.ended x a (same_txn_as txn x y responder_sent requester_sent n a requester_stands responder_stands at)
     (tells_end a.body is)
     (may_end x.state requester_stands.rules.parts.role
-    (was_asked txn x y requester_sent responder_sent requester_stands responder_stands heeded
+    (was_asked txn x y responder_sent requester_sent requester_stands responder_stands heeded
     (unsupplied_is_ended y.state ended))
     (λ e. not_cancelled_too y.state
-    (cancelled_faces txn x y requester_sent responder_sent requester_stands responder_stands issued e) ended)
+    (cancelled_faces txn x y responder_sent requester_sent requester_stands responder_stands issued e) ended)
     (λ shipped. not_shipped y.state ended
     (sym responder_stands.ends.shipped
-    ∙ shipped_by txn x y requester_sent responder_sent x.due requester_stands responder_stands issued refl
+    ∙ shipped_by txn x y responder_sent requester_sent x.due requester_stands responder_stands issued refl
     (requester_stands.rules.parts.due ∙ shipped))))
 
 -- If `a && b` is true, so are a and b.
@@ -201,17 +201,17 @@ both_of false b is = search rules
 
 -- If the requester takes a Cancel-Reply yes that the responder has issued, it gets to CANCELLED.
 yes_arrives : TransitionsSettle
-    → (txn : Qualifiers) (x : RequesterRecord) (y : ResponderRecord) (requester_sent responder_sent : List (Option Apdu))
+    → (txn : Qualifiers) (x : RequesterRecord) (y : ResponderRecord) (responder_sent requester_sent : List (Option Apdu))
     (n c : ℕ) (a : Apdu)
-    → RequesterInvariant txn x requester_sent
-    → ResponderInvariant txn y responder_sent → AreIssued requester_sent y.issued → AreIssued responder_sent x.issued
+    → RequesterInvariant txn x responder_sent
+    → ResponderInvariant txn y requester_sent → AreIssued responder_sent y.issued → AreIssued requester_sent x.issued
     → message y.issued n ≡ Some a
     → a.body ≡ types.CancelReply c true
     → requester.LeadsTo (states.Cancelled ∷ []) (requester_deliveries.takes x a)
-yes_arrives rows txn x y requester_sent responder_sent n c a requester_stands responder_stands issued heeded at is =
-    let parts = both_of _ _ (cancel_is_open txn x y requester_sent responder_sent requester_stands responder_stands issued heeded
+yes_arrives rows txn x y responder_sent requester_sent n c a requester_stands responder_stands issued heeded at is =
+    let parts = both_of _ _ (cancel_is_open txn x y responder_sent requester_sent requester_stands responder_stands issued heeded
     n c a at is) in
-    rows.cancelled x a c (same_txn_as txn x y requester_sent responder_sent n a requester_stands responder_stands at) is parts.1
+    rows.cancelled x a c (same_txn_as txn x y responder_sent requester_sent n a requester_stands responder_stands at) is parts.1
     parts.0
 
 -- Requester `x` gets by `a` to the states in which an end with `body` settles it.
@@ -220,32 +220,32 @@ Leads x a body = requester.LeadsTo (settled_by body) (requester_deliveries.takes
 
 -- If the requester takes an issued end of the request, it gets to the states of this end.
 arrives_as : TransitionsSettle
-    → (txn : Qualifiers) (x : RequesterRecord) (y : ResponderRecord) (requester_sent responder_sent : List (Option Apdu)) (n : ℕ)
+    → (txn : Qualifiers) (x : RequesterRecord) (y : ResponderRecord) (responder_sent requester_sent : List (Option Apdu)) (n : ℕ)
     (a : Apdu) (body : Body)
-    → RequesterInvariant txn x requester_sent
-    → ResponderInvariant txn y responder_sent → AreIssued requester_sent y.issued → AreIssued responder_sent x.issued
+    → RequesterInvariant txn x responder_sent
+    → ResponderInvariant txn y requester_sent → AreIssued responder_sent y.issued → AreIssued requester_sent x.issued
     → message y.issued n ≡ Some a
     → a.body ≡ body → is_end body ≡ true → Leads x a body
-arrives_as rows txn x y requester_sent responder_sent n a (types.Shipped due) requester_stands responder_stands issued heeded at
-    is ends = shipped_arrives rows txn x y requester_sent responder_sent n a due requester_stands responder_stands issued heeded
+arrives_as rows txn x y responder_sent requester_sent n a (types.Shipped due) requester_stands responder_stands issued heeded at
+    is ends = shipped_arrives rows txn x y responder_sent requester_sent n a due requester_stands responder_stands issued heeded
     at is
-arrives_as rows txn x y requester_sent responder_sent n a (types.CancelReply c true) requester_stands responder_stands issued
-    heeded at is ends = yes_arrives rows txn x y requester_sent responder_sent n c a requester_stands responder_stands issued
+arrives_as rows txn x y responder_sent requester_sent n a (types.CancelReply c true) requester_stands responder_stands issued
+    heeded at is ends = yes_arrives rows txn x y responder_sent requester_sent n c a requester_stands responder_stands issued
     heeded at is
-arrives_as rows txn x y requester_sent responder_sent n a (types.CancelReply c false) requester_stands responder_stands issued
+arrives_as rows txn x y responder_sent requester_sent n a (types.CancelReply c false) requester_stands responder_stands issued
     heeded at is ends = search rules
-arrives_as rows txn x y requester_sent responder_sent n a types.Expired requester_stands responder_stands issued heeded at is
-    ends = end_arrives rows txn x y requester_sent responder_sent n a requester_stands responder_stands issued heeded at
+arrives_as rows txn x y responder_sent requester_sent n a types.Expired requester_stands responder_stands issued heeded at is
+    ends = end_arrives rows txn x y responder_sent requester_sent n a requester_stands responder_stands issued heeded at
     (ap is_unsupplied is)
-arrives_as rows txn x y requester_sent responder_sent n a (types.IllAnswer answer) requester_stands responder_stands issued heeded
+arrives_as rows txn x y responder_sent requester_sent n a (types.IllAnswer answer) requester_stands responder_stands issued heeded
     at is ends =
-    end_arrives rows txn x y requester_sent responder_sent n a requester_stands responder_stands issued heeded at
+    end_arrives rows txn x y responder_sent requester_sent n a requester_stands responder_stands issued heeded at
     (ap is_unsupplied is ∙ plain_end _ ends)
   where
     plain_end : (b : Bool) → (b || (false || false)) ≡ true → b ≡ true
     plain_end true is = refl
     plain_end false is = search rules
-arrives_as rows txn x y requester_sent responder_sent n a body requester_stands responder_stands issued heeded at is ends =
+arrives_as rows txn x y responder_sent requester_sent n a body requester_stands responder_stands issued heeded at is ends =
     search rules
 
 -- ---- its outcome
@@ -258,25 +258,25 @@ answers answer (inr repeat) = inr (ap answer_to repeat)
 
 -- An end of the request that the responder has issued settles the requester that receives it.
 settles_requester : TransitionsSettle
-    → (txn : Qualifiers) (p : Party) (side : Side) (requester_sent responder_sent : List (Option Apdu)) (n : ℕ) (a : Apdu)
+    → (txn : Qualifiers) (p : Party) (side : Side) (responder_sent requester_sent : List (Option Apdu)) (n : ℕ) (a : Apdu)
     (found : Option Apdu)
-    → RequesterSideInvariant txn p.live requester_sent
-    → ResponderSideInvariant txn side responder_sent → AreIssued requester_sent (issued_of side)
-    → AreIssued responder_sent (issued_of p.live)
+    → RequesterSideInvariant txn p.live responder_sent
+    → ResponderSideInvariant txn side requester_sent → AreIssued responder_sent (issued_of side)
+    → AreIssued requester_sent (issued_of p.live)
     → message (issued_of side) n ≡ Some a → found ≡ Some a → is_end a.body ≡ true
     → Settles (settled_by a.body) (receives p found).0 (receives p found).1.live
-settles_requester rows txn p side requester_sent responder_sent n a found requester_stands responder_stands issued heeded at is
+settles_requester rows txn p side responder_sent requester_sent n a found requester_stands responder_stands issued heeded at is
     ends =
     subst (λ o. Settles (settled_by a.body) (receives p o).0 (receives p o).1.live) (sym is)
     (go p.live side requester_stands responder_stands issued heeded at)
   where
-    go : (live side : Side) → RequesterSideInvariant txn live requester_sent → ResponderSideInvariant txn side responder_sent
-        → AreIssued requester_sent (issued_of side) → AreIssued responder_sent (issued_of live)
+    go : (live side : Side) → RequesterSideInvariant txn live responder_sent → ResponderSideInvariant txn side requester_sent
+        → AreIssued responder_sent (issued_of side) → AreIssued requester_sent (issued_of live)
         → message (issued_of side) n ≡ Some a
         → Settles (settled_by a.body) (receives (record p { live = live }) (Some a)).0
         (receives (record p { live = live }) (Some a)).1.live
     go (sides.Requester x) (sides.Responder y) requester_stands responder_stands issued heeded at =
-        let leads = arrives_as rows txn x y requester_sent responder_sent n a a.body requester_stands responder_stands issued
+        let leads = arrives_as rows txn x y responder_sent requester_sent n a a.body requester_stands responder_stands issued
         heeded at refl ends in
         (answers (requester_deliveries.takes x a).0 leads.0, leads.1)
     go (sides.Responder y) side requester_stands responder_stands issued heeded at = absurd requester_stands
@@ -296,48 +296,48 @@ returned_is_later state is = search rules
 
 -- If the requester has issued a Returned, the responder has issued a Shipped.
 pub shipped_before : (txn : Qualifiers) (x : RequesterRecord) (y : ResponderRecord)
-    (requester_sent responder_sent : List (Option Apdu)) (n : ℕ) (a : Apdu)
-    → RequesterInvariant txn x requester_sent → ResponderInvariant txn y responder_sent
-    → AreIssued requester_sent y.issued → message x.issued n ≡ Some a → is_returned a.body ≡ true → has_message_with is_shipped y.issued ≡ true
-shipped_before txn x y requester_sent responder_sent n a requester_stands responder_stands issued at is =
+    (responder_sent requester_sent : List (Option Apdu)) (n : ℕ) (a : Apdu)
+    → RequesterInvariant txn x responder_sent → ResponderInvariant txn y requester_sent
+    → AreIssued responder_sent y.issued → message x.issued n ≡ Some a → is_returned a.body ≡ true → has_message_with is_shipped y.issued ≡ true
+shipped_before txn x y responder_sent requester_sent n a requester_stands responder_stands issued at is =
     let returned = sym requester_stands.rules.issued.returned ∙ message_says is_returned x.issued n a at is in
-    shipped_by txn x y requester_sent responder_sent x.due requester_stands responder_stands issued refl
+    shipped_by txn x y responder_sent requester_sent x.due requester_stands responder_stands issued refl
     (requester_stands.rules.parts.due ∙ returned_is_later x.state returned)
 
 -- If the responder takes a Returned that the requester has issued, it gets to RETURNED or CHECKED-IN.
 returned_arrives : TransitionsSettle
-    → (txn : Qualifiers) (x : RequesterRecord) (y : ResponderRecord) (requester_sent responder_sent : List (Option Apdu)) (n : ℕ)
+    → (txn : Qualifiers) (x : RequesterRecord) (y : ResponderRecord) (responder_sent requester_sent : List (Option Apdu)) (n : ℕ)
     (a : Apdu)
-    → RequesterInvariant txn x requester_sent
-    → ResponderInvariant txn y responder_sent → AreIssued requester_sent y.issued → message x.issued n ≡ Some a
+    → RequesterInvariant txn x responder_sent
+    → ResponderInvariant txn y requester_sent → AreIssued responder_sent y.issued → message x.issued n ≡ Some a
     → is_returned a.body ≡ true
     → responder.LeadsTo (states.Returned ∷ states.CheckedIn ∷ []) (responder_deliveries.takes y a)
-returned_arrives rows txn x y requester_sent responder_sent n a requester_stands responder_stands issued at is =
-    let shipped = shipped_before txn x y requester_sent responder_sent n a requester_stands responder_stands issued at is in
+returned_arrives rows txn x y responder_sent requester_sent n a requester_stands responder_stands issued at is =
+    let shipped = shipped_before txn x y responder_sent requester_sent n a requester_stands responder_stands issued at is in
     let same = subst (λ t. is_same_txn a.txn t ≡ true) (requester_stands.same_txn ∙ sym responder_stands.same_txn)
     (message_number x.txn x.issued n a requester_stands.rules.numbered at).0 in
     rows.returned y a same (returned_is a.body is) (sym responder_stands.ends.shipped ∙ shipped)
 
 -- A Returned that the requester has issued settles the responder that receives it.
 settles_responder : TransitionsSettle
-    → (txn : Qualifiers) (p : Party) (side : Side) (requester_sent responder_sent : List (Option Apdu)) (n : ℕ) (a : Apdu)
+    → (txn : Qualifiers) (p : Party) (side : Side) (responder_sent requester_sent : List (Option Apdu)) (n : ℕ) (a : Apdu)
     (found : Option Apdu)
-    → RequesterSideInvariant txn side requester_sent
-    → ResponderSideInvariant txn p.live responder_sent → AreIssued requester_sent (issued_of p.live)
+    → RequesterSideInvariant txn side responder_sent
+    → ResponderSideInvariant txn p.live requester_sent → AreIssued responder_sent (issued_of p.live)
     → message (issued_of side) n ≡ Some a
     → found ≡ Some a → is_returned a.body ≡ true
     → Settles (states.Returned ∷ states.CheckedIn ∷ []) (receives p found).0 (receives p found).1.live
-settles_responder rows txn p side requester_sent responder_sent n a found requester_stands responder_stands issued at is
+settles_responder rows txn p side responder_sent requester_sent n a found requester_stands responder_stands issued at is
     returned =
     subst (λ o. Settles (states.Returned ∷ states.CheckedIn ∷ []) (receives p o).0 (receives p o).1.live) (sym is)
     (go side p.live requester_stands responder_stands issued at)
   where
-    go : (side live : Side) → RequesterSideInvariant txn side requester_sent → ResponderSideInvariant txn live responder_sent
-        → AreIssued requester_sent (issued_of live) → message (issued_of side) n ≡ Some a
+    go : (side live : Side) → RequesterSideInvariant txn side responder_sent → ResponderSideInvariant txn live requester_sent
+        → AreIssued responder_sent (issued_of live) → message (issued_of side) n ≡ Some a
         → Settles (states.Returned ∷ states.CheckedIn ∷ []) (receives (record p { live = live }) (Some a)).0
         (receives (record p { live = live }) (Some a)).1.live
     go (sides.Requester x) (sides.Responder y) requester_stands responder_stands issued at =
-        let leads = returned_arrives rows txn x y requester_sent responder_sent n a requester_stands responder_stands issued at
+        let leads = returned_arrives rows txn x y responder_sent requester_sent n a requester_stands responder_stands issued at
         returned in
         (answers (responder_deliveries.takes y a).0 leads.0, leads.1)
     go (sides.Responder y) live requester_stands responder_stands issued at = absurd requester_stands

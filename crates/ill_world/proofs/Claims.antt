@@ -88,80 +88,80 @@ AreIssued sent apdus = (a : Apdu) → WasSent sent a → (n : ℕ) × (message a
 -- `P` holds of two sides that satisfy `RequesterSideInvariant` and `ResponderSideInvariant`. The responder's side has issued
 -- all messages that were sent to the requester.
 abbrev Pair : (Side → Side → Type 0) → Type 0
-Pair P = (txn : Qualifiers) (x y : Side) (requester_sent responder_sent : List (Option Apdu))
-    → RequesterSideInvariant txn x requester_sent → ResponderSideInvariant txn y responder_sent → AreIssued requester_sent (issued_of y)
+Pair P = (txn : Qualifiers) (x y : Side) (responder_sent requester_sent : List (Option Apdu))
+    → RequesterSideInvariant txn x responder_sent → ResponderSideInvariant txn y requester_sent → AreIssued responder_sent (issued_of y)
     → P x y
 
 -- All sent messages were issued. So if `says` holds of a sent message, it holds of an issued one.
-pub has_issued : (apdus : List Apdu) (requester_sent : List (Option Apdu)) (says : Body → Bool) (a : Apdu)
-    → AreIssued requester_sent apdus → WasSent requester_sent a → says a.body ≡ true → has_message_with says apdus ≡ true
-has_issued apdus requester_sent says a issued was is = let at = issued a was in message_says says apdus at.0 a at.1 is
+pub has_issued : (apdus : List Apdu) (sent : List (Option Apdu)) (says : Body → Bool) (a : Apdu)
+    → AreIssued sent apdus → WasSent sent a → says a.body ≡ true → has_message_with says apdus ≡ true
+has_issued apdus sent says a issued was is = let at = issued a was in message_says says apdus at.0 a at.1 is
 
 -- If the requester is in CANCELLED, the responder is in CANCELLED.
 pub cancelled_faces : (txn : Qualifiers) (x : RequesterRecord) (y : ResponderRecord)
-    (requester_sent responder_sent : List (Option Apdu))
-    → RequesterInvariant txn x requester_sent → ResponderInvariant txn y responder_sent → AreIssued requester_sent y.issued
+    (responder_sent requester_sent : List (Option Apdu))
+    → RequesterInvariant txn x responder_sent → ResponderInvariant txn y requester_sent → AreIssued responder_sent y.issued
     → x.state ≡ states.Cancelled → y.state ≡ states.Cancelled
-cancelled_faces txn x y requester_sent responder_sent requester_stands responder_stands issued e =
+cancelled_faces txn x y responder_sent requester_sent requester_stands responder_stands issued e =
     let known = requester_stands.knows requester.Cancelled e in
     is_in_cancelled y.state (sym responder_stands.ends.cancelled
-    ∙ has_issued y.issued requester_sent responder.is_cancelled known.0 issued known.1 (tells_cancelled known.0.body known.2))
+    ∙ has_issued y.issued responder_sent responder.is_cancelled known.0 issued known.1 (tells_cancelled known.0.body known.2))
 
 -- If the requester is in NOT-SUPPLIED, the responder is in NOT-SUPPLIED.
 pub not_supplied_faces : (txn : Qualifiers) (x : RequesterRecord) (y : ResponderRecord)
-    (requester_sent responder_sent : List (Option Apdu))
-    → RequesterInvariant txn x requester_sent → ResponderInvariant txn y responder_sent
-    → AreIssued requester_sent y.issued → x.state ≡ states.NotSupplied → y.state ≡ states.NotSupplied
-not_supplied_faces txn x y requester_sent responder_sent requester_stands responder_stands issued e =
+    (responder_sent requester_sent : List (Option Apdu))
+    → RequesterInvariant txn x responder_sent → ResponderInvariant txn y requester_sent
+    → AreIssued responder_sent y.issued → x.state ≡ states.NotSupplied → y.state ≡ states.NotSupplied
+not_supplied_faces txn x y responder_sent requester_sent requester_stands responder_stands issued e =
     let known = requester_stands.knows requester.Ended e in
     is_in_not_supplied y.state (sym responder_stands.ends.unsupplied
-    ∙ has_issued y.issued requester_sent responder.is_unsupplied known.0 issued known.1 (tells_ended known.0.body known.2))
+    ∙ has_issued y.issued responder_sent responder.is_unsupplied known.0 issued known.1 (tells_ended known.0.body known.2))
 
 -- `EndsAlike` holds of two such sides.
 ends_pair : Pair EndsAlike
-ends_pair txn (sides.Requester x) (sides.Responder y) requester_sent responder_sent requester_stands responder_stands issued = (
-  cancelled_faces txn x y requester_sent responder_sent requester_stands responder_stands issued,
-  not_supplied_faces txn x y requester_sent responder_sent requester_stands responder_stands issued,
+ends_pair txn (sides.Requester x) (sides.Responder y) responder_sent requester_sent requester_stands responder_stands issued = (
+  cancelled_faces txn x y responder_sent requester_sent requester_stands responder_stands issued,
+  not_supplied_faces txn x y responder_sent requester_sent requester_stands responder_stands issued,
 )
-ends_pair txn (sides.Responder x) y requester_sent responder_sent requester_stands responder_stands issued =
+ends_pair txn (sides.Responder x) y responder_sent requester_sent requester_stands responder_stands issued =
     absurd requester_stands
-ends_pair txn (sides.Requester x) (sides.Requester y) requester_sent responder_sent requester_stands responder_stands issued =
+ends_pair txn (sides.Requester x) (sides.Requester y) responder_sent requester_sent requester_stands responder_stands issued =
     absurd responder_stands
 
 -- `WasGranted` holds of two such sides.
 grant_pair : Pair WasGranted
-grant_pair txn (sides.Requester x) (sides.Responder y) requester_sent responder_sent requester_stands responder_stands issued =
+grant_pair txn (sides.Requester x) (sides.Responder y) responder_sent requester_sent requester_stands responder_stands issued =
     λ due e.
     let known = requester_stands.knows (requester.Granted due) e in
     let at = issued known.0 known.1 in
     (at.0, known.0, at.1, tells_grant known.0.body due known.2)
-grant_pair txn (sides.Responder x) y requester_sent responder_sent requester_stands responder_stands issued =
+grant_pair txn (sides.Responder x) y responder_sent requester_sent requester_stands responder_stands issued =
     absurd requester_stands
-grant_pair txn (sides.Requester x) (sides.Requester y) requester_sent responder_sent requester_stands responder_stands issued =
+grant_pair txn (sides.Requester x) (sides.Requester y) responder_sent requester_sent requester_stands responder_stands issued =
     absurd responder_stands
 
 -- If a requester has a due date, the responder has issued a Shipped.
 pub shipped_by : (txn : Qualifiers) (x : RequesterRecord) (y : ResponderRecord)
-    (requester_sent responder_sent : List (Option Apdu)) (due : Option Date)
-    → RequesterInvariant txn x requester_sent → ResponderInvariant txn y responder_sent
-    → AreIssued requester_sent y.issued → x.due ≡ due → is_some due ≡ true → has_message_with is_shipped y.issued ≡ true
-shipped_by txn x y requester_sent responder_sent None requester_stands responder_stands issued e some = search rules
-shipped_by txn x y requester_sent responder_sent (Some d) requester_stands responder_stands issued e some =
+    (responder_sent requester_sent : List (Option Apdu)) (due : Option Date)
+    → RequesterInvariant txn x responder_sent → ResponderInvariant txn y requester_sent
+    → AreIssued responder_sent y.issued → x.due ≡ due → is_some due ≡ true → has_message_with is_shipped y.issued ≡ true
+shipped_by txn x y responder_sent requester_sent None requester_stands responder_stands issued e some = search rules
+shipped_by txn x y responder_sent requester_sent (Some d) requester_stands responder_stands issued e some =
     let known = requester_stands.knows (requester.Granted d) e in
     elim (tells_shipped known.0.body d known.2) [
-      | inl shipped ↦ has_issued y.issued requester_sent is_shipped known.0 issued known.1 shipped
+      | inl shipped ↦ has_issued y.issued responder_sent is_shipped known.0 issued known.1 shipped
       | inr renewal ↦ ships_before y.issued responder_stands.rules.ships_first
-          (has_issued y.issued requester_sent is_renewal known.0 issued known.1 renewal)
+          (has_issued y.issued responder_sent is_renewal known.0 issued known.1 renewal)
     ]
 
 -- `WasShipped` holds of two such sides.
 shipped_pair : Pair WasShipped
-shipped_pair txn (sides.Requester x) (sides.Responder y) requester_sent responder_sent requester_stands responder_stands issued =
-    λ is. shipped_by txn x y requester_sent responder_sent x.due requester_stands responder_stands issued refl
+shipped_pair txn (sides.Requester x) (sides.Responder y) responder_sent requester_sent requester_stands responder_stands issued =
+    λ is. shipped_by txn x y responder_sent requester_sent x.due requester_stands responder_stands issued refl
     (requester_stands.rules.parts.due ∙ is)
-shipped_pair txn (sides.Responder x) y requester_sent responder_sent requester_stands responder_stands issued =
+shipped_pair txn (sides.Responder x) y responder_sent requester_sent requester_stands responder_stands issued =
     absurd requester_stands
-shipped_pair txn (sides.Requester x) (sides.Requester y) requester_sent responder_sent requester_stands responder_stands issued =
+shipped_pair txn (sides.Requester x) (sides.Requester y) responder_sent requester_sent requester_stands responder_stands issued =
     absurd responder_stands
 
 -- ---- live and landed records
@@ -181,16 +181,16 @@ live_issues p saved = λ a was. (
 of_both : (P : Side → Side → Type 0) → Pair P → (txn : Qualifiers) (w : Parties) → Invariant txn w → OfBoth P w
 of_both P pair txn w stands =
     let sent = w.responder.sent in
-    let responder_sent = w.requester.sent in
+    let requester_sent = w.requester.sent in
     let live = live_issues w.responder stands.responder.saved in
     let landed = landed_issues w.responder stands.responder.saved in
     record {
-      live = pair txn w.requester.live w.responder.live sent responder_sent stands.requester.live stands.responder.live live;
-      live_landed = pair txn w.requester.live w.responder.landed sent responder_sent stands.requester.live stands.responder.landed
+      live = pair txn w.requester.live w.responder.live sent requester_sent stands.requester.live stands.responder.live live;
+      live_landed = pair txn w.requester.live w.responder.landed sent requester_sent stands.requester.live stands.responder.landed
           landed;
-      landed_live = pair txn w.requester.landed w.responder.live sent responder_sent stands.requester.landed stands.responder.live
+      landed_live = pair txn w.requester.landed w.responder.live sent requester_sent stands.requester.landed stands.responder.live
           live;
-      landed = pair txn w.requester.landed w.responder.landed sent responder_sent stands.requester.landed stands.responder.landed
+      landed = pair txn w.requester.landed w.responder.landed sent requester_sent stands.requester.landed stands.responder.landed
           landed;
     }
 

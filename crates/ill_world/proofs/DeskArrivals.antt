@@ -55,14 +55,14 @@ idle_issued [] (suc n) a none at = search rules
 idle_issued (b ∷ apdus) n a none at = true≢false (sym none)
 
 -- If the responder has issued a message, the requester has issued one.
-pub asked : (txn : Qualifiers) (x y : Side) (requester_sent responder_sent : List (Option Apdu)) (n : ℕ) (a : Apdu)
-    → RequesterSideInvariant txn x requester_sent → ResponderSideInvariant txn y responder_sent → AreIssued responder_sent (issued_of x)
+pub asked : (txn : Qualifiers) (x y : Side) (responder_sent requester_sent : List (Option Apdu)) (n : ℕ) (a : Apdu)
+    → RequesterSideInvariant txn x responder_sent → ResponderSideInvariant txn y requester_sent → AreIssued requester_sent (issued_of x)
     → message (issued_of y) n ≡ Some a → issued_of x ≡ [] → ⊥
-asked txn (sides.Requester x) (sides.Responder y) requester_sent responder_sent n a requester_stands responder_stands heeded at
+asked txn (sides.Requester x) (sides.Responder y) responder_sent requester_sent n a requester_stands responder_stands heeded at
     none =
     let known = responder_stands.knows responder.Requested (begun (is_among (states.Idle ∷ []) y.state) refl) in
     not_nothing is_ill_request x.issued
-    (has_issued x.issued responder_sent is_ill_request known.0 heeded known.1
+    (has_issued x.issued requester_sent is_ill_request known.0 heeded known.1
     (tells_requested known.0.number known.0.body known.2)) none
   where
     begun : (idle : Bool) → is_among (states.Idle ∷ []) y.state ≡ idle → idle ≡ false
@@ -70,22 +70,22 @@ asked txn (sides.Requester x) (sides.Responder y) requester_sent responder_sent 
     begun true e = absurd (idle_issued y.issued n a
         (last_of_five (is_among (states.Idle ∷ []) y.state) (is_some y.accepted) (is_some y.last_cancel) (is_some y.last_renew)
         y.received (is_none y.issued) e responder_stands.rules.parts.empty) at)
-asked txn (sides.Responder x) y requester_sent responder_sent n a requester_stands responder_stands heeded at none =
+asked txn (sides.Responder x) y responder_sent requester_sent n a requester_stands responder_stands heeded at none =
     absurd requester_stands
-asked txn (sides.Requester x) (sides.Requester y) requester_sent responder_sent n a requester_stands responder_stands heeded at
+asked txn (sides.Requester x) (sides.Requester y) responder_sent requester_sent n a requester_stands responder_stands heeded at
     none = absurd responder_stands
 
 -- If the requester has issued a Returned, the responder has issued a message.
-supplied : (txn : Qualifiers) (x y : Side) (requester_sent responder_sent : List (Option Apdu)) (n : ℕ) (a : Apdu)
-    → RequesterSideInvariant txn x requester_sent → ResponderSideInvariant txn y responder_sent → AreIssued requester_sent (issued_of y)
+supplied : (txn : Qualifiers) (x y : Side) (responder_sent requester_sent : List (Option Apdu)) (n : ℕ) (a : Apdu)
+    → RequesterSideInvariant txn x responder_sent → ResponderSideInvariant txn y requester_sent → AreIssued responder_sent (issued_of y)
     → message (issued_of x) n ≡ Some a → is_returned a.body ≡ true → issued_of y ≡ [] → ⊥
-supplied txn (sides.Requester x) (sides.Responder y) requester_sent responder_sent n a requester_stands responder_stands issued at
+supplied txn (sides.Requester x) (sides.Responder y) responder_sent requester_sent n a requester_stands responder_stands issued at
     is none =
     not_nothing is_shipped y.issued
-    (shipped_before txn x y requester_sent responder_sent n a requester_stands responder_stands issued at is) none
-supplied txn (sides.Responder x) y requester_sent responder_sent n a requester_stands responder_stands issued at is none =
+    (shipped_before txn x y responder_sent requester_sent n a requester_stands responder_stands issued at is) none
+supplied txn (sides.Responder x) y responder_sent requester_sent n a requester_stands responder_stands issued at is none =
     absurd requester_stands
-supplied txn (sides.Requester x) (sides.Requester y) requester_sent responder_sent n a requester_stands responder_stands issued at
+supplied txn (sides.Requester x) (sides.Requester y) responder_sent requester_sent n a requester_stands responder_stands issued at
     is none = absurd responder_stands
 
 -- ---- a side that is held, and is reached

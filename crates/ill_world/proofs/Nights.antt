@@ -53,32 +53,32 @@ rest_in x y s t over at_s at_t ends faces = record {
 }
 
 -- If the loan is over for a requester's record, it is at rest with the responder's.
-records_rest : (txn : Qualifiers) (x : RequesterRecord) (y : ResponderRecord) (requester_sent responder_sent : List (Option Apdu))
-    → RequesterInvariant txn x requester_sent → ResponderInvariant txn y responder_sent → AreIssued requester_sent y.issued
-    → AreIssued responder_sent x.issued
+records_rest : (txn : Qualifiers) (x : RequesterRecord) (y : ResponderRecord) (responder_sent requester_sent : List (Option Apdu))
+    → RequesterInvariant txn x responder_sent → ResponderInvariant txn y requester_sent → AreIssued responder_sent y.issued
+    → AreIssued requester_sent x.issued
     → is_over (sides.Requester x) ≡ true → AtRest x y
-records_rest txn x y requester_sent responder_sent requester_stands responder_stands issued heeded over =
+records_rest txn x y responder_sent requester_sent requester_stands responder_stands issued heeded over =
     elim (over_means x.state (is_declined x) x.checked_in requester_stands.rules.parts.role over) [
       | inl cancelled ↦ rest_in x y states.Cancelled states.Cancelled over cancelled
-          (cancelled_faces txn x y requester_sent responder_sent requester_stands responder_stands issued cancelled) refl refl
+          (cancelled_faces txn x y responder_sent requester_sent requester_stands responder_stands issued cancelled) refl refl
       | inr (inl ended) ↦ rest_in x y states.NotSupplied states.NotSupplied over ended
-          (not_supplied_faces txn x y requester_sent responder_sent requester_stands responder_stands issued ended) refl refl
+          (not_supplied_faces txn x y responder_sent requester_sent requester_stands responder_stands issued ended) refl refl
       | inr (inr (returned, marked)) ↦
           rest_in x y states.Returned states.CheckedIn over returned
-          ((says_true txn x y requester_sent responder_sent requester_stands responder_stands issued heeded).checked_in
+          ((says_true txn x y responder_sent requester_sent requester_stands responder_stands issued heeded).checked_in
           marked) refl refl
     ]
 
 -- If the loan is over for a requester's side, it is at rest with the responder's.
-sides_rest : (txn : Qualifiers) (x y : Side) (requester_sent responder_sent : List (Option Apdu))
-    → RequesterSideInvariant txn x requester_sent
-    → ResponderSideInvariant txn y responder_sent → AreIssued requester_sent (issued_of y) → AreIssued responder_sent (issued_of x)
+sides_rest : (txn : Qualifiers) (x y : Side) (responder_sent requester_sent : List (Option Apdu))
+    → RequesterSideInvariant txn x responder_sent
+    → ResponderSideInvariant txn y requester_sent → AreIssued responder_sent (issued_of y) → AreIssued requester_sent (issued_of x)
     → is_over x ≡ true → Facing AtRest x y
-sides_rest txn (sides.Requester x) (sides.Responder y) requester_sent responder_sent requester_stands responder_stands issued
-    heeded over = records_rest txn x y requester_sent responder_sent requester_stands responder_stands issued heeded over
-sides_rest txn (sides.Responder x) y requester_sent responder_sent requester_stands responder_stands issued heeded over =
+sides_rest txn (sides.Requester x) (sides.Responder y) responder_sent requester_sent requester_stands responder_stands issued
+    heeded over = records_rest txn x y responder_sent requester_sent requester_stands responder_stands issued heeded over
+sides_rest txn (sides.Responder x) y responder_sent requester_sent requester_stands responder_stands issued heeded over =
     absurd requester_stands
-sides_rest txn (sides.Requester x) (sides.Requester y) requester_sent responder_sent requester_stands responder_stands issued
+sides_rest txn (sides.Requester x) (sides.Requester y) responder_sent requester_sent requester_stands responder_stands issued
     heeded over = absurd responder_stands
 
 -- If a world satisfies the invariant, and the loan is over for the requester, both sides are at rest.
@@ -106,10 +106,10 @@ over_is_silent (sides.Requester x) over = ap not over
 over_is_silent (sides.Responder y) over = ap (λ b. not b || false) over
 
 -- A responder that was asked sends its messages.
-asked_wants : (txn : Qualifiers) (side : Side) (responder_sent : List (Option Apdu)) → ResponderSideInvariant txn side responder_sent
+asked_wants : (txn : Qualifiers) (side : Side) (requester_sent : List (Option Apdu)) → ResponderSideInvariant txn side requester_sent
     → wants_sending true side ≡ true
-asked_wants txn (sides.Responder y) responder_sent stands = or_right (not (is_over (sides.Responder y))) true refl
-asked_wants txn (sides.Requester x) responder_sent stands = absurd stands
+asked_wants txn (sides.Responder y) requester_sent stands = or_right (not (is_over (sides.Responder y))) true refl
+asked_wants txn (sides.Requester x) requester_sent stands = absurd stands
 
 -- For a responder in IDLE the loan is not over.
 idle_is_open : (s : State) → is_among (states.Idle ∷ []) s ≡ true → is_nobodys (responder_turn_in s) ≡ false
@@ -117,15 +117,15 @@ idle_is_open states.Idle is = refl
 idle_is_open s is = search rules
 
 -- If the requester has issued nothing, the loan is not over for the responder.
-unasked_is_open : (txn : Qualifiers) (side : Side) (responder_sent : List (Option Apdu)) (apdus : List Apdu)
-    → ResponderSideInvariant txn side responder_sent → AreIssued responder_sent apdus → is_none apdus ≡ true → is_over side ≡ false
-unasked_is_open txn (sides.Responder y) responder_sent apdus stands heeded none = go (is_among (states.Idle ∷ []) y.state) refl
+unasked_is_open : (txn : Qualifiers) (side : Side) (requester_sent : List (Option Apdu)) (apdus : List Apdu)
+    → ResponderSideInvariant txn side requester_sent → AreIssued requester_sent apdus → is_none apdus ≡ true → is_over side ≡ false
+unasked_is_open txn (sides.Responder y) requester_sent apdus stands heeded none = go (is_among (states.Idle ∷ []) y.state) refl
   where
     go : (idle : Bool) → is_among (states.Idle ∷ []) y.state ≡ idle → is_over (sides.Responder y) ≡ false
     go true is = idle_is_open y.state is
     go false is = let known = stands.knows responder.Requested is in let there = heeded known.0 known.1 in
         absurd (idle_issued apdus there.0 known.0 none there.1)
-unasked_is_open txn (sides.Requester x) responder_sent apdus stands heeded none = absurd stands
+unasked_is_open txn (sides.Requester x) requester_sent apdus stands heeded none = absurd stands
 
 -- ---- the events of a night
 

@@ -337,10 +337,10 @@ module _ (rows : TransitionsHear) where
   -- ---- worlds
 
   -- If `RequesterSideInvariant` holds of a side, the side has issued at most 255 messages.
-  requester_few : (txn : Qualifiers) (side : Side) (requester_sent : List (Option Apdu))
-      → RequesterSideInvariant txn side requester_sent → length (issued_of side) ≤ 255
-  requester_few txn (sides.Requester x) requester_sent stands = stands.few
-  requester_few txn (sides.Responder y) requester_sent stands = absurd stands
+  requester_few : (txn : Qualifiers) (side : Side) (responder_sent : List (Option Apdu))
+      → RequesterSideInvariant txn side responder_sent → length (issued_of side) ≤ 255
+  requester_few txn (sides.Requester x) responder_sent stands = stands.few
+  requester_few txn (sides.Responder y) responder_sent stands = absurd stands
 
   -- If `ResponderSideInvariant` holds of a side, the side has issued at most 255 messages.
   responder_few : (txn : Qualifiers) (side : Side) (requester_sent : List (Option Apdu))

@@ -69,80 +69,80 @@ implied a b implies_it is = search rules
 -- If `has_heard` holds of an ILL-Request, the responder is not in IDLE.
 request_heard : (y : ResponderRecord) (n : ℕ) (body : Body) → is_ill_request body ≡ true
     → records.has_heard y n body ≡ true → is_among (states.Idle ∷ []) y.state ≡ false
-request_heard y n (types.IllRequest expiry item) is responder_sent = not-true _ responder_sent
-request_heard y n body is responder_sent = search rules
+request_heard y n (types.IllRequest expiry item) is heard = not-true _ heard
+request_heard y n body is heard = search rules
 
 -- If `has_heard` holds of a message that ends the request without the item, the requester is in no undecided state.
 end_heard : (x : RequesterRecord) (n : ℕ) (body : Body) → is_unsupplied body ≡ true
     → notices.has_heard x n body ≡ true → is_among undecided x.state ≡ false
-end_heard x n (types.IllAnswer answer) is responder_sent = search rules
-end_heard x n types.Expired is responder_sent = not-true _ responder_sent
-end_heard x n body is responder_sent = search rules
+end_heard x n (types.IllAnswer answer) is heard = search rules
+end_heard x n types.Expired is heard = not-true _ heard
+end_heard x n body is heard = search rules
 
 -- If `has_heard` holds of a Shipped, the requester is in no undecided state.
 shipped_heard : (x : RequesterRecord) (n : ℕ) (body : Body) → is_shipped body ≡ true
     → notices.has_heard x n body ≡ true → is_among undecided x.state ≡ false
-shipped_heard x n (types.Shipped due) is responder_sent = not-true _ responder_sent
-shipped_heard x n body is responder_sent = search rules
+shipped_heard x n (types.Shipped due) is heard = not-true _ heard
+shipped_heard x n body is heard = search rules
 
 -- If `has_heard` holds of a Cancel, an undecided responder has taken this one or a later one.
 cancel_heard : (y : ResponderRecord) (n : ℕ) (body : Body) → is_cancel body ≡ true → records.has_heard y n body ≡ true
     → is_among records.undecided y.state ≡ true → is_at_most n y.last_cancel ≡ true
-cancel_heard y n types.Cancel is responder_sent is_open = implied _ _ responder_sent is_open
-cancel_heard y n body is responder_sent is_open = search rules
+cancel_heard y n types.Cancel is heard is_open = implied _ _ heard is_open
+cancel_heard y n body is heard is_open = search rules
 
 -- If `has_heard` holds of a Renew, a responder in SHIPPED or OVERDUE has taken this one or a later one.
 renew_heard : (y : ResponderRecord) (n : ℕ) (body : Body) → is_renew body ≡ true → records.has_heard y n body ≡ true
     → is_among (states.Shipped ∷ states.Overdue ∷ []) y.state ≡ true
     → is_at_most n y.last_renew ≡ true
-renew_heard y n (types.Renew wished) is responder_sent here = implied _ _ responder_sent here
-renew_heard y n body is responder_sent here = search rules
+renew_heard y n (types.Renew wished) is heard here = implied _ _ heard here
+renew_heard y n body is heard here = search rules
 
 -- If `has_heard` holds of a Returned, the responder is in no lent state.
 returned_heard : (y : ResponderRecord) (n : ℕ) (body : Body) → is_returned body ≡ true
     → records.has_heard y n body ≡ true → is_among records.lent y.state ≡ false
-returned_heard y n types.Returned is responder_sent = not-true _ responder_sent
-returned_heard y n body is responder_sent = search rules
+returned_heard y n types.Returned is heard = not-true _ heard
+returned_heard y n body is heard = search rules
 
 -- If `has_heard` holds of a Received, a responder in SHIPPED or later has the received mark.
 received_heard : (y : ResponderRecord) (n : ℕ) (body : Body) → is_received body ≡ true
     → records.has_heard y n body ≡ true → is_among shipped_states y.state ≡ true → y.received ≡ true
-received_heard y n types.Received is responder_sent shipped = implied _ _ responder_sent shipped
-received_heard y n body is responder_sent shipped = search rules
+received_heard y n types.Received is heard shipped = implied _ _ heard shipped
+received_heard y n body is heard shipped = search rules
 
 -- If `has_heard` holds of a Conditional-Reply no, an undecided responder has no number left.
 no_heard : (y : ResponderRecord) (n : ℕ) (body : Body) → declines body ≡ true → records.has_heard y n body ≡ true
     → is_among records.undecided y.state ≡ true → nat_lt (length y.issued) 255 ≡ false
-no_heard y n (types.ConditionalReply c false) is responder_sent is_open = not-true _ (implied _ _ responder_sent is_open)
-no_heard y n (types.ConditionalReply c true) is responder_sent is_open = search rules
-no_heard y n body is responder_sent is_open = search rules
+no_heard y n (types.ConditionalReply c false) is heard is_open = not-true _ (implied _ _ heard is_open)
+no_heard y n (types.ConditionalReply c true) is heard is_open = search rules
+no_heard y n body is heard is_open = search rules
 
 -- If `has_heard` holds of a Conditional-Reply yes, the responder does not wait for an answer to these conditions.
 yes_heard : (y : ResponderRecord) (n c : ℕ) (body : Body) → accepts body ≡ Some c → records.has_heard y n body ≡ true
     → is_equal_number c (outstanding_number y) ≡ false
-yes_heard y n c (types.ConditionalReply k true) is responder_sent = let same : k ≡ c = search rules in
-    subst (λ i. is_equal_number i (outstanding_number y) ≡ false) same (not-true _ responder_sent)
-yes_heard y n c (types.ConditionalReply k false) is responder_sent = search rules
-yes_heard y n c body is responder_sent = search rules
+yes_heard y n c (types.ConditionalReply k true) is heard = let same : k ≡ c = search rules in
+    subst (λ i. is_equal_number i (outstanding_number y) ≡ false) same (not-true _ heard)
+yes_heard y n c (types.ConditionalReply k false) is heard = search rules
+yes_heard y n c body is heard = search rules
 
 -- If `has_heard` holds of a Recall, the requester is in no lent state.
 recall_heard : (x : RequesterRecord) (n : ℕ) (body : Body) → is_recall body ≡ true → notices.has_heard x n body ≡ true
     → is_among lent x.state ≡ false
-recall_heard x n types.Recall is responder_sent = not-true _ responder_sent
-recall_heard x n body is responder_sent = search rules
+recall_heard x n types.Recall is heard = not-true _ heard
+recall_heard x n body is heard = search rules
 
 -- If `has_heard` holds of a Checked-In, a requester in RETURNED has the checked-in mark.
 checked_in_heard : (x : RequesterRecord) (n : ℕ) (body : Body) → is_checked_in body ≡ true
     → notices.has_heard x n body ≡ true → is_among (states.Returned ∷ []) x.state ≡ true → x.checked_in ≡ true
-checked_in_heard x n types.CheckedIn is responder_sent back = implied _ _ responder_sent back
-checked_in_heard x n body is responder_sent back = search rules
+checked_in_heard x n types.CheckedIn is heard back = implied _ _ heard back
+checked_in_heard x n body is heard back = search rules
 
 -- If `has_heard` holds of an answer to Cancel c, the requester does not wait for an answer to Cancel c.
 cancel_reply_heard : (x : RequesterRecord) (n c : ℕ) (body : Body) → answered_number MayCancel body ≡ Some c
     → notices.has_heard x n body ≡ true → is_awaiting_cancel_reply x c ≡ false
-cancel_reply_heard x n c (types.CancelReply k is_yes) is responder_sent = let same : k ≡ c = search rules in
-    subst (λ i. is_awaiting_cancel_reply x i ≡ false) same (not-true _ responder_sent)
-cancel_reply_heard x n c body is responder_sent = search rules
+cancel_reply_heard x n c (types.CancelReply k is_yes) is heard = let same : k ≡ c = search rules in
+    subst (λ i. is_awaiting_cancel_reply x i ≡ false) same (not-true _ heard)
+cancel_reply_heard x n c body is heard = search rules
 
 -- ---- states
 
@@ -430,8 +430,8 @@ last_names apdus is = go (message apdus (length apdus)) refl is
 conditions_heard : (x : RequesterRecord) (n : ℕ) (body : Body) → names_conditions body ≡ true
     → notices.has_heard x n body ≡ true → is_among (states.Pending ∷ []) x.state ≡ true
     → is_at_most n (accepted_number x) ≡ true
-conditions_heard x n (types.IllAnswer results.Conditional) is responder_sent pending = implied _ _ responder_sent pending
-conditions_heard x n body is responder_sent pending = search rules
+conditions_heard x n (types.IllAnswer results.Conditional) is heard pending = implied _ _ heard pending
+conditions_heard x n body is heard pending = search rules
 
 -- The number of a message is at most the length of the list.
 message_within : (apdus : List Apdu) (n : ℕ) (a : Apdu) → message apdus n ≡ Some a → n ≤ length apdus
@@ -495,9 +495,9 @@ first_false a b none is = search rules
 -- If `has_heard` holds of an Overdue for its due date, the requester is not in time.
 overdue_heard : (x : RequesterRecord) (n : ℕ) (due : Date) (body : Body) → is_overdue_of due body ≡ true
     → x.due ≡ Some due → notices.has_heard x n body ≡ true → is_among states_before_overdue x.state ≡ false
-overdue_heard x n due (types.Overdue day) is its responder_sent =
-    first_false _ _ (not-true _ responder_sent) (subst (λ o. is_due_on day o ≡ true) (sym its) is)
-overdue_heard x n due body is its responder_sent = search rules
+overdue_heard x n due (types.Overdue day) is its heard =
+    first_false _ _ (not-true _ heard) (subst (λ o. is_due_on day o ≡ true) (sym its) is)
+overdue_heard x n due body is its heard = search rules
 
 -- An Overdue names no conditions.
 overdue_is_plain : (due : Date) (body : Body) → is_overdue_of due body ≡ true → names_conditions body ≡ false
@@ -541,9 +541,9 @@ overdue_at s shipped recalled returned late = search rules
 
 -- ---- a requester's record and a responder's
 
-module _ (txn : Qualifiers) (x : RequesterRecord) (y : ResponderRecord) (requester_sent responder_sent : List (Option Apdu))
-    (borrower : RequesterInvariant txn x requester_sent) (lender : ResponderInvariant txn y responder_sent)
-    (issued : AreIssued requester_sent y.issued) (heeded : AreIssued responder_sent x.issued) (hear : HaveHeard x y) where
+module _ (txn : Qualifiers) (x : RequesterRecord) (y : ResponderRecord) (responder_sent requester_sent : List (Option Apdu))
+    (borrower : RequesterInvariant txn x responder_sent) (lender : ResponderInvariant txn y requester_sent)
+    (issued : AreIssued responder_sent y.issued) (heeded : AreIssued requester_sent x.issued) (hear : HaveHeard x y) where
   -- ---- IDLE
 
   -- The first message of a requester that has begun is an ILL-Request.
@@ -563,7 +563,7 @@ module _ (txn : Qualifiers) (x : RequesterRecord) (y : ResponderRecord) (request
   was_asked is =
       let known = lender.knows responder.Requested is in
       sym borrower.rules.issued.idle ∙ not_none is_ill_request x.issued
-      (has_issued x.issued responder_sent is_ill_request known.0 heeded known.1
+      (has_issued x.issued requester_sent is_ill_request known.0 heeded known.1
       (tells_requested known.0.number known.0.body known.2))
 
   -- The requester is in IDLE exactly if the responder is.
@@ -577,14 +577,14 @@ module _ (txn : Qualifiers) (x : RequesterRecord) (y : ResponderRecord) (request
   -- The responder is in CANCELLED if the requester is.
   cancelled_there : is_among (states.Cancelled ∷ []) x.state ≡ true → is_among (states.Cancelled ∷ []) y.state ≡ true
   cancelled_there is = ap (is_among (states.Cancelled ∷ []))
-      (cancelled_faces txn x y requester_sent responder_sent borrower lender issued (is_in_cancelled x.state is))
+      (cancelled_faces txn x y responder_sent requester_sent borrower lender issued (is_in_cancelled x.state is))
 
   -- The requester is in CANCELLED if the responder is.
   cancelled_here : is_among (states.Cancelled ∷ []) y.state ≡ true → is_among (states.Cancelled ∷ []) x.state ≡ true
   cancelled_here is =
       let at = says_message is_cancelled y.issued (lender.ends.cancelled ∙ is) in
       let by = cancels_with at.1.body at.3 in
-      let is_open = cancel_is_open txn x y requester_sent responder_sent borrower lender issued heeded at.0 by.0 at.1 at.2 by.1 in
+      let is_open = cancel_is_open txn x y responder_sent requester_sent borrower lender issued heeded at.0 by.0 at.1 at.2 by.1 in
       let answers : answered_number MayCancel at.1.body ≡ Some by.0 = ap (answered_number MayCancel) by.1 in
       cancelled_left x.state _ is_open
       (cancel_reply_heard x at.1.number by.0 at.1.body answers
@@ -599,12 +599,12 @@ module _ (txn : Qualifiers) (x : RequesterRecord) (y : ResponderRecord) (request
   -- The responder is in SHIPPED or later if the requester is.
   later_there : is_among later x.state ≡ true → is_among shipped_states y.state ≡ true
   later_there is = sym lender.ends.shipped
-      ∙ shipped_by txn x y requester_sent responder_sent x.due borrower lender issued refl (borrower.rules.parts.due ∙ is)
+      ∙ shipped_by txn x y responder_sent requester_sent x.due borrower lender issued refl (borrower.rules.parts.due ∙ is)
 
   -- The responder is in NOT-SUPPLIED if the requester is.
   unsupplied_there : is_among (states.NotSupplied ∷ []) x.state ≡ true → is_among (states.NotSupplied ∷ []) y.state ≡ true
   unsupplied_there is = ap (is_among (states.NotSupplied ∷ []))
-      (not_supplied_faces txn x y requester_sent responder_sent borrower lender issued (is_in_not_supplied x.state is))
+      (not_supplied_faces txn x y responder_sent requester_sent borrower lender issued (is_in_not_supplied x.state is))
 
   -- The requester is in SHIPPED or later if the responder is.
   later_here : is_among shipped_states y.state ≡ true → is_among later x.state ≡ true
@@ -722,7 +722,7 @@ module _ (txn : Qualifiers) (x : RequesterRecord) (y : ResponderRecord) (request
   returned_here : is_among (states.Returned ∷ states.CheckedIn ∷ []) y.state ≡ true
       → is_among (states.Returned ∷ []) x.state ≡ true
   returned_here is = ap (is_among (states.Returned ∷ []))
-      ((says_true txn x y requester_sent responder_sent borrower lender issued heeded).returned is)
+      ((says_true txn x y responder_sent requester_sent borrower lender issued heeded).returned is)
 
   -- The requester is in RETURNED exactly if the responder is in RETURNED or CHECKED-IN.
   returned_alike : is_among (states.Returned ∷ []) x.state ≡ is_among (states.Returned ∷ states.CheckedIn ∷ []) y.state
@@ -736,7 +736,7 @@ module _ (txn : Qualifiers) (x : RequesterRecord) (y : ResponderRecord) (request
       let no = recalled_is_out x.state is in
       let known = borrower.notices notices.Recalled no.0 in
       recall_left y.state (lender.recall.after
-      (has_issued y.issued requester_sent is_recall known.0 issued known.1
+      (has_issued y.issued responder_sent is_recall known.0 issued known.1
       (attests_recall known.0.number known.0.body known.2))) (sym returned_alike ∙ no.3)
 
   -- The requester is in RECALL if the responder is.
@@ -932,7 +932,7 @@ module _ (txn : Qualifiers) (x : RequesterRecord) (y : ResponderRecord) (request
       let of_due : is_overdue_of due.0 known.0.body ≡ true = attests_overdue known.0.number due.0 known.0.body known.2 in
       let its : due_of y ≡ Some due.0 = sym (same_due late.1) ∙ due.1 in
       overdue_left y.state (lender.overdue.after due.0 its
-      (has_issued y.issued requester_sent (is_overdue_of due.0) known.0 issued known.1 of_due)) (sym recalled_alike ∙ late.2)
+      (has_issued y.issued responder_sent (is_overdue_of due.0) known.0 issued known.1 of_due)) (sym recalled_alike ∙ late.2)
       (sym returned_alike ∙ late.3)
 
   -- The requester is overdue if the responder is.
@@ -1015,7 +1015,7 @@ module _ (txn : Qualifiers) (x : RequesterRecord) (y : ResponderRecord) (request
   -- A responder that has shipped has the received mark exactly if a Received was issued.
   marked : is_among shipped_states y.state ≡ true → y.received ≡ is_received_by x
   marked is =
-      alike _ _ (says_true txn x y requester_sent responder_sent borrower lender issued heeded).received (λ has_it.
+      alike _ _ (says_true txn x y responder_sent requester_sent borrower lender issued heeded).received (λ has_it.
       let at = says_message is_received x.issued has_it in
       received_heard y at.1.number at.1.body at.3 (hear.responder at.0 at.1 at.2) is)
 
@@ -1023,7 +1023,7 @@ module _ (txn : Qualifiers) (x : RequesterRecord) (y : ResponderRecord) (request
   checked : x.checked_in ≡ is_among (states.CheckedIn ∷ []) y.state
   checked =
       alike _ _ (λ is. ap (is_among (states.CheckedIn ∷ []))
-      ((says_true txn x y requester_sent responder_sent borrower lender issued heeded).checked_in is)) (λ is.
+      ((says_true txn x y responder_sent requester_sent borrower lender issued heeded).checked_in is)) (λ is.
       let at = says_message is_checked_in y.issued (lender.rules.issued.checked_in ∙ is) in
       checked_in_heard x at.1.number at.1.body at.3 (hear.requester at.0 at.1 at.2 (checked_in_is_plain at.1.body at.3))
       (returned_alike ∙ home_is_back y.state is))

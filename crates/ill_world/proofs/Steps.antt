@@ -137,12 +137,12 @@ module _ {W E C : Type 0} (play : Play W E C) where
   -- ---- the result of `StepsLine`
 
   -- If the rest of a script ends with a fault, `StepsLine` holds with this fault.
-  pub sends_and_delivers : (c kept : C) (n : ℕ) (w next : W) (count next_count : ℕ) (old new before after : Option (List ℕ))
+  pub fault_ends_step : (c kept : C) (n : ℕ) (w next : W) (count next_count : ℕ) (old new before after : Option (List ℕ))
       (result : Result Bool SimFault) (fault : SimFault)
       → IsErrAnd result (λ f. f ≡ fault) → Plays play c n w count old new before after (Err fault)
       → StepsLine play c n w count old new before after result kept next next_count
-  sends_and_delivers c kept n w next count next_count old new before after (Ok more) fault is plays = absurd is
-  sends_and_delivers c kept n w next count next_count old new before after (Err f) fault is plays =
+  fault_ends_step c kept n w next count next_count old new before after (Ok more) fault is plays = absurd is
+  fault_ends_step c kept n w next count next_count old new before after (Err f) fault is plays =
       subst (λ f. Plays play c n w count old new before after (Err f)) (sym is) plays
 
   -- If line n cannot be read because of a fault, the rest of the script ends with this fault.

@@ -4,13 +4,13 @@ use Rattle.std.proofs.Common.{arith, ◌≡◌, ◌≤◌, length, Ok, sym, subs
 use Rattle.std.specs.Io.KnownBytes.{prepend_known}
 use Rattle.ill_world.specs.declared.lines.Found.TheVariants as found
 use Rattle.ill_world.specs.Simulating.{ReadsLine}
-use Rattle.ill_world.proofs.Steps.{sends_and_delivers, not_read, line_stops, nothing_follows, ended_with_line, too_long_stops}
+use Rattle.ill_world.proofs.Steps.{fault_ends_step, not_read, line_stops, nothing_follows, ended_with_line, too_long_stops}
 use Rattle.ill_world.proofs.Steps.{begins_closed, begins_last}
 use Rattle.ill_world.proofs.simulation.Simulation.step.Goals as goal
 
 pub returns-in_err-next_line-clause-steps : goal.returns-in_err-next_line-clause-steps
 returns-in_err-next_line-clause-steps g c =
-    sends_and_delivers g.T.Performer.play c.args.self.now.carried _ c.args.number _ _ _ _ _ _ _ _ c.from_residual.result
+    fault_ends_step g.T.Performer.play c.args.self.now.carried _ c.args.number _ _ _ _ _ _ _ _ c.from_residual.result
     c.in_err-next_line.field-0.0 c.from_residual.ensures.1
     (not_read g.T.Performer.play c.args.self.now.carried c.args.number _ _ _ _ _ c.next_line.new.line.items
     c.in_err-next_line.field-0.0 c.requires.number c.in_err-next_line.ensures.line)
@@ -24,7 +24,7 @@ returns-in_err-perform_line-in-Line-clause-steps g c =
     c.in_ok-next_line.ensures.line in
     let read = subst (λ ahead. ReadsLine (prepend_known c.args.self.now.ahead (remaining c.args.reader.now))
     (prepend_known ahead (remaining c.next_line.new.reader)) bytes (Ok found.Line)) (sym c.perform_line.ensures.ahead) was in
-    sends_and_delivers g.T.Performer.play c.args.self.now.carried _ c.args.number _ _ _ _ _ _ _ _
+    fault_ends_step g.T.Performer.play c.args.self.now.carried _ c.args.number _ _ _ _ _ _ _ _
     c.from_residual-in_err-perform_line-in-Line.result c.in_err-perform_line-in-Line.field-0.0
     c.from_residual-in_err-perform_line-in-Line.ensures.1
     (line_stops g.T.Performer.play c.args.self.now.carried c.args.number _ _ _ _ _ _ _ _ bytes _
@@ -43,7 +43,7 @@ returns-in_err-perform_line-in-Rest-2-clause-steps g c =
     (prepend_known ahead (remaining c.next_line.new.reader)) bytes (Ok found.Rest))
     (sym c.perform_line-in-Rest-2.ensures.ahead) was in
     let some : 1 ≤ length bytes = grind arith in
-    sends_and_delivers g.T.Performer.play c.args.self.now.carried _ c.args.number _ _ _ _ _ _ _ _
+    fault_ends_step g.T.Performer.play c.args.self.now.carried _ c.args.number _ _ _ _ _ _ _ _
     c.from_residual-in_err-perform_line-in-Rest-2.result c.in_err-perform_line-in-Rest-2.field-0.0
     c.from_residual-in_err-perform_line-in-Rest-2.ensures.1
     (line_stops g.T.Performer.play c.args.self.now.carried c.args.number _ _ _ _ _ _ _ _ bytes _

@@ -16,7 +16,8 @@ use Rattle.ill_values.specs.declared.apdu.Body.{Body}
 use Rattle.ill_core.specs.declared.refusal.Refusal.TheVariants.{NumbersUsed}
 use Rattle.ill_core.specs.Numbers.{is_equal_number}
 use Rattle.ill_core.specs.Bodies.{is_cancel, is_renew, is_ill_request}
-use Rattle.ill_core.specs.Issued.{is_message_with, number_of_cancel, number_of_renew, next_number, with_next, next_apdu, are_numbered}
+use Rattle.ill_core.specs.Issued.{is_message_with, number_of_cancel, number_of_renew, next_number, with_next, next_apdu}
+use Rattle.ill_core.specs.Issued.{are_numbered}
 use Rattle.ill_core.specs.Issued.{is_same_txn, has_message_with, last_of}
 use Rattle.ill_core.specs.Requester.{begins_with_request}
 use Rattle.ill_core.specs.Issued.{is_none}
@@ -111,9 +112,11 @@ numbered_issue txn apdus a number numbered next same is =
     )
 
 -- With one more APDU, `says` holds in the list if, and only if, it did before or holds of it.
-pub has_more : (says : Body → Bool) (apdus : List Apdu) (a : Apdu) → has_message_with says (apdus ++ a ∷ []) ≡ (has_message_with says apdus || says a.body)
+pub has_more : (says : Body → Bool) (apdus : List Apdu) (a : Apdu)
+    → has_message_with says (apdus ++ a ∷ []) ≡ (has_message_with says apdus || says a.body)
 has_more says apdus a =
-    list_any-append (λ (b : Apdu). says b.body) apdus (a ∷ []) ∙ ap (λ b. has_message_with says apdus || b) (or-false (says a.body))
+    list_any-append (λ (b : Apdu). says b.body) apdus (a ∷ [])
+    ∙ ap (λ b. has_message_with says apdus || b) (or-false (says a.body))
 
 -- If `says` holds of all old APDUs and of the new one, it holds of all.
 pub all_more : (says : Body → Bool) (apdus : List Apdu) (a : Apdu) → list_all (λ b. says b.body) apdus ≡ true → says a.body ≡ true

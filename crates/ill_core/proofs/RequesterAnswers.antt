@@ -41,7 +41,8 @@ still_once x new k same holds once =
     subst (λ l. has_message_with declines l ≡ false → has_message_with declines x.issued ≡ false) (sym same) (λ h. h) in
     record {
       distinct = ap (λ l. are_distinct (replies l)) same ∙ once.distinct;
-      above = subst (λ l. has_message_with declines l ≡ false → list_all (λ n. is_at_most n (last_of accepted_in l)) (replies l) ≡ true)
+      above = subst (λ l. has_message_with declines l ≡ false
+          → list_all (λ n. is_at_most n (last_of accepted_in l)) (replies l) ≡ true)
           (sym same) once.above;
       held = λ here no. ap (λ l. list_all (λ n. is_below n new.held) (replies l)) same
           ∙ held_still x new k holds once here (undeclined no);

@@ -21,7 +21,8 @@ use Rattle.ill_core.specs.Issued.{is_same_txn, is_message_with}
 use Rattle.ill_core.specs.Answers.{unless_refused}
 use Rattle.ill_core.specs.Requester.{RequesterRecord, accepted_number}
 use Rattle.ill_core.specs.RequesterDeliveries.{take_message, takes}
-use Rattle.ill_core.specs.RequesterNotices.{is_awaiting_answer, is_awaiting_cancel_reply, undecided, lent, states_before_overdue, has_heard, reopens}
+use Rattle.ill_core.specs.RequesterNotices.{is_awaiting_answer, is_awaiting_cancel_reply, undecided, lent, states_before_overdue}
+use Rattle.ill_core.specs.RequesterNotices.{has_heard, reopens}
 use Rattle.ill_core.proofs.RequesterMoves.{Leads, nowhere, holds_conditions, ends, cancels, keeps_request, ships, misses, reminds}
 use Rattle.ill_core.proofs.RequesterMoves.{reminds_renewing, renews, refuses_renewal, recalls, checks_in, delivery_leads}
 
@@ -88,14 +89,16 @@ record StaysWithoutEffect (x : RequesterRecord) (body : Body) (new : RequesterRe
   refusal : (renew : ℕ) → not (is_awaiting_answer x renew) ≡ true → not (is_awaiting_answer new renew) ≡ true
   renewal : (renew : ℕ) (due : Date) → not (is_awaiting_answer x renew && is_after_due due x.due) ≡ true
       → not (is_awaiting_answer new renew && is_after_due due new.due) ≡ true
-  overdue : (day : Date) → reopens body (types.Overdue day) ≡ false → not (is_among states_before_overdue x.state && is_due_on day x.due) ≡ true
+  overdue : (day : Date) → reopens body (types.Overdue day) ≡ false
+      → not (is_among states_before_overdue x.state && is_due_on day x.due) ≡ true
       → not (is_among states_before_overdue new.state && is_due_on day new.due) ≡ true
   recall : reopens body types.Recall ≡ false → not (is_among lent x.state) ≡ true → not (is_among lent new.state) ≡ true
   checked_in : implies (is_among (Returned ∷ []) x.state) x.checked_in ≡ true
       → implies (is_among (Returned ∷ []) new.state) new.checked_in ≡ true
 
 -- The record after each row of deliveries satisfies `StaysWithoutEffect`.
-hears : (x : RequesterRecord) (number : ℕ) (body : Body) (new : RequesterRecord) → Leads x number body new → StaysWithoutEffect x body new
+hears : (x : RequesterRecord) (number : ℕ) (body : Body) (new : RequesterRecord) → Leads x number body new
+    → StaysWithoutEffect x body new
 hears x number _ _ (nowhere body) = search rules
 hears x number _ _ (holds_conditions is) = search rules
 hears x number _ _ (ends body is_end is) = search rules
@@ -110,7 +113,8 @@ hears x number _ _ (refuses_renewal renew waits) = search rules
 hears x number _ _ (recalls is) = search rules
 hears x number _ _ (checks_in is) = search rules
 
--- If `new` satisfies `StaysWithoutEffect`, a message that would not change `x` would not change `new`, unless `first` reopens it.
+-- If `new` satisfies `StaysWithoutEffect`, a message that would not change `x` would not change `new`, unless `first`
+-- reopens it.
 still_heard : (x : RequesterRecord) (first : Body) (new : RequesterRecord) → StaysWithoutEffect x first new
     → (number : ℕ) (second : Body) → reopens first second ≡ false
     → has_heard x number second ≡ true → has_heard new number second ≡ true

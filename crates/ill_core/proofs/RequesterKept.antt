@@ -25,7 +25,8 @@ use Rattle.ill_core.proofs.IssuedLemmas.{numbered_next, not_true, same_txn, has_
 abbrev pub FitsWith : State → Option ℕ → RequesterRecord → Body → Type 0
 FitsWith state held x body =
     PartsFit state (is_some held) (is_some x.due) x.checked_in
-    × IssuedFit state false (has_message_with is_received x.issued || is_received body) (has_message_with is_cancel x.issued || is_cancel body)
+    × IssuedFit state false (has_message_with is_received x.issued || is_received body)
+    (has_message_with is_cancel x.issued || is_cancel body)
     (has_message_with is_renew x.issued || is_renew body) (has_message_with is_returned x.issued || is_returned body)
     (has_message_with declines x.issued || declines body)
     × (is_requesters body ≡ true) × (is_ill_request body ≡ is_none x.issued)

@@ -71,7 +71,8 @@ cancel_reply_leads : (x : RequesterRecord) (number cancel : ℕ) (is_yes : Bool)
 cancel_reply_leads x number cancel is_yes decided =
     transition x number _ (is_among (CancelPending ∷ []) x.state && is_equal_number cancel (last_cancel x)) _ _
     (λ is. decided (and_parts _ _ is).0) (λ _.
-    transition x number _ (is_among (Cancelled ∷ []) x.state && (is_yes && is_equal_number cancel (last_cancel x))) _ _ (λ _. nowhere _)
+    transition x number _ (is_among (Cancelled ∷ []) x.state && (is_yes && is_equal_number cancel (last_cancel x))) _ _
+    (λ _. nowhere _)
     (λ _.
     transition x number _ (is_message_with is_cancel x.issued cancel) _ _ (λ _. nowhere _) (λ _. nowhere _)))
 

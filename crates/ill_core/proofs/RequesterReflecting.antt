@@ -18,7 +18,8 @@ use Rattle.ill_core.specs.Issued.{is_message_with, next_apdu, accepted_in, numbe
 use Rattle.ill_core.specs.Requester.{RequesterRecord, IsRequester, later, accepted_number, last_renew}
 use Rattle.ill_core.specs.RequesterActions.{Transition, acts, record_after}
 use Rattle.ill_core.specs.RequesterDeliveries.{takes}
-use Rattle.ill_core.specs.RequesterNotices.{Notice, Recalled, Named, Answered, GrantedBefore, PastDue, is_awaiting_answer, Reflects, Attests}
+use Rattle.ill_core.specs.RequesterNotices.{Notice, Recalled, Named, Answered, GrantedBefore, PastDue, is_awaiting_answer}
+use Rattle.ill_core.specs.RequesterNotices.{Reflects, Attests}
 use Rattle.ill_core.proofs.IssuedLemmas.{was_more, last_of_more, last_of_next, last_renew_within}
 use Rattle.ill_core.proofs.Rules.{requester_rules}
 use Rattle.ill_core.proofs.RequesterTransitions as transitions
@@ -84,8 +85,10 @@ keeps x number _ _ (refuses_renewal renew waits) fits within = search rules
 keeps x number _ _ (recalls is) fits within = search rules
 keeps x number _ _ (checks_in is) fits within = search rules
 
--- If `new` satisfies `ReflectsOldOrAttested`, each notice that it reflects was reflected by `x`, or the message attests it.
-kept : (x : RequesterRecord) (number : ℕ) (body : Body) (new : RequesterRecord) (notice : Notice) → ReflectsOldOrAttested x number body new
+-- If `new` satisfies `ReflectsOldOrAttested`, each notice that it reflects was reflected by `x`, or the message attests
+-- it.
+kept : (x : RequesterRecord) (number : ℕ) (body : Body) (new : RequesterRecord) (notice : Notice)
+    → ReflectsOldOrAttested x number body new
     → Reflects new notice → Reflects x notice ⊎ Attests number body notice
 kept x number body new Recalled how = how.recalled
 kept x number body new (Named conditions) how = how.named conditions

@@ -19,7 +19,8 @@ use Rattle.ill_core.specs.declared.taking.Taking.TheVariants as takings
 use Rattle.ill_core.specs.State.{is_among}
 use Rattle.ill_core.specs.Numbers.{is_at_most, is_equal_number}
 use Rattle.ill_core.specs.Bodies.{is_requesters, is_cancel, is_renew, declines, accepts}
-use Rattle.ill_core.specs.Issued.{first_refusal, is_message_with, has_message_with, next_number, next_apdu, number_of_cancel, last_of}
+use Rattle.ill_core.specs.Issued.{first_refusal, is_message_with, has_message_with, next_number, next_apdu, number_of_cancel}
+use Rattle.ill_core.specs.Issued.{last_of}
 use Rattle.ill_core.specs.RequesterRules.{RequesterRules}
 use Rattle.ill_core.specs.Requester.{RequesterRecord, later, accepted_number, is_declined, is_received_by, last_cancel}
 use Rattle.ill_core.specs.Requester.{last_renew}
@@ -150,7 +151,8 @@ cancel_reply_row : (x : RequesterRecord) (k c : ℕ) (is_yes : Bool)
     → Moves x k (types.CancelReply c is_yes) (take_cancel_reply x c is_yes)
 cancel_reply_row x k c is_yes decided =
     transition x k _ (is_among (CancelPending ∷ []) x.state && is_equal_number c (last_cancel x)) _ _ decided (λ _.
-    transition x k _ (is_among (Cancelled ∷ []) x.state && (is_yes && is_equal_number c (last_cancel x))) _ _ (λ _. left x k _ _) (λ _.
+    transition x k _ (is_among (Cancelled ∷ []) x.state && (is_yes && is_equal_number c (last_cancel x))) _ _ (λ _. left x k _ _)
+    (λ _.
     transition x k _ (is_message_with is_cancel x.issued c) _ _ (λ _. left x k _ _) (λ _. left x k _ _)))
 
 -- If the answer to a Renew-Answer satisfies `Moves` when a Renew waits, it satisfies `Moves` always.
@@ -167,7 +169,8 @@ renew_answer_row x k c granted decided =
 pub message_row : (x : RequesterRecord) (a : Apdu) (body : Body) → Moves x a.number body (take_message x a body)
 message_row x a (types.IllAnswer results.Conditional) =
     transition x a.number _ (is_at_most a.number (accepted_number x)) _ _ (λ _. left x a.number _ _) (λ above.
-    transition x a.number _ (is_among (Conditional ∷ []) x.state && is_equal_number a.number x.held) _ _ (λ _. left x a.number _ _) (λ _.
+    transition x a.number _ (is_among (Conditional ∷ []) x.state && is_equal_number a.number x.held) _ _
+    (λ _. left x a.number _ _) (λ _.
     transition x a.number _ (is_among (Pending ∷ []) x.state) _ _ (λ is. conditions_held x a.number _ is above)
     (λ _. left x a.number _ _)))
 message_row x a (types.IllAnswer results.WillSupply) =

@@ -184,7 +184,8 @@ no_kept y h waits =
 outstanding_named : (txn : Qualifiers) (state : State) (accepted last_cancel last_renew : Option ℕ) (received : Bool)
     (request : Option Apdu) (issued : List Apdu) (c : ℕ)
     → ResponderRules (responder_of txn state accepted last_cancel last_renew received request issued)
-    → is_equal_number c (outstanding_number (responder_of txn state accepted last_cancel last_renew received request issued)) ≡ true
+    → is_equal_number c (outstanding_number (responder_of txn state accepted last_cancel last_renew received request issued))
+    ≡ true
     → (is_among (Conditional ∷ []) state ≡ true) × (is_named (Some c) issued ≡ true)
 outstanding_named txn Conditional accepted last_cancel last_renew received request [] c h is = search rules
 outstanding_named txn Conditional accepted last_cancel last_renew received request (a ∷ issued) c h is = (

@@ -27,9 +27,11 @@ use Rattle.ill_core.specs.declared.refusal.Refusal.{Refusal}
 use Rattle.ill_core.specs.declared.taking.Taking.{Taking}
 use Rattle.ill_core.specs.declared.taking.Taking.TheVariants.{Taken}
 use Rattle.ill_core.specs.ResponderEvidence.{Fact, Claims, IsEvidence, Requested, Accepted, CancelAsked, Arrived, SentBack}
-use Rattle.ill_core.specs.ResponderEvidence.{is_yes_to_cancel, KeepsRequest, IssuesUnfilled, StaysLater, Ends, EntersByEnd, EndsOnce}
+use Rattle.ill_core.specs.ResponderEvidence.{is_yes_to_cancel, KeepsRequest, IssuesUnfilled, StaysLater, Ends, EntersByEnd}
+use Rattle.ill_core.specs.ResponderEvidence.{EndsOnce}
 use Rattle.ill_core.specs.ResponderEvidence.{is_unsupplied, is_cancelled, is_end, ended, ends_in, Question, MayCancel, MayRenew}
-use Rattle.ill_core.specs.ResponderEvidence.{answered_number, last_asked, is_question_open, answers_to, AnswersLast, KeepsLast, TakesNew}
+use Rattle.ill_core.specs.ResponderEvidence.{answered_number, last_asked, is_question_open, answers_to, AnswersLast, KeepsLast}
+use Rattle.ill_core.specs.ResponderEvidence.{TakesNew}
 use Rattle.ill_core.specs.ResponderEvidence.{AnsweredOnce, AnswersOnce}
 use Rattle.ill_core.proofs.IssuedLemmas.{issued_body, not_longer, has_more, found_none, found_more}
 use Rattle.ill_core.proofs.ResponderLists.{count_more}
@@ -335,11 +337,13 @@ moves_each : (question : Question) (y new : ResponderRecord) (number : ℕ) (bod
     → KeepsLast question y new ⊎ TakesNew question number body y new
     → AnswersOnce question y → AnswersOnce question new
 moves_each question y new number body same (inl keeps) h =
-    subst (λ apdus. AnsweredOnce (answers_to question apdus) (last_asked question new) (is_question_open question new.state)) (sym same)
+    subst (λ apdus. AnsweredOnce (answers_to question apdus) (last_asked question new) (is_question_open question new.state))
+    (sym same)
     (subst (λ o. AnsweredOnce (answers_to question y.issued) o (is_question_open question new.state)) (sym keeps.0)
     (each_kept _ _ _ _ keeps.1 h))
 moves_each question y new number body same (inr asked) h =
-    subst (λ apdus. AnsweredOnce (answers_to question apdus) (last_asked question new) (is_question_open question new.state)) (sym same)
+    subst (λ apdus. AnsweredOnce (answers_to question apdus) (last_asked question new) (is_question_open question new.state))
+    (sym same)
     (subst (λ o. AnsweredOnce (answers_to question y.issued) o (is_question_open question new.state)) (sym asked.2)
     (each_asked _ _ _ _ number asked.1 h))
 
@@ -357,7 +361,8 @@ unfilled_each question y how h =
     (is_question_open question NotSupplied))
     (sym (found_none (λ a. answered_number question a.body) y.issued (next_apdu y.txn y.issued (types.IllAnswer results.Unfilled))
     (no_answer question)))
-    (subst (λ o. AnsweredOnce (answers_to question y.issued) o (is_question_open question NotSupplied)) (sym (last_same question y _ _))
+    (subst (λ o. AnsweredOnce (answers_to question y.issued) o (is_question_open question NotSupplied))
+    (sym (last_same question y _ _))
     (each_kept _ _ _ _ (how.asked question) h))
 
 -- A message preserves `AnswersOnce`.
@@ -392,7 +397,8 @@ issues_shows y body next Requested how asked shown = how.begun
 issues_shows y body next (Accepted c) how asked shown = shown
 issues_shows y body next (CancelAsked c) how asked (inl last) = inl last
 issues_shows y body next (CancelAsked c) how asked (inr yes_there) =
-    yes_shown y body c (asked c) (or_either _ _ (sym (has_more (is_yes_to_cancel c) y.issued (next_apdu y.txn y.issued body)) ∙ yes_there))
+    yes_shown y body c (asked c) (or_either _ _
+    (sym (has_more (is_yes_to_cancel c) y.issued (next_apdu y.txn y.issued body)) ∙ yes_there))
 issues_shows y body next Arrived how asked shown = shown
 issues_shows y body next SentBack how asked shown = sym how.sent_back ∙ shown
 
@@ -418,7 +424,8 @@ moves_shows : (y new : ResponderRecord) (number : ℕ) (body : Body) (fact : Fac
 moves_shows y new number body Requested how shown = how.requested shown
 moves_shows y new number body (Accepted c) how shown = how.accepted c shown
 moves_shows y new number body (CancelAsked c) how (inl last) = search (rules, how.cancel_asked c last)
-moves_shows y new number body (CancelAsked c) how (inr yes_there) = inl (inr (sym (ap (has_message_with (is_yes_to_cancel c)) how.issued) ∙ yes_there))
+moves_shows y new number body (CancelAsked c) how (inr yes_there) =
+    inl (inr (sym (ap (has_message_with (is_yes_to_cancel c)) how.issued) ∙ yes_there))
 moves_shows y new number body Arrived how shown = how.arrived shown
 moves_shows y new number body SentBack how shown = how.sent_back shown
 

@@ -19,7 +19,8 @@ use Rattle.ill_core.specs.State.{is_among}
 use Rattle.ill_core.specs.Dates.{is_after_due}
 use Rattle.ill_core.specs.Bodies.{is_shipped, is_renewal, names_conditions, grant_in}
 use Rattle.ill_core.specs.Issued.{is_message_with, granted_day, last_of}
-use Rattle.ill_core.specs.Responder.{is_after_last, rise_from, ships_first, ends_with_conditions, is_named, is_request_of, request_in}
+use Rattle.ill_core.specs.Responder.{is_after_last, rise_from, ships_first, ends_with_conditions, is_named, is_request_of}
+use Rattle.ill_core.specs.Responder.{request_in}
 use Rattle.ill_core.proofs.IssuedLemmas.{not_true}
 
 -- One more APDU adds 1 to the count if `says` holds of it, and else 0.
@@ -28,7 +29,8 @@ pub count_more : (says : Body → Bool) (apdus : List Apdu) (a : Apdu)
 count_more says apdus a = search (rules, sum_by-append (λ (b : Apdu). cond (says b.body) 1 0) apdus (a ∷ []))
 
 -- With APDU `a` at the end, `says` holds of the last message if, and only if, it holds of `a`.
-last_message : (says : Body → Bool) (apdus : List Apdu) (a : Apdu) → is_message_with says (apdus ++ a ∷ []) (suc (length apdus)) ≡ says a.body
+last_message : (says : Body → Bool) (apdus : List Apdu) (a : Apdu)
+    → is_message_with says (apdus ++ a ∷ []) (suc (length apdus)) ≡ says a.body
 last_message says [] a = refl
 last_message says (b ∷ apdus) a = last_message says apdus a
 

@@ -69,7 +69,8 @@ message_changes : (y : ResponderRecord) (a : Apdu) (body : Body) → Change y a.
 message_changes y a (types.IllRequest expiry item) =
     transition y _ _ (is_among (Idle ∷ []) y.state) _ _ (requests expiry item a) (λ _. leaves _)
 message_changes y a (types.ConditionalReply c true) =
-    transition y _ _ (is_equal_number c (outstanding_number y)) _ _ (λ there. accepts c (waits_conditional c y.state _ there)) (λ _.
+    transition y _ _ (is_equal_number c (outstanding_number y)) _ _ (λ there. accepts c (waits_conditional c y.state _ there))
+    (λ _.
     transition y _ _ (is_equal_number c y.accepted) _ _ (λ _. leaves _) (λ _.
     transition y _ _ (is_message_with names_conditions y.issued c) _ _ (λ _. leaves _) (λ _. leaves _)))
 message_changes y a (types.ConditionalReply c false) =

@@ -26,7 +26,8 @@ use Rattle.ill_core.specs.Answers.{unless_refused}
 use Rattle.ill_core.specs.ResponderActions.{Transition, transition_of, acts, acts_by, issues_to, record_after}
 use Rattle.ill_core.specs.ResponderDeliveries.{takes, take_message, answers_no}
 use Rattle.ill_core.specs.ResponderEvidence.{IsEvidence, Requested, Accepted, CancelAsked, Arrived, SentBack, Question}
-use Rattle.ill_core.specs.ResponderEvidence.{KeepsRequest, KeepsLast, TakesNew, answered_number, last_asked, is_question_open, is_unsupplied}
+use Rattle.ill_core.specs.ResponderEvidence.{KeepsRequest, KeepsLast, TakesNew, answered_number, last_asked, is_question_open}
+use Rattle.ill_core.specs.ResponderEvidence.{is_unsupplied}
 use Rattle.ill_core.specs.ResponderEvidence.{is_cancelled, is_end, ended, ends_in}
 use Rattle.ill_core.proofs.TransitionLemmas.{few_with_next}
 use Rattle.ill_core.proofs.ResponderTransitions.{IsTransition, is_transition, answers, allows_cancel, refuses_cancel, ships}
@@ -49,7 +50,8 @@ pub record Issues (y : ResponderRecord) (body : Body) (state : State) : Type 0 w
   pub on : is_among (Idle ∷ []) state ≡ false
   pub asked : (question : Question) → is_question_open question state ≡ true → is_question_open question y.state ≡ true
   pub replies : (question : Question) (n : ℕ) → answered_number question body ≡ Some n
-      → (is_question_open question y.state ≡ true) × (is_question_open question state ≡ false) × (n ≡ unwrap_or (last_asked question y) 0)
+      → (is_question_open question y.state ≡ true) × (is_question_open question state ≡ false)
+      × (n ≡ unwrap_or (last_asked question y) 0)
 
 -- Message `number` with `body` changes `y` to `new`, and issues nothing. The change does not enter or leave a state
 -- after an end, and does not change a request. The message is evidence of each new claim.
@@ -131,7 +133,8 @@ requested txn state accepted last_cancel last_renew received request kept issued
 -- The change by which the outstanding conditions are accepted satisfies `Moves`.
 accepts : (txn : Qualifiers) (state : State) (accepted last_cancel last_renew : Option ℕ) (received : Bool)
     (request : Option Apdu) (issued : List Apdu) (number c : ℕ)
-    → is_equal_number c (outstanding_number (responder_of txn state accepted last_cancel last_renew received request issued)) ≡ true
+    → is_equal_number c (outstanding_number (responder_of txn state accepted last_cancel last_renew received request issued))
+    ≡ true
     → Moves (responder_of txn state accepted last_cancel last_renew received request issued) number
     (types.ConditionalReply c true) (responder_of txn InProcess (Some c) last_cancel last_renew received request issued)
 accepts txn Conditional accepted last_cancel last_renew received request issued number c there = search rules

@@ -35,7 +35,8 @@ use Rattle.ill_core.specs.Tables.{has_common_bit, has_state, taking_of, next_sta
 use Rattle.ill_core.specs.Responder.{ResponderRecord, responder_of, IsResponder, due_of}
 use Rattle.ill_core.specs.Dates.{is_before, is_after_due}
 use Rattle.ill_core.specs.ResponderTables.{deed_row, check, check_date, deed_body, after_deed, number_after, request_after}
-use Rattle.ill_core.specs.ResponderTables.{issued_after, after_delivery, is_row_with_memory, IsRefused, number_refusal, refusal_of}
+use Rattle.ill_core.specs.ResponderTables.{issued_after, after_delivery, is_row_with_memory, IsRefused, number_refusal}
+use Rattle.ill_core.specs.ResponderTables.{refusal_of}
 use Rattle.ill_core.specs.ResponderTables.{delivery_guards, delivery_rows, delivery_row, delivery_row_of}
 use Rattle.ill_core.specs.ResponderDeliveries.{MayWantMemory, answers_no, take_message, takes_memory}
 use Rattle.ill_core.specs.ResponderActions.{Transition, leads_to, issues_to, if_allowed, no_date, expiry_of, transition_of, acts}

@@ -20,7 +20,8 @@ is_marked : (x : RequesterRecord) → is_among (Returned ∷ []) x.state ≡ tru
 is_marked x back over = search rules
 
 -- If the turn of requester `x` is `Over`, no message changes its record.
-over_changes_nothing : (x new : RequesterRecord) (number : ℕ) (body : Body) → Leads x number body new → requester_turn x ≡ Over → new ≡ x
+over_changes_nothing : (x new : RequesterRecord) (number : ℕ) (body : Body) → Leads x number body new → requester_turn x ≡ Over
+    → new ≡ x
 over_changes_nothing x new number body (moves.nowhere _) over = refl
 over_changes_nothing x new number body (moves.holds_conditions at) over = search rules
 over_changes_nothing x new number body (moves.ends _ is at) over = search rules

@@ -14,7 +14,8 @@ use Rattle.ill_core.specs.State.{is_among}
 use Rattle.ill_core.specs.Dates.{is_after_due}
 use Rattle.ill_core.specs.Rules.{implies, are_alike}
 use Rattle.ill_core.specs.Bodies.{is_requesters, is_ill_request, is_shipped, is_checked_in, names_conditions, is_renewal}
-use Rattle.ill_core.specs.Issued.{are_numbered, is_same_txn, has_message_with, is_message_with, last_of, is_none, granted_day, number_of_end}
+use Rattle.ill_core.specs.Issued.{are_numbered, is_same_txn, has_message_with, is_message_with, last_of, is_none, granted_day}
+use Rattle.ill_core.specs.Issued.{number_of_end}
 
 -- The record of a responder in a transaction, with the request and all APDUs that it has issued.
 pub record ResponderRecord : Type 0 where

@@ -138,7 +138,8 @@ fails_later handles bytes middle before now after apdu fault begins first later 
 -- ---- the buffer
 
 -- If the feed `now` is open, no fault closed it.
-pub is_open : (closed : Option DerFault) (bytes : List ℕ) (now : FeedState) → held_of closed bytes ≡ now → IsOk now → closed ≡ None
+pub is_open : (closed : Option DerFault) (bytes : List ℕ) (now : FeedState) → held_of closed bytes ≡ now → IsOk now
+    → closed ≡ None
 is_open None bytes now e opened = refl
 is_open (Some fault) bytes now e opened =
     let not_open : IsOk (held_of (Some fault) bytes) = subst IsOk (sym e) opened in
@@ -327,11 +328,13 @@ on_after handles held piece later apdu before now after (Err fault) new begins f
 
 -- If the first APDU of the filled bytes was handled, handling the rest has the outcome of a push of `piece`.
 pub goes_on_after : {S F : Type 0} (handles : Handles S F) → AgainLaw
-    → (old new piece : List ℕ) (size filled end : ℕ) (before now after : S) (was : FeedState) (result : Result (Option DerFault) F)
+    → (old new piece : List ℕ) (size filled end : ℕ) (before now after : S) (was : FeedState)
+    (result : Result (Option DerFault) F)
     (feed : FeedState)
     → Fills old new size piece filled → Holds size old → was ≡ Ok (take size old)
     → HandlesFirst handles (take filled new) before (Ok (Ok end)) now
-    → HandlesRest handles (Ok (take size new)) (take (length piece - (end - size)) (drop (end - size) piece)) now result feed after
+    → HandlesRest handles (Ok (take size new)) (take (length piece - (end - size)) (drop (end - size) piece)) now result feed
+    after
     → HandlesEach handles was piece before result feed after
 goes_on_after handles again old new piece size filled end before now after was result feed fills is opened first on =
     let held = take size old in

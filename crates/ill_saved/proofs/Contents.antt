@@ -32,8 +32,10 @@ use Rattle.ill_saved.specs.declared.side.Action.{Action}
 use Rattle.ill_saved.specs.declared.fault.DeskFault.{DeskFault}
 use Rattle.ill_saved.specs.declared.fault.DeskFault.TheVariants as faults
 use Rattle.ill_saved.specs.declared.fault.RecordFault.{RecordFault}
-use Rattle.ill_saved.specs.Side.{issued_of, txn_of, role_of, idle_side, is_idle, role_for, begins, IsConsistent, IsSideTransition, acts}
-use Rattle.ill_saved.specs.Side.{takes, takes_memory, Acts, Takes, IsAfterTransitions, same as follows_itself, further as one_further}
+use Rattle.ill_saved.specs.Side.{issued_of, txn_of, role_of, idle_side, is_idle, role_for, begins, IsConsistent, IsSideTransition}
+use Rattle.ill_saved.specs.Side.{acts}
+use Rattle.ill_saved.specs.Side.{takes, takes_memory, Acts, Takes, IsAfterTransitions, same as follows_itself}
+use Rattle.ill_saved.specs.Side.{further as one_further}
 use Rattle.ill_saved.specs.Side.{IsPrefix}
 use Rattle.ill_saved.specs.Faults.{of_core}
 use Rattle.ill_saved.specs.Ranges.{Each, IsSide}
@@ -47,7 +49,8 @@ use Rattle.ill_saved.specs.Holdings.{DeskEntry, DeskActs, DeskTakesApdu, IsBacke
 use Rattle.ill_saved.specs.Holdings.{StaysBacked, landed_live, map_ok, whole}
 use Rattle.ill_saved.specs.ManySides.{DeskContents, held_of, counts, txn_held, idle_held, found_or, held_for, with_held}
 use Rattle.ill_saved.specs.ManySides.{sides_held, whole_of, no_sides, is_own, held_or_begun, side_for_call, acted as acted_by}
-use Rattle.ill_saved.specs.ManySides.{acts_reached, desk_acts, contents_after_message as took_by, takes_reached, desk_takes, many_sides, FirstActs}
+use Rattle.ill_saved.specs.ManySides.{acts_reached, desk_acts, contents_after_message as took_by, takes_reached, desk_takes}
+use Rattle.ill_saved.specs.ManySides.{many_sides, FirstActs}
 use Rattle.ill_saved.specs.ManySides.{FirstTakes, side_for, AreBackedBy, AreBackable, ManyBack}
 use Rattle.ill_saved.proofs.Desks.{RowsGrow, RefusalsStay, core_answer, itself_backs, no_less, idle_consistent}
 use Rattle.ill_saved.proofs.DeskEntry.{new_to, idle_txn, idle_role, acts_row, takes_row, found_plainly}
@@ -328,7 +331,8 @@ module _ (live : DeskContents) (txn : Qualifiers) (held : DeskEntry) (after : Si
   acts_there : (action : Action) → is_same_role live.role (role_for action) ≡ true
       → desk_acts live txn action ≡ acted_by live held (acts held.side action)
   acts_there action fits =
-      ap (λ b. cond b (acts_reached live action (side_for_call live txn (begins action))) (Err (faults.Core refusals.WrongRole))) fits
+      ap (λ b. cond b (acts_reached live action (side_for_call live txn (begins action))) (Err (faults.Core refusals.WrongRole)))
+      fits
       ∙ ap (λ f. acts_reached live action
       (held_or_begun (begins action) (nat_lt (length live.held) most_sides) (idle_held live.role txn) f)) found
 
@@ -515,7 +519,8 @@ module _ (role : Role) (sides : List Side) (counted : List ℕ) (as_many : lengt
         by (inr same) = of ∙ ap txn_of (sym same)
 
     -- If `Does` describes a call of the side of `txn` alone, the desk holds the side after it. The count is unchanged.
-    pub changed_held : (answer : A) (new : SidesOf) → ChangesOnlySideOf Does txn (record { role = role; sides = sides }) (Some answer) new
+    pub changed_held : (answer : A) (new : SidesOf)
+        → ChangesOnlySideOf Does txn (record { role = role; sides = sides }) (Some answer) new
         → (held : DeskEntry) × (after : Side) × (found_by txn_held txn (held_of sides counted) ≡ Some held)
         × Does held.side answer after × (txn ≡ txn_of after)
         × (record { role = new.role; held = held_of new.sides counted }
@@ -590,7 +595,8 @@ module _ (role : Role) (sides : List Side) (counted : List ℕ) (as_many : lengt
   -- If the side of `txn` alone answers an action as `Acts` says, the desk answers it as `DeskActs` says.
   pub desk_acts_so : (grows : RowsGrow) (txn : Qualifiers) (action : Action) (answer : Result (Unit {0}) Refusal) (new : SidesOf)
       → is_same_role role (role_for action) ≡ true
-      → ChangesOnlySideOf (λ old answer new. Acts old action answer new) txn (record { role = role; sides = sides }) (Some answer) new
+      → ChangesOnlySideOf (λ old answer new. Acts old action answer new) txn (record { role = role; sides = sides }) (Some answer)
+      new
       → DeskActs many_sides held_so txn action (core_answer answer) (record { role = new.role; held = held_of new.sides counted })
   desk_acts_so grows txn action answer new fits only =
       let to = changed_held grows txn (λ old answer new. Acts old action answer new)
@@ -601,7 +607,8 @@ module _ (role : Role) (sides : List Side) (counted : List ℕ) (as_many : lengt
   -- If the side of an APDU alone answers it as `Takes` says, the desk answers as `DeskTakesApdu` says.
   pub desk_takes_so : (grows : RowsGrow) → RefusalsStay → (a : Apdu) (answer : Result Taking Refusal) (new : SidesOf)
       → is_own role a.body ≡ false
-      → ChangesOnlySideOf (λ old answer new. Takes old a answer new) a.txn (record { role = role; sides = sides }) (Some answer) new
+      → ChangesOnlySideOf (λ old answer new. Takes old a answer new) a.txn (record { role = role; sides = sides }) (Some answer)
+      new
       → DeskTakesApdu many_sides held_so a (core_answer answer) (record { role = new.role; held = held_of new.sides counted })
   desk_takes_so grows stay a answer new other only =
       let to = changed_held grows a.txn (λ old answer new. Takes old a answer new)

@@ -48,7 +48,8 @@ use Rattle.ill_saved.specs.declared.side.Action.TheVariants as actions
 use Rattle.ill_saved.specs.declared.store.NextCall.{NextCall}
 use Rattle.ill_saved.specs.declared.store.NextCall.TheVariants as plans
 use Rattle.ill_saved.specs.Side.{issued_of, txn_of, is_idle, standing_of, back_to, is_asked, KeepsRequest, IsConsistent, idle_of}
-use Rattle.ill_saved.specs.Side.{idle_side, done_by, acts, takes, Acts, Takes, IsSideTransition, IsPrefix, Grows, acted, took, IsAfterTransitions}
+use Rattle.ill_saved.specs.Side.{idle_side, done_by, acts, takes, Acts, Takes, IsSideTransition, IsPrefix, Grows, acted, took}
+use Rattle.ill_saved.specs.Side.{IsAfterTransitions}
 use Rattle.ill_saved.specs.Side.{same, further}
 use Rattle.ill_saved.specs.Faults.{of_core, of_record}
 use Rattle.ill_saved.proofs.Records.{no_digest}
@@ -226,7 +227,8 @@ takes_stay rows keeps (sides.Responder y) a begun =
     not_true _ (keeps (sides.Responder y) (takes (sides.Responder y) a).1 (took a refl) (ap not begun)).0
 
 -- A side that is not idle is not idle after a transition.
-pub rows_stay : BeginningRows → RowsKeepRequest → (old new : Side) → IsSideTransition old new → is_idle old ≡ false → is_idle new ≡ false
+pub rows_stay : BeginningRows → RowsKeepRequest → (old new : Side) → IsSideTransition old new → is_idle old ≡ false
+    → is_idle new ≡ false
 rows_stay rows keeps old new (acted action e) begun = acts_begin rows old new action e
 rows_stay rows keeps old new (took a e) begun = subst (λ side. is_idle side ≡ false) e (takes_stay rows keeps old a begun)
 

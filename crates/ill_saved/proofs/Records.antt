@@ -24,7 +24,8 @@ unfolding record_at side_spelled begins_as_record
 decodes_after bytes first left found role result begun is read_first decodes =
     let read : start.read (cursor_at 0 bytes) ≡ Ok (((tt, (tt, (tt, tt))), role), left) =
     ap start.read (sym begun) ∙ read_first ∙ ap (λ (r : Role). Ok (((tt, (tt, (tt, tt))), r), left)) is in
-    let same : record_at bytes ≡ consistent_side (side_at role left) = ap (λ r. consistent_side (r >>= λ start. side_at start.0.1 start.1)) read in
+    let same : record_at bytes ≡ consistent_side (side_at role left) =
+    ap (λ r. consistent_side (r >>= λ start. side_at start.0.1 start.1)) read in
     let begins : begins_as_record bytes ≡ has_prefix role left = ap has_prefix_after read in
     subst (λ r. Decodes r (begins_as_record bytes) result) (sym same)
     (subst (λ b. Decodes (consistent_side (side_at role left)) b result) (sym begins) decodes)
@@ -47,15 +48,18 @@ judged_by true read side is = (refl, ok_is read side is)
 judged_by false read side is = absurd cc
 
 -- If `consistent_side` gives a side, this side was read and is consistent.
-pub judged_ok : (read : Result Side LayoutFault) (side : Side) → consistent_side read ≡ Ok side → (read ≡ Ok side) × IsConsistent side
+pub judged_ok : (read : Result Side LayoutFault) (side : Side) → consistent_side read ≡ Ok side → (read ≡ Ok side)
+    × IsConsistent side
 judged_ok (Ok found) side is =
     let both = judged_by (is_consistent found) found side is in
     (ap Ok both.1, subst IsConsistent both.1 both.0)
 judged_ok (Err fault) side is = absurd cc
 
 -- If the side that was read is consistent, `consistent_side` gives it.
-pub judged_is : (read : Result Side LayoutFault) (side : Side) → read ≡ Ok side → IsConsistent side → consistent_side read ≡ Ok side
-judged_is read side is consistent = ap consistent_side is ∙ ap (λ keeps. cond keeps (Ok side) (Err faults.Inconsistent)) consistent
+pub judged_is : (read : Result Side LayoutFault) (side : Side) → read ≡ Ok side → IsConsistent side
+    → consistent_side read ≡ Ok side
+judged_is read side is consistent =
+    ap consistent_side is ∙ ap (λ keeps. cond keeps (Ok side) (Err faults.Inconsistent)) consistent
 
 -- If the test is false, the check gives `Inconsistent`.
 is_inconsistent : (keeps : Bool) (side : Side) → (keeps ≡ true → ⊥)

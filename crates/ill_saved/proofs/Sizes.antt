@@ -86,7 +86,8 @@ not_own (bodies.IllRequest expiry text) e = absurd cc
 not_own _ e = refl
 
 -- If all APDUs are of a responder's type, none is an ILL-Request.
-none_requested : (apdus : List Apdu) → list_all (λ a. not (is_requesters a.body)) apdus ≡ true → has_message_with is_ill_request apdus ≡ false
+none_requested : (apdus : List Apdu) → list_all (λ a. not (is_requesters a.body)) apdus ≡ true
+    → has_message_with is_ill_request apdus ≡ false
 none_requested [] role = refl
 none_requested (a ∷ apdus) role =
     let parts = and_parts (not (is_requesters a.body)) (list_all (λ a. not (is_requesters a.body)) apdus) role in

@@ -21,7 +21,8 @@ use Rattle.ill_saved.specs.Layout.{counted_by, read_all, ended}
 use Rattle.ill_saved.specs.Records.{role, heading, start, has_prefix, has_prefix_after, requester_fields, responder_fields}
 use Rattle.ill_saved.specs.Records.{requester_states, responder_states, read_fields, side_at, side_spelled, record_at}
 use Rattle.ill_saved.specs.Records.{begins_as_record, Decodes}
-use Rattle.ill_saved.specs.RecordsV2.{part, side_count, role_and_sides, unsealed, together, consistent_sides, sides_at, read_alone}
+use Rattle.ill_saved.specs.RecordsV2.{part, side_count, role_and_sides, unsealed, together, consistent_sides, sides_at}
+use Rattle.ill_saved.specs.RecordsV2.{read_alone}
 use Rattle.ill_saved.specs.RecordsV2.{is_version_1, counts_any, has_sides, records_at, begins_as_records, PutsRead}
 use Rattle.ill_saved.proofs.Steps.{bind_ok}
 use Rattle.ill_saved.proofs.Records.{judged_ok}

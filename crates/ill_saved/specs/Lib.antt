@@ -1,4 +1,5 @@
 pub mod Side
+pub mod SideVerbs
 pub mod Sides
 pub mod Layout
 pub mod Records

@@ -106,12 +106,14 @@ desk_acts live txn action =
     else Err (Core WrongRole)
 
 -- Returns the answer to an APDU, and the contents with the side after it. A refusal changes nothing.
-abbrev pub contents_after_message : DeskContents → DeskEntry → Result Taking Refusal × Side → Result Taking DeskFault × DeskContents
+abbrev pub contents_after_message : DeskContents → DeskEntry → Result Taking Refusal × Side → Result Taking DeskFault
+    × DeskContents
 contents_after_message live held (Ok taking, new) =
     (Ok taking, with_held live (record { side = new; released = held.released }))
 contents_after_message live held (Err refusal, new) = (Err (Core refusal), live)
 
--- Returns the answer to an APDU of the side that `side_for_call` gave, and the contents after it. A fault changes nothing.
+-- Returns the answer to an APDU of the side that `side_for_call` gave, and the contents after it. A fault changes
+-- nothing.
 abbrev pub takes_reached : DeskContents → Apdu → Result DeskEntry DeskFault → Result Taking DeskFault × DeskContents
 takes_reached live a (Ok held) = contents_after_message live held (takes held.side a)
 takes_reached live a (Err fault) = (Err fault, live)

@@ -10,8 +10,6 @@ use Rattle.ill_core.specs.declared.state.State.TheVariants.{Idle}
 use Rattle.ill_core.specs.declared.refusal.Refusal.{Refusal}
 use Rattle.ill_core.specs.declared.refusal.Refusal.TheVariants as refusals
 use Rattle.ill_core.specs.declared.requester.Wish.TheVariants as wishes
-use Rattle.ill_core.specs.declared.turn.Turn.{Turn}
-use Rattle.ill_core.specs.declared.verb.Verb.{Verb}
 use Rattle.ill_core.specs.declared.taking.Taking.{Taking}
 use Rattle.ill_core.specs.declared.taking.Taking.TheVariants.{Taken}
 use Rattle.ill_core.specs.State.{is_among}
@@ -23,7 +21,6 @@ use Rattle.ill_core.specs.Responder as responders
 use Rattle.ill_core.specs.Responder.{responder_of, due_of}
 use Rattle.ill_core.specs.ResponderActions as responder_actions
 use Rattle.ill_core.specs.ResponderDeliveries as responder_deliveries
-use Rattle.ill_core.specs.Verbs.{wish_verb, deed_verb, requester_verbs, responder_verbs, requester_turn, responder_turn}
 use Rattle.ill_saved.specs.declared.role.Role.{Role}
 use Rattle.ill_saved.specs.declared.role.Role.TheVariants as roles
 use Rattle.ill_saved.specs.declared.shown.Shown.{Shown}
@@ -121,21 +118,6 @@ role_for (actions.Deed deed today) = roles.Responder
 abbrev pub begins : Action → Bool
 begins (actions.Wish (wishes.Request expiry item)) = true
 begins action = false
-
--- Returns the verb of the action.
-abbrev pub verb_of : Action → Verb
-verb_of (actions.Wish wish) = wish_verb wish
-verb_of (actions.Deed deed today) = deed_verb deed
-
--- Returns the verbs of the actions that the side may perform in its state.
-abbrev pub verbs_of : Side → List Verb
-verbs_of (sides.Requester x) = requester_verbs x
-verbs_of (sides.Responder y) = responder_verbs y
-
--- Returns the turn, as far as the side knows it.
-abbrev pub turn_of : Side → Turn
-turn_of (sides.Requester x) = requester_turn x
-turn_of (sides.Responder y) = responder_turn y
 
 -- Returns the idle side of this role and transaction, which has issued nothing.
 abbrev pub idle_side : Role → Qualifiers → Side

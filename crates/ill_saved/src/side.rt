@@ -4,7 +4,8 @@ ghost use Rattle.std.specs.Prelude.{◌≡◌, ◌≤◌, [], length, option_map
 ghost use Rattle.ill_core.specs.declared.turn.Turn.TheVariants.{Mine};
 ghost use Rattle.ill_core.specs.Issued.{message};
 ghost use Rattle.ill_core.specs.Verbs.{is_verb_among, is_now};
-ghost use Rattle.ill_saved.specs.Side.{role_for, begins, verb_of, verbs_of, turn_of, acts, Acts, Takes, IsConsistent, issued_of, standing_of, back_to, GoesBack, idle_of, idle_side, is_idle, role_of, txn_of, state_of, due_date_of};
+ghost use Rattle.ill_saved.specs.Side.{role_for, begins, acts, Acts, Takes, IsConsistent, issued_of, standing_of, back_to, GoesBack, idle_of, idle_side, is_idle, role_of, txn_of, state_of, due_date_of};
+ghost use Rattle.ill_saved.specs.SideVerbs.{verb_of, verbs_of, turn_of};
 
 use crate::role::Role;
 use ill_core::{

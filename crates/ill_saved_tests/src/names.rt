@@ -1,7 +1,7 @@
 //! Reads bytes from their words.
 //!
 //! An octet is two hexadecimal digits, and text is in quotes. A name stands for the bytes that a `let` line gave it.
-//! `13=02` replaces the octet at place 13 of the bytes before it by 02. If a name has several values, with `|` between
+//! `13=02` puts 02 in the place of octet 13 of the bytes before it. If a name has several values, with `|` between
 //! them, the line is a family, with one case for each value.
 
 use std::alloc::Global;

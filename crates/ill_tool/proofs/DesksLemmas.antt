@@ -30,7 +30,8 @@ no_text_before_first Json = refl
 joined_more : {X : Type 0} (form : Form) (text : X → List ℕ) (done : List X) (one : X)
     → join_by text (between form false) (done ++ one ∷ [])
     ≡ join_by text (between form false) done ++ (between form (is_nothing done) ++ text one)
-joined_more form text [] one = append-nil (text one) ∙ ap (λ no_text_before_first. no_text_before_first ++ text one) (sym (no_text_before_first form))
+joined_more form text [] one = append-nil (text one)
+    ∙ ap (λ no_text_before_first. no_text_before_first ++ text one) (sym (no_text_before_first form))
 joined_more {X} form text (first ∷ done) one =
     let later : X → List ℕ = λ item. between form false ++ text item in
     ap (λ more. text first ++ more)
@@ -60,9 +61,11 @@ pub one_more_desk_listed : (form : Form) (wanted : Wanted) (files : List (List �
     → ListsDesk form wanted is_first is_headed file middle after (Ok done)
     → (desks : List (List ℕ × List Side)) × (map (λ (desk : List ℕ × List Side). desk.0) desks ≡ take (place + 1) files)
     × Appends before after (listed_desks form (are_several files) wanted desks)
-one_more_desk_listed form wanted files desks place file is_headed is_first before middle after done within at headed first listed so_far
+one_more_desk_listed form wanted files desks place file is_headed is_first before middle after done within at headed first listed
+    so_far
     (inl shut) = absurd shut.0
-one_more_desk_listed form wanted files desks place file is_headed is_first before middle after done within at headed first listed so_far
+one_more_desk_listed form wanted files desks place file is_headed is_first before middle after done within at headed first listed
+    so_far
     (inr (sides, written)) =
     let desk : List ℕ × List Side = (file, sides) in
     let path : List ℕ × List Side → List ℕ = λ desk. desk.0 in

@@ -15,20 +15,23 @@ two_escape escaping first second [] acts =
 two_escape escaping first second (third ∷ rest) acts =
     ap
     (λ (act : Bool). if act then escape escaping (number_of_two first second) ++ written escaping (third ∷ rest)
-    else (if is_acting_triple first second third then escape escaping (number_of_three first second third) ++ written escaping rest
+    else (if is_acting_triple first second third then
+    escape escaping (number_of_three first second third) ++ written escaping rest
     else byte_text escaping first ++ written escaping (second ∷ third ∷ rest)))
     acts
 
 -- If the first two bytes are no acting character, `written` tests the first three.
 third_byte_decides : (escaping : Escaping) (first second third : ℕ) (rest : List ℕ) → is_acting_pair first second ≡ false
     → written escaping (first ∷ second ∷ third ∷ rest)
-    ≡ (if is_acting_triple first second third then escape escaping (number_of_three first second third) ++ written escaping rest else
+    ≡ (if is_acting_triple first second third then
+    escape escaping (number_of_three first second third) ++ written escaping rest else
     byte_text escaping first ++ written escaping (second ∷ third ∷ rest))
 unfolding written
 third_byte_decides escaping first second third rest pass =
     ap
     (λ (act : Bool). if act then escape escaping (number_of_two first second) ++ written escaping (third ∷ rest)
-    else (if is_acting_triple first second third then escape escaping (number_of_three first second third) ++ written escaping rest
+    else (if is_acting_triple first second third then
+    escape escaping (number_of_three first second third) ++ written escaping rest
     else byte_text escaping first ++ written escaping (second ∷ third ∷ rest)))
     pass
 

@@ -25,7 +25,8 @@ trailing_is_no_message a (byte ∷ rest) some = refl
 pub trailing_unfit : (bytes : List ℕ) (read : Result (Apdu × List ℕ) DerFault) (found : Apdu × ℕ)
     → found.1 + 1 ≤ length bytes → Views bytes read (Ok found) → Err Trailing ≡ one_message read
 trailing_unfit bytes read found less viewed =
-    sym (ap one_message viewed.1 ∙ trailing_is_no_message found.0 (drop found.1 bytes) (omega (arith, length-drop found.1 bytes, less)))
+    sym (ap one_message viewed.1 ∙ trailing_is_no_message found.0 (drop found.1 bytes)
+    (omega (arith, length-drop found.1 bytes, less)))
 
 -- If the line of the counts is appended to the lines of sorted mails, the state is the concluded one.
 pub concluded_is : {L : Type 0} (waiting : ℕ) (sorted end : Sorting L) (verdicts : List Verdict) (tally : Tally) (told : List ℕ)

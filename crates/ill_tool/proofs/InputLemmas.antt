@@ -120,7 +120,8 @@ HandlesCounted handles old piece before result new after =
     before result new after
 
 -- If a counted handler has handled a piece, the piece is handled on pairs of the count and the state.
-each_counted : {H C : Type 0} (handles : Handles (H × C) ToolFault) (old feed : FeedState) (piece : List ℕ) (before : Counted H × C)
+each_counted : {H C : Type 0} (handles : Handles (H × C) ToolFault) (old feed : FeedState) (piece : List ℕ)
+    (before : Counted H × C)
     (result : Result (Option DerFault) ToolFault) (new : FeedState) (after : Counted H × C)
     → feed ≡ old → HandlesCounted handles feed piece before result new after
     → HandlesEach (CountsOn handles) old piece (before.0.count, (before.0.handler, before.1)) result new
@@ -156,7 +157,8 @@ spelled_join prefix more rest =
 
 -- The bytes read from `old` to `now` are the encodings of `apdus`, and then `held`. All `count` APDUs were handled,
 -- from the state `before` to `after`. The feed is open and holds `held`, which more bytes may complete to an APDU.
-pub record SoFar {S : Type 0} (handles : Handles S ToolFault) (old now : Option (List ℕ)) (before : S) (count : ℕ) (feed : FeedState)
+pub record SoFar {S : Type 0} (handles : Handles S ToolFault) (old now : Option (List ℕ)) (before : S) (count : ℕ)
+    (feed : FeedState)
     (after : S) (apdus : List Apdu) (held : List ℕ) : Type 0 where
   pub spelled : AllByRecursion IsApdu apdus
   pub counted : length apdus ≡ count
@@ -298,7 +300,8 @@ one_piece_more {H = H} {C = C} handles law old now new before middle after feed 
 
 -- If the input ends after `apdus` and the bytes `held`, `ReadsInput` holds of it.
 ends_held : {S : Type 0} (handles : Handles S ToolFault) → ShortLaw
-    → (old new : Option (List ℕ)) (before after : S) (count : ℕ) (feed : FeedState) (result : Result ℕ ToolFault) (apdus : List Apdu)
+    → (old new : Option (List ℕ)) (before after : S) (count : ℕ) (feed : FeedState) (result : Result ℕ ToolFault)
+    (apdus : List Apdu)
     (held : List ℕ)
     → SoFar handles old new before count feed after apdus held → Ends handles result count held [] new after after
     → ReadsInput handles old new before result after

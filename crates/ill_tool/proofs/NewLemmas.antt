@@ -15,7 +15,8 @@ use Rattle.ill_tool.specs.declared.fault.ToolFault.TheVariants.{Desk, Write, Out
 use Rattle.ill_tool.specs.New.{LandsFirst, BeginsOver}
 
 -- After one call has spent the plan `old`, a second call that leaves or spends it keeps it spent.
-pub still_spent : (old between new : Option NextCall) → between ≡ plan_after_call old → (new ≡ between) ⊎ (new ≡ plan_after_call between)
+pub still_spent : (old between new : Option NextCall) → between ≡ plan_after_call old
+    → (new ≡ between) ⊎ (new ≡ plan_after_call between)
     → new ≡ plan_after_call old
 still_spent None between new e (inl is) = is ∙ e
 still_spent None None new e (inr is) = is

@@ -158,7 +158,8 @@ module _ {X : Type 0} (lt : X → X → Bool) (o : IsStrictWeakOrder lt) where
   after_first x ys zs false same = same
 
   -- Two lists in order are equal if, for each item `w`, their items that tie with `w` are equal.
-  equal_if_ties_equal : (ys zs : List X) → IsInOrder ys → IsInOrder zs → ((w : X) → filter (ties lt w) ys ≡ filter (ties lt w) zs) → ys ≡ zs
+  equal_if_ties_equal : (ys zs : List X) → IsInOrder ys → IsInOrder zs → ((w : X) → filter (ties lt w) ys ≡ filter (ties lt w) zs)
+      → ys ≡ zs
   equal_if_ties_equal [] [] y_order z_order same = refl
   equal_if_ties_equal [] (z ∷ zs) y_order z_order same = let e = same z ∙ stands_first (ties lt z) z zs (tie_self z) in cc
   equal_if_ties_equal (y ∷ ys) [] y_order z_order same = let e = sym (stands_first (ties lt y) y ys (tie_self y)) ∙ same y in cc
@@ -191,4 +192,5 @@ module _ {X : Type 0} (lt : X → X → Bool) (o : IsStrictWeakOrder lt) where
   -- If `ys` is a stable sort of `xs`, it is `ordered lt xs`.
   pub sorted_is_ordered : (xs ys : List X) → IsSortedBy lt ys → IsStableBy lt xs ys → ys ≡ ordered lt xs
   sorted_is_ordered xs ys sorted stable =
-      equal_if_ties_equal ys (ordered lt xs) (in_order_from_sorted ys sorted) (ordered_in_order xs) (λ w. stable w ∙ sym (ordered_stable w xs))
+      equal_if_ties_equal ys (ordered lt xs) (in_order_from_sorted ys sorted) (ordered_in_order xs)
+      (λ w. stable w ∙ sym (ordered_stable w xs))

@@ -13,7 +13,8 @@ use Rattle.ill_tool.specs.declared.verdict.Mail.{Mail}
 use Rattle.ill_tool.specs.declared.verdict.Verdict.{Verdict}
 use Rattle.ill_tool.specs.Output.{WritesPrefix}
 use Rattle.ill_tool.specs.declared.outbox.Leaving.{Leaving}
-use Rattle.ill_tool.specs.Outbox.{Letter, RunsOutbox, StreamsOutbox, after_all, after_one, asked_by, asking_bytes_at, issue_of, letter_of}
+use Rattle.ill_tool.specs.Outbox.{Letter, RunsOutbox, StreamsOutbox, after_all, after_one, asked_by, asking_bytes_at, issue_of}
+use Rattle.ill_tool.specs.Outbox.{letter_of}
 use Rattle.ill_tool.specs.Outbox.{letters_of, stream_of}
 use Rattle.std.specs.List.{fold}
 
@@ -74,7 +75,8 @@ zip_nothing [] = refl
 zip_nothing (item ∷ items) = refl
 
 -- A mail without a verdict does not ask, so it adds no bytes.
-mail_without_verdict_is_silent : (live : DeskContents) (mail : Option Mail) (rest : List ℕ) → asking_bytes_at live mail None ++ rest ≡ rest
+mail_without_verdict_is_silent : (live : DeskContents) (mail : Option Mail) (rest : List ℕ)
+    → asking_bytes_at live mail None ++ rest ≡ rest
 mail_without_verdict_is_silent live None rest = refl
 mail_without_verdict_is_silent live (Some mail) rest = refl
 

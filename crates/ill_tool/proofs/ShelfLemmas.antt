@@ -104,5 +104,6 @@ pub taken_home : {S : Type 0} (view : S → ShelfTaking) (left rest : Option (Li
     → ReadsInput (λ (s : S) apdu r (t : S). TakesAtHome (view s) apdu r (view t)) left rest before count after
     → ReadsInput TakesAtHome left rest (view before) count (view after)
 taken_home view left rest before after count is =
-    reads_on_views (λ s apdu r t. TakesAtHome (view s) apdu r (view t)) TakesAtHome view (λ s t apdu r h. h) left rest before after count
+    reads_on_views (λ s apdu r t. TakesAtHome (view s) apdu r (view t)) TakesAtHome view (λ s t apdu r h. h) left rest before
+    after count
     is

@@ -17,7 +17,8 @@ unfolding trace_from
 not_begun txn old before = ([], [], Consumes-nil old, Appends-nil before, λ more e. ([], ((script more).events, refl), refl))
 
 -- If no transaction id is made, the command returns that fault, and reads and writes nothing.
-pub fault_without_id : (id : Result Qualifiers TextFault) (old before : Option (List ℕ)) (fault : ToolFault) (result : Result ℕ ToolFault)
+pub fault_without_id : (id : Result Qualifiers TextFault) (old before : Option (List ℕ)) (fault : ToolFault)
+    (result : Result ℕ ToolFault)
     → GivesId id (Err fault)
     → IsErrAnd result (λ (f : ToolFault). f ≡ fault) → Performs id old old before before result
 fault_without_id id old before fault (Ok count) given failed = absurd failed

@@ -109,7 +109,8 @@ module _ {H S D A B C L N W : Type 0} {n m : ℕ} (is_kept : Bool) (told : Wordi
       × KeepsDesk is_kept result before.0.desk.ghost_name after.0.desk.ghost_name before.0.came.ghost_name after.0.came.ghost_name
       (failures before.0.desk.now) (failures after.0.desk.now)
   input_taken old new before after result fine is =
-      let taken = reads_on_views TakesOn (TakesMessage is_kept told effects) how_far (λ s t apdu r h. h.0) old new before after result
+      let taken = reads_on_views TakesOn (TakesMessage is_kept told effects) how_far (λ s t apdu r h. h.0) old new before after
+      result
       is in
       let first = progress (view before.0.desk.now) (kept before.0.came.now) (contents before.1) in (
         (

@@ -14,7 +14,7 @@ use Rattle.ill_saved.specs.ManySides.{DeskContents}
 use Rattle.ill_world.specs.declared.event.Outcome.TheVariants as outcomes
 use Rattle.ill_world.specs.declared.event.DeskOutcome.{DeskOutcome}
 use Rattle.ill_world.specs.declared.event.DeskOutcome.TheVariants as seen
-use Rattle.ill_world.specs.Trace.{desk_outcome_word}
+use Rattle.ill_world.specs.DeskTrace.{desk_outcome_word}
 use Rattle.ill_tool.specs.declared.fault.ToolFault.{ToolFault}
 use Rattle.ill_tool.specs.declared.fault.ToolFault.TheVariants as faults
 use Rattle.ill_tool.specs.declared.verdict.Mail.{Mail}

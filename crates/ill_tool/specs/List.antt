@@ -13,7 +13,8 @@ use Rattle.ill_core.specs.declared.state.State.{State}
 use Rattle.ill_core.specs.State.{is_among, state_name}
 use Rattle.ill_core.specs.Verbs.{verb_name}
 use Rattle.ill_saved.specs.declared.side.Side.{Side}
-use Rattle.ill_saved.specs.Side.{txn_of, state_of, due_date_of, verbs_of}
+use Rattle.ill_saved.specs.Side.{txn_of, state_of, due_date_of}
+use Rattle.ill_saved.specs.SideVerbs.{verbs_of}
 use Rattle.ill_saved.specs.Sides.{most_sides}
 use Rattle.ill_world.specs.Trace.{due_text}
 use Rattle.ill_tool.specs.declared.list.Which.{Which}

@@ -11,7 +11,8 @@ use Rattle.ill_core.specs.declared.turn.Turn.TheVariants.{Over, Mine, Theirs}
 use Rattle.ill_core.specs.Verbs.{verb_name}
 use Rattle.ill_saved.specs.declared.side.Side.{Side}
 use Rattle.ill_saved.specs.declared.side.Side.TheVariants.{Requester, Responder}
-use Rattle.ill_saved.specs.Side.{issued_of, turn_of, verbs_of}
+use Rattle.ill_saved.specs.Side.{issued_of}
+use Rattle.ill_saved.specs.SideVerbs.{turn_of, verbs_of}
 use Rattle.ill_saved.specs.Holdings.{DeskEntry}
 use Rattle.ill_saved.specs.declared.fault.DeskFault.TheVariants.{NoSuchTransaction}
 use Rattle.ill_world.specs.Trace.{due_text}

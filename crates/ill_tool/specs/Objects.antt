@@ -16,7 +16,8 @@ use Rattle.ill_core.specs.Verbs.{verb_name}
 use Rattle.ill_core.specs.ResponderActions.{expiry_of}
 use Rattle.ill_saved.specs.declared.side.Side.{Side}
 use Rattle.ill_saved.specs.declared.side.Side.TheVariants.{Requester, Responder}
-use Rattle.ill_saved.specs.Side.{role_of, issued_of, txn_of, state_of, due_date_of, turn_of, verbs_of}
+use Rattle.ill_saved.specs.Side.{role_of, issued_of, txn_of, state_of, due_date_of}
+use Rattle.ill_saved.specs.SideVerbs.{turn_of, verbs_of}
 use Rattle.ill_saved.specs.Holdings.{DeskEntry}
 use Rattle.ill_tool.specs.declared.form.Form.{Form}
 use Rattle.ill_tool.specs.declared.form.Form.TheVariants.{Lines, Json}

@@ -20,7 +20,8 @@ use Rattle.ill_core.specs.State.{state_name}
 use Rattle.ill_core.specs.Verbs.{verb_name}
 use Rattle.ill_core.specs.ResponderActions.{expiry_of}
 use Rattle.ill_saved.specs.declared.side.Side.{Side}
-use Rattle.ill_saved.specs.Side.{issued_of, txn_of, state_of, due_date_of, verbs_of}
+use Rattle.ill_saved.specs.Side.{issued_of, txn_of, state_of, due_date_of}
+use Rattle.ill_saved.specs.SideVerbs.{verbs_of}
 use Rattle.ill_tool.specs.declared.report_parts.Field.{Field}
 use Rattle.ill_tool.specs.declared.report_parts.Field.TheVariants as fields
 use Rattle.ill_tool.specs.declared.report_parts.TheConstants.{PAGE, DESKS, END, DESK, LOANS, DESK_END, WAITING, OPEN, OPENING}

@@ -7,7 +7,8 @@ use Rattle.ill_saved.specs.Holdings.{DeskEntry, whole}
 use Rattle.ill_world.specs.declared.event.Outcome.TheVariants as outcomes
 use Rattle.ill_world.specs.declared.event.DeskOutcome.{DeskOutcome}
 use Rattle.ill_world.specs.declared.event.DeskOutcome.TheVariants.{Plain, NoSuchTransaction, DeskFull}
-use Rattle.ill_world.specs.Trace.{desk_outcome_word, side_text}
+use Rattle.ill_world.specs.Trace.{side_text}
+use Rattle.ill_world.specs.DeskTrace.{desk_outcome_word}
 use Rattle.ill_tool.specs.declared.fault.ToolFault.{ToolFault}
 use Rattle.ill_tool.specs.declared.fault.ToolFault.TheVariants.{Write, OutOfMemory}
 use Rattle.ill_tool.specs.LongLines.{heading, said}

@@ -152,7 +152,9 @@ fn is_control(byte: u8) -> bool
 fn is_acting_pair(first: u8, second: u8) -> bool
     ensures { result ≡ is_acting_pair first second }
 {
-    matches!(first, 0xC0..=0xDF) && is_continuation(second) && is_acting(number_of_two(first, second))
+    matches!(first, 0xC0..=0xDF)
+        && is_continuation(second)
+        && is_acting(number_of_two(first, second))
 }
 
 /// Returns true if the three bytes encode a character on which a terminal may act.

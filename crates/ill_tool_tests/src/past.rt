@@ -4,7 +4,7 @@
 //! each try begins with an equal memory. At the end each refused try is judged.
 
 use crate::beginning::begin;
-use crate::call::{Call, prefix_count, input_of};
+use crate::call::{Call, input_of, prefix_count};
 use crate::memory::{Beginning, Memory, MemoryCall};
 use crate::names::Names;
 use crate::tries::{Extent, Seen, fault};

@@ -22,7 +22,8 @@ use Rattle.ill_saved.specs.Side.{issued_of}
 use Rattle.ill_world.specs.World.{Party, Parties, sent_message}
 use Rattle.ill_world.specs.Safety.{OfBoth}
 use Rattle.ill_world.specs.Agreement.{AnswersOnce, EndsOnce, Facing, AcceptedBy, IsNotLater, SaysTrue, Agrees}
-use Rattle.ill_world.specs.Invariant.{RequesterInvariant, ResponderInvariant, RequesterSideInvariant, ResponderSideInvariant, SendsSaved}
+use Rattle.ill_world.specs.Invariant.{RequesterInvariant, ResponderInvariant, RequesterSideInvariant, ResponderSideInvariant}
+use Rattle.ill_world.specs.Invariant.{SendsSaved}
 use Rattle.ill_world.specs.Invariant.{Invariant}
 use Rattle.ill_core.proofs.GrantLemmas.{granted_not_later}
 use Rattle.ill_core.proofs.MessageLemmas.{message_says, says_message}
@@ -89,8 +90,8 @@ is_in_checked_in state e = search rules
 
 -- ---- a requester's record and a responder's
 
--- `P` holds of two records that satisfy `RequesterInvariant` and `ResponderInvariant`. Each has issued all messages that were
--- sent to the other.
+-- `P` holds of two records that satisfy `RequesterInvariant` and `ResponderInvariant`. Each has issued all messages
+-- that were sent to the other.
 abbrev pub PairOf : (RequesterRecord → ResponderRecord → Type 0) → Type 0
 PairOf P =
     (txn : Qualifiers) (x : RequesterRecord) (y : ResponderRecord) (responder_sent requester_sent : List (Option Apdu))
@@ -185,7 +186,8 @@ says_true txn x y responder_sent requester_sent requester_stands responder_stand
       (tells_sent_back known.0.number known.0.body known.2));
   cancelled =
       λ e.
-      let ended : has_message_with is_cancelled y.issued ≡ true = responder_stands.ends.cancelled ∙ ap (is_among (states.Cancelled ∷ [])) e in
+      let ended : has_message_with is_cancelled y.issued ≡ true =
+      responder_stands.ends.cancelled ∙ ap (is_among (states.Cancelled ∷ [])) e in
       let at = says_message is_cancelled y.issued ended in
       let by = cancels_with at.1.body at.3 in
       (and_parts _ _ (cancel_is_open txn x y responder_sent requester_sent requester_stands responder_stands issued heeded at.0
@@ -283,7 +285,8 @@ at_most_one true = omega arith
 at_most_one false = omega arith
 
 -- No two messages of a responder's side end the request.
-ends_once : (txn : Qualifiers) (side : Side) (requester_sent : List (Option Apdu)) → ResponderSideInvariant txn side requester_sent
+ends_once : (txn : Qualifiers) (side : Side) (requester_sent : List (Option Apdu))
+    → ResponderSideInvariant txn side requester_sent
     → EndsOnce side
 ends_once txn (sides.Responder y) requester_sent stands =
     λ n a at is. one_end y.txn y.issued n a stands.rules.numbered

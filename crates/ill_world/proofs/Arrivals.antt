@@ -30,7 +30,8 @@ use Rattle.ill_world.specs.declared.event.Event.TheVariants as events
 use Rattle.ill_world.specs.declared.event.Outcome.TheVariants.{Answered}
 use Rattle.ill_world.specs.World.{Party, Parties, sent_message, answer_to, receives}
 use Rattle.ill_world.specs.Agreement.{settled_by, Settles, Arrives}
-use Rattle.ill_world.specs.Invariant.{RequesterInvariant, ResponderInvariant, RequesterSideInvariant, ResponderSideInvariant, Invariant}
+use Rattle.ill_world.specs.Invariant.{RequesterInvariant, ResponderInvariant, RequesterSideInvariant, ResponderSideInvariant}
+use Rattle.ill_world.specs.Invariant.{Invariant}
 use Rattle.ill_core.proofs.MessageLemmas.{message_says}
 use Rattle.ill_world.proofs.Uniqueness.{message_number}
 use Rattle.ill_world.proofs.Claims.{AreIssued, has_issued, cancelled_faces, not_supplied_faces, shipped_by, landed_issues}
@@ -298,7 +299,8 @@ returned_is_later state is = search rules
 pub shipped_before : (txn : Qualifiers) (x : RequesterRecord) (y : ResponderRecord)
     (responder_sent requester_sent : List (Option Apdu)) (n : ℕ) (a : Apdu)
     → RequesterInvariant txn x responder_sent → ResponderInvariant txn y requester_sent
-    → AreIssued responder_sent y.issued → message x.issued n ≡ Some a → is_returned a.body ≡ true → has_message_with is_shipped y.issued ≡ true
+    → AreIssued responder_sent y.issued → message x.issued n ≡ Some a → is_returned a.body ≡ true
+    → has_message_with is_shipped y.issued ≡ true
 shipped_before txn x y responder_sent requester_sent n a requester_stands responder_stands issued at is =
     let returned = sym requester_stands.rules.issued.returned ∙ message_says is_returned x.issued n a at is in
     shipped_by txn x y responder_sent requester_sent x.due requester_stands responder_stands issued refl

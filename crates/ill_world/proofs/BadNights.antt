@@ -10,7 +10,8 @@ use Rattle.ill_core.specs.Responder.{ResponderRecord}
 use Rattle.ill_core.specs.Verbs.{requester_turn_in, responder_turn_in, requester_verbs_in, responder_verbs_in}
 use Rattle.ill_saved.specs.declared.side.Side.{Side}
 use Rattle.ill_saved.specs.declared.side.Side.TheVariants as sides
-use Rattle.ill_saved.specs.Side.{issued_of, state_of, verbs_of}
+use Rattle.ill_saved.specs.Side.{issued_of, state_of}
+use Rattle.ill_saved.specs.SideVerbs.{verbs_of}
 use Rattle.ill_world.specs.Night.{is_nobodys, is_over, wants_sending, asks, AtRest}
 use Rattle.ill_world.specs.BadNights.{MisjudgesEnd, ended, marked, unmarked, unsettled, may_act, MisjudgesSending}
 use Rattle.ill_world.specs.BadNights.{over_requester_sends, unasked_sends, asked_is_silent, open_is_silent, MisjudgesAsking}

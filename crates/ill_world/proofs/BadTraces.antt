@@ -39,7 +39,8 @@ module _ {W E C : Type 0} (play : Play W E C) (c : C) (w : W) (text left written
   none_leaves leaves (read, trace, consumed, appended, answers) =
       no_prefix written (trace_from play 1 w (reading_from play (end_reading play) c 1 text).events) leaves
       (subst (λ t. IsPrefix written (trace_from play 1 w (reading_from play (end_reading play) c 1 t).events)) (sym consumed)
-      (subst (λ l. IsPrefix l (trace_from play 1 w (reading_from play (end_reading play) c 1 (read ++ left)).events)) (sym appended)
+      (subst (λ l. IsPrefix l (trace_from play 1 w (reading_from play (end_reading play) c 1 (read ++ left)).events))
+      (sym appended)
       (answers left refl)))
 
   -- If memory runs out, the bytes written are the trace of a prefix of the events.

@@ -76,7 +76,8 @@ quiet rows (sides.Requester x) a = elim (rows.requester x a) [ inl taken ↦ inl
 quiet rows (sides.Responder y) a = elim (rows.responder y a) [ inl taken ↦ inl taken | inr same ↦ inr (ap sides.Responder same) ]
 
 -- The outcome of a delivery allows the change that it makes.
-receives_changes : RefusalsChangeNothing → (p : Party) (found : Option Apdu) → MayChange OnlyLands (receives p found).0 p (receives p found).1
+receives_changes : RefusalsChangeNothing → (p : Party) (found : Option Apdu)
+    → MayChange OnlyLands (receives p found).0 p (receives p found).1
 receives_changes rows p None = refl
 receives_changes rows p (Some a) =
     elim (quiet rows p.live a) [
@@ -128,7 +129,8 @@ pub same_changes : (w : Parties) (outcome : Outcome) → MayChange OnlyLandedCha
 same_changes w outcome = changes_of_one outcome w who.Requester w.requester (nothing_changes outcome w.requester)
 
 -- The outcome of each event allows the change of the world.
-pub world_changes : RefusalsChangeNothing → (w : Parties) (event : Event) → MayChange OnlyLandedChanges (happens w event).0 w (happens w event).1
+pub world_changes : RefusalsChangeNothing → (w : Parties) (event : Event)
+    → MayChange OnlyLandedChanges (happens w event).0 w (happens w event).1
 world_changes rows w event =
     let of = who_of event in
     changes_of_one (happens w event).0 w of _ (party_changes rows (party w of) (party w (other of)).sent event)

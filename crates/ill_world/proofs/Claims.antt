@@ -20,7 +20,8 @@ use Rattle.ill_saved.specs.declared.side.Side.TheVariants as sides
 use Rattle.ill_saved.specs.Side.{issued_of}
 use Rattle.ill_world.specs.World.{Party, Parties}
 use Rattle.ill_world.specs.Safety.{OfBoth, EndsAlike, WasShipped, WasGranted}
-use Rattle.ill_world.specs.Invariant.{WasSent, RequesterInvariant, ResponderInvariant, RequesterSideInvariant, ResponderSideInvariant}
+use Rattle.ill_world.specs.Invariant.{WasSent, RequesterInvariant, ResponderInvariant, RequesterSideInvariant}
+use Rattle.ill_world.specs.Invariant.{ResponderSideInvariant}
 use Rattle.ill_world.specs.Invariant.{SendsSaved, Invariant}
 use Rattle.ill_core.proofs.MessageLemmas.{message_says}
 use Rattle.ill_world.proofs.Sendings.{prefix_message}
@@ -67,12 +68,14 @@ is_in_not_supplied states.NotSupplied e = refl
 is_in_not_supplied state e = search rules
 
 -- If each Renew-Answer yes follows a Shipped, a list with a Renew-Answer yes has a Shipped.
-pub ships_before : (apdus : List Apdu) → ships_first apdus ≡ true → has_message_with is_renewal apdus ≡ true → has_message_with is_shipped apdus ≡ true
+pub ships_before : (apdus : List Apdu) → ships_first apdus ≡ true → has_message_with is_renewal apdus ≡ true
+    → has_message_with is_shipped apdus ≡ true
 unfolding ships_first
 ships_before [] first renewed = search rules
 ships_before (a ∷ apdus) first renewed = go (is_shipped a.body) (is_renewal a.body) (ships_before apdus) first renewed
   where
-    go : (shipped renewal : Bool) → (ships_first apdus ≡ true → has_message_with is_renewal apdus ≡ true → has_message_with is_shipped apdus ≡ true)
+    go : (shipped renewal : Bool) → (ships_first apdus ≡ true → has_message_with is_renewal apdus ≡ true
+        → has_message_with is_shipped apdus ≡ true)
         → (shipped || (not renewal && ships_first apdus)) ≡ true → (renewal || has_message_with is_renewal apdus) ≡ true
         → (shipped || has_message_with is_shipped apdus) ≡ true
     go true renewal before first renewed = refl
@@ -85,11 +88,12 @@ ships_before (a ∷ apdus) first renewed = go (is_shipped a.body) (is_renewal a.
 abbrev pub AreIssued : List (Option Apdu) → List Apdu → Type 0
 AreIssued sent apdus = (a : Apdu) → WasSent sent a → (n : ℕ) × (message apdus n ≡ Some a)
 
--- `P` holds of two sides that satisfy `RequesterSideInvariant` and `ResponderSideInvariant`. The responder's side has issued
--- all messages that were sent to the requester.
+-- `P` holds of two sides that satisfy `RequesterSideInvariant` and `ResponderSideInvariant`. The responder's side has
+-- issued all messages that were sent to the requester.
 abbrev Pair : (Side → Side → Type 0) → Type 0
 Pair P = (txn : Qualifiers) (x y : Side) (responder_sent requester_sent : List (Option Apdu))
-    → RequesterSideInvariant txn x responder_sent → ResponderSideInvariant txn y requester_sent → AreIssued responder_sent (issued_of y)
+    → RequesterSideInvariant txn x responder_sent → ResponderSideInvariant txn y requester_sent
+    → AreIssued responder_sent (issued_of y)
     → P x y
 
 -- All sent messages were issued. So if `says` holds of a sent message, it holds of an issued one.

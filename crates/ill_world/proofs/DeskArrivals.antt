@@ -56,7 +56,8 @@ idle_issued (b ∷ apdus) n a none at = true≢false (sym none)
 
 -- If the responder has issued a message, the requester has issued one.
 pub asked : (txn : Qualifiers) (x y : Side) (responder_sent requester_sent : List (Option Apdu)) (n : ℕ) (a : Apdu)
-    → RequesterSideInvariant txn x responder_sent → ResponderSideInvariant txn y requester_sent → AreIssued requester_sent (issued_of x)
+    → RequesterSideInvariant txn x responder_sent → ResponderSideInvariant txn y requester_sent
+    → AreIssued requester_sent (issued_of x)
     → message (issued_of y) n ≡ Some a → issued_of x ≡ [] → ⊥
 asked txn (sides.Requester x) (sides.Responder y) responder_sent requester_sent n a requester_stands responder_stands heeded at
     none =
@@ -77,7 +78,8 @@ asked txn (sides.Requester x) (sides.Requester y) responder_sent requester_sent 
 
 -- If the requester has issued a Returned, the responder has issued a message.
 supplied : (txn : Qualifiers) (x y : Side) (responder_sent requester_sent : List (Option Apdu)) (n : ℕ) (a : Apdu)
-    → RequesterSideInvariant txn x responder_sent → ResponderSideInvariant txn y requester_sent → AreIssued responder_sent (issued_of y)
+    → RequesterSideInvariant txn x responder_sent → ResponderSideInvariant txn y requester_sent
+    → AreIssued responder_sent (issued_of y)
     → message (issued_of x) n ≡ Some a → is_returned a.body ≡ true → issued_of y ≡ [] → ⊥
 supplied txn (sides.Requester x) (sides.Responder y) responder_sent requester_sent n a requester_stands responder_stands issued at
     is none =
@@ -122,7 +124,8 @@ settles_as among true expected old new DeskFull side seen concerned is_plain set
 abbrev pub EachReaches : Type 0
 EachReaches = (w : DeskParties) (event : DeskEvent) → DesksInvariant w → ReachesSide w event
 
-module _ (projects : EachProjects) (reaches : EachReaches) (w : DeskParties) (stands : DesksInvariant w) (txn : Qualifiers) (n : ℕ)
+module _ (projects : EachProjects) (reaches : EachReaches) (w : DeskParties) (stands : DesksInvariant w) (txn : Qualifiers)
+    (n : ℕ)
     (a : Apdu) where
   -- If a message settles a side that has issued a message, it settles this side at its desk.
   settles_there : (role : Who) (among : List State) → sent_message (sent_for txn (party w (other role)).sent) n ≡ Some a

@@ -24,7 +24,8 @@ use Rattle.ill_saved.specs.declared.side.Action.TheVariants as actions
 use Rattle.ill_saved.specs.Side.{issued_of, txn_of, other, idle_side, acts, takes, acted, contents_after_message, begins}
 use Rattle.ill_saved.specs.Sides.{found_by, is_same_role, most_sides, side_with}
 use Rattle.ill_saved.specs.Holdings.{DeskEntry, whole}
-use Rattle.ill_saved.specs.ManySides.{txn_held, idle_held, found_or, with_held, held_or_begun, side_for_call, is_own, acted as acted_at}
+use Rattle.ill_saved.specs.ManySides.{txn_held, idle_held, found_or, with_held, held_or_begun, side_for_call, is_own}
+use Rattle.ill_saved.specs.ManySides.{acted as acted_at}
 use Rattle.ill_saved.specs.ManySides.{acts_reached, contents_after_message as took_at, takes_reached}
 use Rattle.ill_saved.proofs.Finding.{same_is, same_self, apart_back, found_is, keys_put, put_last}
 use Rattle.ill_world.specs.declared.event.DeskEvent.{DeskEvent}

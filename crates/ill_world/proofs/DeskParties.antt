@@ -45,7 +45,8 @@ take_faults old new a fault takes = takes.1
 
 -- If the bytes are exactly one APDU, the outcome of noise is Forged. Else it is Garbled.
 abbrev pub NoiseSeenAs : List ℕ → Outcome → Result (Apdu × ℕ) DerFault → Type 0
-NoiseSeenAs bytes outcome (Ok (a, size)) = (size ≡ length bytes → outcome ≡ Forged) × ((size ≡ length bytes → ⊥) → outcome ≡ Garbled)
+NoiseSeenAs bytes outcome (Ok (a, size)) =
+    (size ≡ length bytes → outcome ≡ Forged) × ((size ≡ length bytes → ⊥) → outcome ≡ Garbled)
 NoiseSeenAs bytes outcome (Err OutOfMemory) = Unit {0}
 NoiseSeenAs bytes outcome (Err fault) = outcome ≡ Garbled
 

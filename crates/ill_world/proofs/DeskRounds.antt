@@ -318,7 +318,8 @@ module _ (projects : EachProjects) (reaches : EachReaches) (after : EachStands) 
   -- ---- a round
 
   -- No two sides that a desk holds are of one transaction.
-  pub held_apart : (w : DeskParties) (role : Who) → DesksInvariant w → AreApart (map txn_of (sides_held (party w role).live).sides)
+  pub held_apart : (w : DeskParties) (role : Who) → DesksInvariant w
+      → AreApart (map txn_of (sides_held (party w role).live).sides)
   held_apart w who.Requester stands =
       subst AreApart (sym (map-map txn_of (λ (held : DeskEntry). held.side) w.requester.live.held)) stands.counts.0.0
   held_apart w who.Responder stands =

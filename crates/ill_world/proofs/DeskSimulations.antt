@@ -5,7 +5,7 @@ use Rattle.ill_world.specs.World.{run_by}
 use Rattle.ill_world.specs.Desks.{DeskParties, first_desks, desks_happen, desks_run}
 use Rattle.ill_world.specs.DeskScript.{EventIn}
 use Rattle.ill_world.specs.DeskSimulation.{two_desks, desk_events, desk_trace_of, desk_line_after}
-use Rattle.ill_world.specs.Trace.{desk_line}
+use Rattle.ill_world.specs.DeskTrace.{desk_line}
 use Rattle.ill_world.proofs.Simulations.{run_more, trace_line, trace_prefix}
 
 -- Returns the desks after `events`, each of which has its transaction in use.

@@ -18,7 +18,8 @@ use Rattle.ill_saved.specs.Side.{issued_of, role_of, other, acts, takes, begins}
 use Rattle.ill_saved.specs.Sides.{is_same_role}
 use Rattle.ill_core.specs.Bodies.{is_ill_request}
 use Rattle.ill_saved.specs.Holdings.{DeskEntry}
-use Rattle.ill_saved.specs.ManySides.{held_for, side_for_call, acted as acted_at, acts_reached, contents_after_message as took_at, takes_reached, is_own}
+use Rattle.ill_saved.specs.ManySides.{held_for, side_for_call, acted as acted_at, acts_reached, contents_after_message as took_at}
+use Rattle.ill_saved.specs.ManySides.{takes_reached, is_own}
 use Rattle.ill_saved.specs.ManySides.{found_by, txn_held}
 use Rattle.ill_saved.proofs.Finding.{same_is}
 use Rattle.ill_world.specs.declared.event.Event.{Event}
@@ -261,7 +262,8 @@ leads_on true w event more new outcome seen = ap (λ v. run_of v more) seen.1
 leads_on false w event more new outcome seen = ap (λ v. run_of v more) seen
 
 -- Any events keep `DesksInvariant`.
-pub desks_stand_on : EachStands → (w : DeskParties) (events : List DeskEvent) → DesksInvariant w → DesksInvariant (desks_run w events)
+pub desks_stand_on : EachStands → (w : DeskParties) (events : List DeskEvent) → DesksInvariant w
+    → DesksInvariant (desks_run w events)
 unfolding run_by
 desks_stand_on after w [] stands = stands
 desks_stand_on after w (event ∷ events) stands = desks_stand_on after (desks_happen w event).1 events (after w event stands)

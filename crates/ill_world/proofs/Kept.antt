@@ -65,7 +65,8 @@ party_fails K p partner_sent who false stands = stands
 party_sends : (K : Side → List (Option Apdu) → Type 0) (p : Party) (partner_sent : List (Option Apdu)) (n : ℕ)
     (found : Option Apdu) (released : Bool)
     → message (issued_of p.live) n ≡ found
-    → nat_le n p.released ≡ released → PartyInvariant K p partner_sent → PartyInvariant K (sends p n found released).1 partner_sent
+    → nat_le n p.released ≡ released → PartyInvariant K p partner_sent
+    → PartyInvariant K (sends p n found released).1 partner_sent
 party_sends K p partner_sent n None released is e stands = stands
 party_sends K p partner_sent n (Some a) false is e stands = stands
 party_sends K p partner_sent n (Some a) true is e stands =

@@ -20,7 +20,8 @@ use Rattle.ill_world.specs.declared.event.Event.{Event}
 use Rattle.ill_world.specs.declared.event.Event.TheVariants.{Save}
 use Rattle.ill_world.specs.World.{Parties, happens, run_by, run_of}
 use Rattle.ill_world.specs.Agreement.{Facing}
-use Rattle.ill_world.specs.Invariant.{RequesterInvariant, ResponderInvariant, RequesterSideInvariant, ResponderSideInvariant, Invariant}
+use Rattle.ill_world.specs.Invariant.{RequesterInvariant, ResponderInvariant, RequesterSideInvariant, ResponderSideInvariant}
+use Rattle.ill_world.specs.Invariant.{Invariant}
 use Rattle.ill_world.specs.Round.{sends_and_delivers, half_of, round_of, faced_in, AreInStep}
 use Rattle.ill_world.specs.Night.{is_nobodys, is_over, wants_sending, asks, half_if, night_of, AtRest, AreAtRest}
 use Rattle.ill_world.specs.Night.{AreInStepOrAtRest}
@@ -72,7 +73,8 @@ records_rest txn x y responder_sent requester_sent requester_stands responder_st
 -- If the loan is over for a requester's side, it is at rest with the responder's.
 sides_rest : (txn : Qualifiers) (x y : Side) (responder_sent requester_sent : List (Option Apdu))
     → RequesterSideInvariant txn x responder_sent
-    → ResponderSideInvariant txn y requester_sent → AreIssued responder_sent (issued_of y) → AreIssued requester_sent (issued_of x)
+    → ResponderSideInvariant txn y requester_sent → AreIssued responder_sent (issued_of y)
+    → AreIssued requester_sent (issued_of x)
     → is_over x ≡ true → Facing AtRest x y
 sides_rest txn (sides.Requester x) (sides.Responder y) responder_sent requester_sent requester_stands responder_stands issued
     heeded over = records_rest txn x y responder_sent requester_sent requester_stands responder_stands issued heeded over
@@ -106,7 +108,8 @@ over_is_silent (sides.Requester x) over = ap not over
 over_is_silent (sides.Responder y) over = ap (λ b. not b || false) over
 
 -- A responder that was asked sends its messages.
-asked_wants : (txn : Qualifiers) (side : Side) (requester_sent : List (Option Apdu)) → ResponderSideInvariant txn side requester_sent
+asked_wants : (txn : Qualifiers) (side : Side) (requester_sent : List (Option Apdu))
+    → ResponderSideInvariant txn side requester_sent
     → wants_sending true side ≡ true
 asked_wants txn (sides.Responder y) requester_sent stands = or_right (not (is_over (sides.Responder y))) true refl
 asked_wants txn (sides.Requester x) requester_sent stands = absurd stands
@@ -118,7 +121,8 @@ idle_is_open s is = search rules
 
 -- If the requester has issued nothing, the loan is not over for the responder.
 unasked_is_open : (txn : Qualifiers) (side : Side) (requester_sent : List (Option Apdu)) (apdus : List Apdu)
-    → ResponderSideInvariant txn side requester_sent → AreIssued requester_sent apdus → is_none apdus ≡ true → is_over side ≡ false
+    → ResponderSideInvariant txn side requester_sent → AreIssued requester_sent apdus → is_none apdus ≡ true
+    → is_over side ≡ false
 unasked_is_open txn (sides.Responder y) requester_sent apdus stands heeded none = go (is_among (states.Idle ∷ []) y.state) refl
   where
     go : (idle : Bool) → is_among (states.Idle ∷ []) y.state ≡ idle → is_over (sides.Responder y) ≡ false

@@ -34,7 +34,8 @@ use Rattle.ill_saved.specs.declared.role.Role.TheVariants as who
 use Rattle.ill_world.specs.declared.event.Event.{Event}
 use Rattle.ill_world.specs.World.{Parties, happens, run_of}
 use Rattle.ill_world.specs.Agreement.{Facing}
-use Rattle.ill_world.specs.Invariant.{RequesterInvariant, ResponderInvariant, RequesterSideInvariant, ResponderSideInvariant, Invariant}
+use Rattle.ill_world.specs.Invariant.{RequesterInvariant, ResponderInvariant, RequesterSideInvariant, ResponderSideInvariant}
+use Rattle.ill_world.specs.Invariant.{Invariant}
 use Rattle.ill_world.specs.Round.{half_of, round_of, InStep, AreInStep, CanAnswer}
 use Rattle.ill_core.proofs.MessageLemmas.{message_says, says_message}
 use Rattle.ill_world.proofs.Claims.{AreIssued, live_issues}
@@ -125,7 +126,8 @@ first_alone (a ∷ apdus) j b begins at = none_there is_ill_request apdus j b (n
 has_prefix : (says : Body → Bool) (prefix apdus : List Apdu) → IsPrefix prefix apdus → has_message_with says prefix ≡ true
     → has_message_with says apdus ≡ true
 has_prefix says prefix apdus is there =
-    ap (has_message_with says) is.1 ∙ (list_any-append (λ (a : Apdu). says a.body) prefix is.0 ∙ ap (λ (b : Bool). b || has_message_with says is.0) there)
+    ap (has_message_with says) is.1
+    ∙ (list_any-append (λ (a : Apdu). says a.body) prefix is.0 ∙ ap (λ (b : Bool). b || has_message_with says is.0) there)
 
 -- ---- messages that reopen others
 
@@ -293,7 +295,8 @@ module _ (rows : TransitionsHear) where
           go false false false a b c is = search rules
 
       -- If the responder could answer before it took the messages, and is still undecided, it has a number left.
-      number_left : (has_message_with is_end y.issued ≡ true) ⊎ (length y.issued < 255) → is_among records.undecided lender_new.state ≡ true
+      number_left : (has_message_with is_end y.issued ≡ true) ⊎ (length y.issued < 255)
+          → is_among records.undecided lender_new.state ≡ true
           → length lender_new.issued < 255
       number_left (inl ended) undecided =
           absurd (ended_decides (has_prefix is_end y.issued lender_new.issued (responder_grows y x.issued) ended) undecided)

@@ -65,14 +65,16 @@ number_seen : (apdus : List Apdu) → is_seen (next_number apdus) ≡ true
 number_seen apdus = search rules
 
 -- If the row and the number give only refusals that can be an outcome, so does the wish.
-wish_done : (x : RequesterRecord) (line : Result requester_actions.Transition Refusal) (number : Result ℕ Refusal) → is_seen line ≡ true
+wish_done : (x : RequesterRecord) (line : Result requester_actions.Transition Refusal) (number : Result ℕ Refusal)
+    → is_seen line ≡ true
     → is_seen number ≡ true → is_seen (requester_actions.acts_by x line number) ≡ true
 wish_done x (Err refusal) number first second = first
 wish_done x (Ok line) (Err refusal) first second = second
 wish_done x (Ok line) (Ok number) first second = refl
 
 -- If the row and the number give only refusals that can be an outcome, so does the deed.
-deed_done : (y : ResponderRecord) (line : Result responder_actions.Transition Refusal) (number : Result ℕ Refusal) → is_seen line ≡ true
+deed_done : (y : ResponderRecord) (line : Result responder_actions.Transition Refusal) (number : Result ℕ Refusal)
+    → is_seen line ≡ true
     → is_seen number ≡ true → is_seen (responder_actions.acts_by y line number) ≡ true
 deed_done y (Err refusal) number first second = first
 deed_done y (Ok line) (Err refusal) first second = second
@@ -105,7 +107,8 @@ yes_answer false false false y new = refl
 -- A responder refuses a message only with a refusal that can be an outcome.
 responder_answer : (y : ResponderRecord) (a : Apdu) (body : Body) → is_seen (responder_deliveries.take_message y a body).0 ≡ true
 responder_answer y a (types.ConditionalReply c true) =
-    yes_answer (is_equal_number c (outstanding_number y)) (is_equal_number c y.accepted) (is_message_with names_conditions y.issued c) y
+    yes_answer (is_equal_number c (outstanding_number y)) (is_equal_number c y.accepted)
+    (is_message_with names_conditions y.issued c) y
     (record y { state = InProcess; accepted = Some c })
 responder_answer y a (types.ConditionalReply c false) = search (rules, no_answer y (next_number y.issued) (number_seen y.issued))
 responder_answer y a body = search rules

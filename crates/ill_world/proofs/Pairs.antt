@@ -21,12 +21,14 @@ use Rattle.ill_core.specs.Rules.{implies}
 use Rattle.ill_core.specs.Numbers.{is_equal_number, is_at_most, is_below}
 use Rattle.ill_core.specs.Bodies.{is_ill_request, is_cancel, is_received, is_renew, is_returned, is_shipped, is_checked_in}
 use Rattle.ill_core.specs.Bodies.{is_cancelled, is_unsupplied, is_end, is_renewal, grant_in, names_conditions, declines, accepts}
-use Rattle.ill_core.specs.Issued.{message, has_message_with, is_message_with, is_there, is_none, last_of, accepted_in, granted_day}
+use Rattle.ill_core.specs.Issued.{message, has_message_with, is_message_with, is_there, is_none, last_of, accepted_in}
+use Rattle.ill_core.specs.Issued.{granted_day}
 use Rattle.ill_core.specs.Requester.{RequesterRecord, later, begins_with_request, is_declined, is_received_by, accepted_number}
 use Rattle.ill_core.specs.Requester.{last_cancel, last_renew}
 use Rattle.ill_core.specs.RequesterEvidence as requester
 use Rattle.ill_core.specs.RequesterNotices as notices
-use Rattle.ill_core.specs.RequesterNotices.{is_awaiting_answer, is_awaiting_cancel_reply, is_due_after, states_before_overdue, undecided, lent}
+use Rattle.ill_core.specs.RequesterNotices.{is_awaiting_answer, is_awaiting_cancel_reply, is_due_after, states_before_overdue}
+use Rattle.ill_core.specs.RequesterNotices.{undecided, lent}
 use Rattle.ill_core.specs.Responder.{ResponderRecord, due_of, later as shipped_states, outstanding_number, ships_first}
 use Rattle.ill_core.specs.ResponderEvidence as responder
 use Rattle.ill_core.specs.ResponderEvidence.{Question, MayCancel, MayRenew, answered_number}

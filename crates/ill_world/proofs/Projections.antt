@@ -18,7 +18,8 @@ use Rattle.ill_saved.specs.declared.side.Side.{Side}
 use Rattle.ill_saved.specs.declared.side.Side.TheVariants as sides
 use Rattle.ill_saved.specs.declared.side.Action.{Action}
 use Rattle.ill_saved.specs.declared.side.Action.TheVariants as actions
-use Rattle.ill_saved.specs.Side.{issued_of, txn_of, role_of, idle_side, acts, takes, acted, contents_after_message, IsSideTransition, role_for, begins}
+use Rattle.ill_saved.specs.Side.{issued_of, txn_of, role_of, idle_side, acts, takes, acted, contents_after_message}
+use Rattle.ill_saved.specs.Side.{IsSideTransition, role_for, begins}
 use Rattle.ill_saved.specs.Sides.{SidesOf, is_same_role, most_sides, side_with}
 use Rattle.ill_saved.specs.Holdings.{DeskEntry, whole}
 use Rattle.ill_saved.specs.ManySides.{DeskContents, found_by, txn_held, idle_held, found_or, held_for, with_held, side_for}
@@ -250,7 +251,8 @@ abbrev received : DeskParty → List Sending → ℕ → Qualifiers → Outcome 
 received p partner_sent n txn = receives (party_for txn p) (sent_message (sent_for txn partner_sent) n)
 
 -- A side that refuses a message is unchanged.
-taken_by : RefusalsChangeNothing → (side new : Side) (a : Apdu) (refusal : Refusal) → takes side a ≡ (Err refusal, new) → new ≡ side
+taken_by : RefusalsChangeNothing → (side new : Side) (a : Apdu) (refusal : Refusal) → takes side a ≡ (Err refusal, new)
+    → new ≡ side
 taken_by rows side new a refusal e =
     elim (quiet rows side a) [
       | inl taken ↦ let no : ◌≡◌ {A = Result Taking Refusal} (Err refusal) (Ok Taken) =
@@ -276,7 +278,8 @@ module _ (grows : RowsGrow) (rows : RefusalsChangeNothing) (p : DeskParty) (part
       → Seen (received p partner_sent n) a.txn p txn (desk_took (took_at p.live (held_for a.txn p.live) (answer, new)))
   takes_held (Ok taking) new e txn =
       goes_on (received p partner_sent n) a.txn p new (Answered taking)
-      (row_txn grows (held_for a.txn p.live).side new (contents_after_message a (ap (λ (r : Result Taking Refusal × Side). r.1) e))
+      (row_txn grows (held_for a.txn p.live).side new
+      (contents_after_message a (ap (λ (r : Result Taking Refusal × Side). r.1) e))
       ∙ held_txn a.txn p.live) (here (Ok taking) new e) txn
   takes_held (Err refusal) new e txn =
       nothing_done (received p partner_sent n) a.txn p (Refused refusal)
@@ -399,7 +402,8 @@ own_refused (sides.Responder y) a is own =
     rw (same, own) refl
 
 -- `PartySeen` holds of a delivery at a desk that satisfies `KeepsTo`.
-delivers_seen : RowsGrow → RefusalsChangeNothing → (role : Who) (p : DeskParty) (partner_sent : List Sending) → KeepsTo role p partner_sent
+delivers_seen : RowsGrow → RefusalsChangeNothing → (role : Who) (p : DeskParty) (partner_sent : List Sending)
+    → KeepsTo role p partner_sent
     → (to : Who) (of : Qualifiers) (n : ℕ) (found : Option Apdu) → sent_message (sent_for of partner_sent) n ≡ found
     → (txn : Qualifiers)
     → Seen (received p partner_sent n) of p txn (desk_receives p found)

@@ -16,7 +16,8 @@ use Rattle.ill_saved.specs.declared.side.Action.TheVariants as actions
 use Rattle.ill_saved.specs.Side.{other, acts, takes, role_for, begins}
 use Rattle.ill_saved.specs.Sides.{is_same_role, most_sides}
 use Rattle.ill_saved.specs.Holdings.{DeskEntry}
-use Rattle.ill_saved.specs.ManySides.{DeskContents, found_by, txn_held, idle_held, held_or_begun, side_for_call, acted as acted_at}
+use Rattle.ill_saved.specs.ManySides.{DeskContents, found_by, txn_held, idle_held, held_or_begun, side_for_call}
+use Rattle.ill_saved.specs.ManySides.{acted as acted_at}
 use Rattle.ill_saved.specs.ManySides.{acts_reached, desk_acts, contents_after_message as took_at, takes_reached, is_own}
 use Rattle.ill_world.specs.declared.event.DeskEvent.{DeskEvent}
 use Rattle.ill_world.specs.declared.event.DeskEvent.TheVariants as events

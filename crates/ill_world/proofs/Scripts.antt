@@ -5,7 +5,8 @@ use Rattle.std.specs.List.{onto_first}
 use Rattle.std.proofs.lemmas.Bool.{le-leb, lt-leb}
 use Rattle.ill_world.specs.declared.script.ScriptLine.{ScriptLine}
 use Rattle.ill_world.specs.declared.script.ScriptLine.TheVariants as lines
-use Rattle.ill_world.specs.Play.{Play, Said, empty_reading, is_within, line_at, then_says, end_reading, broken_reading, says_from, lines_in}
+use Rattle.ill_world.specs.Play.{Play, Said, empty_reading, is_within, line_at, then_says, end_reading, broken_reading, says_from}
+use Rattle.ill_world.specs.Play.{lines_in}
 use Rattle.ill_world.specs.Play.{reading_from}
 use Rattle.ill_world.specs.Simulating.{has_lf}
 use Rattle.ill_world.proofs.Texts.{line_first, line_alone, some_line, line_begins}
@@ -100,7 +101,8 @@ module _ {W E C : Type 0} (play : Play W E C) where
   -- ---- beyond the limits
 
   -- At the end of a text, bytes beyond the limits are a bad line.
-  bad_ends : (c : C) (n : ℕ) (bytes : List ℕ) → 1 ≤ length bytes → is_within n bytes ≡ false → end_reading play c n bytes ≡ only_bad n
+  bad_ends : (c : C) (n : ℕ) (bytes : List ℕ) → 1 ≤ length bytes → is_within n bytes ≡ false
+      → end_reading play c n bytes ≡ only_bad n
   bad_ends c n bytes some out = ends_line c n bytes some
       ∙ ap (λ (line : ScriptLine E × C). then_says line.0 n empty_reading) (line_bad c n bytes out)
 
@@ -128,7 +130,8 @@ module _ {W E C : Type 0} (play : Play W E C) where
       ∙ first_bad c n (bytes ++ some.0) some.1 (too_long n (bytes ++ some.0) longer) (omega (arith, longer))
 
   -- Bytes after line 100,000 are a bad line.
-  pub says_too_many : (c : C) (n byte : ℕ) (text : List ℕ) → 100001 ≤ n → reading_from play (end_reading play) c n (byte ∷ text) ≡ only_bad n
+  pub says_too_many : (c : C) (n byte : ℕ) (text : List ℕ) → 100001 ≤ n
+      → reading_from play (end_reading play) c n (byte ∷ text) ≡ only_bad n
   says_too_many c n byte text many = go (byte == 10) (some_line text)
     where
       go : (is_lf : Bool) → ((first : List ℕ) × (more : List (List ℕ)) × (lines_in text ≡ first ∷ more))

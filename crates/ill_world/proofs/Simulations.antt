@@ -12,7 +12,8 @@ use Rattle.ill_world.specs.declared.fault.SimFault.{SimFault}
 use Rattle.ill_world.specs.declared.fault.SimFault.TheVariants.{Script, Read, Write, OutOfMemory}
 use Rattle.ill_world.specs.World.{Parties, first_world, happens, run_by, run_of}
 use Rattle.ill_world.specs.Trace.{line}
-use Rattle.ill_world.specs.Play.{Play, Said, line_at, then_says, end_reading, broken_reading, reading_from, trace_from, Answers, Plays}
+use Rattle.ill_world.specs.Play.{Play, Said, line_at, then_says, end_reading, broken_reading, reading_from, trace_from, Answers}
+use Rattle.ill_world.specs.Play.{Plays}
 use Rattle.ill_world.specs.Simulation.{two_sides, trace_of, line_after}
 use Rattle.ill_world.specs.Simulating.{IsLine, PerformsLine, StepsLine}
 use Rattle.ill_world.proofs.Scripts.{says_line}
@@ -188,8 +189,10 @@ module _ {W E C : Type 0} (play : Play W E C) where
         shown ++ rest.1,
         Consumes-trans old middle new prefix rest.0 read rest.2,
         Appends-trans before between after shown rest.1 written rest.3,
-        answers_on (reading_from play (end_reading play) c n) (reading_from play broken_reading c n) (reading_from play (end_reading play) kept m)
-            (reading_from play broken_reading kept m) (trace_from play (count + 1) w) (trace_from play (next_count + 1) next) count
+        answers_on (reading_from play (end_reading play) c n) (reading_from play broken_reading c n)
+            (reading_from play (end_reading play) kept m)
+            (reading_from play broken_reading kept m) (trace_from play (count + 1) w) (trace_from play (next_count + 1) next)
+            count
             next_count
             prefix shown events (says (end_reading play)) (says broken_reading) shows counts result rest.0 new rest.1 rest.4,
       )

@@ -33,7 +33,8 @@ use Rattle.ill_world.specs.World.{Parties, first_party, first_world, with_party,
 use Rattle.ill_saved.specs.declared.role.Role.{Role as Who}
 use Rattle.ill_saved.specs.declared.role.Role.TheVariants as who
 use Rattle.ill_world.specs.declared.event.Event.{Event}
-use Rattle.ill_world.specs.Invariant.{WasSent, RequesterInvariant, ResponderInvariant, RequesterSideInvariant, ResponderSideInvariant}
+use Rattle.ill_world.specs.Invariant.{WasSent, RequesterInvariant, ResponderInvariant, RequesterSideInvariant}
+use Rattle.ill_world.specs.Invariant.{ResponderSideInvariant}
 use Rattle.ill_world.specs.Invariant.{PartyInvariant, Invariant}
 use Rattle.ill_world.proofs.DueDates.{TransitionsKeepDue, due_after}
 use Rattle.ill_world.proofs.Sendings.{prefix_of_itself}
@@ -196,7 +197,8 @@ requester_acts law txn (sides.Responder y) new action partner_sent e stands = ab
 
 -- By `RequesterTakes`, a message of `partner_sent` that is taken keeps `RequesterSideInvariant`.
 requester_takes : RequesterTakes → (txn : Qualifiers) (old : Side) (a : Apdu) (partner_sent : List (Option Apdu))
-    → WasSent partner_sent a → RequesterSideInvariant txn old partner_sent → RequesterSideInvariant txn (takes old a).1 partner_sent
+    → WasSent partner_sent a → RequesterSideInvariant txn old partner_sent
+    → RequesterSideInvariant txn (takes old a).1 partner_sent
 requester_takes law txn (sides.Requester x) a partner_sent was stands = law txn x a partner_sent was stands
 requester_takes law txn (sides.Responder y) a partner_sent was stands = absurd stands
 
@@ -226,7 +228,8 @@ responder_acts law txn (sides.Requester x) new action partner_sent e stands = ab
 
 -- By `ResponderTakes`, a message of `partner_sent` that is taken keeps `ResponderSideInvariant`.
 responder_takes : ResponderTakes → (txn : Qualifiers) (old : Side) (a : Apdu) (partner_sent : List (Option Apdu))
-    → WasSent partner_sent a → ResponderSideInvariant txn old partner_sent → ResponderSideInvariant txn (takes old a).1 partner_sent
+    → WasSent partner_sent a → ResponderSideInvariant txn old partner_sent
+    → ResponderSideInvariant txn (takes old a).1 partner_sent
 responder_takes law txn (sides.Responder y) a partner_sent was stands = law txn y a partner_sent was stands
 responder_takes law txn (sides.Requester x) a partner_sent was stands = absurd stands
 
@@ -321,7 +324,8 @@ world_kept rows txn w who.Responder event grows requester_kept responder_kept st
 }
 
 -- Each event keeps the invariant.
-pub world_after : TransitionsKeepDue → (txn : Qualifiers) (w : Parties) (event : Event) → RowsGrow → Keeps (RequesterSideInvariant txn)
+pub world_after : TransitionsKeepDue → (txn : Qualifiers) (w : Parties) (event : Event) → RowsGrow
+    → Keeps (RequesterSideInvariant txn)
     → Keeps (ResponderSideInvariant txn) → Invariant txn w → Invariant txn (happens w event).1
 world_after rows txn w event grows requester_kept responder_kept stands =
     world_kept rows txn w (who_of event) event grows requester_kept responder_kept stands

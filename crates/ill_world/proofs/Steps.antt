@@ -11,7 +11,8 @@ use Rattle.ill_world.specs.declared.script.ScriptLine.{ScriptLine}
 use Rattle.ill_world.specs.declared.script.ScriptLine.TheVariants as lines
 use Rattle.ill_world.specs.declared.fault.SimFault.{SimFault}
 use Rattle.ill_world.specs.declared.fault.SimFault.TheVariants.{Script, Read, Write, OutOfMemory}
-use Rattle.ill_world.specs.Play.{Play, Said, empty_reading, line_at, then_says, end_reading, broken_reading, says_from, reading_from, trace_from}
+use Rattle.ill_world.specs.Play.{Play, Said, empty_reading, line_at, then_says, end_reading, broken_reading, says_from}
+use Rattle.ill_world.specs.Play.{reading_from, trace_from}
 use Rattle.ill_world.specs.Play.{OfAll, Answers, Plays}
 use Rattle.ill_world.specs.Simulating.{IsLine, ReadsLine, PerformsLine, StepsLine, IsBeforeEnd, FindsEnd, IsUsedUp}
 use Rattle.ill_world.proofs.Scripts.{within, line_within, says_line, says_rest, ends_line, breaks_nothing, says_too_long}
@@ -36,7 +37,8 @@ module _ {W E C : Type 0} (play : Play W E C) where
   begins_closed c n bytes left is =
       λ more e. (
         reading_from play (end_reading play) (line_at play c n bytes).1 (n + 1) more,
-        ap (reading_from play (end_reading play) c n) (append_assoc bytes (10 ∷ []) more) ∙ says_line play (end_reading play) c n bytes more is.0,
+        ap (reading_from play (end_reading play) c n) (append_assoc bytes (10 ∷ []) more)
+            ∙ says_line play (end_reading play) c n bytes more is.0,
       )
 
   -- The text `bytes` at the end of the reader has `bytes` as line n, if they are not empty.
@@ -55,7 +57,8 @@ module _ {W E C : Type 0} (play : Play W E C) where
   -- The result and `trace` fit the rest of a script, from line n on.
   abbrev pub AnswersFrom : C → ℕ → W → ℕ → Result ℕ SimFault → List ℕ → Option (List ℕ) → List ℕ → Type 0
   AnswersFrom c n w count result text left trace =
-      Answers (reading_from play (end_reading play) c n) (reading_from play broken_reading c n) (trace_from play (count + 1) w) count result text left
+      Answers (reading_from play (end_reading play) c n) (reading_from play broken_reading c n) (trace_from play (count + 1) w)
+      count result text left
       trace
 
   -- The rest of a script ends with `fault`. The trace that was written, from `before` to `after`, fits it.
@@ -216,7 +219,8 @@ module _ {W E C : Type 0} (play : Play W E C) where
       at_end,
       ap (λ (s : Said E). s.bad) said,
       sym (trace_of_one play (count + 1) w event) ∙ ap (λ (s : Said E). trace_from play (count + 1) w s.events) (sym said),
-      (let one : next_count ≡ count + length (then_says (lines.Event event) n empty_reading).events = omega (arith, done.1) in one)
+      (let one : next_count ≡ count + length (then_says (lines.Event event) n empty_reading).events = omega (arith, done.1) in
+          one)
           ∙ ap (λ (s : Said E). count + length s.events) (sym said),
     ),
   )
@@ -252,7 +256,8 @@ module _ {W E C : Type 0} (play : Play W E C) where
   -- ---- the end
 
   -- If bytes follow line 100,000, line 100,001 is bad.
-  too_many_follow : (c : C) (text : List ℕ) → 1 ≤ length text → reading_from play (end_reading play) c 100001 text ≡ only_bad 100001
+  too_many_follow : (c : C) (text : List ℕ) → 1 ≤ length text
+      → reading_from play (end_reading play) c 100001 text ≡ only_bad 100001
   too_many_follow c [] some = absurd (omega (arith, some))
   too_many_follow c (byte ∷ text) some = says_too_many play c 100001 byte text (omega arith)
 
@@ -351,7 +356,8 @@ module _ {W E C : Type 0} (play : Play W E C) where
         trace,
         consumes_ahead old text ahead rest plays.2,
         plays.3,
-        answers_of_all (reading_from play (end_reading play) c n) (reading_from play broken_reading c n) (trace_from play (count + 1) w) count text
+        answers_of_all (reading_from play (end_reading play) c n) (reading_from play broken_reading c n)
+            (trace_from play (count + 1) w) count text
             ahead rest trace result used plays.4,
       )
 

@@ -8,7 +8,8 @@ use Rattle.ill_core.specs.Requester.{RequesterRecord}
 use Rattle.ill_core.specs.Responder.{ResponderRecord}
 use Rattle.ill_saved.specs.declared.side.Side.{Side}
 use Rattle.ill_saved.specs.declared.side.Side.TheVariants as sides
-use Rattle.ill_saved.specs.Side.{issued_of, state_of, verbs_of}
+use Rattle.ill_saved.specs.Side.{issued_of, state_of}
+use Rattle.ill_saved.specs.SideVerbs.{verbs_of}
 use Rattle.ill_world.specs.Round.{facing_in}
 use Rattle.ill_world.specs.Night.{is_over}
 

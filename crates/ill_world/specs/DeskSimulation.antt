@@ -5,7 +5,7 @@ use Rattle.ill_world.specs.declared.event.DeskEvent.{DeskEvent}
 use Rattle.ill_world.specs.declared.fault.SimFault.{SimFault}
 use Rattle.ill_world.specs.Desks.{DeskParties, first_desks, desks_happen, desks_run}
 use Rattle.ill_world.specs.DeskScript.{EventIn, desk_meaning, says_in}
-use Rattle.ill_world.specs.Trace.{desk_line}
+use Rattle.ill_world.specs.DeskTrace.{desk_line}
 use Rattle.ill_world.specs.Play.{Play, Said, end_reading, reading_from, trace_from, Plays}
 
 -- In the play of two desks each line has its meaning in the transaction in use. This transaction is carried from line

@@ -4,6 +4,7 @@ pub mod PartyRefinement
 pub mod Words
 pub mod Script
 pub mod Trace
+pub mod DeskTrace
 pub mod Play
 pub mod Simulation
 pub mod Simulating

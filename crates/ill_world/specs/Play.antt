@@ -104,5 +104,6 @@ abbrev pub Plays : {W E C : Type 0} → Play W E C → C → ℕ → W → ℕ �
     Option (List ℕ) → Option (List ℕ) → Result ℕ SimFault → Type 0
 Plays play c n w count old new before after result =
     (text : List ℕ) × (trace : List ℕ) × Consumes old new text × Appends before after trace
-    × Answers (reading_from play (end_reading play) c n) (reading_from play broken_reading c n) (trace_from play (count + 1) w) count
+    × Answers (reading_from play (end_reading play) c n) (reading_from play broken_reading c n) (trace_from play (count + 1) w)
+    count
     result text new trace

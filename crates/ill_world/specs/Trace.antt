@@ -12,13 +12,8 @@ use Rattle.ill_saved.specs.Side.{shown_of}
 use Rattle.ill_world.specs.declared.event.Outcome.{Outcome}
 use Rattle.ill_world.specs.declared.event.Outcome.TheVariants.{Done, Saved, Faulted, Sent, Answered, Refused, NoSuchMessage}
 use Rattle.ill_world.specs.declared.event.Outcome.TheVariants.{NotSaved, NotSent, Garbled, Forged, Restarted}
-use Rattle.ill_world.specs.declared.event.DeskOutcome.{DeskOutcome}
-use Rattle.ill_world.specs.declared.event.DeskOutcome.TheVariants.{Plain, NoSuchTransaction, DeskFull}
 use Rattle.ill_saved.specs.declared.shown.Shown.{Shown}
-use Rattle.ill_values.specs.TxnId.{Qualifiers}
-use Rattle.ill_saved.specs.ManySides.{held_for}
 use Rattle.ill_world.specs.World.{Party, Parties}
-use Rattle.ill_world.specs.Desks.{DeskParty, DeskParties}
 
 -- Returns the word that a trace shows for the answer to a message.
 abbrev pub taking_word : Taking → List ℕ
@@ -53,12 +48,6 @@ outcome_word NotSent = codes "not-sent"
 outcome_word Garbled = codes "garbled"
 outcome_word Forged = codes "forged"
 outcome_word Restarted = codes "restarted"
-
--- Returns the word that a trace shows for an outcome at a desk.
-abbrev pub desk_outcome_word : DeskOutcome → List ℕ
-desk_outcome_word (Plain outcome) = outcome_word outcome
-desk_outcome_word NoSuchTransaction = codes "no-such-transaction"
-desk_outcome_word DeskFull = codes "desk-full"
 
 -- Returns the text of a due date, or a dash if there is none.
 abbrev pub due_text : Option Date → List ℕ
@@ -97,12 +86,3 @@ line_of number word requester responder =
 unfoldable pub line : ℕ → Outcome → Parties → List ℕ
 line number outcome after =
     line_of number (outcome_word outcome) (party_shown after.requester) (party_shown after.responder)
-
--- Returns the parts of the side of `txn` that a trace shows. A side that is not held is idle.
-abbrev pub desk_shown : Qualifiers → DeskParty → Shown
-desk_shown txn p = shown_of (held_for txn p.live).side (held_for txn p.live).released
-
--- Returns the line of event `number`, with both sides of `txn` after it.
-unfoldable pub desk_line : ℕ → Qualifiers → DeskOutcome → DeskParties → List ℕ
-desk_line number txn outcome after =
-    line_of number (desk_outcome_word outcome) (desk_shown txn after.requester) (desk_shown txn after.responder)

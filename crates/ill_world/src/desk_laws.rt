@@ -97,9 +97,9 @@ pub fn due_dates_stay_at_desks()
     laws::due_dates_stay();
 }
 
-/// If two desks satisfy `DesksInvariant`, an event that names a transaction reaches the held side, or a new one. A Request
-/// begins a new side at the requester, and an ILL-Request at the responder. Either needs a desk that holds fewer than
-/// 1,000 sides.
+/// If two desks satisfy `DesksInvariant`, an event that names a transaction reaches the held side, or a new one. A
+/// Request begins a new side at the requester, and an ILL-Request at the responder. Either needs a desk that holds
+/// fewer than 1,000 sides.
 pub fn desks_reach_what_they_hold()
     ensures { (w : DeskParties) (event : DeskEvent) → DesksInvariant w → ReachesSide w event }
 {}
@@ -114,8 +114,8 @@ pub fn one_arrival_at_a_desk_is_enough()
     laws::one_arrival_is_enough();
 }
 
-/// If two desks satisfy `DesksInvariant`, few outcomes change the projection to a transaction. They are `Done`, `Saved`,
-/// `Sent`, `Restarted`, `Answered(Taken)` and `Faulted`. `Faulted` changes only the landed side.
+/// If two desks satisfy `DesksInvariant`, few outcomes change the projection to a transaction. They are `Done`,
+/// `Saved`, `Sent`, `Restarted`, `Answered(Taken)` and `Faulted`. `Faulted` changes only the landed side.
 pub fn few_desk_outcomes_change()
     ensures { (txn : Qualifiers) (w : DeskParties) (event : DeskEvent) → DesksInvariant w →
         let after = desks_happen w event in
@@ -188,8 +188,8 @@ pub fn no_bad_desk_trace_is_written()
         SimulatesDesks (Some text) (Some left) (Some []) (Some written) (Err OutOfMemory) → ⊥ }
 {}
 
-/// If two desks satisfy `DesksInvariant`, the delivery of a message is never `DeskFull`, and so in no run. A delivery to
-/// the requester's desk is `NotSent` in each transaction that it does not hold.
+/// If two desks satisfy `DesksInvariant`, the delivery of a message is never `DeskFull`, and so in no run. A delivery
+/// to the requester's desk is `NotSent` in each transaction that it does not hold.
 pub fn deliveries_find_room()
     ensures room { (w : DeskParties) (who : Who) (txn : Qualifiers) (n : ℕ) → DesksInvariant w →
         (desks_happen w (Deliver who txn n)).0 ≡ DeskFull → ⊥ }
@@ -204,7 +204,8 @@ pub fn deliveries_find_room()
 }
 
 /// A round of two desks is a round of both sides in each transaction. After it both sides are in step, if the responder
-/// can answer a Conditional-Reply no. This holds if the desks satisfy `DesksInvariant`, and so after any events of a run.
+/// can answer a Conditional-Reply no. This holds if the desks satisfy `DesksInvariant`, and so after any events of a
+/// run.
 pub fn one_desk_round_is_enough()
     ensures each { (txn : Qualifiers) (w : DeskParties) → DesksInvariant w →
         project txn (desks_run w (desk_round_of w)) ≡ run_of (project txn w) (round_of (project txn w)) }

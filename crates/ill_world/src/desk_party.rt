@@ -8,7 +8,7 @@ ghost use Rattle.ill_world.specs.Desks as desks;
 ghost use Rattle.ill_world.specs.declared.event.DeskOutcome.TheVariants as desk_outcomes;
 ghost use Rattle.ill_world.specs.declared.event.Outcome.TheVariants as outcomes;
 ghost use Rattle.ill_world.specs.PartyRefinement.{GivesOutcome};
-ghost use Rattle.ill_world.specs.Trace.{desk_shown};
+ghost use Rattle.ill_world.specs.DeskTrace.{desk_shown};
 ghost use Rattle.ill_world.specs.DeskRefinement.{desk_party_of, CanBeSeen, FaultSeen, IsReadyDesk};
 
 use crate::desk_sent::DeskSent;

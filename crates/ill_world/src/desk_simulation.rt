@@ -6,7 +6,7 @@ ghost use Rattle.ill_world.specs.Desks.{first_desks, desks_happen};
 ghost use Rattle.ill_world.specs.DeskSafety.{IsRunOfEach, IsSafeDeskRun, IsAgreeingDeskRun};
 ghost use Rattle.ill_world.specs.DeskScript.{EventIn, in_txn};
 ghost use Rattle.ill_world.specs.DeskSimulation.{SimulatesDesks, two_desks};
-ghost use Rattle.ill_world.specs.Trace.{desk_line};
+ghost use Rattle.ill_world.specs.DeskTrace.{desk_line};
 
 use crate::desk_laws;
 use crate::desk_script::{DeskLine, read_desk_line};

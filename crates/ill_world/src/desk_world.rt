@@ -9,7 +9,7 @@ ghost use Rattle.ill_world.specs.Desks.{plain, project, Projects};
 ghost use Rattle.ill_world.specs.Agreement.{KeepsDates};
 ghost use Rattle.ill_world.specs.DeskSafety.{DesksInvariant, ArrivesAt, IsRunOfEach, IsSafeDeskRun, IsAgreeingDeskRun};
 ghost use Rattle.ill_world.specs.PartyRefinement.{GivesOutcome};
-ghost use Rattle.ill_world.specs.Trace.{desk_line};
+ghost use Rattle.ill_world.specs.DeskTrace.{desk_line};
 ghost use Rattle.ill_world.specs.Round.{Performs, CanAnswer, AreInStep};
 ghost use Rattle.ill_world.specs.DeskRound.{passes_side, saves_and_passes, desk_half_of, desk_round_of};
 

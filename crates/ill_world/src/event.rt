@@ -4,7 +4,8 @@ ghost use Rattle.std.specs.Prelude.{◌≡◌, IfOk};
 ghost use Rattle.ill_world.specs.World.{who_of};
 ghost use Rattle.ill_world.specs.Desks.{plain};
 ghost use Rattle.ill_world.specs.DeskScript.{in_txn};
-ghost use Rattle.ill_world.specs.Trace.{outcome_word, desk_outcome_word, taking_word, refusal_word};
+ghost use Rattle.ill_world.specs.Trace.{outcome_word, taking_word, refusal_word};
+ghost use Rattle.ill_world.specs.DeskTrace.{desk_outcome_word};
 
 use crate::bytes::Bytes;
 use ill_core::{Deed, Refusal, Taking, Wish};

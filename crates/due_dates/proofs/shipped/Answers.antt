@@ -26,6 +26,8 @@ loop-place-preserved c =
     let left = drop (place + 1) sides in
     let further : here ++ left ≡ drop place sides = ap (λ n. here ++ drop n sides) (add-one place) ∙ one_item sides place in
     let split : shipped here ++ shipped left ≡ shipped (drop place sides) =
-        sym (filter-append _ here left) ∙ ap shipped further in
-    record { all = ap (λ items. items ++ shipped left) c.in_ok-push_shipped.ensures
-        ∙ append_assoc so_far (shipped here) (shipped left) ∙ ap (λ items. so_far ++ items) split ∙ c.loop-place.invariant.all }
+    sym (filter-append _ here left) ∙ ap shipped further in
+    record {
+      all = ap (λ items. items ++ shipped left) c.in_ok-push_shipped.ensures
+          ∙ append_assoc so_far (shipped here) (shipped left) ∙ ap (λ items. so_far ++ items) split ∙ c.loop-place.invariant.all;
+    }

@@ -123,10 +123,7 @@ fn tell_no_today(text: &mut String, form: Form, parts: &[&str]) -> Result<(), Ou
         "  A responder's action has a day: `--today DAY` before `{verb}`."
     )?;
     if parts.iter().any(|part| part.starts_with("--today")) {
-        writeln!(
-            text,
-            "  After the verb, `--today` is a word of the action."
-        )?;
+        writeln!(text, "  After the verb, `--today` is a word of the action.")?;
     }
     Ok(())
 }

@@ -6,7 +6,8 @@ use Rattle.ill_tool.specs.Dates.{all_due, due_at}
 use Rattle.ill_tool.proofs.DatesLemmas.{deeds_split_at}
 use Rattle.ill_tool.proofs.dates.all_due.Goals as goal
 
--- Proves the loop invariant of `all_due` after one more loan. `deeds_split_at` splits off the deed of the loan at `place`.
+-- Proves the loop invariant of `all_due` after one more loan. `deeds_split_at` splits off the deed of the loan at
+-- `place`.
 pub loop-place-preserved : goal.loop-place-preserved
 loop-place-preserved c =
     let which = c.args.which in

@@ -5,7 +5,8 @@ use Rattle.std.proofs.lemmas.List.{length-map, get_or-map}
 use Rattle.ill_tool.proofs.DesksLemmas.{one_more_desk_listed}
 use Rattle.ill_tool.proofs.file.list_files.Goals as goal
 
--- Proves the loop invariant of `list_files` after one more desk. `one_more_desk_listed` appends the desk in the file at `place`.
+-- Proves the loop invariant of `list_files` after one more desk. `one_more_desk_listed` appends the desk in the file at
+-- `place`.
 pub loop-place-preserved : goal.loop-place-preserved
 loop-place-preserved g c =
     let names = map (λ file. string_bytes file) c.args.files.now in
@@ -19,5 +20,6 @@ loop-place-preserved g c =
     ∙ sym (get_or-map (λ file. string_bytes file) c.args.files.now place c.index-files-place.result
     (string_bytes c.index-files-place.result) c.loop-place-test.true) in
     let found = subst (λ (file : List ℕ). file ≡ get_or names place file) (sym c.as_str.ensures.value) at in
-    one_more_desk_listed c.args.form c.args.wanted.now names c.loop-place.invariant.0 place _ _ _ before between after _ within found
+    one_more_desk_listed c.args.form c.args.wanted.now names c.loop-place.invariant.0 place _ _ _ before between after _ within
+    found
     (ap (λ (n : ℕ). nat_lt 1 n) (sym count)) refl c.loop-place.invariant.1 c.loop-place.invariant.2 c.in_default.ensures

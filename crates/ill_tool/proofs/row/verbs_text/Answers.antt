@@ -2,7 +2,7 @@
 use Rattle.std.proofs.Common.{ℕ, List, [], ◌∷◌, map, Bor, ap, sym, ◌∙◌}
 use Rattle.std.specs.List.{join_by}
 use Rattle.ill_core.specs.Verbs.{verb_name}
-use Rattle.ill_saved.specs.Side.{verbs_of}
+use Rattle.ill_saved.specs.SideVerbs.{verbs_of}
 use Rattle.ill_tool.proofs.ListLemmas.{joined_as_texts}
 use Rattle.ill_tool.proofs.row.verbs_text.Goals as goal
 

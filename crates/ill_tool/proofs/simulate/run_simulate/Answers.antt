@@ -5,9 +5,11 @@ use Rattle.ill_tool.proofs.simulate.run_simulate.Goals as goal
 
 -- Proves the contract of `run_simulate` if no transaction id is made. By `fault_without_id` that fault is the answer.
 pub returns-in_err-txn : goal.returns-in_err-txn
-returns-in_err-txn g c = fault_without_id _ _ _ c.in_err-txn.field-0.0 c.from_residual.result c.in_err-txn.ensures c.from_residual.ensures.1
+returns-in_err-txn g c = fault_without_id _ _ _ c.in_err-txn.field-0.0 c.from_residual.result c.in_err-txn.ensures
+    c.from_residual.ensures.1
 
--- Proves the contract of `run_simulate` if the script is simulation_performed to its end. By `simulation_performed` the count is the answer.
+-- Proves the contract of `run_simulate` if the script is simulation_performed to its end. By `simulation_performed` the
+-- count is the answer.
 pub returns-in-Ok : goal.returns-in-Ok
 returns-in-Ok g c = simulation_performed _ _ _ _ _ _ (Ok c.in-Ok.count) c.in_ok-txn.ensures c.in-Ok.ensures.simulates
 

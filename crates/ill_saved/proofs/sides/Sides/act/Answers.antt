@@ -18,7 +18,8 @@ invariant_of-self c =
 -- Only the side of the transaction performs the action.
 pub returns : goal.returns
 returns c =
-    subst (λ held. ChangesOnlySideOf (λ old answer new. Acts old c.args.action.now answer new) c.args.txn.now held c.act_among.result
+    subst (λ held. ChangesOnlySideOf (λ old answer new. Acts old c.args.action.now answer new) c.args.txn.now held
+    c.act_among.result
     (record { role = c.self.inside.role; sides = values_of c.act_among.new.map.entries })) c.self.view_is
     (only_that c.rows_grow.ensures c.rows_begin.ensures.stays (λ old answer new. Acts old c.args.action.now answer new)
     (λ old new answer does. acts_row old new c.args.action.now answer does) c.self.inside.role c.args.txn.now

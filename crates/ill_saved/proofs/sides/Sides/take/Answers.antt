@@ -18,7 +18,8 @@ invariant_of-self c =
 -- Only the side of the APDU's transaction takes it.
 pub returns : goal.returns
 returns c =
-    subst (λ held. ChangesOnlySideOf (λ old answer new. Takes old c.args.apdu.now answer new) c.args.apdu.now.txn held c.take_among.result
+    subst (λ held. ChangesOnlySideOf (λ old answer new. Takes old c.args.apdu.now answer new) c.args.apdu.now.txn held
+    c.take_among.result
     (record { role = c.self.inside.role; sides = values_of c.take_among.new.map.entries })) c.self.view_is
     (only_that c.rows_grow.ensures c.rows_begin.ensures.stays (λ old answer new. Takes old c.args.apdu.now answer new)
     (λ old new answer does. takes_row old new c.args.apdu.now answer does) c.self.inside.role c.args.apdu.now.txn

@@ -1,0 +1,25 @@
+-- The trace of a script of desks (this profile's own).
+use Rattle.std.specs.Prelude.{ℕ, List, codes}
+use Rattle.ill_values.specs.TxnId.{Qualifiers}
+use Rattle.ill_saved.specs.declared.shown.Shown.{Shown}
+use Rattle.ill_saved.specs.Side.{shown_of}
+use Rattle.ill_saved.specs.ManySides.{held_for}
+use Rattle.ill_world.specs.declared.event.DeskOutcome.{DeskOutcome}
+use Rattle.ill_world.specs.declared.event.DeskOutcome.TheVariants.{Plain, NoSuchTransaction, DeskFull}
+use Rattle.ill_world.specs.Desks.{DeskParty, DeskParties}
+use Rattle.ill_world.specs.Trace.{outcome_word, line_of}
+
+-- Returns the word that a trace shows for an outcome at a desk.
+abbrev pub desk_outcome_word : DeskOutcome → List ℕ
+desk_outcome_word (Plain outcome) = outcome_word outcome
+desk_outcome_word NoSuchTransaction = codes "no-such-transaction"
+desk_outcome_word DeskFull = codes "desk-full"
+
+-- Returns the parts of the side of `txn` that a trace shows. A side that is not held is idle.
+abbrev pub desk_shown : Qualifiers → DeskParty → Shown
+desk_shown txn p = shown_of (held_for txn p.live).side (held_for txn p.live).released
+
+-- Returns the line of event `number`, with both sides of `txn` after it.
+unfoldable pub desk_line : ℕ → Qualifiers → DeskOutcome → DeskParties → List ℕ
+desk_line number txn outcome after =
+    line_of number (desk_outcome_word outcome) (desk_shown txn after.requester) (desk_shown txn after.responder)

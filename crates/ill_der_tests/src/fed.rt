@@ -9,7 +9,7 @@ use std::alloc::Global;
 
 /// The outcome of a push: a line for each APDU, and the fault if there is one.
 #[derive(Drop)]
-pub struct Given {
+pub struct PushOutcome {
     /// A line for each APDU.
     pub apdus: Page,
     /// The fault, if there is one.
@@ -18,7 +18,7 @@ pub struct Given {
 
 /// A feed that gets pieces by `push`, two others that get them by `each`, and their outcomes.
 #[derive(Drop)]
-pub struct Fed {
+pub struct TestedFeeds {
     /// The allocator of all values.
     alloc: Global,
     /// The feed that gets the pieces by `push`.
@@ -35,10 +35,10 @@ pub struct Fed {
     differing: Option<&'static [u8]>,
 }
 
-impl Fed {
+impl TestedFeeds {
     /// Returns feeds that have got no piece yet.
-    pub fn new(alloc: Global) -> Fed {
-        Fed {
+    pub fn new(alloc: Global) -> TestedFeeds {
+        TestedFeeds {
             alloc,
             pushed: new_feed(alloc),
             handed: new_feed(alloc),
@@ -50,8 +50,8 @@ impl Fed {
     }
 
     /// Returns feeds that have got these pieces, one after another.
-    pub fn of(alloc: Global, pieces: &[&[u8]]) -> Fed {
-        let mut fed = Fed::new(alloc);
+    pub fn of(alloc: Global, pieces: &[&[u8]]) -> TestedFeeds {
+        let mut fed = TestedFeeds::new(alloc);
         for piece in pieces {
             fed.push(piece);
         }
@@ -59,12 +59,12 @@ impl Fed {
     }
 
     /// Gives a piece to all feeds, and returns the outcome of its push.
-    pub fn push(&mut self, piece: &[u8]) -> Given {
+    pub fn push(&mut self, piece: &[u8]) -> PushOutcome {
         let pushed = push(self.alloc, &mut self.pushed, piece);
         if let Some(call) = self.differing_call(piece, &pushed) {
             self.differing = Some(call);
         }
-        let given = Given::of(self.alloc, &pushed);
+        let given = PushOutcome::of(self.alloc, &pushed);
         self.apdus.page(&given.apdus);
         self.fault = given.fault;
         given
@@ -88,7 +88,7 @@ impl Fed {
     }
 
     /// Returns true if both have given the same APDUs and fault, and agree on the end.
-    pub fn agrees_with(&self, other: &Fed) -> bool {
+    pub fn agrees_with(&self, other: &TestedFeeds) -> bool {
         self.apdus.so_far() == other.apdus.so_far()
             && self.fault == other.fault
             && self.pushed.end() == other.pushed.end()
@@ -125,18 +125,18 @@ impl Fed {
     }
 }
 
-impl Given {
+impl PushOutcome {
     /// Returns the outcome of a push in words.
-    fn of(alloc: Global, pushed: &Option<Pushed>) -> Given {
+    fn of(alloc: Global, pushed: &Option<Pushed>) -> PushOutcome {
         let mut apdus = Page::new(alloc);
         let Some(pushed) = pushed else {
-            return Given { apdus, fault: None };
+            return PushOutcome { apdus, fault: None };
         };
         for apdu in &pushed.apdus {
             push_apdu(&mut apdus, apdu);
             apdus.octet(b'\n');
         }
-        Given {
+        PushOutcome {
             apdus,
             fault: pushed.fault,
         }

@@ -1,8 +1,8 @@
 //! Begins desks over a store in memory, and repeats that while a growth is refused.
 
+use crate::desk_kind::DeskKind;
 use crate::desk_view::DeskView;
 use crate::line::Line;
-use crate::sided::Sided;
 use crate::stores::{is_as_seen, seen};
 use crate::tries::{TRIES, Tries};
 use crate::words::write_fault;
@@ -26,7 +26,7 @@ pub enum Beginning<'a> {
 }
 
 /// Begins a desk over `store`, and puts it into `desk`. If that fails, puts the store back into `store`.
-pub fn lay_desk<H: Sided>(
+pub fn put_desk_on_bench<H: DeskKind>(
     alloc: Global,
     line: &mut Line,
     store: &mut Option<MemoryStore>,
@@ -48,7 +48,7 @@ pub fn lay_desk<H: Sided>(
 }
 
 /// Begins a desk, and repeats that while a growth is refused. A refused call must hand the store back unchanged.
-fn begun<H: Sided>(
+fn begun<H: DeskKind>(
     alloc: Global,
     store: MemoryStore,
     beginning: Beginning<'_>,
@@ -79,7 +79,7 @@ fn size_of(seen: &Option<String>) -> usize {
 }
 
 /// Begins the marks of a try, and begins a desk in it.
-fn try_begin<H: Sided>(
+fn try_begin<H: DeskKind>(
     alloc: Global,
     tries: &Tries,
     store: MemoryStore,

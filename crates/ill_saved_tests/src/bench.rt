@@ -1,6 +1,6 @@
 //! The bench has a store, or a desk with its store, and beside it the sides of one library. At first it is empty.
 
-use crate::beginnings::{Beginning, lay_desk};
+use crate::beginnings::{Beginning, put_desk_on_bench};
 use crate::calls::{BytesCall, ManyCall, WordsCall};
 use crate::files::Folder;
 use crate::fuses::{fuse, fuse_many};
@@ -52,7 +52,7 @@ impl<'a> Answers for Bench<'a> {
             self.next = NextCall::Works;
         }
         match call {
-            WordsCall::Store => self.lay_store(line),
+            WordsCall::Store => self.make_store(line),
             WordsCall::Fuse => fuse(self.alloc, line, words),
             WordsCall::Landing => landing::write::<OneSide>(self.alloc, line, words),
             WordsCall::Load => self.load(line),
@@ -131,7 +131,7 @@ impl<'a> Bench<'a> {
     }
 
     /// Performs `store`: puts an empty store on the bench.
-    fn lay_store(&mut self, line: &mut Line) -> Option<()> {
+    fn make_store(&mut self, line: &mut Line) -> Option<()> {
         drop(self.desk.take());
         drop(self.many.take());
         drop(self.store.replace(stores::new(self.alloc)));
@@ -174,12 +174,12 @@ impl<'a> Bench<'a> {
 
     /// Performs `create ROLE GROUP TRANSACTION` or `start`: begins a desk over the store of the bench.
     fn begin(&mut self, line: &mut Line, beginning: Beginning<'_>) -> Option<()> {
-        lay_desk(self.alloc, line, &mut self.store, &mut self.desk, beginning)
+        put_desk_on_bench(self.alloc, line, &mut self.store, &mut self.desk, beginning)
     }
 
     /// Performs `create-many ROLE` or `start-many`: begins a desk of many transactions over the store of the bench.
     fn begin_many(&mut self, line: &mut Line, beginning: Beginning<'_>) -> Option<()> {
-        lay_desk(self.alloc, line, &mut self.store, &mut self.many, beginning)
+        put_desk_on_bench(self.alloc, line, &mut self.store, &mut self.many, beginning)
     }
 
     /// Performs `close`: puts the store of the desk on the bench, with all that has landed in it.

@@ -1,8 +1,8 @@
 //! Views a desk, so that two views can be compared.
 
+use crate::desk_kind::DeskKind;
 use crate::line::Line;
 use crate::records::write_day;
-use crate::sided::Sided;
 use crate::tries::Tries;
 use ill_core::State;
 use ill_saved::{AnyDesk, Shown, Side, Store, encode_record};
@@ -23,7 +23,7 @@ pub struct DeskView {
 
 impl DeskView {
     /// Returns the view of a desk, and of its side in the transaction `txn`. A desk of one side always shows that side.
-    pub fn of<H: Sided, S: Store>(
+    pub fn of<H: DeskKind, S: Store>(
         alloc: Global,
         desk: &AnyDesk<H, S>,
         txn: Option<&TxnId>,
@@ -42,7 +42,7 @@ impl DeskView {
     }
 
     /// Returns true if the desk still has the records and released messages of this view.
-    pub fn is_of<H: Sided, S: Store>(&self, alloc: Global, desk: &AnyDesk<H, S>) -> bool {
+    pub fn is_of<H: DeskKind, S: Store>(&self, alloc: Global, desk: &AnyDesk<H, S>) -> bool {
         self.kept.is_some() && self.kept == kept_by(alloc, desk)
     }
 
@@ -87,7 +87,7 @@ pub fn write_shown(line: &mut Line, shown: Shown) {
 }
 
 /// Returns the shown parts of the side of `txn`, or of the only side. This takes no memory.
-fn standing_in<H: Sided, S: Store>(
+fn standing_in<H: DeskKind, S: Store>(
     alloc: Global,
     desk: &AnyDesk<H, S>,
     txn: Option<&TxnId>,
@@ -99,7 +99,7 @@ fn standing_in<H: Sided, S: Store>(
 }
 
 /// Returns the shown parts of the side of `txn`, or of the only side.
-fn standing_of<H: Sided, S: Store>(desk: &AnyDesk<H, S>, txn: Option<&TxnId>) -> Option<Shown> {
+fn standing_of<H: DeskKind, S: Store>(desk: &AnyDesk<H, S>, txn: Option<&TxnId>) -> Option<Shown> {
     match desk.first_key() {
         Some(key) => Some(desk.shown(key)),
         None => Some(desk.shown(H::key(txn?))),
@@ -107,7 +107,7 @@ fn standing_of<H: Sided, S: Store>(desk: &AnyDesk<H, S>, txn: Option<&TxnId>) ->
 }
 
 /// Returns the records of all sides, each after the count of its released messages.
-fn kept_by<H: Sided, S: Store>(alloc: Global, desk: &AnyDesk<H, S>) -> Option<Vec<u8>> {
+fn kept_by<H: DeskKind, S: Store>(alloc: Global, desk: &AnyDesk<H, S>) -> Option<Vec<u8>> {
     let mut kept = Vec::new(alloc);
     for place in 0..H::count(desk) {
         let side = H::side_at(desk, place)?;

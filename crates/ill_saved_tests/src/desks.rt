@@ -2,9 +2,9 @@
 
 use crate::actions::action;
 use crate::calls::{BytesCall, WordsCall};
+use crate::desk_kind::{DeskKind, txn_in};
 use crate::desk_view::DeskView;
 use crate::line::Line;
-use crate::sided::{Sided, txn_in};
 use crate::tries::TRIES;
 use crate::words::{taking_word, write_fault};
 use ill_core::{State, Taking};
@@ -42,7 +42,7 @@ pub enum Answer {
 }
 
 /// Makes a call, and returns its answer.
-pub fn answer_of<H: Sided, S: Store>(
+pub fn answer_of<H: DeskKind, S: Store>(
     alloc: Global,
     desk: &mut AnyDesk<H, S>,
     call: &DeskCall<'_>,
@@ -62,7 +62,7 @@ pub fn answer_of<H: Sided, S: Store>(
 }
 
 /// Makes a call, and repeats it while a growth is refused. Only a save uses up the plan of a store.
-fn answer_again<H: Sided, S: Store>(
+fn answer_again<H: DeskKind, S: Store>(
     alloc: Global,
     desk: &mut AnyDesk<H, S>,
     call: &DeskCall<'_>,
@@ -81,7 +81,7 @@ fn answer_again<H: Sided, S: Store>(
 
 /// Saves, and repeats that while a growth is refused. A refused save may use up the plan of the store, so it is planned
 /// again.
-fn save_again<H: Sided>(
+fn save_again<H: DeskKind>(
     alloc: Global,
     desk: &mut AnyDesk<H, MemoryStore>,
     plan: NextCall,
@@ -105,7 +105,7 @@ pub fn is_memory(answer: &Result<Answer, DeskFault>) -> bool {
 }
 
 /// Makes a call, and writes its answer, or `word` if it has no other. Returns true if the call succeeded.
-pub fn perform<H: Sided, S: Store>(
+pub fn perform<H: DeskKind, S: Store>(
     alloc: Global,
     line: &mut Line,
     desk: &mut AnyDesk<H, S>,
@@ -159,7 +159,7 @@ pub fn write_begun<D: Drop, S: Drop>(line: &mut Line, begun: Result<D, (DeskFaul
 }
 
 /// Performs a call that takes words, and writes its answer.
-pub fn call<H: Sided, S: Store>(
+pub fn call<H: DeskKind, S: Store>(
     alloc: Global,
     line: &mut Line,
     desk: &mut AnyDesk<H, S>,
@@ -178,7 +178,7 @@ pub fn call<H: Sided, S: Store>(
 }
 
 /// Performs a call that takes bytes, and writes its answer. Returns `None` for `live`, `put` and `save`.
-pub fn call_with<H: Sided, S: Store>(
+pub fn call_with<H: DeskKind, S: Store>(
     alloc: Global,
     line: &mut Line,
     desk: &mut AnyDesk<H, S>,
@@ -195,7 +195,7 @@ pub fn call_with<H: Sided, S: Store>(
 }
 
 /// Performs `act WORDS`. At a desk of many transactions the words begin with the transaction.
-pub fn act<H: Sided, S: Store>(
+pub fn act<H: DeskKind, S: Store>(
     alloc: Global,
     line: &mut Line,
     desk: &mut AnyDesk<H, S>,
@@ -209,7 +209,7 @@ pub fn act<H: Sided, S: Store>(
 }
 
 /// Performs `save` once. It is not repeated, since a failing store counts even a refused call.
-pub fn save<H: Sided, S: Store>(alloc: Global, line: &mut Line, desk: &mut AnyDesk<H, S>) {
+pub fn save<H: DeskKind, S: Store>(alloc: Global, line: &mut Line, desk: &mut AnyDesk<H, S>) {
     let before = DeskView::of(alloc, desk, None);
     let answer = answer_of(alloc, desk, &DeskCall::Save);
     let after = DeskView::of(alloc, desk, None);
@@ -217,7 +217,7 @@ pub fn save<H: Sided, S: Store>(alloc: Global, line: &mut Line, desk: &mut AnyDe
 }
 
 /// Performs `save` under this plan of the store.
-pub fn save_under<H: Sided>(
+pub fn save_under<H: DeskKind>(
     alloc: Global,
     line: &mut Line,
     desk: &mut AnyDesk<H, MemoryStore>,
@@ -230,7 +230,7 @@ pub fn save_under<H: Sided>(
 }
 
 /// Performs `restart`, and writes `word` or the fault. Returns true if the call succeeded.
-pub fn restart<H: Sided, S: Store>(
+pub fn restart<H: DeskKind, S: Store>(
     alloc: Global,
     line: &mut Line,
     desk: &mut AnyDesk<H, S>,
@@ -240,7 +240,7 @@ pub fn restart<H: Sided, S: Store>(
 }
 
 /// Performs `take BYTES`: the desk takes a message in bytes.
-fn take<H: Sided, S: Store>(
+fn take<H: DeskKind, S: Store>(
     alloc: Global,
     line: &mut Line,
     desk: &mut AnyDesk<H, S>,
@@ -252,7 +252,7 @@ fn take<H: Sided, S: Store>(
 }
 
 /// Performs `hand BYTES`: a message is read from the bytes, and the desk takes it.
-fn hand<H: Sided, S: Store>(
+fn hand<H: DeskKind, S: Store>(
     alloc: Global,
     line: &mut Line,
     desk: &mut AnyDesk<H, S>,
@@ -266,7 +266,7 @@ fn hand<H: Sided, S: Store>(
 
 /// Performs `message NUMBER`: writes the octets of the message, or the fault. At a desk of many transactions the words
 /// begin with the transaction.
-fn message<H: Sided, S: Store>(
+fn message<H: DeskKind, S: Store>(
     alloc: Global,
     line: &mut Line,
     desk: &mut AnyDesk<H, S>,
@@ -280,7 +280,7 @@ fn message<H: Sided, S: Store>(
 }
 
 /// Performs `messages BYTES`: tells if these bytes are all released messages of the transaction, one after another.
-fn messages<H: Sided, S: Store>(
+fn messages<H: DeskKind, S: Store>(
     alloc: Global,
     line: &mut Line,
     desk: &AnyDesk<H, S>,
@@ -294,7 +294,7 @@ fn messages<H: Sided, S: Store>(
 }
 
 /// Returns all released messages, one after another.
-fn released<H: Sided, S: Store>(
+fn released<H: DeskKind, S: Store>(
     alloc: Global,
     desk: &AnyDesk<H, S>,
     txn: &TxnId,

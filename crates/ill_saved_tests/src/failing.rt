@@ -16,7 +16,7 @@ pub struct Failing<'a> {
     /// The files of the system.
     rt: &'a HostRuntime,
     /// The count of calls before the one that fails.
-    left: Left,
+    left: CallsLeft,
     /// The false result of each lookup.
     deceit: Deceit<'a>,
     /// The permissions of the file that was made last, at its making.
@@ -36,18 +36,18 @@ pub enum Deceit<'a> {
     TellsOf(&'a str),
 }
 
-/// An open file whose calls are counted.
+/// An open file. Its reads, its writes, and the calls `sync_all` and `set_permissions` are counted.
 #[derive(Drop)]
 pub struct FailingFile {
     /// The open file of the system.
     file: File,
     /// The count of calls, which all files share.
-    left: Left,
+    left: CallsLeft,
 }
 
 /// The calls that are left before one fails.
 #[derive(Drop)]
-struct Left {
+struct CallsLeft {
     /// The count of calls before the one that fails.
     calls: Rc<Cell<u32>>,
     /// The failing call returns an error of this kind.
@@ -65,7 +65,7 @@ impl<'a> Failing<'a> {
         let calls = Rc::new(alloc, Cell::new(calls))?;
         Ok(Failing {
             rt,
-            left: Left { calls, fault },
+            left: CallsLeft { calls, fault },
             deceit: Deceit::None,
             made: Cell::new(0),
             given: Cell::new(None),
@@ -108,7 +108,7 @@ impl<'a> Failing<'a> {
     }
 }
 
-impl Left {
+impl CallsLeft {
     /// Counts a call, and fails if its turn has come.
     fn pass(&self) -> io::Result<()> {
         let calls = self.calls.get();
@@ -121,8 +121,8 @@ impl Left {
     }
 
     /// Returns the count for another file, which shares it.
-    fn share(&self) -> Result<Left, AllocError> {
-        Ok(Left {
+    fn share(&self) -> Result<CallsLeft, AllocError> {
+        Ok(CallsLeft {
             calls: self.calls.clone()?,
             fault: self.fault,
         })

@@ -4,12 +4,12 @@ ghost use Rattle.std.specs.Prelude.{◌≡◌, IfErr};
 ghost use Rattle.ill_saved.specs.declared.store.StoreFault.TheVariants.{Failed};
 ghost use Rattle.ill_saved.specs.Store.{failed_file};
 
+use crate::desk_kind::DeskKind;
 use crate::failing::{Deceit, Failing};
 use crate::line::Line;
 use crate::longest;
 use crate::names::Names;
 use crate::restarts::{Damage, Restarts};
-use crate::sided::Sided;
 use crate::tries::TRIES;
 use crate::words::{write_loaded, write_saved};
 use ill_saved::{FileLock, FileStore, ManySides, OneSide, Store, StoreFault};
@@ -188,7 +188,7 @@ impl<'a> Folder<'a> {
 
     /// Performs `desk NAME`: a requester asks and is saved in the file, and a new desk starts from its record. In
     /// `desk-many` both desks are of many transactions.
-    fn desk<H: Sided>(&self, line: &mut Line, path: &str) -> Option<()> {
+    fn desk<H: DeskKind>(&self, line: &mut Line, path: &str) -> Option<()> {
         Restarts::new(self.rt, self.alloc, path, 1000).write_started::<H>(line)
     }
 
@@ -263,7 +263,7 @@ impl<'a> Folder<'a> {
 
     /// Performs `damaged NAME LIMIT DAMAGE`: damages the record of a running desk, and writes its answers. In
     /// `damaged-many` the desk is of many transactions.
-    fn damaged<H: Sided>(
+    fn damaged<H: DeskKind>(
         &self,
         line: &mut Line,
         names: &Names,

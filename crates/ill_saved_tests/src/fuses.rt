@@ -1,9 +1,9 @@
 //! Calls a desk whose store fails from some call on.
 
+use crate::desk_kind::DeskKind;
 use crate::desk_view::DeskView;
 use crate::desks::{act, save};
 use crate::line::Line;
-use crate::sided::Sided;
 use crate::words::write_fault;
 use ill_core::State;
 use ill_saved::{AnyDesk, DeskFault, FuseStore, ManySides, MemoryStore, OneSide, Role, Store};
@@ -29,7 +29,7 @@ pub fn fuse_many(alloc: Global, line: &mut Line, words: &str) -> Option<()> {
 }
 
 /// Performs two actions, each with a save, over a store that fails from some call on.
-fn fuse_with<H: Sided>(
+fn fuse_with<H: DeskKind>(
     alloc: Global,
     line: &mut Line,
     words: &str,
@@ -47,7 +47,7 @@ fn fuse_with<H: Sided>(
 }
 
 /// Performs the actions of the desk, if it has begun, and returns the store.
-fn perform<H: Sided>(
+fn perform<H: DeskKind>(
     alloc: Global,
     line: &mut Line,
     begun: Begun<H, Fused>,
@@ -64,7 +64,7 @@ fn perform<H: Sided>(
 }
 
 /// Performs each action with a save after it.
-fn act_and_save<H: Sided, S: Store>(
+fn act_and_save<H: DeskKind, S: Store>(
     alloc: Global,
     line: &mut Line,
     desk: &mut AnyDesk<H, S>,
@@ -79,7 +79,7 @@ fn act_and_save<H: Sided, S: Store>(
 }
 
 /// Writes that a desk has begun, and the view of it, or else the fault.
-fn write_begun<H: Sided, S: Store>(alloc: Global, line: &mut Line, begun: &Begun<H, S>) {
+fn write_begun<H: DeskKind, S: Store>(alloc: Global, line: &mut Line, begun: &Begun<H, S>) {
     match begun {
         Ok(desk) => {
             line.text("done");

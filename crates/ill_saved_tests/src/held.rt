@@ -37,7 +37,7 @@ fn lay(alloc: Global, line: &mut Line, sides: &mut Option<Sides>, words: &str) -
     marks::begin_quiet(alloc);
     let none = Sides::new(alloc, role);
     marks::end_quiet(alloc);
-    write_held(alloc, line, sides.insert(none.ok()?));
+    write_count_and_role(alloc, line, sides.insert(none.ok()?));
     Some(())
 }
 
@@ -49,7 +49,7 @@ fn fill(alloc: Global, line: &mut Line, sides: &mut Sides, words: &str) -> Optio
             return None;
         }
     }
-    write_held(alloc, line, sides);
+    write_count_and_role(alloc, line, sides);
     Some(())
 }
 
@@ -90,7 +90,7 @@ fn put_side(alloc: Global, line: &mut Line, sides: &mut Sides, side: Side) {
         }
     }
     line.text("; ");
-    write_held(alloc, line, sides);
+    write_count_and_role(alloc, line, sides);
 }
 
 /// Puts a side, and repeats that while a growth is refused. A refused call must hand the side back and change nothing.
@@ -166,7 +166,7 @@ fn write_found(line: &mut Line, side: Option<&Side>) {
 }
 
 /// Writes the count of sides, and the role of all.
-pub fn write_held(alloc: Global, line: &mut Line, sides: &Sides) {
+pub fn write_count_and_role(alloc: Global, line: &mut Line, sides: &Sides) {
     marks::begin_quiet(alloc);
     let (count, role) = (sides.len(), sides.role());
     marks::end_quiet(alloc);

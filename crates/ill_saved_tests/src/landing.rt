@@ -2,11 +2,11 @@
 
 use crate::actions::action;
 use crate::beginnings::MemoryDesk;
+use crate::desk_kind::DeskKind;
 use crate::desk_view::DeskView;
 use crate::desks::{DeskCall, answer_of, is_memory, perform, write_answer};
 use crate::held::role_of;
 use crate::line::Line;
-use crate::sided::Sided;
 use crate::tries::TRIES;
 use ill_desk_kit::plan_of;
 use ill_saved::{AnyDesk, MemoryStore, NextCall, Role};
@@ -19,7 +19,7 @@ const REQUEST: &[u8] = b"\x61\x16\x80\x01\x01\xA1\x08\x81\x02G1\x82\x02T1\x82\x0
 
 /// Performs `landing ROLE PLAN`. A requester with a saved request cancels, or a responder with a saved request answers.
 /// Then it saves under this plan, and restarts from the landed record.
-pub fn write<H: Sided>(alloc: Global, line: &mut Line, words: &str) -> Option<()> {
+pub fn write<H: DeskKind>(alloc: Global, line: &mut Line, words: &str) -> Option<()> {
     let (role, plan) = words.split_once(' ')?;
     let (role, plan) = (role_of(role)?, plan_of(plan)?);
     let txn = TxnId::new(alloc, b"G1", b"T1").ok()?;
@@ -35,13 +35,13 @@ pub fn write<H: Sided>(alloc: Global, line: &mut Line, words: &str) -> Option<()
 }
 
 /// Returns a desk with a new store, in transaction G1, T1.
-fn created<H: Sided>(alloc: Global, role: Role) -> Option<MemoryDesk<H>> {
+fn created<H: DeskKind>(alloc: Global, role: Role) -> Option<MemoryDesk<H>> {
     let txn = TxnId::new(alloc, b"G1", b"T1").ok()?;
     AnyDesk::begin(alloc, MemoryStore::new(alloc), H::first(role, txn)).ok()
 }
 
 /// Saves the desk twice. Returns true if a growth of the second save was refused, and it has landed nothing.
-fn save<H: Sided>(
+fn save<H: DeskKind>(
     alloc: Global,
     line: &mut Line,
     desk: &mut MemoryDesk<H>,
@@ -78,7 +78,7 @@ fn save<H: Sided>(
 }
 
 /// Returns true if the desk equals `before`, and after a restart equals `landed`.
-fn has_landed<H: Sided>(
+fn has_landed<H: DeskKind>(
     alloc: Global,
     desk: &mut MemoryDesk<H>,
     before: &DeskView,
@@ -90,7 +90,7 @@ fn has_landed<H: Sided>(
 }
 
 /// Makes the desk ask or take a request, and saves it.
-fn begin<H: Sided>(alloc: Global, desk: &mut MemoryDesk<H>, txn: &TxnId) -> Option<()> {
+fn begin<H: DeskKind>(alloc: Global, desk: &mut MemoryDesk<H>, txn: &TxnId) -> Option<()> {
     match desk.role() {
         Role::Requester => act(alloc, desk, txn, "request none Maps")?,
         Role::Responder => drop(desk.take_bytes(alloc, REQUEST).ok()?),
@@ -99,7 +99,7 @@ fn begin<H: Sided>(alloc: Global, desk: &mut MemoryDesk<H>, txn: &TxnId) -> Opti
 }
 
 /// Performs a second action, which is not saved.
-fn go_on<H: Sided>(alloc: Global, desk: &mut MemoryDesk<H>, txn: &TxnId) -> Option<()> {
+fn go_on<H: DeskKind>(alloc: Global, desk: &mut MemoryDesk<H>, txn: &TxnId) -> Option<()> {
     let words = match desk.role() {
         Role::Requester => "cancel",
         Role::Responder => "20250301 answer unfilled",
@@ -108,7 +108,12 @@ fn go_on<H: Sided>(alloc: Global, desk: &mut MemoryDesk<H>, txn: &TxnId) -> Opti
 }
 
 /// Performs the action that `words` spell.
-fn act<H: Sided>(alloc: Global, desk: &mut MemoryDesk<H>, txn: &TxnId, words: &str) -> Option<()> {
+fn act<H: DeskKind>(
+    alloc: Global,
+    desk: &mut MemoryDesk<H>,
+    txn: &TxnId,
+    words: &str,
+) -> Option<()> {
     let action = action(alloc, words)?;
     desk.act_on(alloc, H::key(txn), &action).ok()
 }

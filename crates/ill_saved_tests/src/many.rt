@@ -2,7 +2,7 @@
 
 use crate::again::all_written_and_read;
 use crate::coding::{all_decoded, all_encoded};
-use crate::held::write_held;
+use crate::held::write_count_and_role;
 use crate::line::Line;
 use crate::records::write_head;
 use crate::words::write_record_fault;
@@ -32,13 +32,13 @@ pub fn write_again(alloc: Global, line: &mut Line, sides: &Sides) -> Option<()> 
     let again = all_written_and_read(alloc, sides).ok()?;
     line.show(&record.len());
     line.text(" octets; ");
-    write_held(alloc, line, &again);
+    write_count_and_role(alloc, line, &again);
     Some(())
 }
 
 /// Writes each side and their count, and tells if `bytes` are their record.
 pub fn write_sides(alloc: Global, line: &mut Line, sides: &Sides, bytes: &[u8]) {
-    write_held(alloc, line, sides);
+    write_count_and_role(alloc, line, sides);
     for place in 0..sides.len() {
         if let Some(side) = sides.at(place) {
             line.text(", ");

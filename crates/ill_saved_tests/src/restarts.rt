@@ -1,10 +1,10 @@
 //! Tests desks whose record was damaged in its file.
 
 use crate::actions::action;
+use crate::desk_kind::DeskKind;
 use crate::desk_view::DeskView;
 use crate::desks::{restart, write_begun};
 use crate::line::Line;
-use crate::sided::Sided;
 use ill_saved::{AnyDesk, DeskFault, FileStore, Role};
 use ill_values::{Number, TxnId};
 use std::alloc::Global;
@@ -56,7 +56,7 @@ impl<'a, 'p> Restarts<'a, 'p> {
 
     /// Damages the record of a running desk. Writes the answer of `restart` with the view of the desk, and then the
     /// answers of `start` and `create`.
-    pub fn write_damaged<H: Sided>(&self, line: &mut Line, damage: &Damage) -> Option<()> {
+    pub fn write_damaged<H: DeskKind>(&self, line: &mut Line, damage: &Damage) -> Option<()> {
         self.damaged::<H>(line, damage)?;
         line.text("; start ");
         write_begun(line, self.start::<H>()?);
@@ -66,7 +66,7 @@ impl<'a, 'p> Restarts<'a, 'p> {
     }
 
     /// Writes the view of a desk that starts from the record of another, and its first message.
-    pub fn write_started<H: Sided>(&self, line: &mut Line) -> Option<()> {
+    pub fn write_started<H: DeskKind>(&self, line: &mut Line) -> Option<()> {
         self.asked::<H>()?;
         line.text("started");
         let desk = self.start::<H>()?.ok()?;
@@ -81,12 +81,12 @@ impl<'a, 'p> Restarts<'a, 'p> {
     }
 
     /// Starts a desk from the record.
-    fn start<H: Sided>(&self) -> Option<Begun<'a, H>> {
+    fn start<H: DeskKind>(&self) -> Option<Begun<'a, H>> {
         Some(AnyDesk::start(self.alloc, self.store()?))
     }
 
     /// Creates a requester that has not asked.
-    fn create<H: Sided>(&self) -> Option<Begun<'a, H>> {
+    fn create<H: DeskKind>(&self) -> Option<Begun<'a, H>> {
         let (store, txn) = self.store().zip(self.txn())?;
         let first = H::first(Role::Requester, txn);
         Some(AnyDesk::begin(self.alloc, store, first))
@@ -98,7 +98,7 @@ impl<'a, 'p> Restarts<'a, 'p> {
     }
 
     /// Saves a desk that has asked, and drops it.
-    fn asked<H: Sided>(&self) -> Option<()> {
+    fn asked<H: DeskKind>(&self) -> Option<()> {
         let mut desk: HostDesk<'a, H> = self.create()?.ok()?;
         let asked = self.ask(&mut desk);
         drop(desk);
@@ -106,19 +106,19 @@ impl<'a, 'p> Restarts<'a, 'p> {
     }
 
     /// Makes the desk ask, and saves it.
-    fn ask<H: Sided>(&self, desk: &mut HostDesk<'a, H>) -> Option<()> {
+    fn ask<H: DeskKind>(&self, desk: &mut HostDesk<'a, H>) -> Option<()> {
         self.act(desk, "request none Maps")?;
         desk.save(self.alloc).ok()
     }
 
     /// Performs the action that `words` spell.
-    fn act<H: Sided>(&self, desk: &mut HostDesk<'a, H>, words: &str) -> Option<()> {
+    fn act<H: DeskKind>(&self, desk: &mut HostDesk<'a, H>, words: &str) -> Option<()> {
         let (txn, action) = self.txn().zip(action(self.alloc, words))?;
         desk.act_on(self.alloc, H::key(&txn), &action).ok()
     }
 
     /// Writes the view of the desk, and its first message.
-    fn show<H: Sided>(&self, line: &mut Line, desk: &HostDesk<'a, H>) -> Option<()> {
+    fn show<H: DeskKind>(&self, line: &mut Line, desk: &HostDesk<'a, H>) -> Option<()> {
         DeskView::of(self.alloc, desk, Some(&self.txn()?)).write(line);
         line.text(", ");
         line.octets(&self.first_message(desk)?);
@@ -126,7 +126,7 @@ impl<'a, 'p> Restarts<'a, 'p> {
     }
 
     /// Damages the record of a desk that has asked and then cancelled, and restarts the desk.
-    fn damaged<H: Sided>(&self, line: &mut Line, damage: &Damage) -> Option<()> {
+    fn damaged<H: DeskKind>(&self, line: &mut Line, damage: &Damage) -> Option<()> {
         let mut desk: HostDesk<'a, H> = self.create()?.ok()?;
         let answered = self.damage(line, &mut desk, damage);
         drop(desk);
@@ -134,7 +134,7 @@ impl<'a, 'p> Restarts<'a, 'p> {
     }
 
     /// Makes the desk ask and cancel, damages its record, and restarts it.
-    fn damage<H: Sided>(
+    fn damage<H: DeskKind>(
         &self,
         line: &mut Line,
         desk: &mut HostDesk<'a, H>,
@@ -161,7 +161,7 @@ impl<'a, 'p> Restarts<'a, 'p> {
 
     /// Writes the answer of `restart`, and the view of the desk. A failed restart must leave the desk and its first
     /// message unchanged.
-    fn restart<H: Sided>(&self, line: &mut Line, desk: &mut HostDesk<'a, H>) -> Option<()> {
+    fn restart<H: DeskKind>(&self, line: &mut Line, desk: &mut HostDesk<'a, H>) -> Option<()> {
         let message = self.first_message(desk)?;
         let is_done = restart(self.alloc, line, desk, "done");
         if !is_done && !self.has_first_message(desk, &message) {
@@ -171,7 +171,7 @@ impl<'a, 'p> Restarts<'a, 'p> {
     }
 
     /// Returns true if the first message of the desk has these bytes.
-    fn has_first_message<H: Sided>(&self, desk: &HostDesk<'a, H>, bytes: &[u8]) -> bool {
+    fn has_first_message<H: DeskKind>(&self, desk: &HostDesk<'a, H>, bytes: &[u8]) -> bool {
         match self.first_message(desk) {
             Some(message) => message.as_slice() == bytes,
             None => false,
@@ -179,7 +179,7 @@ impl<'a, 'p> Restarts<'a, 'p> {
     }
 
     /// Returns the bytes of the first message of the desk.
-    fn first_message<H: Sided>(&self, desk: &HostDesk<'a, H>) -> Option<Vec<u8>> {
+    fn first_message<H: DeskKind>(&self, desk: &HostDesk<'a, H>) -> Option<Vec<u8>> {
         let txn = self.txn()?;
         desk.message_of(self.alloc, H::key(&txn), Number::new(1)?)
             .ok()

@@ -3,7 +3,7 @@
 use crate::actions::action;
 use crate::calls::ManyCall;
 use crate::desk_view::write_shown;
-use crate::held::{numbered, write_held};
+use crate::held::{numbered, write_count_and_role};
 use crate::line::Line;
 use ill_saved::{Desk, MemoryStore, Role, Shown, Store};
 use ill_values::{Apdu, Body, Item, Number, TxnId};
@@ -29,7 +29,7 @@ fn begin(alloc: Global, line: &mut Line, desk: &mut Desk<MemoryStore>, words: &s
     for number in 0..words.parse::<u16>().ok()? {
         begin_one(alloc, desk, numbered(alloc, number)?)?;
     }
-    write_held(alloc, line, desk.sides());
+    write_count_and_role(alloc, line, desk.sides());
     Some(())
 }
 
@@ -53,7 +53,7 @@ fn request(alloc: Global, txn: TxnId) -> Option<Apdu> {
 
 /// Performs `each`: writes the view of each side, in the order in which they began.
 fn write_each<S: Store>(alloc: Global, line: &mut Line, desk: &Desk<S>) -> Option<()> {
-    write_held(alloc, line, desk.sides());
+    write_count_and_role(alloc, line, desk.sides());
     for place in 0..desk.sides().len() {
         let side = desk.sides().at(place)?;
         line.text(",");

@@ -4,7 +4,7 @@ use crate::call::{Call, tell_value};
 use crate::names::Names;
 use crate::past::is_short;
 use crate::telling::{tell_bytes, tell_line, tell_reader};
-use crate::tries::Seen;
+use crate::tries::CallResult;
 use crate::words::Word;
 use ill_der::{ReadFault, decode, encode, read_apdu, write_apdu};
 use ill_test_kit::Page;
@@ -51,10 +51,10 @@ fn try_often<'a>(
     names: &Names,
     engine: Engine,
     words: &'a [Word],
-    tries: &mut Vec<Seen<'a>>,
+    tries: &mut Vec<CallResult<'a>>,
 ) -> Option<()> {
     for _ in 0..TRIES {
-        let mut seen = Seen::new(alloc, Call::of(alloc, names, words)?);
+        let mut seen = CallResult::new(alloc, Call::of(alloc, names, words)?);
         let done = perform_once(alloc, names, engine, words, &mut seen);
         if !seen.call.was_refused {
             page.page(&seen.answer);
@@ -73,7 +73,7 @@ fn perform_once(
     names: &Names,
     engine: Engine,
     words: &[Word],
-    seen: &mut Seen<'_>,
+    seen: &mut CallResult<'_>,
 ) -> Option<()> {
     if is_short(names, words) {
         seen.call.mark(alloc)?;
@@ -83,7 +83,7 @@ fn perform_once(
 
 /// Prints each refused try with a wrong result. A try must write only whole lines and answer out of memory, or give the
 /// usual answer.
-fn tell_faults(page: &mut Page, tries: &[Seen<'_>], last: &Seen<'_>) {
+fn tell_faults(page: &mut Page, tries: &[CallResult<'_>], last: &CallResult<'_>) {
     for seen in tries {
         let is_fine = if seen.call.says_memory {
             is_prefix(&seen.call.output.taken, &last.call.output.taken)

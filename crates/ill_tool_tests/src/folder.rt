@@ -2,7 +2,7 @@
 
 use crate::call::{Call, tell_value};
 use crate::names::Names;
-use crate::telling::{begin, tell_bytes, tell_line, tell_whether};
+use crate::telling::{begin, tell_bytes, tell_compared, tell_line};
 use crate::watched::{Seen, Watched};
 use crate::words::Word;
 use ill_saved::LockFiles;
@@ -207,7 +207,7 @@ fn tell_seen(page: &mut Page, seen: &Seen) {
 fn tell_file(page: &mut Page, names: &Names, bytes: &[u8], words: &[Word]) -> Option<()> {
     match words {
         [word, wanted @ ..] if word.is("is") => {
-            tell_whether(page, names, "=", bytes, &names.bytes(wanted)?);
+            tell_compared(page, names, "=", bytes, &names.bytes(wanted)?);
         }
         _ => tell_bytes(page, names, "=", bytes),
     }

@@ -190,7 +190,7 @@ impl<S: Store> Kept for Desk1<S> {
 /// GROUP and TRANSACTION precede the words.
 impl<S: Store> Kept for Desk<S> {
     fn act(&mut self, alloc: Global, call: &mut Call<'_>) -> Option<Result<bool, ToolFault>> {
-        let (txn, words) = txn_before(alloc, call.words)?;
+        let (txn, words) = txn_at_beginning(alloc, call.words)?;
         let today = day(words)?;
         let words: Vec<&str> = texts(alloc, words_after(words))?;
         call.begin(alloc);
@@ -272,7 +272,7 @@ impl<S: Store> Kept for Desk<S> {
     }
 
     fn send(&self, alloc: Global, call: &mut Call<'_>) -> Option<Result<(), ToolFault>> {
-        let (txn, words) = txn_before(alloc, call.words)?;
+        let (txn, words) = txn_at_beginning(alloc, call.words)?;
         let number = number(words)?;
         call.begin(alloc);
         let answer = run_desk_send(alloc, self, &txn, number, &mut call.output);
@@ -286,7 +286,7 @@ impl<S: Store> Kept for Desk<S> {
     }
 
     fn loan(&self, alloc: Global, call: &mut Call<'_>) -> Option<Result<(), ToolFault>> {
-        let (txn, _) = txn_before(alloc, call.words)?;
+        let (txn, _) = txn_at_beginning(alloc, call.words)?;
         call.begin(alloc);
         let answer = run_desk_loan(alloc, self, &txn, &mut call.output);
         Some(call.end(alloc, answer))
@@ -326,7 +326,7 @@ impl<S: Store> Kept for Desk<S> {
 }
 
 /// Returns the transaction that the words begin with, and the words after it.
-fn txn_before(alloc: Global, words: &[Word]) -> Option<(TxnId, &[Word])> {
+fn txn_at_beginning(alloc: Global, words: &[Word]) -> Option<(TxnId, &[Word])> {
     match words {
         [group, transaction, others @ ..] => {
             let group = group.text.as_bytes();

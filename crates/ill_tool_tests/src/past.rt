@@ -7,7 +7,7 @@ use crate::beginning::begin;
 use crate::call::{Call, input_of, prefix_count};
 use crate::memory::{Beginning, Memory, MemoryCall};
 use crate::names::Names;
-use crate::tries::{Extent, Seen, fault};
+use crate::tries::{CallResult, Extent, fault};
 use crate::words::{Word, copied};
 use ill_test_kit::Page;
 use ill_test_kit::marks::TRIES;
@@ -114,11 +114,11 @@ impl Past {
         names: &Names,
         on: MemoryCall,
         words: &'a [Word],
-        tries: &mut Vec<Seen<'a>>,
+        tries: &mut Vec<CallResult<'a>>,
     ) -> Option<()> {
         for _ in 0..TRIES {
             let memory = &mut self.memory;
-            let mut seen = Seen::of(self.alloc, names, on, words, Extent::Marked, memory)?;
+            let mut seen = CallResult::of(self.alloc, names, on, words, Extent::Marked, memory)?;
             if !seen.call.was_refused {
                 page.page(&seen.answer);
                 drop(seen);
@@ -137,28 +137,28 @@ impl Past {
         names: &Names,
         on: MemoryCall,
         words: &'a [Word],
-        prefixes: &mut Vec<Seen<'a>>,
+        prefixes: &mut Vec<CallResult<'a>>,
     ) -> Option<()> {
-        self.push_heading(names, on, words, Extent::Nothing, prefixes)?;
-        self.push_heading(names, on, words, Extent::Whole, prefixes)?;
+        self.push_extent(names, on, words, Extent::Nothing, prefixes)?;
+        self.push_extent(names, on, words, Extent::Whole, prefixes)?;
         for count in 0..prefix_count(self.alloc, names, on, words) {
-            self.push_heading(names, on, words, Extent::First(count), prefixes)?;
+            self.push_extent(names, on, words, Extent::First(count), prefixes)?;
         }
         Some(())
     }
 
     /// Adds the result of this extent of the call.
-    fn push_heading<'a>(
+    fn push_extent<'a>(
         &mut self,
         names: &Names,
         on: MemoryCall,
         words: &'a [Word],
         extent: Extent,
-        prefixes: &mut Vec<Seen<'a>>,
+        prefixes: &mut Vec<CallResult<'a>>,
     ) -> Option<()> {
         let memory = &mut self.ample;
         again(self.alloc, names, self.lines.as_ref()?, memory)?;
-        let mut seen = Seen::of(self.alloc, names, on, words, extent, memory)?;
+        let mut seen = CallResult::of(self.alloc, names, on, words, extent, memory)?;
         let looked = seen.look(self.alloc, memory);
         prefixes.push(seen).ok().and(looked)
     }
@@ -182,7 +182,12 @@ impl Past {
 }
 
 /// Prints each refused try with a wrong result.
-fn tell_faults(page: &mut Page, on: MemoryCall, tries: &[Seen<'_>], prefixes: &[Seen<'_>]) {
+fn tell_faults(
+    page: &mut Page,
+    on: MemoryCall,
+    tries: &[CallResult<'_>],
+    prefixes: &[CallResult<'_>],
+) {
     for seen in tries {
         if let Some(words) = fault(on, seen, prefixes) {
             page.text("  = a refused try: ");

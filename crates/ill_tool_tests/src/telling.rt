@@ -32,7 +32,7 @@ pub fn tell_writer(
             let prefix = taken.get(..*count).unwrap_or(taken);
             tell_bytes(page, names, mark, prefix);
         }
-        Telling::Just(wanted) => tell_whether(page, names, mark, taken, wanted),
+        Telling::Just(wanted) => tell_compared(page, names, mark, taken, wanted),
     }
     tell_again(page, mark, writer.was_called_again());
 }
@@ -58,7 +58,7 @@ fn tell_any(page: &mut Page, mark: &str, bytes: &[u8]) {
 }
 
 /// Prints that `bytes` are `wanted`, or else prints the bytes.
-pub fn tell_whether(page: &mut Page, names: &Names, mark: &str, bytes: &[u8], wanted: &[u8]) {
+pub fn tell_compared(page: &mut Page, names: &Names, mark: &str, bytes: &[u8], wanted: &[u8]) {
     if bytes == wanted {
         tell_line(page, mark, "just these");
     } else {

@@ -27,7 +27,7 @@ pub enum Extent {
 
 /// The result of a call.
 #[derive(Drop)]
-pub struct Seen<'a> {
+pub struct CallResult<'a> {
     /// The call, with its streams.
     pub call: Call<'a>,
     /// The lines of its answer.
@@ -44,7 +44,7 @@ enum Part {
     /// The bytes of the output.
     Output,
     /// The messages that were kept.
-    Came,
+    KeptMessages,
     /// The live sides.
     Live,
     /// The landed sides.
@@ -54,15 +54,15 @@ enum Part {
 /// The parts of the result, and the words that name them.
 const PARTS: [(Part, &str); 4] = [
     (Part::Output, "what it wrote"),
-    (Part::Came, "what it kept"),
+    (Part::KeptMessages, "what it kept"),
     (Part::Live, "how all stands"),
     (Part::Landed, "what has landed"),
 ];
 
-impl<'a> Seen<'a> {
+impl<'a> CallResult<'a> {
     /// Returns the result before the call is made.
-    pub fn new(alloc: Global, call: Call<'a>) -> Seen<'a> {
-        Seen {
+    pub fn new(alloc: Global, call: Call<'a>) -> CallResult<'a> {
+        CallResult {
             call,
             answer: Page::new(alloc),
             live: View::none(alloc),
@@ -78,8 +78,8 @@ impl<'a> Seen<'a> {
         words: &'a [Word],
         extent: Extent,
         memory: &mut Option<Memory>,
-    ) -> Option<Seen<'a>> {
-        let mut seen = Seen::new(alloc, Call::of(alloc, names, words)?);
+    ) -> Option<CallResult<'a>> {
+        let mut seen = CallResult::new(alloc, Call::of(alloc, names, words)?);
         let made = seen.make(alloc, names, on, extent, memory);
         if made.is_none() {
             drop(seen);
@@ -117,17 +117,18 @@ impl<'a> Seen<'a> {
     }
 
     /// Returns true if both results agree in this part.
-    fn is_alike(&self, part: Part, other: &Seen<'_>) -> bool {
+    fn is_alike(&self, part: Part, other: &CallResult<'_>) -> bool {
         match part {
             Part::Output => self.call.output.taken.as_slice() == other.call.output.taken.as_slice(),
-            Part::Came => self.call.errors.taken.as_slice() == other.call.errors.taken.as_slice(),
+            Part::KeptMessages => self.call.errors.taken.as_slice()
+                == other.call.errors.taken.as_slice(),
             Part::Live => self.live.has_record_of(&other.live),
             Part::Landed => self.landed.is(&other.landed),
         }
     }
 
     /// Returns true if both results agree in the answer and in all sides.
-    fn is(&self, other: &Seen<'_>) -> bool {
+    fn is(&self, other: &CallResult<'_>) -> bool {
         self.answer.bytes() == other.answer.bytes()
             && self.live.is(&other.live)
             && self.landed.is(&other.landed)
@@ -136,7 +137,11 @@ impl<'a> Seen<'a> {
 
 /// Returns the words of the first wrong part of a refused call, if there is one. The first two `prefixes` are the
 /// results of no call and of the whole call. The others are the results of the call with each prefix of its messages.
-pub fn fault(on: MemoryCall, seen: &Seen<'_>, prefixes: &[Seen<'_>]) -> Option<&'static str> {
+pub fn fault(
+    on: MemoryCall,
+    seen: &CallResult<'_>,
+    prefixes: &[CallResult<'_>],
+) -> Option<&'static str> {
     let [before, after, between @ ..] = prefixes else {
         return Some("its fronts");
     };
@@ -164,7 +169,12 @@ pub fn fault(on: MemoryCall, seen: &Seen<'_>, prefixes: &[Seen<'_>]) -> Option<&
 
 /// Returns true if this part may be that of a call that was made in part. A desk saves once for all mails, and once for
 /// all deeds of a day.
-fn is_between(on: MemoryCall, part: Part, seen: &Seen<'_>, between: &[Seen<'_>]) -> bool {
+fn is_between(
+    on: MemoryCall,
+    part: Part,
+    seen: &CallResult<'_>,
+    between: &[CallResult<'_>],
+) -> bool {
     match (on, part) {
         (MemoryCall::Take, _) | (MemoryCall::Inbox, Part::Live) => {
             between.iter().any(|prefix| seen.is_alike(part, prefix))

@@ -118,7 +118,9 @@ abbrev pub with_events : {E : Type 0} → List E → Said E → Said E
 with_events events more = record { events = events ++ more.events; bad = more.bad }
 
 -- The text `prefix` has the events `events`, and `shown` is their trace. A result that fits the rest of the text fits
--- the whole.
+-- the whole. For each result, the equations carry what `answers` says of the rest over to the whole: for Ok, the events
+-- and their count; for a bad line, the events before it; for Read, the events of a text that breaks off; for Write, a
+-- trace that is written in part; for OutOfMemory, the trace of some first events.
 answers_on : {E : Type 0}
     → (whole broken rest rest_broken : List ℕ → Said E) (trace trace_on : List E → List ℕ) (count next_count : ℕ)
     (prefix shown : List ℕ) (events : List E)

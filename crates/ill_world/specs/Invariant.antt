@@ -48,8 +48,9 @@ ResponderWasAsked y sent =
     (question : Question) (number : ℕ) → WasAsked question y number →
     (a : Apdu) × WasSent sent a × (asks question a.body ≡ true) × (a.number ≡ number)
 
--- A requester's record is of `txn`, keeps its rules, and replies to no conditions twice. The messages in `sent` are
--- evidence of its claims. It has at most 255 messages.
+-- A requester's record is of `txn`, satisfies its rules, and has issued at most 255 messages. It replies to no
+-- conditions twice (`replies`). The messages in `sent` are evidence of its claims (`knows`), and attest the notices
+-- that it reflects (`notices`). Only the law on rounds needs the notices.
 pub record RequesterInvariant (txn : Qualifiers) (x : RequesterRecord) (sent : List (Option Apdu)) : Type 0 where
   pub same_txn : x.txn ≡ txn
   pub rules : RequesterRules x
@@ -58,9 +59,12 @@ pub record RequesterInvariant (txn : Qualifiers) (x : RequesterRecord) (sent : L
   pub notices : RequesterNotes x sent
   pub few : length x.issued ≤ 255
 
--- A responder's record is of `txn`, and keeps its rules. It ends the request once at most, and answers each question
--- once. The messages in `sent` are evidence of its claims. The other parts are of the order of its messages, and of
--- their number.
+-- A responder's record is of `txn`, satisfies its rules, and has issued at most 255 messages. It ends the request at
+-- most once (`ends`), and answers no question twice (`cancels`, `renewals`). The messages in `sent` are evidence of its
+-- claims (`knows`). The other parts serve the law on rounds. The requester has sent each question under the number that
+-- the record has of it (`asked`), and the last question has its answer or waits for it (`answered`). A Recall fits its
+-- state (`recall`) and follows the Shipped (`ships_first`). Later grants have later dates (`grants`). An Overdue fits
+-- its state and its date (`overdue`), and follows the grant of that date (`grants_first`).
 pub record ResponderInvariant (txn : Qualifiers) (y : ResponderRecord) (sent : List (Option Apdu)) : Type 0 where
   pub same_txn : y.txn ≡ txn
   pub rules : ResponderRules y

@@ -34,7 +34,7 @@ impl Tried for DeskWorld {
         self.step(alloc, event)
     }
 
-    fn pass_on(&mut self, alloc: Global) -> Result<(), OutOfMemory> {
+    fn perform_round(&mut self, alloc: Global) -> Result<(), OutOfMemory> {
         self.exchange(alloc)
     }
 

@@ -104,11 +104,11 @@ fn renewing(events: &mut Events, alloc: Global) {
 /// Adds a Renew and an Overdue that cross, and then events of each kind at each side.
 fn kinds(events: &mut Events, alloc: Global) {
     renewing(events, alloc);
-    push_useless(events, alloc, Who::Requester, 3);
+    push_unchanging(events, alloc, Who::Requester, 3);
     push_faults(events, Who::Requester);
     events.push(Some(Event::Wish(Wish::Return)));
     push_restart(events, Who::Requester);
-    push_useless(events, alloc, Who::Responder, 2);
+    push_unchanging(events, alloc, Who::Responder, 2);
     events.push(delivered(Who::Responder, 2));
     push_faults(events, Who::Responder);
     events.push(deed(Deed::Recall));
@@ -116,7 +116,7 @@ fn kinds(events: &mut Events, alloc: Global) {
 }
 
 /// Adds events that change nothing. The message with the number `unsaved` must not be saved yet.
-fn push_useless(events: &mut Events, alloc: Global, who: Who, unsaved: u8) {
+fn push_unchanging(events: &mut Events, alloc: Global, who: Who, unsaved: u8) {
     events.push(sent(who, unsaved));
     events.push(delivered(who, 3));
     events.push(noise(alloc, who, OTHER_CANCEL));

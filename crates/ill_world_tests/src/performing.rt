@@ -39,17 +39,17 @@ pub struct Script<'a> {
 
 /// The result of a script.
 #[derive(PartialEq, Drop)]
-pub struct Told {
+pub struct ScriptResult {
     /// The trace that was written.
     pub trace: Vec<u8>,
     /// The answer of the simulation.
     pub answer: Result<u32, SimFault>,
 }
 
-impl Told {
+impl ScriptResult {
     /// Returns true if this result is right after a refused growth, given the result with ample memory. Either the
     /// results are equal, or the trace is a prefix of whole lines, and the answer is out of memory.
-    fn may_be(&self, ample: &Told) -> bool {
+    fn is_right_after_refusal(&self, ample: &ScriptResult) -> bool {
         match self.answer {
             Err(SimFault::OutOfMemory) => {
                 is_whole_lines(&self.trace) && ample.trace.starts_with(&self.trace)
@@ -65,7 +65,7 @@ pub fn txn(alloc: Global) -> Option<TxnId> {
 }
 
 /// Performs a script with ample memory. A short one is then performed with each growth refused once.
-pub fn perform(alloc: Global, script: Script<'_>, streams: Streams) -> Option<Told> {
+pub fn perform(alloc: Global, script: Script<'_>, streams: Streams) -> Option<ScriptResult> {
     let (mut ample, _) = perform_once(alloc, script, streams, None)?;
     if script.bytes.len() > REFUSED {
         return Some(ample);
@@ -73,7 +73,7 @@ pub fn perform(alloc: Global, script: Script<'_>, streams: Streams) -> Option<To
     let most = ample.trace.len();
     for _ in 0..TRIES {
         let (told, is_refused) = perform_once(alloc, script, streams, Some(most))?;
-        if !told.may_be(&ample) {
+        if !told.is_right_after_refusal(&ample) {
             ample.trace.extend_from_slice(ANOTHER).ok()?;
         }
         if !is_refused {
@@ -90,7 +90,7 @@ fn perform_once(
     script: Script<'_>,
     streams: Streams,
     most: Option<usize>,
-) -> Option<(Told, bool)> {
+) -> Option<(ScriptResult, bool)> {
     let txn = txn(alloc)?;
     let mut reader = streams.reader(alloc, script.bytes)?;
     let mut writer = streams.writer(alloc, most.unwrap_or(0))?;
@@ -104,7 +104,7 @@ fn perform_once(
     let says_memory = answer == Err(SimFault::OutOfMemory);
     let is_refused = most.is_some() && marks::is_refused_or_without(alloc, says_memory);
     let trace = writer.taken;
-    Some((Told { trace, answer }, is_refused))
+    Some((ScriptResult { trace, answer }, is_refused))
 }
 
 /// Performs a script whose reader ends as `end` says, and prints its trace and answer. Reading it byte by byte must not
@@ -123,7 +123,12 @@ pub fn print_script(alloc: Global, page: &mut Page, script: Script<'_>, end: End
 }
 
 /// Performs a script, and prints its trace and answer, without the end of the line.
-pub fn print_trace(alloc: Global, page: &mut Page, script: Script<'_>, end: End) -> Option<Told> {
+pub fn print_trace(
+    alloc: Global,
+    page: &mut Page,
+    script: Script<'_>,
+    end: End,
+) -> Option<ScriptResult> {
     let told = perform(alloc, script, Streams::Reader(end))?;
     print_lines(page, &told.trace);
     print_answer(page, &told.answer);

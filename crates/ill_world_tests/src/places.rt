@@ -1,6 +1,6 @@
 //! Performs scripts whose reader or writer fails at each place in turn.
 
-use crate::performing::{Script, Told, is_whole_lines, line_count, perform, print_answer};
+use crate::performing::{Script, ScriptResult, is_whole_lines, line_count, perform, print_answer};
 use crate::streams::{End, Streams};
 use ill_test_kit::Page;
 use std::alloc::Global;
@@ -27,7 +27,7 @@ impl Answers {
     }
 
     /// Adds the answer at the next place, with the count of performed events if `events` has it.
-    fn push(&mut self, page: &mut Page, place: usize, told: &Told, events: Option<usize>) {
+    fn push(&mut self, page: &mut Page, place: usize, told: &ScriptResult, events: Option<usize>) {
         let mut text = Page::new(self.alloc);
         print_answer(&mut text, &told.answer);
         if let Some(events) = events {

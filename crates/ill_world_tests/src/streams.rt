@@ -5,7 +5,7 @@ use std::alloc::Global;
 use std::io::ErrorKind;
 
 /// A reader that has failed gives these bytes when it is called again.
-const BEHIND: &[u8] = b"\nsave requester\n";
+const AFTER_FAILURE: &[u8] = b"\nsave requester\n";
 
 /// The behaviour of a stream when its bytes or its room are used up.
 #[derive(Clone, Copy)]
@@ -50,7 +50,7 @@ impl Streams {
         };
         let after = match end {
             End::Stops => Vec::new(alloc),
-            End::Fails | End::Interrupts => Vec::from_slice(alloc, BEHIND).ok()?,
+            End::Fails | End::Interrupts => Vec::from_slice(alloc, AFTER_FAILURE).ok()?,
         };
         let bytes = Vec::from_slice(alloc, bytes).ok()?;
         let mut reader = TestReader::new(bytes, end.failure(), after);

@@ -24,7 +24,7 @@ pub trait Tried: Drop {
     fn happen(&mut self, alloc: Global, event: &Self::Event) -> Result<Self::Outcome, OutOfMemory>;
 
     /// Performs a round.
-    fn pass_on(&mut self, alloc: Global) -> Result<(), OutOfMemory>;
+    fn perform_round(&mut self, alloc: Global) -> Result<(), OutOfMemory>;
 
     /// Prints the state of both sides.
     fn print(&self, alloc: Global, page: &mut Page) -> Option<()>;
@@ -91,7 +91,7 @@ pub fn print_exchange<W: Tried>(alloc: Global, page: &mut Page, events: &[W::Eve
 
 /// The world after a round.
 #[derive(Drop)]
-struct Exchanged {
+struct AfterRound {
     /// The printed state of both sides.
     shown: Page,
     /// The printed state of the whole world.
@@ -101,18 +101,18 @@ struct Exchanged {
 }
 
 /// Performs a round, and a further one if memory was refused.
-fn exchange<W: Tried>(alloc: Global, world: &mut W) -> Option<Exchanged> {
+fn exchange<W: Tried>(alloc: Global, world: &mut W) -> Option<AfterRound> {
     marks::begin(alloc);
-    let answer = world.pass_on(alloc);
+    let answer = world.perform_round(alloc);
     let is_refused = marks::is_refused(alloc, answer.is_err());
     if is_refused {
-        world.pass_on(alloc).ok()?;
+        world.perform_round(alloc).ok()?;
     } else {
         answer.ok()?;
     }
     let mut shown = Page::new(alloc);
     world.print(alloc, &mut shown)?;
-    Some(Exchanged {
+    Some(AfterRound {
         shown,
         all: all_of(alloc, world)?,
         is_refused,

@@ -11,7 +11,7 @@ use ill_values::TxnId;
 use std::alloc::Global;
 
 /// The cases call a desk by these functions, with one side or with many.
-pub trait Sided: Holdings {
+pub trait DeskKind: Holdings {
     /// Returns the name of the side of `txn`.
     fn key(txn: &TxnId) -> &Self::Key;
 
@@ -28,7 +28,7 @@ pub trait Sided: Holdings {
     fn side_at<S: Store>(desk: &AnyDesk<Self, S>, place: usize) -> Option<&Side>;
 }
 
-impl Sided for OneSide {
+impl DeskKind for OneSide {
     fn key(_txn: &TxnId) -> &() {
         &()
     }
@@ -57,7 +57,7 @@ impl Sided for OneSide {
     }
 }
 
-impl Sided for ManySides {
+impl DeskKind for ManySides {
     fn key(txn: &TxnId) -> &TxnId {
         txn
     }
@@ -87,7 +87,7 @@ impl Sided for ManySides {
 }
 
 /// Returns the transaction that `words` begin with, or that of a desk of one side, and the words after it.
-pub fn txn_in<'a, H: Sided, S: Store>(
+pub fn txn_in<'a, H: DeskKind, S: Store>(
     alloc: Global,
     desk: &AnyDesk<H, S>,
     words: &'a str,

@@ -21,7 +21,7 @@ use Rattle.ill_saved.specs.declared.role.Role.TheVariants as who
 use Rattle.ill_saved.specs.declared.side.Side.{Side}
 use Rattle.ill_saved.specs.declared.side.Action.{Action}
 use Rattle.ill_saved.specs.declared.side.Action.TheVariants as actions
-use Rattle.ill_saved.specs.Side.{issued_of, txn_of, other, idle_side, acts, takes, acted, contents_after_message, begins}
+use Rattle.ill_saved.specs.Side.{issued_of, txn_of, other, idle_side, acts, takes, acted, took, begins}
 use Rattle.ill_saved.specs.Sides.{found_by, is_same_role, most_sides, side_with}
 use Rattle.ill_saved.specs.Holdings.{DeskEntry, whole}
 use Rattle.ill_saved.specs.ManySides.{txn_held, idle_held, found_or, with_held, held_or_begun, side_for_call, is_own}
@@ -245,7 +245,7 @@ module _ (grows : RowsGrow) (May : Qualifiers → Type 0) (p : DeskParty) where
   took_puts a held is (Ok _) new e =
       inr (
         record { side = new; released = held.released },
-        row_txn grows held.side new (contents_after_message a (ap (λ (r : Result Taking Refusal × Side). r.1) e)) ∙ is,
+        row_txn grows held.side new (took a (ap (λ (r : Result Taking Refusal × Side). r.1) e)) ∙ is,
         refl,
       )
   took_puts a held is (Err refusal) new e = inl refl

@@ -18,7 +18,7 @@ use Rattle.ill_saved.specs.declared.side.Side.{Side}
 use Rattle.ill_saved.specs.declared.side.Side.TheVariants as sides
 use Rattle.ill_saved.specs.declared.side.Action.{Action}
 use Rattle.ill_saved.specs.declared.side.Action.TheVariants as actions
-use Rattle.ill_saved.specs.Side.{issued_of, txn_of, role_of, idle_side, acts, takes, acted, contents_after_message}
+use Rattle.ill_saved.specs.Side.{issued_of, txn_of, role_of, idle_side, acts, takes, acted, took}
 use Rattle.ill_saved.specs.Side.{IsSideTransition, role_for, begins}
 use Rattle.ill_saved.specs.Sides.{SidesOf, is_same_role, most_sides, side_with}
 use Rattle.ill_saved.specs.Holdings.{DeskEntry, whole}
@@ -279,7 +279,7 @@ module _ (grows : RowsGrow) (rows : RefusalsChangeNothing) (p : DeskParty) (part
   takes_held (Ok taking) new e txn =
       goes_on (received p partner_sent n) a.txn p new (Answered taking)
       (row_txn grows (held_for a.txn p.live).side new
-      (contents_after_message a (ap (λ (r : Result Taking Refusal × Side). r.1) e))
+      (took a (ap (λ (r : Result Taking Refusal × Side). r.1) e))
       ∙ held_txn a.txn p.live) (here (Ok taking) new e) txn
   takes_held (Err refusal) new e txn =
       nothing_done (received p partner_sent n) a.txn p (Refused refusal)

@@ -140,7 +140,7 @@ impl DeskWorld {
     }
 
     /// Appends the line of a trace for event `number`: its outcome, and both sides of a transaction after it.
-    #[tactic(auto, unfolding(crate::specs::Trace::desk_line))]
+    #[tactic(auto, unfolding(crate::specs::DeskTrace::desk_line))]
     pub(crate) fn push_line(
         &self,
         text: &mut Vec<u8>,

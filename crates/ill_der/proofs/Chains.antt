@@ -4,16 +4,21 @@ use Rattle.ill_der.specs.declared.fault.DerFault.{DerFault}
 use Rattle.ill_der.specs.declared.fault.DerFault.TheVariants.{Short, Tag, Length, Field, OutOfMemory}
 use Rattle.ill_der.specs.Format.{◌>>=◌}
 
+-- `r` gives `value`, and `f value` gives `answer`.
+pub record Chained {E A B : Type 0} (r : Result A E) (f : A → Result B E) (answer : Result B E) : Type 0 where
+  pub value : A
+  pub given : r ≡ Ok value
+  pub follows : f value ≡ answer
+
 -- If `r >>= f` gives `y`, `r` gives some `x`, and `f x` gives `y`.
-pub bind_ok : {E A B : Type 0} (r : Result A E) (f : A → Result B E) (y : B) → (r >>= f) ≡ Ok y
-    → (x : A) × (r ≡ Ok x) × (f x ≡ Ok y)
-bind_ok (Ok x) f y e = (x, refl, e)
+pub bind_ok : {E A B : Type 0} (r : Result A E) (f : A → Result B E) (y : B) → (r >>= f) ≡ Ok y → Chained r f (Ok y)
+bind_ok (Ok x) f y e = record { value = x; given = refl; follows = e }
 bind_ok (Err d) f y e = absurd cc
 
 -- If `r >>= f` has the fault `d`, `r` has it, or `r` gives some `x` and `f x` has it.
 pub bind_err : {E A B : Type 0} (r : Result A E) (f : A → Result B E) (d : E) → (r >>= f) ≡ Err d
-    → (r ≡ Err d) ⊎ ((x : A) × (r ≡ Ok x) × (f x ≡ Err d))
-bind_err (Ok x) f d e = inr (x, refl, e)
+    → (r ≡ Err d) ⊎ Chained r f (Err d)
+bind_err (Ok x) f d e = inr (record { value = x; given = refl; follows = e })
 bind_err (Err c) f d e = inl cc
 
 -- If `cond b r (Err d)` gives `x`, `b` is true and `r` gives `x`.

@@ -19,7 +19,8 @@ pub two_pushes : (old middle new : FeedState) (prefix piece : List ℕ) (first m
     → Feeds middle piece more new → Feeds old (prefix ++ piece) (first ++ more) new
 two_pushes (Ok held) (Ok between) new prefix piece first more a b =
     let bytes : (held ++ prefix) ++ piece ≡ held ++ (prefix ++ piece) = append_assoc held prefix piece in
-    let begun = subst (λ (x : List ℕ). Begins ((held ++ prefix) ++ piece) first (x ++ piece)) (sym a.2.0)
+    let left = a.2 in
+    let begun = subst (λ (x : List ℕ). Begins ((held ++ prefix) ++ piece) first (x ++ piece)) (sym left.0)
     (begins_more (held ++ prefix) a.0 piece first a.1) in
     let begins = begins_join ((held ++ prefix) ++ piece) (between ++ piece) b.0 first more begun b.1 in
     (b.0, subst (λ (x : List ℕ). Begins x (first ++ more) b.0) bytes begins, b.2)
@@ -27,7 +28,8 @@ two_pushes (Ok held) (Err fault) new prefix piece first more a b =
     let bytes : (held ++ prefix) ++ piece ≡ held ++ (prefix ++ piece) = append_assoc held prefix piece in
     let begun = subst (λ (x : List ℕ). Begins x first (a.0 ++ piece)) bytes (begins_more (held ++ prefix) a.0 piece first a.1) in
     let all : first ≡ first ++ more = sym (append-nil first) ∙ ap (λ (x : List Apdu). first ++ x) (sym b.0) in
-    let leaves : Leaves (a.0 ++ piece) (Err fault) = (fault_stays a.0 piece fault a.2.1 a.2.0, a.2.1) in (
+    let left = a.2 in
+    let leaves : Leaves (a.0 ++ piece) (Err fault) = (fault_stays a.0 piece fault left.1 left.0, left.1) in (
       a.0 ++ piece,
       subst (λ (x : List Apdu). Begins (held ++ (prefix ++ piece)) x (a.0 ++ piece)) all begun,
       subst (Leaves (a.0 ++ piece)) (sym b.1) leaves,
@@ -140,5 +142,6 @@ pub few_are_held : ShortLaw → (pieces : List (List ℕ)) (apdus : List Apdu) (
     → FeedsAll (Ok []) pieces apdus (Ok held) → length held ≤ 358
 few_are_held law pieces apdus held all =
     let fed = all_pushes pieces (Ok []) apdus (Ok held) nothing_held all in
-    let most = law fed.0 (length fed.0) fed.2.1 in
-    omega (arith, most.1, ap length fed.2.0)
+    let left = fed.2 in
+    let most = law fed.0 (length fed.0) left.1 in
+    omega (arith, most.1, ap length left.0)

@@ -38,7 +38,8 @@ pub begins_one : ((bytes : List ℕ) → IsBytes bytes → BeginsWithOne bytes (
     → Begins bytes (apdu ∷ []) rest
 begins_one law bytes apdu rest fits e =
     let is = subst (BeginsWithOne bytes) e (law bytes fits) in
-    record { spelled = (is.0.0, tt); parts = is.0.1 ∙ ap (λ (x : List ℕ). x ++ rest) (sym (append-nil (spelling apdu))) }
+    let one = is.0 in
+    record { spelled = (one.0, tt); parts = one.1 ∙ ap (λ (x : List ℕ). x ++ rest) (sym (append-nil (spelling apdu))) }
 
 -- Let `bytes` be the APDUs `prefix` followed by `middle`, and `middle` the APDUs `more` followed by `rest`.
 -- Then `bytes` is the APDUs `prefix ++ more` followed by `rest`.
@@ -112,12 +113,13 @@ pub one_more_handled : {S F : Type 0} (handles : Handles S F) (bytes : List ℕ)
     × Handled handles before apdus after)
 one_more_handled handles bytes at size before now after within so_far next =
     let first = subst (λ (x : List ℕ). HandlesFirst handles x now (Ok (Ok size)) after) (take_rest bytes at) next in
-    let later = subst (Begins (drop at bytes) (first.2.0 ∷ [])) (drop-drop size at bytes) first.2.1 in (
+    let apdu = first.2 in
+    let later = subst (Begins (drop at bytes) (apdu.0 ∷ [])) (drop-drop size at bytes) apdu.1 in (
       omega (arith, within, first.1, length-drop at bytes),
       (
-        so_far.0 ++ first.2.0 ∷ [],
-        begins_join bytes (drop at bytes) (drop (at + size) bytes) so_far.0 (first.2.0 ∷ []) so_far.1 later,
-        handled_then handles before now after so_far.0 first.2.0 so_far.2 first.2.2,
+        so_far.0 ++ apdu.0 ∷ [],
+        begins_join bytes (drop at bytes) (drop (at + size) bytes) so_far.0 (apdu.0 ∷ []) so_far.1 later,
+        handled_then handles before now after so_far.0 apdu.0 so_far.2 apdu.2,
       ),
     )
 
@@ -303,8 +305,9 @@ pub goes_on_from : {S F : Type 0} (handles : Handles S F) → AgainLaw
     → (old new piece : List ℕ) (size filled end : ℕ) (before now : S) → Fills old new size piece filled → Holds size old
     → HandlesFirst handles (take filled new) before (Ok (Ok end)) now → (size ≤ end) × (end - size ≤ length piece)
 goes_on_from handles again old new piece size filled end before now fills is first =
-    let later = ends_after again (take size old) (take (filled - size) piece) (take filled new) end first.2.0 is.unfinished
-    fills.parts first.1 first.2.1 in
+    let apdu = first.2 in
+    let later = ends_after again (take size old) (take (filled - size) piece) (take filled new) end apdu.0 is.unfinished
+    fills.parts first.1 apdu.1 in
     let long = length-take-le size old (omega (arith, fills.few, fills.room)) in
     let whole = filled_length old new piece size filled fills in
     (omega (arith, later, long), omega (arith, first.1, whole, fills.count))
@@ -315,14 +318,16 @@ on_after : {S F : Type 0} (handles : Handles S F) (held piece later : List ℕ) 
     → Begins (held ++ piece) (apdu ∷ []) later → handles before apdu (Ok tt) now
     → HandlesRest handles (Ok held) later now result new after
     → HandlesEach handles (Ok held) piece before result new after
-on_after handles held piece later apdu before now after (Ok fault) new begins first on = (
-  on.0,
-  (
-    apdu ∷ on.1.0,
-    (on.1.1.0, begins_join (held ++ piece) later on.1.1.0 (apdu ∷ []) on.1.0 begins on.1.1.1, on.1.1.2),
-    (now, first, on.1.2),
-  ),
-)
+on_after handles held piece later apdu before now after (Ok fault) new begins first on =
+    let others = on.1 in
+    let feeds = others.1 in (
+      on.0,
+      (
+        apdu ∷ others.0,
+        (feeds.0, begins_join (held ++ piece) later feeds.0 (apdu ∷ []) others.0 begins feeds.1, feeds.2),
+        (now, first, others.2),
+      ),
+    )
 on_after handles held piece later apdu before now after (Err fault) new begins first on =
     (on.0, fails_later handles (held ++ piece) later before now after apdu fault begins first on.1)
 
@@ -342,14 +347,15 @@ goes_on_after handles again old new piece size filled end before now after was r
     let long : length held ≡ size = length-take-le size old (omega (arith, fills.few, fills.room)) in
     let later : length held ≤ end = omega (arith, long, there.0) in
     let few : filled - size ≤ length piece = omega (arith, fills.count) in
-    let begins = begins_held held piece (take filled new) (filled - size) end first.2.0 few fills.parts later first.1 first.2.1 in
-    let begun = subst (λ (n : ℕ). Begins (held ++ piece) (first.2.0 ∷ []) (drop (end - n) piece)) long begins in
+    let apdu = first.2 in
+    let begins = begins_held held piece (take filled new) (filled - size) end apdu.0 few fills.parts later first.1 apdu.1 in
+    let begun = subst (λ (n : ℕ). Begins (held ++ piece) (apdu.0 ∷ []) (drop (end - n) piece)) long begins in
     let on_rest = subst (λ (x : List ℕ). HandlesRest handles (Ok (take size new)) x now result feed after)
     (take_rest piece (end - size)) on in
     let on_held = subst (λ (x : List ℕ). HandlesRest handles (Ok x) (drop (end - size) piece) now result feed after)
     (still_held old new piece size filled fills) on_rest in
     subst (λ (h : FeedState). HandlesEach handles h piece before result feed after) (sym opened)
-    (on_after handles held piece (drop (end - size) piece) first.2.0 before now after result feed begun first.2.2 on_held)
+    (on_after handles held piece (drop (end - size) piece) apdu.0 before now after result feed begun apdu.2 on_held)
 
 -- If nothing was held, handling `piece` has the outcome of a push of `piece`.
 on_alone : {S F : Type 0} (handles : Handles S F) (held piece : List ℕ) (before after : S) (result : Result (Option DerFault) F)

@@ -63,13 +63,14 @@ required_takes : {V : Type 0} (P : V → Type 0) (most : ℕ) (kind : Contents V
 required_takes {V} P most kind identifier is left v rest fits e =
     let part = bind_ok (element_at identifier left)
     (λ part. value_of (kind.read part.0.bytes) part.0.at >>= λ value. Ok (value, part.1)) (v, rest) e in
-    let found = bind_ok (value_of (kind.read part.0.0.bytes) part.0.0.at) (λ value. Ok (value, part.0.1)) (v, rest) part.2 in
-    let both : (found.0, part.0.1) ≡ (v, rest) = ok_is (found.0, part.0.1) (v, rest) found.2 in
-    let taken = element_takes identifier left part.0.0 part.0.1 fits part.1 in
-    let value = is.takes part.0.0.bytes found.0 taken.inside_fits
-    (value_found (kind.read part.0.0.bytes) part.0.0.at found.0 found.1) in
-    let parts : left.bytes ≡ element identifier (kind.spell found.0) ++ part.0.1.bytes =
-    taken.parts ∙ ap (λ (x : List ℕ). element identifier x ++ part.0.1.bytes) value.0 in
+    let found = bind_ok (value_of (kind.read part.value.0.bytes) part.value.0.at) (λ value. Ok (value, part.value.1)) (v, rest)
+    part.follows in
+    let both : (found.value, part.value.1) ≡ (v, rest) = ok_is (found.value, part.value.1) (v, rest) found.follows in
+    let taken = element_takes identifier left part.value.0 part.value.1 fits part.given in
+    let value = is.takes part.value.0.bytes found.value taken.inside_fits
+    (value_found (kind.read part.value.0.bytes) part.value.0.at found.value found.given) in
+    let parts : left.bytes ≡ element identifier (kind.spell found.value) ++ part.value.1.bytes =
+    taken.parts ∙ ap (λ (x : List ℕ). element identifier x ++ part.value.1.bytes) value.0 in
     subst (λ (x : V × Cursor). Takes (required identifier kind) P left.bytes x.0 x.1.bytes) both (parts, value.1, taken.rest_fits)
 
 -- If `most` is below 65536, `required` reads each value that satisfies `P` from its encoding, whatever follows.
@@ -87,10 +88,11 @@ required_faults {V} kind identifier left d e =
     elim (bind_err (element_at identifier left)
     (λ part. value_of (kind.read part.0.bytes) part.0.at >>= λ value. Ok (value, part.1)) d e) [
       | inl h ↦ element_faults identifier left d h
-      | inr h ↦ elim (bind_err (value_of (kind.read h.0.0.bytes) h.0.0.at) (λ value. Ok (value, h.0.1)) d h.2) [
-        | inl g ↦ value_faults (kind.read h.0.0.bytes) h.0.0.at d g
-        | inr g ↦ absurd (no_value d (g.0, h.0.1) g.2)
-      ]
+      | inr part ↦ elim (bind_err (value_of (kind.read part.value.0.bytes) part.value.0.at) (λ value. Ok (value, part.value.1)) d
+          part.follows) [
+            | inl g ↦ value_faults (kind.read part.value.0.bytes) part.value.0.at d g
+            | inr found ↦ absurd (no_value d (found.value, part.value.1) found.follows)
+          ]
     ]
 
 -- If `kind` obeys `IsContents` with `most` below 65536, its required field obeys `IsFormat`.
@@ -119,8 +121,9 @@ optional_takes {V} P most kind identifier is left o rest fits e =
     ((required identifier kind).read left >>= λ field. Ok (Some field.0, field.1)) (Ok (None, left)) (Ok (o, rest)) e) [
       | inl h ↦
           let field = bind_ok ((required identifier kind).read left) (λ field. Ok (Some field.0, field.1)) (o, rest) h.1 in
-          let both : (Some field.0.0, field.0.1) ≡ (o, rest) = ok_is (Some field.0.0, field.0.1) (o, rest) field.2 in
-          let taken = required_takes P most kind identifier is left field.0.0 field.0.1 fits field.1 in
+          let both : (Some field.value.0, field.value.1) ≡ (o, rest) =
+          ok_is (Some field.value.0, field.value.1) (o, rest) field.follows in
+          let taken = required_takes P most kind identifier is left field.value.0 field.value.1 fits field.given in
           subst (λ (x : Option V × Cursor). Takes (optional identifier kind) (λ o. IfSome o P) left.bytes x.0 x.1.bytes) both
           taken
       | inr h ↦
@@ -153,7 +156,7 @@ optional_faults {V} kind identifier left d e =
     ((required identifier kind).read left >>= λ field. Ok (Some field.0, field.1)) (Ok (None, left)) (Err d) e) [
       | inl h ↦ elim (bind_err ((required identifier kind).read left) (λ field. Ok (Some field.0, field.1)) d h.1) [
         | inl g ↦ required_faults kind identifier left d g
-        | inr g ↦ absurd (no_value d (Some g.0.0, g.0.1) g.2)
+        | inr field ↦ absurd (no_value d (Some field.value.0, field.value.1) field.follows)
       ]
       | inr h ↦ absurd (no_value d (None, left) h.1)
     ]
@@ -182,13 +185,15 @@ followed_takes : {V W : Type 0} (P : V → Type 0) (Q : W → Type 0) (F G : Lis
     → (left : Cursor) (v : V × W) (rest : Cursor) → IsBytes left.bytes → (followed_by f g).read left ≡ Ok (v, rest)
     → Takes (followed_by f g) (Both P Q) left.bytes v rest.bytes
 followed_takes {V} {W} P Q F G m n f g fs gs left v rest fits e =
-    let a = bind_ok (f.read left) (λ a. g.read a.1 >>= λ b. Ok ((a.0, b.0), b.1)) (v, rest) e in
-    let b = bind_ok (g.read a.0.1) (λ b. Ok ((a.0.0, b.0), b.1)) (v, rest) a.2 in
-    let both : ((a.0.0, b.0.0), b.0.1) ≡ (v, rest) = ok_is ((a.0.0, b.0.0), b.0.1) (v, rest) b.2 in
-    let first = fs.takes left a.0.0 a.0.1 fits a.1 in
-    let second = gs.takes a.0.1 b.0.0 b.0.1 first.2 b.1 in
-    let parts : left.bytes ≡ (f.spell a.0.0 ++ g.spell b.0.0) ++ b.0.1.bytes =
-    first.0 ∙ ap (λ (x : List ℕ). f.spell a.0.0 ++ x) second.0 ∙ sym (append_assoc (f.spell a.0.0) (g.spell b.0.0) b.0.1.bytes) in
+    let former = bind_ok (f.read left) (λ a. g.read a.1 >>= λ b. Ok ((a.0, b.0), b.1)) (v, rest) e in
+    let latter = bind_ok (g.read former.value.1) (λ b. Ok ((former.value.0, b.0), b.1)) (v, rest) former.follows in
+    let both : ((former.value.0, latter.value.0), latter.value.1) ≡ (v, rest) =
+    ok_is ((former.value.0, latter.value.0), latter.value.1) (v, rest) latter.follows in
+    let first = fs.takes left former.value.0 former.value.1 fits former.given in
+    let second = gs.takes former.value.1 latter.value.0 latter.value.1 first.2 latter.given in
+    let parts : left.bytes ≡ (f.spell former.value.0 ++ g.spell latter.value.0) ++ latter.value.1.bytes =
+    first.0 ∙ ap (λ (x : List ℕ). f.spell former.value.0 ++ x) second.0
+    ∙ sym (append_assoc (f.spell former.value.0) (g.spell latter.value.0) latter.value.1.bytes) in
     subst (λ (x : (V × W) × Cursor). Takes (followed_by f g) (Both P Q) left.bytes x.0 x.1.bytes) both
     (parts, (first.1, second.1), second.2)
 
@@ -209,9 +214,9 @@ followed_faults : {V W : Type 0} (P : V → Type 0) (Q : W → Type 0) (F G : Li
 followed_faults P Q F G m n f g fs gs left d e =
     elim (bind_err (f.read left) (λ a. g.read a.1 >>= λ b. Ok ((a.0, b.0), b.1)) d e) [
       | inl h ↦ fs.faults left d h
-      | inr h ↦ elim (bind_err (g.read h.0.1) (λ b. Ok ((h.0.0, b.0), b.1)) d h.2) [
-        | inl i ↦ gs.faults h.0.1 d i
-        | inr i ↦ absurd (no_value d ((h.0.0, i.0.0), i.0.1) i.2)
+      | inr former ↦ elim (bind_err (g.read former.value.1) (λ b. Ok ((former.value.0, b.0), b.1)) d former.follows) [
+        | inl i ↦ gs.faults former.value.1 d i
+        | inr latter ↦ absurd (no_value d ((former.value.0, latter.value.0), latter.value.1) latter.follows)
       ]
     ]
 
@@ -236,27 +241,28 @@ where_takes : {V : Type 0} (Q : Bool → Type 0) (P : V → Type 0) (F G : List 
     → (where_yes yes_no field).read left ≡ Ok (o, rest)
     → Takes (where_yes yes_no field) (λ o. IfSome o P) left.bytes o rest.bytes
 where_takes {V} Q P F G m n yes_no field qs fs left o rest fits e =
-    let is_yes = bind_ok (yes_no.read left)
+    let flag = bind_ok (yes_no.read left)
     (λ is_yes. cond is_yes.0 (field.read is_yes.1 >>= λ found. Ok (Some found.0, found.1)) (Ok (None, is_yes.1))) (o, rest)
     e in
-    let first = qs.takes left is_yes.0.0 is_yes.0.1 fits is_yes.1 in
-    elim (chosen {A = Result (Option V × Cursor) DerFault} is_yes.0.0
-    (field.read is_yes.0.1 >>= λ found. Ok (Some found.0, found.1)) (Ok (None, is_yes.0.1)) (Ok (o, rest)) is_yes.2) [
+    let first = qs.takes left flag.value.0 flag.value.1 fits flag.given in
+    elim (chosen {A = Result (Option V × Cursor) DerFault} flag.value.0
+    (field.read flag.value.1 >>= λ found. Ok (Some found.0, found.1)) (Ok (None, flag.value.1)) (Ok (o, rest)) flag.follows) [
       | inl h ↦
-          let found = bind_ok (field.read is_yes.0.1) (λ found. Ok (Some found.0, found.1)) (o, rest) h.1 in
-          let both : (Some found.0.0, found.0.1) ≡ (o, rest) = ok_is (Some found.0.0, found.0.1) (o, rest) found.2 in
-          let second = fs.takes is_yes.0.1 found.0.0 found.0.1 first.2 found.1 in
-          let parts : left.bytes ≡ (yes_no.spell true ++ field.spell found.0.0) ++ found.0.1.bytes =
-          first.0 ∙ ap (λ (b : Bool). yes_no.spell b ++ is_yes.0.1.bytes) h.0
+          let found = bind_ok (field.read flag.value.1) (λ found. Ok (Some found.0, found.1)) (o, rest) h.1 in
+          let both : (Some found.value.0, found.value.1) ≡ (o, rest) =
+          ok_is (Some found.value.0, found.value.1) (o, rest) found.follows in
+          let second = fs.takes flag.value.1 found.value.0 found.value.1 first.2 found.given in
+          let parts : left.bytes ≡ (yes_no.spell true ++ field.spell found.value.0) ++ found.value.1.bytes =
+          first.0 ∙ ap (λ (b : Bool). yes_no.spell b ++ flag.value.1.bytes) h.0
           ∙ ap (λ (x : List ℕ). yes_no.spell true ++ x) second.0
-          ∙ sym (append_assoc (yes_no.spell true) (field.spell found.0.0) found.0.1.bytes) in
+          ∙ sym (append_assoc (yes_no.spell true) (field.spell found.value.0) found.value.1.bytes) in
           subst (λ (x : Option V × Cursor). Takes (where_yes yes_no field) (λ o. IfSome o P) left.bytes x.0 x.1.bytes) both
           (parts, second.1, second.2)
       | inr h ↦
-          let both : (None, is_yes.0.1) ≡ (o, rest) = ok_is (None, is_yes.0.1) (o, rest) h.1 in
-          let parts : left.bytes ≡ (yes_no.spell false ++ []) ++ is_yes.0.1.bytes =
-          first.0 ∙ ap (λ (b : Bool). yes_no.spell b ++ is_yes.0.1.bytes) h.0
-          ∙ ap (λ (x : List ℕ). x ++ is_yes.0.1.bytes) (sym (append-nil (yes_no.spell false))) in
+          let both : (None, flag.value.1) ≡ (o, rest) = ok_is (None, flag.value.1) (o, rest) h.1 in
+          let parts : left.bytes ≡ (yes_no.spell false ++ []) ++ flag.value.1.bytes =
+          first.0 ∙ ap (λ (b : Bool). yes_no.spell b ++ flag.value.1.bytes) h.0
+          ∙ ap (λ (x : List ℕ). x ++ flag.value.1.bytes) (sym (append-nil (yes_no.spell false))) in
           subst (λ (x : Option V × Cursor). Takes (where_yes yes_no field) (λ o. IfSome o P) left.bytes x.0 x.1.bytes) both
           (parts, tt, first.2)
     ]
@@ -294,13 +300,13 @@ where_faults {V} Q P F G m n yes_no field qs fs left d e =
     elim (bind_err (yes_no.read left)
     (λ is_yes. cond is_yes.0 (field.read is_yes.1 >>= λ found. Ok (Some found.0, found.1)) (Ok (None, is_yes.1))) d e) [
       | inl h ↦ qs.faults left d h
-      | inr h ↦ elim (chosen {A = Result (Option V × Cursor) DerFault} h.0.0
-          (field.read h.0.1 >>= λ found. Ok (Some found.0, found.1)) (Ok (None, h.0.1)) (Err d) h.2) [
-            | inl g ↦ elim (bind_err (field.read h.0.1) (λ found. Ok (Some found.0, found.1)) d g.1) [
-              | inl i ↦ fs.faults h.0.1 d i
-              | inr i ↦ absurd (no_value d (Some i.0.0, i.0.1) i.2)
+      | inr flag ↦ elim (chosen {A = Result (Option V × Cursor) DerFault} flag.value.0
+          (field.read flag.value.1 >>= λ found. Ok (Some found.0, found.1)) (Ok (None, flag.value.1)) (Err d) flag.follows) [
+            | inl g ↦ elim (bind_err (field.read flag.value.1) (λ found. Ok (Some found.0, found.1)) d g.1) [
+              | inl i ↦ fs.faults flag.value.1 d i
+              | inr found ↦ absurd (no_value d (Some found.value.0, found.value.1) found.follows)
             ]
-            | inr g ↦ absurd (no_value d (None, h.0.1) g.1)
+            | inr g ↦ absurd (no_value d (None, flag.value.1) g.1)
           ]
     ]
 
@@ -325,16 +331,17 @@ constructed_takes : {V : Type 0} (P : V → Type 0) (F : List ℕ → Type 0) (m
 constructed_takes {V} P F m f identifier fs left v rest fits e =
     let part = bind_ok (element_at identifier left)
     (λ part. f.read part.0 >>= λ found. ended found.1 >>= λ _. Ok (found.0, part.1)) (v, rest) e in
-    let found = bind_ok (f.read part.0.0) (λ found. ended found.1 >>= λ _. Ok (found.0, part.0.1)) (v, rest) part.2 in
-    let over = bind_ok (ended found.0.1) (λ _. Ok (found.0.0, part.0.1)) (v, rest) found.2 in
-    let both : (found.0.0, part.0.1) ≡ (v, rest) = ok_is (found.0.0, part.0.1) (v, rest) over.2 in
-    let taken = element_takes identifier left part.0.0 part.0.1 fits part.1 in
-    let inside = fs.takes part.0.0 found.0.0 found.0.1 taken.inside_fits found.1 in
-    let whole : part.0.0.bytes ≡ f.spell found.0.0 =
-    inside.0 ∙ ap (λ (x : List ℕ). f.spell found.0.0 ++ x) (ended_is found.0.1 over.0 over.1)
-    ∙ append-nil (f.spell found.0.0) in
-    let parts : left.bytes ≡ element identifier (f.spell found.0.0) ++ part.0.1.bytes =
-    taken.parts ∙ ap (λ (x : List ℕ). element identifier x ++ part.0.1.bytes) whole in
+    let found = bind_ok (f.read part.value.0) (λ found. ended found.1 >>= λ _. Ok (found.0, part.value.1)) (v, rest)
+    part.follows in
+    let over = bind_ok (ended found.value.1) (λ _. Ok (found.value.0, part.value.1)) (v, rest) found.follows in
+    let both : (found.value.0, part.value.1) ≡ (v, rest) = ok_is (found.value.0, part.value.1) (v, rest) over.follows in
+    let taken = element_takes identifier left part.value.0 part.value.1 fits part.given in
+    let inside = fs.takes part.value.0 found.value.0 found.value.1 taken.inside_fits found.given in
+    let whole : part.value.0.bytes ≡ f.spell found.value.0 =
+    inside.0 ∙ ap (λ (x : List ℕ). f.spell found.value.0 ++ x) (ended_is found.value.1 over.value over.given)
+    ∙ append-nil (f.spell found.value.0) in
+    let parts : left.bytes ≡ element identifier (f.spell found.value.0) ++ part.value.1.bytes =
+    taken.parts ∙ ap (λ (x : List ℕ). element identifier x ++ part.value.1.bytes) whole in
     subst (λ (x : V × Cursor). Takes (constructed identifier f) P left.bytes x.0 x.1.bytes) both
     (parts, inside.1, taken.rest_fits)
 
@@ -357,13 +364,14 @@ constructed_faults P F m f identifier fs left d e =
     elim (bind_err (element_at identifier left) (λ part. f.read part.0 >>= λ found. ended found.1 >>= λ _. Ok (found.0, part.1)) d
     e) [
       | inl h ↦ element_faults identifier left d h
-      | inr h ↦ elim (bind_err (f.read h.0.0) (λ found. ended found.1 >>= λ _. Ok (found.0, h.0.1)) d h.2) [
-        | inl g ↦ fs.faults h.0.0 d g
-        | inr g ↦ elim (bind_err (ended g.0.1) (λ _. Ok (g.0.0, h.0.1)) d g.2) [
-          | inl k ↦ ended_faults g.0.1 d k
-          | inr k ↦ absurd (no_value d (g.0.0, h.0.1) k.2)
-        ]
-      ]
+      | inr part ↦ elim (bind_err (f.read part.value.0) (λ found. ended found.1 >>= λ _. Ok (found.0, part.value.1)) d
+          part.follows) [
+            | inl g ↦ fs.faults part.value.0 d g
+            | inr found ↦ elim (bind_err (ended found.value.1) (λ _. Ok (found.value.0, part.value.1)) d found.follows) [
+              | inl k ↦ ended_faults found.value.1 d k
+              | inr over ↦ absurd (no_value d (found.value.0, part.value.1) over.follows)
+            ]
+          ]
     ]
 
 -- If `f` obeys `IsFormat` with `m` below 65536 and may be the last field, `constructed` obeys `IsFormat`.

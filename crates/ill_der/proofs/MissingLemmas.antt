@@ -152,10 +152,11 @@ enough values bytes n none e =
     elim (bind_err (outer_at bytes) (λ outer. inside_of outer.apdu_type outer.inside >>= λ apdu. Ok (apdu, drop outer.size bytes))
     (Short n) e) [
       | inl h ↦ enough_outer bytes n none h
-      | inr h ↦ elim (bind_err (inside_of h.0.apdu_type h.0.inside) (λ apdu. Ok (apdu, drop h.0.size bytes)) (Short n) h.2) [
-        | inl g ↦ inside_faults values h.0.apdu_type h.0.inside (Short n) g
-        | inr g ↦ no_value (Short n) (g.0, drop h.0.size bytes) g.2
-      ]
+      | inr outer ↦ elim (bind_err (inside_of outer.value.apdu_type outer.value.inside)
+          (λ apdu. Ok (apdu, drop outer.value.size bytes)) (Short n) outer.follows) [
+            | inl g ↦ inside_faults values outer.value.apdu_type outer.value.inside (Short n) g
+            | inr inner ↦ no_value (Short n) (inner.value, drop outer.value.size bytes) inner.follows
+          ]
     ]
 
 -- If `bytes` lacks no byte, its fault is not Short.

@@ -128,12 +128,13 @@ made_takes : {V : Type 0} (P : V → Type 0) (F : List ℕ → Type 0) (n : ℕ)
     → TakesBody apdu_type left.bytes body rest.bytes
 made_takes P F n f make apdu_type fs spells ranges types left body rest fits e =
     let fields = bind_ok (f.read left) (λ found. Ok (make found.0, found.1)) (body, rest) e in
-    let both : (make fields.0.0, fields.0.1) ≡ (body, rest) = ok_is (make fields.0.0, fields.0.1) (body, rest) fields.2 in
-    let taken = fs.takes left fields.0.0 fields.0.1 fits fields.1 in
-    let parts : left.bytes ≡ spell_body (make fields.0.0) ++ fields.0.1.bytes =
-    taken.0 ∙ ap (λ (x : List ℕ). x ++ fields.0.1.bytes) (sym (spells fields.0.0)) in
+    let both : (make fields.value.0, fields.value.1) ≡ (body, rest) =
+    ok_is (make fields.value.0, fields.value.1) (body, rest) fields.follows in
+    let taken = fs.takes left fields.value.0 fields.value.1 fits fields.given in
+    let parts : left.bytes ≡ spell_body (make fields.value.0) ++ fields.value.1.bytes =
+    taken.0 ∙ ap (λ (x : List ℕ). x ++ fields.value.1.bytes) (sym (spells fields.value.0)) in
     subst (λ (x : Body × Cursor). TakesBody apdu_type left.bytes x.0 x.1.bytes) both
-    (parts, ranges fields.0.0 taken.1, types fields.0.0, taken.2)
+    (parts, ranges fields.value.0 taken.1, types fields.value.0, taken.2)
 
 -- If `make` is in range and has no further fields, reading it takes no bytes, so `rest` is `left`.
 plain_takes : (make body : Body) (apdu_type : ApduType) (left rest : Cursor) → spell_body make ≡ [] → IsBody make
@@ -246,7 +247,7 @@ made_faults : {V : Type 0} (P : V → Type 0) (F : List ℕ → Type 0) (n : ℕ
 made_faults P F n f make fs left d e =
     elim (bind_err (f.read left) (λ found. Ok (make found.0, found.1)) d e) [
       | inl h ↦ fs.faults left d h
-      | inr h ↦ absurd (no_value d (make h.0.0, h.0.1) h.2)
+      | inr fields ↦ absurd (no_value d (make fields.value.0, fields.value.1) fields.follows)
     ]
 
 -- Each fault of `read_body` is Tag, Length or Field.
@@ -282,12 +283,12 @@ whole_body_takes : Values → (apdu_type : ApduType) (left : Cursor) (body : Bod
 unfolding body_of
 whole_body_takes values apdu_type left body fits e =
     let found = bind_ok (read_body apdu_type left) (λ body. ended body.1 >>= λ _. Ok body.0) body e in
-    let over = bind_ok (ended found.0.1) (λ _. Ok found.0.0) body found.2 in
-    let taken = body_takes values apdu_type left found.0.0 found.0.1 fits found.1 in
-    let whole : left.bytes ≡ spell_body found.0.0 =
-    taken.0 ∙ ap (λ (x : List ℕ). spell_body found.0.0 ++ x) (ended_is found.0.1 over.0 over.1)
-    ∙ append-nil (spell_body found.0.0) in
-    subst (IsBodyOf apdu_type left.bytes) (ok_is found.0.0 body over.2) (whole, taken.1, taken.2)
+    let over = bind_ok (ended found.value.1) (λ _. Ok found.value.0) body found.follows in
+    let taken = body_takes values apdu_type left found.value.0 found.value.1 fits found.given in
+    let whole : left.bytes ≡ spell_body found.value.0 =
+    taken.0 ∙ ap (λ (x : List ℕ). spell_body found.value.0 ++ x) (ended_is found.value.1 over.value over.given)
+    ∙ append-nil (spell_body found.value.0) in
+    subst (IsBodyOf apdu_type left.bytes) (ok_is found.value.0 body over.follows) (whole, taken.1, taken.2)
 
 -- `body_of` reads each body in range from its further fields.
 whole_body_again : Values → (body : Body) (at : ℕ) → IsBody body
@@ -301,9 +302,9 @@ unfolding body_of
 whole_body_faults values apdu_type left d e =
     elim (bind_err (read_body apdu_type left) (λ body. ended body.1 >>= λ _. Ok body.0) d e) [
       | inl h ↦ body_faults values apdu_type left d h
-      | inr h ↦ elim (bind_err (ended h.0.1) (λ _. Ok h.0.0) d h.2) [
-        | inl g ↦ ended_faults h.0.1 d g
-        | inr g ↦ absurd (no_value d h.0.0 g.2)
+      | inr found ↦ elim (bind_err (ended found.value.1) (λ _. Ok found.value.0) d found.follows) [
+        | inl g ↦ ended_faults found.value.1 d g
+        | inr over ↦ absurd (no_value d found.value.0 over.follows)
       ]
     ]
 
@@ -321,13 +322,13 @@ inside_takes : Values → (apdu_type : ApduType) (left : Cursor) (apdu : Apdu) �
 unfolding inside_of
 inside_takes values apdu_type left apdu fits e =
     let prefix = bind_ok (head.read left) (λ prefix. body_of apdu_type prefix.1 >>= λ body. Ok (made prefix.0 body)) apdu e in
-    let body = bind_ok (body_of apdu_type prefix.0.1) (λ body. Ok (made prefix.0.0 body)) apdu prefix.2 in
-    let is : made prefix.0.0 body.0 ≡ apdu = ok_is (made prefix.0.0 body.0) apdu body.2 in
-    let first = (head_is values).takes left prefix.0.0 prefix.0.1 fits prefix.1 in
-    let second = whole_body_takes values apdu_type prefix.0.1 body.0 first.2 body.1 in
-    let whole : left.bytes ≡ contents_of (made prefix.0.0 body.0) =
-    first.0 ∙ ap (λ (x : List ℕ). head.spell prefix.0.0 ++ x) second.0 in
-    let parts : IsApdu (made prefix.0.0 body.0) = record {
+    let body = bind_ok (body_of apdu_type prefix.value.1) (λ body. Ok (made prefix.value.0 body)) apdu prefix.follows in
+    let is : made prefix.value.0 body.value ≡ apdu = ok_is (made prefix.value.0 body.value) apdu body.follows in
+    let first = (head_is values).takes left prefix.value.0 prefix.value.1 fits prefix.given in
+    let second = whole_body_takes values apdu_type prefix.value.1 body.value first.2 body.given in
+    let whole : left.bytes ≡ contents_of (made prefix.value.0 body.value) =
+    first.0 ∙ ap (λ (x : List ℕ). head.spell prefix.value.0 ++ x) second.0 in
+    let parts : IsApdu (made prefix.value.0 body.value) = record {
       txn = record { group = first.1.1.0.0; transaction = first.1.1.0.1 };
       number = first.1.1.1;
       body = second.1;
@@ -369,9 +370,9 @@ unfolding inside_of
 inside_faults values apdu_type left d e =
     elim (bind_err (head.read left) (λ prefix. body_of apdu_type prefix.1 >>= λ body. Ok (made prefix.0 body)) d e) [
       | inl h ↦ (head_is values).faults left d h
-      | inr h ↦ elim (bind_err (body_of apdu_type h.0.1) (λ body. Ok (made h.0.0 body)) d h.2) [
-        | inl g ↦ whole_body_faults values apdu_type h.0.1 d g
-        | inr g ↦ absurd (no_value d (made h.0.0 g.0) g.2)
+      | inr prefix ↦ elim (bind_err (body_of apdu_type prefix.value.1) (λ body. Ok (made prefix.value.0 body)) d prefix.follows) [
+        | inl g ↦ whole_body_faults values apdu_type prefix.value.1 d g
+        | inr body ↦ absurd (no_value d (made prefix.value.0 body.value) body.follows)
       ]
     ]
 
@@ -599,15 +600,16 @@ unfolding apdu_at spelling
 apdu_takes values bytes apdu rest fits e =
     let outer = bind_ok (outer_at bytes)
     (λ outer. inside_of outer.apdu_type outer.inside >>= λ apdu. Ok (apdu, drop outer.size bytes)) (apdu, rest) e in
-    let size = outer.0.size in
-    let apdu_type = outer.0.apdu_type in
-    let inner = bind_ok (inside_of apdu_type outer.0.inside) (λ apdu. Ok (apdu, drop size bytes)) (apdu, rest) outer.2 in
-    let both : (inner.0, drop size bytes) ≡ (apdu, rest) = ok_is (inner.0, drop size bytes) (apdu, rest) inner.2 in
-    let whole = outer_takes bytes outer.0 fits outer.1 in
-    let inside = inside_takes values apdu_type outer.0.inside inner.0 whole.inside_fits inner.1 in
-    let parts : bytes ≡ element (identifier_of (type_of inner.0.body)) (contents_of inner.0) ++ drop size bytes =
+    let size = outer.value.size in
+    let apdu_type = outer.value.apdu_type in
+    let inner = bind_ok (inside_of apdu_type outer.value.inside) (λ apdu. Ok (apdu, drop size bytes)) (apdu, rest)
+    outer.follows in
+    let both : (inner.value, drop size bytes) ≡ (apdu, rest) = ok_is (inner.value, drop size bytes) (apdu, rest) inner.follows in
+    let whole = outer_takes bytes outer.value fits outer.given in
+    let inside = inside_takes values apdu_type outer.value.inside inner.value whole.inside_fits inner.given in
+    let parts : bytes ≡ element (identifier_of (type_of inner.value.body)) (contents_of inner.value) ++ drop size bytes =
     whole.parts ∙ ap (λ (x : List ℕ). element (identifier_of apdu_type) x ++ drop size bytes) inside.0
-    ∙ ap (λ (k : ApduType). element (identifier_of k) (contents_of inner.0) ++ drop size bytes) (sym inside.2) in
+    ∙ ap (λ (k : ApduType). element (identifier_of k) (contents_of inner.value) ++ drop size bytes) (sym inside.2) in
     subst (λ (x : Apdu × List ℕ). IsAtPrefix bytes x.0 x.1) both (inside.1, parts)
 
 -- `apdu_at` reads each APDU in range from its encoding, whatever follows.
@@ -627,10 +629,11 @@ apdu_short values bytes n e =
     elim (bind_err (outer_at bytes) (λ outer. inside_of outer.apdu_type outer.inside >>= λ apdu. Ok (apdu, drop outer.size bytes))
     (Short n) e) [
       | inl h ↦ outer_short bytes n h
-      | inr h ↦ elim (bind_err (inside_of h.0.apdu_type h.0.inside) (λ apdu. Ok (apdu, drop h.0.size bytes)) (Short n) h.2) [
-        | inl g ↦ absurd (inside_faults values h.0.apdu_type h.0.inside (Short n) g)
-        | inr g ↦ absurd (no_value (Short n) (g.0, drop h.0.size bytes) g.2)
-      ]
+      | inr outer ↦ elim (bind_err (inside_of outer.value.apdu_type outer.value.inside)
+          (λ apdu. Ok (apdu, drop outer.value.size bytes)) (Short n) outer.follows) [
+            | inl g ↦ absurd (inside_faults values outer.value.apdu_type outer.value.inside (Short n) g)
+            | inr inner ↦ absurd (no_value (Short n) (inner.value, drop outer.value.size bytes) inner.follows)
+          ]
     ]
 
 -- The fault of `outer_after` is never OutOfMemory.
@@ -667,10 +670,11 @@ apdu_memory values bytes e =
     elim (bind_err (outer_at bytes) (λ outer. inside_of outer.apdu_type outer.inside >>= λ apdu. Ok (apdu, drop outer.size bytes))
     OutOfMemory e) [
       | inl h ↦ outer_memory bytes h
-      | inr h ↦ elim (bind_err (inside_of h.0.apdu_type h.0.inside) (λ apdu. Ok (apdu, drop h.0.size bytes)) OutOfMemory h.2) [
-        | inl g ↦ inside_faults values h.0.apdu_type h.0.inside OutOfMemory g
-        | inr g ↦ no_value OutOfMemory (g.0, drop h.0.size bytes) g.2
-      ]
+      | inr outer ↦ elim (bind_err (inside_of outer.value.apdu_type outer.value.inside)
+          (λ apdu. Ok (apdu, drop outer.value.size bytes)) OutOfMemory outer.follows) [
+            | inl g ↦ inside_faults values outer.value.apdu_type outer.value.inside OutOfMemory g
+            | inr inner ↦ no_value OutOfMemory (inner.value, drop outer.value.size bytes) inner.follows
+          ]
     ]
 
 -- ---- bytes followed by anything
@@ -787,8 +791,9 @@ fault_stays bytes more d other e =
     elim (bind_err (outer_at bytes) (λ outer. inside_of outer.apdu_type outer.inside >>= λ apdu. Ok (apdu, drop outer.size bytes))
     d e) [
       | inl h ↦ rw (outer_stays bytes more d other h) refl
-      | inr h ↦ elim (bind_err (inside_of h.0.apdu_type h.0.inside) (λ apdu. Ok (apdu, drop h.0.size bytes)) d h.2) [
-        | inl g ↦ rw (outer_more bytes more h.0 h.1, g) refl
-        | inr g ↦ absurd (no_value d (g.0, drop h.0.size bytes) g.2)
-      ]
+      | inr outer ↦ elim (bind_err (inside_of outer.value.apdu_type outer.value.inside)
+          (λ apdu. Ok (apdu, drop outer.value.size bytes)) d outer.follows) [
+            | inl g ↦ rw (outer_more bytes more outer.value outer.given, g) refl
+            | inr inner ↦ absurd (no_value d (inner.value, drop outer.value.size bytes) inner.follows)
+          ]
     ]

@@ -56,7 +56,10 @@ pub spelled_without_memory : Values → (bytes : List ℕ) → IsBytes bytes →
 spelled_without_memory values bytes fits prefixes h =
     elim (decodes_err bytes (apdu_at bytes) OutOfMemory h) [
       | inl e ↦ absurd (apdu_memory values bytes e)
-      | inr e ↦ let is = exact values bytes e.1.0.1 e.1.0.0 fits prefixes e.1.1 in (e.1.0.0, is.0, is.1)
+      | inr e ↦ let found = e.1 in
+          let read = found.0 in
+          let is = exact values bytes read.1 read.0 fits prefixes found.1 in
+          (read.0, is.0, is.1)
     ]
 
 -- ---- reads one after another

@@ -52,7 +52,7 @@ HandlesAll handles bytes before (Ok (at, fault)) after =
     × ((apdus : List Apdu) × Begins bytes apdus (drop at bytes) × Handled handles before apdus after)
 HandlesAll handles bytes before (Err fault) after = FailsIn handles bytes before fault after
 
--- An open feed dropped its held bytes, and then `bytes` were pushed. If handling failed, the feed is unchanged.
+-- `bytes`, the rest of a piece after the APDU that the held bytes began, were handled as by an empty feed.
 abbrev pub HandlesRest : {S F : Type 0} → Handles S F → FeedState → List ℕ → S → Result (Option DerFault) F → FeedState → S
     → Type 0
 HandlesRest handles old bytes before (Ok fault) new after =

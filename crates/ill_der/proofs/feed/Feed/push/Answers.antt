@@ -11,12 +11,13 @@ use Rattle.ill_der.proofs.feed.Feed.push.Goals as goal
 pub returns-in-Ok : goal.returns-in-Ok
 returns-in-Ok c =
     let is = c.in-Ok.ensures in
+    let handled = is.1 in
     let empty : Collector × Unit {0} = (record { apdus = c.new.result }, tt) in
     let full : Collector × Unit {0} = (c.each.new.handler, c.each.new.context) in
     let items = λ (s : Collector × Unit {0}). s.0.apdus.items in
-    let kept = all_kept CollectsApdu items (λ before after apdu keeps. keeps) empty full is.1.0 is.1.2 in
-    let all : c.each.new.handler.apdus.items ≡ is.1.0 = kept ∙ ap (λ (x : List Apdu). x ++ is.1.0) c.new.ensures.items in
-    (subst (λ (x : List Apdu). Feeds c.args.self.now c.args.piece.now x c.each.new.self) (sym all) is.1.1, is.0)
+    let kept = all_kept CollectsApdu items (λ before after apdu keeps. keeps) empty full handled.0 handled.2 in
+    let all : c.each.new.handler.apdus.items ≡ handled.0 = kept ∙ ap (λ (x : List Apdu). x ++ handled.0) c.new.ensures.items in
+    (subst (λ (x : List Apdu). Feeds c.args.self.now c.args.piece.now x c.each.new.self) (sym all) handled.1, is.0)
 
 pub returns-in-Err : goal.returns-in-Err
 returns-in-Err c = (

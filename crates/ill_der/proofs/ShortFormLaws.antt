@@ -310,7 +310,10 @@ whole_body_faults values apdu_type left d e =
 
 -- Returns the APDU with the transaction id and the number of `prefix`, and with `body`.
 abbrev made : (Unit {0} × ((List ℕ × List ℕ) × ℕ)) → Body → Apdu
-made prefix body = record { txn = record { group = prefix.1.0.0; transaction = prefix.1.0.1 }; number = prefix.1.1; body = body }
+made prefix body =
+    let named = prefix.1 in
+    let txn = named.0 in
+    record { txn = record { group = txn.0; transaction = txn.1 }; number = named.1; body = body }
 
 -- `bytes` is the contents of `apdu`, which has type `apdu_type` and is in range.
 abbrev IsWhole : ApduType → List ℕ → Apdu → Type 0
@@ -328,9 +331,12 @@ inside_takes values apdu_type left apdu fits e =
     let second = whole_body_takes values apdu_type prefix.value.1 body.value first.2 body.given in
     let whole : left.bytes ≡ contents_of (made prefix.value.0 body.value) =
     first.0 ∙ ap (λ (x : List ℕ). head.spell prefix.value.0 ++ x) second.0 in
+    let in_range = first.1 in
+    let named = in_range.1 in
+    let txn = named.0 in
     let parts : IsApdu (made prefix.value.0 body.value) = record {
-      txn = record { group = first.1.1.0.0; transaction = first.1.1.0.1 };
-      number = first.1.1.1;
+      txn = record { group = txn.0; transaction = txn.1 };
+      number = named.1;
       body = second.1;
     } in
     subst (λ (x : Apdu). IsWhole apdu_type left.bytes x) is (whole, parts, second.2)

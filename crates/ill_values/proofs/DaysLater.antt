@@ -190,9 +190,16 @@ refused_too_many n d is many =
       far.number,
     )))
 
+-- The date `later` of jiff is the day `d`, which is in range.
+record IsReached (d : Date) (later : CivilDate) : Type 0 where
+  in_range : IsDate d
+  same_year : later.year ≡ pos d.year
+  same_month : pos later.month ≡ pos d.month
+  same_day : pos later.day ≡ pos d.day
+
 -- If the number of `later` is that of `d` plus `n`, `later` is `days_later n d`, which is in range.
 reached_same : (n : ℕ) (d : Date) (date later : CivilDate) → IsDate d → IsSame d date
-    → epoch_day later ≡ epoch_day date +ℤ pos n → IsDate (days_later n d) × IsSame (days_later n d) later
+    → epoch_day later ≡ epoch_day date +ℤ pos n → IsReached (days_later n d) later
 unfolding civil_of
 reached_same n d date later is same number =
     let far = days_later_later n d (day_of_date d is) in
@@ -200,14 +207,14 @@ reached_same n d date later is same number =
     let year = year_in_reach (days_later n d) far.is_day (rw (← here) (epoch_day_range later)) in
     let found = date_of_day (days_later n d) far.is_day year in
     let one = epoch_day_injective later (civil_of (days_later n d) found) here in
-    (found, (one.0, ap pos one.1, ap pos one.2))
+    record { in_range = found; same_year = one.0; same_month = ap pos one.1; same_day = ap pos one.2 }
 
 -- If the number of `later` is that of `d` plus `n`, the year of `later` is not negative.
 pub reached_year : (n : ℕ) (d : Date) (date later : CivilDate) → IsDate d → IsSame d date
     → epoch_day later ≡ epoch_day date +ℤ pos n → pos 0 ≤ℤ later.year
 reached_year n d date later is same number =
     let there = reached_same n d date later is same number in
-    rw there.1.0 (omega (arith, signed_arith))
+    rw there.same_year (omega (arith, signed_arith))
 
 -- If the number of `later` is that of `d` plus `n`, `date_of` of its parts returns `day_after n d`.
 pub reached : (n : ℕ) (d : Date) (date later : CivilDate) → IsDate d → IsSame d date
@@ -215,6 +222,7 @@ pub reached : (n : ℕ) (d : Date) (date later : CivilDate) → IsDate d → IsS
     → date_of (unsigned_abs later.year) later.month later.day ≡ day_after n d
 reached n d date later is same number =
     let there = reached_same n d date later is same number in
-    let month : later.month ≡ (days_later n d).month = omega (arith, signed_arith, there.1.1) in
-    let day : later.day ≡ (days_later n d).day = omega (arith, signed_arith, there.1.2) in
-    rw (there.1.0, month, day) (date_made (days_later n d) there.0 ∙ accepted n d there.0.to_9999)
+    let month : later.month ≡ (days_later n d).month = omega (arith, signed_arith, there.same_month) in
+    let day : later.day ≡ (days_later n d).day = omega (arith, signed_arith, there.same_day) in
+    rw (there.same_year, month, day)
+    (date_made (days_later n d) there.in_range ∙ accepted n d there.in_range.to_9999)

@@ -480,7 +480,7 @@ responder_room : (w : DeskParties) → DesksInvariant w → (txn : Qualifiers) (
     → sent_message (sent_for txn w.requester.sent) n ≡ Some a → found_by txn_held txn w.responder.live.held ≡ None
     → nat_lt (length w.responder.live.held) 1000 ≡ false → ⊥
 responder_room w stands txn n a sent none full =
-    let few = stands.counts.0.1 in
+    let few = stands.counts.0 in
     let known = stands.counts.2 in
     let here = (sent_known w stands txn n a sent).0 in
     let absent : is_one_of txn (live_txns w.responder) ≡ false =
@@ -492,7 +492,7 @@ responder_room w stands txn n a sent none full =
           t there
     ] in
     let more = no_more (txn ∷ live_txns w.responder) (live_txns w.requester) (absent, known.0) all in
-    omega (arith, few, more, ltb-false (length w.responder.live.held) 1000 full, length-map w.responder.live.held txn_held)
+    omega (arith, few.1, more, ltb-false (length w.responder.live.held) 1000 full, length-map w.responder.live.held txn_held)
 
 -- If two desks satisfy `DesksInvariant`, no delivery is DeskFull.
 pub finds_room : EachReaches → (w : DeskParties) (role : Who) (txn : Qualifiers) (n : ℕ) → DesksInvariant w

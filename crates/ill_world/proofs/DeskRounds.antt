@@ -321,9 +321,11 @@ module _ (projects : EachProjects) (reaches : EachReaches) (after : EachStands) 
   pub held_apart : (w : DeskParties) (role : Who) → DesksInvariant w
       → AreApart (map txn_of (sides_held (party w role).live).sides)
   held_apart w who.Requester stands =
-      subst AreApart (sym (map-map txn_of (λ (held : DeskEntry). held.side) w.requester.live.held)) stands.counts.0.0
+      let few = stands.counts.0 in
+      subst AreApart (sym (map-map txn_of (λ (held : DeskEntry). held.side) w.requester.live.held)) few.0
   held_apart w who.Responder stands =
-      subst AreApart (sym (map-map txn_of (λ (held : DeskEntry). held.side) w.responder.live.held)) stands.counts.2.0
+      let known = stands.counts.2 in
+      subst AreApart (sym (map-map txn_of (λ (held : DeskEntry). held.side) w.responder.live.held)) known.0
 
   -- In `txn` the half of a round of a desk is the half of a round of its side.
   half_alike : (w : DeskParties) (role : Who) → DesksInvariant w

@@ -166,11 +166,13 @@ answers_on whole broken rest rest_broken trace trace_on count next_count prefix 
     (Err OutOfMemory) text left written answers =
     λ more e.
     let answered = answers more e in
+    let first = answered.0 in
+    let begins = answered.1 in
     let said = ap whole (append_assoc prefix text more) ∙ says (text ++ more) in
     subst (λ (s : Said _). (es : List _) × IsPrefix es s.events × (shown ++ written ≡ trace es)) (sym said) (
-      events ++ answered.0,
-      (answered.1.0, ap (λ es. events ++ es) answered.1.1 ∙ sym (append_assoc events answered.0 answered.1.0)),
-      ap (λ t. shown ++ t) answered.2 ∙ sym (shows answered.0),
+      events ++ first,
+      (begins.0, ap (λ es. events ++ es) begins.1 ∙ sym (append_assoc events first begins.0)),
+      ap (λ t. shown ++ t) answered.2 ∙ sym (shows first),
     )
 
 -- ---- a line, and the rest of the script after it

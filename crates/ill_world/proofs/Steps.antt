@@ -153,8 +153,9 @@ module _ {W E C : Type 0} (play : Play W E C) where
       → n ≤ 100000 → ReadsLine old new bytes (Err fault)
       → Plays play c n w count old new before before (Err fault)
   not_read c n w count old new before bytes Read few read =
+      let line = read.0 in
       let said : reading_from play broken_reading c n bytes ≡ empty_reading =
-      says_rest play broken_reading c n bytes read.0.0 ∙ breaks_nothing c n bytes (within n bytes few read.0.1) in (
+      says_rest play broken_reading c n bytes line.0 ∙ breaks_nothing c n bytes (within n bytes few line.1) in (
         bytes,
         [],
         read.1,

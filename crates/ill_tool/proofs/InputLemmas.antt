@@ -86,7 +86,8 @@ pub piece_on_views : {S T F : Type 0} (handles : Handles S F) (seen : Handles T 
     → HandlesEach handles old piece before result new after
     → HandlesEach seen old piece (view before) result new (view after)
 piece_on_views handles seen view as_seen old piece before (Ok fault) new after is =
-    (is.0, (is.1.0, is.1.1, handled_on_views handles seen view as_seen before after is.1.0 is.1.2))
+    let apdus = is.1 in
+    (is.0, (apdus.0, apdus.1, handled_on_views handles seen view as_seen before after apdus.0 apdus.2))
 piece_on_views handles seen view as_seen old piece before (Err fault) new after is =
     (is.0, fails_as handles seen view as_seen old piece before after fault is.1)
 
@@ -108,9 +109,10 @@ counted_on handles before after [] few is =
     let same : after.0 ≡ before.0 = ap (λ s. s.0) is in
     (omega (arith, same), omega (arith, same, few), ap (λ s. s.1) is)
 counted_on handles before after (apdu ∷ apdus) few is =
+    let next = is.0 in
     let one = is.1 in
-    let on = counted_on handles is.0 after apdus (omega (arith, one.0, one.1)) is.2 in
-    (omega (arith, one.1, on.0), on.1, (is.0.1, one.2, on.2))
+    let on = counted_on handles next after apdus (omega (arith, one.0, one.1)) is.2 in
+    (omega (arith, one.1, on.0), on.1, (next.1, one.2, on.2))
 
 -- `piece` was pushed into the feed `old`, and its APDUs were counted and handled.
 abbrev pub HandlesCounted : {H C : Type 0} → Handles (H × C) ToolFault → FeedState → List ℕ → Counted H × C
@@ -131,6 +133,30 @@ each_counted {H = H} {C = C} handles old feed piece before result new after same
     CountsOn handles (s.0.count, (s.0.handler, s.1)) apdu r (t.0.count, (t.0.handler, t.1))) (CountsOn handles)
     (λ s. (s.0.count, (s.0.handler, s.1))) (λ s t apdu r h. h) old piece before result new after
     (subst (λ (f : FeedState). HandlesCounted handles f piece before result new after) same is)
+
+-- `piece` was pushed after `held`, and gave the APDUs `more`. They were handled, from the state `before` to `after`.
+record IsPushed {S : Type 0} (handles : Handles S ToolFault) (held piece : List ℕ) (before : S) (fault : Option DerFault)
+    (new : FeedState)
+    (after : S) : Type 0 where
+  closed : fault ≡ fault_of new
+  more : List Apdu
+  rest : List ℕ
+  begins : Begins (held ++ piece) more rest
+  leaves : Leaves rest new
+  handled : Handled handles before more after
+
+-- If a counted handler has handled a piece without a fault of its own, `IsPushed` holds with the count.
+pushed_counted : {H C : Type 0} (handles : Handles (H × C) ToolFault) (held : List ℕ) (feed : FeedState) (piece : List ℕ)
+    (before : Counted H × C)
+    (fault : Option DerFault) (new : FeedState) (after : Counted H × C)
+    → feed ≡ Ok held → HandlesCounted handles feed piece before (Ok fault) new after
+    → IsPushed (CountsOn handles) held piece (before.0.count, (before.0.handler, before.1)) fault new
+    (after.0.count, (after.0.handler, after.1))
+pushed_counted handles held feed piece before fault new after same is =
+    let each = each_counted handles (Ok held) feed piece before (Ok fault) new after same is in
+    let apdus = each.1 in
+    let fed = apdus.1 in
+    record { closed = each.0; more = apdus.0; rest = fed.0; begins = fed.1; leaves = fed.2; handled = apdus.2 }
 
 -- ---- lists of APDUs
 
@@ -271,13 +297,13 @@ one_piece_more {H = H} {C = C} handles law old now new before middle after feed 
     let held = so_far.1 in
     let is = so_far.2 in
     let first : H × C = (middle.0.handler, middle.1) in
-    let pushed = each_counted handles (Ok held) feed piece middle (Ok closed) next after is.opened each in
-    let more = pushed.1.0 in
-    let rest = pushed.1.1.0 in
-    let begins = pushed.1.1.1 in
-    let on = counted_on handles (middle.0.count, first) (after.0.count, (after.0.handler, after.1)) more is.few pushed.1.2 in
-    let still = still_open next (sym none ∙ pushed.0) in
-    let leaves = subst (Leaves rest) still.1 pushed.1.1.2 in
+    let pushed = pushed_counted handles held feed piece middle closed next after is.opened each in
+    let more = pushed.more in
+    let rest = pushed.rest in
+    let begins = pushed.begins in
+    let on = counted_on handles (middle.0.count, first) (after.0.count, (after.0.handler, after.1)) more is.few pushed.handled in
+    let still = still_open next (sym none ∙ pushed.closed) in
+    let leaves = subst (Leaves rest) still.1 pushed.leaves in
     let opened : next ≡ Ok rest = still.1 ∙ ap (λ (x : List ℕ). Ok x) leaves.0 in (
       (
         apdus ++ more,
@@ -377,8 +403,8 @@ pub ends_unread : {S : Type 0} (handles : Handles S ToolFault) → ShortLaw
     → Keeps now new → ReadsInput handles old new before (Err Read) after
 ends_unread handles law old now new before after count feed so_far keeps =
     let still = read_nothing handles old now new before after count feed so_far (kept_nothing now new keeps) in
-    ends_held handles law old new before after count feed (Err Read) still.0 still.1 still.2
-    (inl ((still.2.unfinished, refl), refl))
+    let is = still.2 in
+    ends_held handles law old new before after count feed (Err Read) still.0 still.1 is (inl ((is.unfinished, refl), refl))
 
 -- If a push closes the feed with `fault`, the feed `new` is `Err fault`.
 closed_by : (new : FeedState) (fault : DerFault) → Some fault ≡ fault_of new → new ≡ Err fault
@@ -407,12 +433,12 @@ ends_closed {H = H} {C = C} handles law old now new before middle after feed nex
     let held = so_far.1 in
     let is = so_far.2 in
     let first : H × C = (middle.0.handler, middle.1) in
-    let pushed = each_counted handles (Ok held) feed piece middle (Ok closed) next after is.opened each in
-    let more = pushed.1.0 in
-    let rest = pushed.1.1.0 in
-    let begins = pushed.1.1.1 in
-    let on = counted_on handles (middle.0.count, first) (after.0.count, (after.0.handler, after.1)) more is.few pushed.1.2 in
-    let leaves = subst (Leaves rest) (closed_by next fault (sym is_some ∙ pushed.0)) pushed.1.1.2 in (
+    let pushed = pushed_counted handles held feed piece middle closed next after is.opened each in
+    let more = pushed.more in
+    let rest = pushed.rest in
+    let begins = pushed.begins in
+    let on = counted_on handles (middle.0.count, first) (after.0.count, (after.0.handler, after.1)) more is.few pushed.handled in
+    let leaves = subst (Leaves rest) (closed_by next fault (sym is_some ∙ pushed.closed)) pushed.leaves in (
       apdus ++ more,
       rest,
       [],
@@ -455,13 +481,14 @@ ends_failing {H = H} {C = C} handles law old now new before middle after feed ne
     let is = so_far.2 in
     let first : H × C = (middle.0.handler, middle.1) in
     let pushed = each_counted handles (Ok held) feed piece middle (Err fault) next after is.opened each in
-    let more = pushed.1.0 in
-    let apdu = pushed.1.1 in
-    let rest = pushed.1.2 in
-    let state = pushed.1.3 in
-    let begins = pushed.1.4 in
+    let failed = pushed.1 in
+    let more = failed.0 in
+    let apdu = failed.1 in
+    let rest = failed.2 in
+    let state = failed.3 in
+    let begins = failed.4 in
     let text = spelling apdu in
-    let on = counted_on handles (middle.0.count, first) state more is.few pushed.1.5 in
+    let on = counted_on handles (middle.0.count, first) state more is.few failed.5 in
     let all = last_of more apdu begins.spelled in
     let spelled : spellings (more ++ apdu ∷ []) ≡ spellings more ++ text =
     flat_map-append spelling more (apdu ∷ []) ∙ ap (λ (x : List ℕ). spellings more ++ x) (append-nil text) in
@@ -486,6 +513,6 @@ ends_failing {H = H} {C = C} handles law old now new before middle after feed ne
             (record { spelled = all.0; parts = parts });
         handled = handled_join handles before first state.1 apdus more is.handled on.2;
         ended = ends_in_hand handles state (after.0.count, (after.0.handler, after.1)) apdu fault (length (apdus ++ more)) rest
-            new all.1 counted on.1 pushed.1.6;
+            new all.1 counted on.1 failed.6;
       },
     )

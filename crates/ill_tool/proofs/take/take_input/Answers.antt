@@ -5,7 +5,7 @@ use Rattle.ill_tool.specs.Telling.{wording}
 use Rattle.ill_tool.proofs.TakeLemmas.{input_taken}
 use Rattle.ill_tool.proofs.take.take_input.Goals as goal
 
--- Proves the clause `runs` of `take_input` if the input ends well. It is one part of the lemma `input_taken`.
+-- Proves the clause `runs` of `take_input` if the input ends well. The lemma `input_taken` gives it.
 pub returns-in-Ok-clause-runs : goal.returns-in-Ok-clause-runs
 returns-in-Ok-clause-runs g c =
     let taken =
@@ -13,9 +13,9 @@ returns-in-Ok-clause-runs g c =
     (λ k. (g.S.Store.state k.store).failures) g.F.Write.contents g.W.Write.contents _ _
     (c.args.taken.now.handler, c.args.writer.now) (c.handle_input.new.counted.handler, c.handle_input.new.context)
     (Ok c.in-Ok.field-0) c.requires.fine c.in-Ok.ensures in
-    taken.0
+    taken.runs
 
--- Proves the clause `same_keeper` of `take_input` if the input ends well. It is one part of the lemma `input_taken`.
+-- Proves the clause `same_keeper` of `take_input` if the input ends well. The lemma `input_taken` gives it.
 pub returns-in-Ok-clause-same_keeper : goal.returns-in-Ok-clause-same_keeper
 returns-in-Ok-clause-same_keeper g c =
     let taken =
@@ -23,9 +23,9 @@ returns-in-Ok-clause-same_keeper g c =
     (λ k. (g.S.Store.state k.store).failures) g.F.Write.contents g.W.Write.contents _ _
     (c.args.taken.now.handler, c.args.writer.now) (c.handle_input.new.counted.handler, c.handle_input.new.context)
     (Ok c.in-Ok.field-0) c.requires.fine c.in-Ok.ensures in
-    taken.1.0.0
+    taken.same_keeper
 
--- Proves the clause `same_came` of `take_input` if the input ends well. It is one part of the lemma `input_taken`.
+-- Proves the clause `same_came` of `take_input` if the input ends well. The lemma `input_taken` gives it.
 pub returns-in-Ok-clause-same_came : goal.returns-in-Ok-clause-same_came
 returns-in-Ok-clause-same_came g c =
     let taken =
@@ -33,9 +33,9 @@ returns-in-Ok-clause-same_came g c =
     (λ k. (g.S.Store.state k.store).failures) g.F.Write.contents g.W.Write.contents _ _
     (c.args.taken.now.handler, c.args.writer.now) (c.handle_input.new.counted.handler, c.handle_input.new.context)
     (Ok c.in-Ok.field-0) c.requires.fine c.in-Ok.ensures in
-    taken.1.0.1
+    taken.same_came
 
--- Proves the clause `counted` of `take_input` if the input ends well. It is one part of the lemma `input_taken`.
+-- Proves the clause `counted` of `take_input` if the input ends well. The lemma `input_taken` gives it.
 pub returns-in-Ok-clause-counted : goal.returns-in-Ok-clause-counted
 returns-in-Ok-clause-counted g c =
     let taken =
@@ -43,9 +43,9 @@ returns-in-Ok-clause-counted g c =
     (λ k. (g.S.Store.state k.store).failures) g.F.Write.contents g.W.Write.contents _ _
     (c.args.taken.now.handler, c.args.writer.now) (c.handle_input.new.counted.handler, c.handle_input.new.context)
     (Ok c.in-Ok.field-0) c.requires.fine c.in-Ok.ensures in
-    taken.1.1
+    taken.counted
 
--- Proves the clause `runs` of `take_input` if the input ends with a fault. It is one part of the lemma `input_taken`.
+-- Proves the clause `runs` of `take_input` if the input ends with a fault. The lemma `input_taken` gives it.
 pub returns-in-Err-clause-runs : goal.returns-in-Err-clause-runs
 returns-in-Err-clause-runs g c =
     let taken =
@@ -53,10 +53,9 @@ returns-in-Err-clause-runs g c =
     (λ k. (g.S.Store.state k.store).failures) g.F.Write.contents g.W.Write.contents _ _
     (c.args.taken.now.handler, c.args.writer.now) (c.handle_input.new.counted.handler, c.handle_input.new.context)
     (Err c.in-Err.fault) c.requires.fine c.in-Err.ensures in
-    taken.0
+    taken.runs
 
--- Proves the clause `same_keeper` of `take_input` if the input ends with a fault. It is one part of the lemma
--- `input_taken`.
+-- Proves the clause `same_keeper` of `take_input` if the input ends with a fault. The lemma `input_taken` gives it.
 pub returns-in-Err-clause-same_keeper : goal.returns-in-Err-clause-same_keeper
 returns-in-Err-clause-same_keeper g c =
     let taken =
@@ -64,10 +63,9 @@ returns-in-Err-clause-same_keeper g c =
     (λ k. (g.S.Store.state k.store).failures) g.F.Write.contents g.W.Write.contents _ _
     (c.args.taken.now.handler, c.args.writer.now) (c.handle_input.new.counted.handler, c.handle_input.new.context)
     (Err c.in-Err.fault) c.requires.fine c.in-Err.ensures in
-    taken.1.0.0
+    taken.same_keeper
 
--- Proves the clause `same_came` of `take_input` if the input ends with a fault. It is one part of the lemma
--- `input_taken`.
+-- Proves the clause `same_came` of `take_input` if the input ends with a fault. The lemma `input_taken` gives it.
 pub returns-in-Err-clause-same_came : goal.returns-in-Err-clause-same_came
 returns-in-Err-clause-same_came g c =
     let taken =
@@ -75,10 +73,9 @@ returns-in-Err-clause-same_came g c =
     (λ k. (g.S.Store.state k.store).failures) g.F.Write.contents g.W.Write.contents _ _
     (c.args.taken.now.handler, c.args.writer.now) (c.handle_input.new.counted.handler, c.handle_input.new.context)
     (Err c.in-Err.fault) c.requires.fine c.in-Err.ensures in
-    taken.1.0.1
+    taken.same_came
 
--- Proves the clause `counted` of `take_input` if the input ends with a fault. It is one part of the lemma
--- `input_taken`.
+-- Proves the clause `counted` of `take_input` if the input ends with a fault. The lemma `input_taken` gives it.
 pub returns-in-Err-clause-counted : goal.returns-in-Err-clause-counted
 returns-in-Err-clause-counted g c =
     let taken =
@@ -86,4 +83,4 @@ returns-in-Err-clause-counted g c =
     (λ k. (g.S.Store.state k.store).failures) g.F.Write.contents g.W.Write.contents _ _
     (c.args.taken.now.handler, c.args.writer.now) (c.handle_input.new.counted.handler, c.handle_input.new.context)
     (Err c.in-Err.fault) c.requires.fine c.in-Err.ensures in
-    taken.1.1
+    taken.counted

@@ -161,11 +161,10 @@ body_of apdu_type left = read_body apdu_type left >>= λ body. ended body.1 >>= 
 unfoldable pub inside_of : ApduType → Cursor → Result Apdu DerFault
 inside_of apdu_type left =
     head.read left >>= λ prefix. body_of apdu_type prefix.1 >>= λ body.
-    Ok (record {
-      txn = record { group = prefix.0.1.0.0; transaction = prefix.0.1.0.1 };
-      number = prefix.0.1.1;
-      body = body;
-    })
+    let version_and_ids = prefix.0 in
+    let ids = version_and_ids.1 in
+    let txn = ids.0 in
+    Ok (record { txn = record { group = txn.0; transaction = txn.1 }; number = ids.1; body = body })
 
 -- Returns the APDU with which `bytes` begins, and the bytes after it, or the first fault.
 unfoldable pub apdu_at : List ℕ → Result (Apdu × List ℕ) DerFault

@@ -29,7 +29,9 @@ use Rattle.ill_saved.specs.Layout.{optional_number, mark, text_size, counted_tex
 use Rattle.ill_saved.specs.Layout.{read_all, counted_by, counted}
 use Rattle.ill_saved.specs.Records.{state_code, state_with, state_in, role_octet, role_with, role}
 use Rattle.ill_saved.specs.Ranges.{Each}
-use Rattle.ill_saved.proofs.Steps.{bind_ok, passed, went_on, chosen, ok_is, found_with, IsBytes-take, IsBytes-rest}
+use Rattle.ill_der.proofs.Chains.{bind_ok, passed, went_on, chosen, ok_is}
+use Rattle.ill_der.proofs.ContentsLaws.{found_with}
+use Rattle.ill_saved.proofs.Steps.{IsBytes-take, IsBytes-rest}
 
 -- The laws of the crates below on dates, qualifiers and APDUs.
 -- A valid date is read from its text, and an APDU from its encoding. A qualifier has 1 to 64 bytes.
@@ -82,17 +84,18 @@ sized_takes {V} P n contents is left v rest fits e =
     let whole : List ℕ × Cursor = (take n left.bytes, cursor_at (left.at + n) (drop n left.bytes)) in
     let part = bind_ok (bytes_at n left) (λ part. value_at left.at (contents.read part.0) >>= λ value. Ok (value, part.1))
     (v, rest) e in
-    let found = bind_ok (value_at left.at (contents.read part.0.0)) (λ value. Ok (value, part.0.1)) (v, rest) part.2 in
-    let both : (found.0, part.0.1) ≡ (v, rest) = ok_is (found.0, part.0.1) (v, rest) found.2 in
-    let there = went_on (ltb (length left.bytes) n) (Ok whole) Short part.0 part.1 in
-    let taken : whole ≡ part.0 = ok_is whole part.0 there.1 in
+    let found = bind_ok (value_at left.at (contents.read part.value.0)) (λ value. Ok (value, part.value.1)) (v, rest)
+    part.follows in
+    let both : (found.value, part.value.1) ≡ (v, rest) = ok_is (found.value, part.value.1) (v, rest) found.follows in
+    let there = went_on (ltb (length left.bytes) n) (Ok whole) Short part.value part.given in
+    let taken : whole ≡ part.value = ok_is whole part.value there.1 in
     let read = ap (λ (p : List ℕ × Cursor). contents.read p.0) taken
-    ∙ value_found left.at (contents.read part.0.0) found.0 found.1 in
-    let value = is.takes (take n left.bytes) found.0 (IsBytes-take n left.bytes fits)
+    ∙ value_found left.at (contents.read part.value.0) found.value found.given in
+    let value = is.takes (take n left.bytes) found.value (IsBytes-take n left.bytes fits)
     (length-take-le n left.bytes (ltb-false (length left.bytes) n there.0)) read in
-    let parts : left.bytes ≡ contents.spell found.0 ++ part.0.1.bytes =
+    let parts : left.bytes ≡ contents.spell found.value ++ part.value.1.bytes =
     sym (take-append-drop n left.bytes) ∙ ap (λ (x : List ℕ). x ++ drop n left.bytes) value.0
-    ∙ ap (λ (p : List ℕ × Cursor). contents.spell found.0 ++ p.1.bytes) taken in
+    ∙ ap (λ (p : List ℕ × Cursor). contents.spell found.value ++ p.1.bytes) taken in
     subst (λ (x : V × Cursor). Takes (sized n contents) P left.bytes x.0 x.1.bytes) both (parts, value.1)
 
 -- A value that satisfies `P` is read from its encoding by its field of `n` bytes.
@@ -247,12 +250,13 @@ followed_takes : {V W : Type 0} (P : V → Type 0) (Q : W → Type 0) (f : Field
     → Takes (followed_by f g) (Both P Q) left.bytes v rest.bytes
 followed_takes {V} {W} P Q f g fs gs left v rest fits e =
     let a = bind_ok (f.read left) (λ a. g.read a.1 >>= λ b. Ok ((a.0, b.0), b.1)) (v, rest) e in
-    let b = bind_ok (g.read a.0.1) (λ b. Ok ((a.0.0, b.0), b.1)) (v, rest) a.2 in
-    let both : ((a.0.0, b.0.0), b.0.1) ≡ (v, rest) = ok_is ((a.0.0, b.0.0), b.0.1) (v, rest) b.2 in
-    let first = fs.takes left a.0.0 a.0.1 fits a.1 in
-    let second = gs.takes a.0.1 b.0.0 b.0.1 (rest_fits P f fs left a.0.0 a.0.1 fits a.1) b.1 in
-    let parts : left.bytes ≡ (f.spell a.0.0 ++ g.spell b.0.0) ++ b.0.1.bytes =
-    first.0 ∙ ap (λ (x : List ℕ). f.spell a.0.0 ++ x) second.0 ∙ sym (append_assoc (f.spell a.0.0) (g.spell b.0.0) b.0.1.bytes) in
+    let b = bind_ok (g.read a.value.1) (λ b. Ok ((a.value.0, b.0), b.1)) (v, rest) a.follows in
+    let both : ((a.value.0, b.value.0), b.value.1) ≡ (v, rest) = ok_is ((a.value.0, b.value.0), b.value.1) (v, rest) b.follows in
+    let first = fs.takes left a.value.0 a.value.1 fits a.given in
+    let second = gs.takes a.value.1 b.value.0 b.value.1 (rest_fits P f fs left a.value.0 a.value.1 fits a.given) b.given in
+    let parts : left.bytes ≡ (f.spell a.value.0 ++ g.spell b.value.0) ++ b.value.1.bytes =
+    first.0 ∙ ap (λ (x : List ℕ). f.spell a.value.0 ++ x) second.0
+    ∙ sym (append_assoc (f.spell a.value.0) (g.spell b.value.0) b.value.1.bytes) in
     subst (λ (x : (V × W) × Cursor). Takes (followed_by f g) (Both P Q) left.bytes x.0 x.1.bytes) both
     (parts, (first.1, second.1))
 
@@ -290,10 +294,12 @@ text_takes : (left : Cursor) (v : List ℕ) (rest : Cursor) → IsBytes left.byt
     → Takes counted_text IsQualifier left.bytes v rest.bytes
 text_takes left v rest fits e =
     let size = bind_ok (text_size.read left) (λ size. (sized size.0 qualifier).read size.1) (v, rest) e in
-    let first = text_size_is.takes left size.0.0 size.0.1 fits size.1 in
-    let second = (sized_is _ size.0.0 qualifier (qualifier_sized size.0.0)).takes size.0.1 v rest
-    (rest_fits IsTextSize text_size text_size_is left size.0.0 size.0.1 fits size.1) size.2 in
-    (first.0 ∙ ap (λ (x : List ℕ). size.0.0 ∷ x) second.0 ∙ ap (λ (n : ℕ). n ∷ (v ++ rest.bytes)) (sym second.1.1), second.1.0)
+    let first = text_size_is.takes left size.value.0 size.value.1 fits size.given in
+    let second = (sized_is _ size.value.0 qualifier (qualifier_sized size.value.0)).takes size.value.1 v rest
+    (rest_fits IsTextSize text_size text_size_is left size.value.0 size.value.1 fits size.given) size.follows in (
+      first.0 ∙ ap (λ (x : List ℕ). size.value.0 ∷ x) second.0 ∙ ap (λ (n : ℕ). n ∷ (v ++ rest.bytes)) (sym second.1.1),
+      second.1.0,
+    )
 
 -- A qualifier is read from its length and its bytes.
 text_again : Below → (v : List ℕ) (at : ℕ) (more : List ℕ) → IsQualifier v → ReadsAgain counted_text v at more
@@ -346,9 +352,9 @@ request_takes : Below → (left : Cursor) (v : Apdu) (rest : Cursor) → IsBytes
 request_takes below left v rest fits e =
     let found = bind_ok (apdu.read left) (λ found. cond (is_ill_request found.0.body) (Ok found) (Err (Bad left.at))) (v, rest)
     e in
-    let is = passed (is_ill_request found.0.0.body) (Ok found.0) (Bad left.at) (v, rest) found.2 in
-    let both : found.0 ≡ (v, rest) = ok_is found.0 (v, rest) is.1 in
-    let taken = (apdu_is below).takes left v rest fits (found.1 ∙ ap Ok both) in
+    let is = passed (is_ill_request found.value.0.body) (Ok found.value) (Bad left.at) (v, rest) found.follows in
+    let both : found.value ≡ (v, rest) = ok_is found.value (v, rest) is.1 in
+    let taken = (apdu_is below).takes left v rest fits (found.given ∙ ap Ok both) in
     (taken.0, (taken.1, ap (λ (x : Apdu × Cursor). is_ill_request x.0.body) (sym both) ∙ is.0))
 
 -- An ILL-Request in range is read from its encoding.
@@ -370,21 +376,24 @@ marked_takes : {V : Type 0} (P : V → Type 0) (f : Field V) → IsField P f
 marked_takes {V} P f fs left o rest fits e =
     let is = bind_ok (mark.read left) (λ is. cond is.0 (f.read is.1 >>= λ found. Ok (Some found.0, found.1)) (Ok (None, is.1)))
     (o, rest) e in
-    let first = mark_is.takes left is.0.0 is.0.1 fits is.1 in
-    let after_fits = rest_fits Any mark mark_is left is.0.0 is.0.1 fits is.1 in
-    elim (chosen {A = Result (Option V × Cursor) LayoutFault} is.0.0 (f.read is.0.1 >>= λ found. Ok (Some found.0, found.1))
-    (Ok (None, is.0.1)) (Ok (o, rest)) is.2) [
+    let first = mark_is.takes left is.value.0 is.value.1 fits is.given in
+    let after_fits = rest_fits Any mark mark_is left is.value.0 is.value.1 fits is.given in
+    elim (chosen {A = Result (Option V × Cursor) LayoutFault} is.value.0
+    (f.read is.value.1 >>= λ found. Ok (Some found.0, found.1))
+    (Ok (None, is.value.1)) (Ok (o, rest)) is.follows) [
       | inl h ↦
-          let found = bind_ok (f.read is.0.1) (λ found. Ok (Some found.0, found.1)) (o, rest) h.1 in
-          let both : (Some found.0.0, found.0.1) ≡ (o, rest) = ok_is (Some found.0.0, found.0.1) (o, rest) found.2 in
-          let second = fs.takes is.0.1 found.0.0 found.0.1 after_fits found.1 in
-          let parts : left.bytes ≡ (mark.spell true ++ f.spell found.0.0) ++ found.0.1.bytes =
-          first.0 ∙ ap (λ (b : Bool). mark.spell b ++ is.0.1.bytes) h.0 ∙ ap (λ (x : List ℕ). mark.spell true ++ x) second.0 in
+          let found = bind_ok (f.read is.value.1) (λ found. Ok (Some found.0, found.1)) (o, rest) h.1 in
+          let both : (Some found.value.0, found.value.1) ≡ (o, rest) =
+          ok_is (Some found.value.0, found.value.1) (o, rest) found.follows in
+          let second = fs.takes is.value.1 found.value.0 found.value.1 after_fits found.given in
+          let parts : left.bytes ≡ (mark.spell true ++ f.spell found.value.0) ++ found.value.1.bytes =
+          first.0 ∙ ap (λ (b : Bool). mark.spell b ++ is.value.1.bytes) h.0
+          ∙ ap (λ (x : List ℕ). mark.spell true ++ x) second.0 in
           subst (λ (x : Option V × Cursor). Takes (marked f) (λ o. IfSome o P) left.bytes x.0 x.1.bytes) both (parts, second.1)
       | inr h ↦
-          let both : (None, is.0.1) ≡ (o, rest) = ok_is (None, is.0.1) (o, rest) h.1 in
-          let parts : left.bytes ≡ mark.spell false ++ is.0.1.bytes =
-          first.0 ∙ ap (λ (b : Bool). mark.spell b ++ is.0.1.bytes) h.0 in
+          let both : (None, is.value.1) ≡ (o, rest) = ok_is (None, is.value.1) (o, rest) h.1 in
+          let parts : left.bytes ≡ mark.spell false ++ is.value.1.bytes =
+          first.0 ∙ ap (λ (b : Bool). mark.spell b ++ is.value.1.bytes) h.0 in
           subst (λ (x : Option V × Cursor). Takes (marked f) (λ o. IfSome o P) left.bytes x.0 x.1.bytes) both (parts, tt)
     ]
 
@@ -417,15 +426,17 @@ all_takes {V} P f fs zero left vs rest fits e =
 all_takes {V} P f fs (suc n) left vs rest fits e =
     let first = bind_ok (f.read left) (λ first. read_all f n first.1 >>= λ others. Ok (first.0 ∷ others.0, others.1)) (vs, rest)
     e in
-    let others = bind_ok (read_all f n first.0.1) (λ others. Ok (first.0.0 ∷ others.0, others.1)) (vs, rest) first.2 in
-    let both : (first.0.0 ∷ others.0.0, others.0.1) ≡ (vs, rest) =
-    ok_is (first.0.0 ∷ others.0.0, others.0.1) (vs, rest) others.2 in
-    let one = fs.takes left first.0.0 first.0.1 fits first.1 in
-    let more = all_takes P f fs n first.0.1 others.0.0 others.0.1 (rest_fits P f fs left first.0.0 first.0.1 fits first.1)
-    others.1 in
-    let parts : left.bytes ≡ (f.spell first.0.0 ++ spell_all f.spell others.0.0) ++ others.0.1.bytes =
-    one.0 ∙ ap (λ (x : List ℕ). f.spell first.0.0 ++ x) more.0
-    ∙ sym (append_assoc (f.spell first.0.0) (spell_all f.spell others.0.0) others.0.1.bytes) in
+    let others = bind_ok (read_all f n first.value.1) (λ others. Ok (first.value.0 ∷ others.0, others.1)) (vs, rest)
+    first.follows in
+    let both : (first.value.0 ∷ others.value.0, others.value.1) ≡ (vs, rest) =
+    ok_is (first.value.0 ∷ others.value.0, others.value.1) (vs, rest) others.follows in
+    let one = fs.takes left first.value.0 first.value.1 fits first.given in
+    let more = all_takes P f fs n first.value.1 others.value.0 others.value.1
+    (rest_fits P f fs left first.value.0 first.value.1 fits first.given)
+    others.given in
+    let parts : left.bytes ≡ (f.spell first.value.0 ++ spell_all f.spell others.value.0) ++ others.value.1.bytes =
+    one.0 ∙ ap (λ (x : List ℕ). f.spell first.value.0 ++ x) more.0
+    ∙ sym (append_assoc (f.spell first.value.0) (spell_all f.spell others.value.0) others.value.1.bytes) in
     subst (λ (x : List V × Cursor). (left.bytes ≡ spell_all f.spell x.0 ++ x.1.bytes) × Each P x.0 × (length x.0 ≡ suc n)) both
     (parts, (one.1, more.1), ap suc more.2)
 
@@ -449,10 +460,11 @@ counted_takes : {V : Type 0} (Q : ℕ → Type 0) (P : V → Type 0) (size : Fie
     → (counted_by size f).read left ≡ Ok (vs, rest) → Takes (counted_by size f) (CountedBy Q P) left.bytes vs rest.bytes
 counted_takes Q P size f sizes fs left vs rest fits e =
     let n = bind_ok (size.read left) (λ n. read_all f n.0 n.1) (vs, rest) e in
-    let first = sizes.takes left n.0.0 n.0.1 fits n.1 in
-    let others = all_takes P f fs n.0.0 n.0.1 vs rest (rest_fits Q size sizes left n.0.0 n.0.1 fits n.1) n.2 in
+    let first = sizes.takes left n.value.0 n.value.1 fits n.given in
+    let others = all_takes P f fs n.value.0 n.value.1 vs rest (rest_fits Q size sizes left n.value.0 n.value.1 fits n.given)
+    n.follows in
     let parts : left.bytes ≡ (size.spell (length vs) ++ spell_all f.spell vs) ++ rest.bytes =
-    first.0 ∙ ap (λ (x : List ℕ). size.spell n.0.0 ++ x) others.0
+    first.0 ∙ ap (λ (x : List ℕ). size.spell n.value.0 ++ x) others.0
     ∙ ap (λ (m : ℕ). size.spell m ++ (spell_all f.spell vs ++ rest.bytes)) (sym others.2)
     ∙ sym (append_assoc (size.spell (length vs)) (spell_all f.spell vs) rest.bytes) in
     (parts, (others.1, subst Q (sym others.2) first.1))

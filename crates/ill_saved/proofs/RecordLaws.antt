@@ -35,7 +35,7 @@ use Rattle.ill_saved.specs.Records.{requester_rest, responder_rest, requester_fi
 use Rattle.ill_saved.specs.Records.{spell_start, spell_fields, record_spelling, read_requester, read_responder, read_fields}
 use Rattle.ill_saved.specs.Records.{side_at, side_spelled, record_at, state_in}
 use Rattle.ill_saved.specs.Ranges.{IsInRange, IsSide}
-use Rattle.ill_saved.proofs.Steps.{bind_ok, chosen, passed, ok_is}
+use Rattle.ill_der.proofs.Chains.{bind_ok, chosen, passed, ok_is}
 use Rattle.ill_saved.proofs.Fields.{Below, IsField, Any, Both, Counted, IsAmong, IsRequest, rest_fits, sized_is, constant_is}
 use Rattle.ill_saved.proofs.Fields.{optional_number_is, mark_is, role_is, state_is, followed_is, counted_text_is, apdu_is}
 use Rattle.ill_saved.proofs.Fields.{ill_request_is, marked_is, counted_is}
@@ -169,19 +169,26 @@ requester_takes : Below → (left : Cursor) (side : Side) (rest : Cursor) → Is
     → read_requester left ≡ Ok (side, rest) → ReadsSide roles.Requester left side rest
 requester_takes below left side rest fits e =
     let fields = bind_ok (requester_fields.read left) _ (side, rest) e in
-    let both = ok_is _ (side, rest) fields.2 in
-    let is = (requester_fields_is below).takes left fields.0.0 fields.0.1 fits fields.1 in
+    let both = ok_is _ (side, rest) fields.follows in
+    let is = (requester_fields_is below).takes left fields.value.0 fields.value.1 fits fields.given in
+    let range = is.1 in
+    let heading = range.0 in
+    let txn = heading.1 in
+    let from_held = range.1 in
+    let from_mark = from_held.1 in
+    let from_due = from_mark.1 in
+    let from_issued = from_due.1 in
     subst (λ (x : Side × Cursor). ReadsSide roles.Requester left x.0 x.1) both (
       refl,
       is.0,
       record {
         parts = record {
-          txn = record { group = is.1.0.1.0; transaction = is.1.0.1.1 };
-          held = is.1.1.0;
-          due = is.1.1.1.1.0;
+          txn = record { group = txn.0; transaction = txn.1 };
+          held = from_held.0;
+          due = from_due.0;
         };
-        issued = is.1.1.1.1.1.0;
-        few = omega (arith, is.1.1.1.1.1.1);
+        issued = from_issued.0;
+        few = omega (arith, from_issued.1);
       },
     )
 
@@ -190,21 +197,30 @@ responder_takes : Below → (left : Cursor) (side : Side) (rest : Cursor) → Is
     → read_responder left ≡ Ok (side, rest) → ReadsSide roles.Responder left side rest
 responder_takes below left side rest fits e =
     let fields = bind_ok (responder_fields.read left) _ (side, rest) e in
-    let both = ok_is _ (side, rest) fields.2 in
-    let is = (responder_fields_is below).takes left fields.0.0 fields.0.1 fits fields.1 in
+    let both = ok_is _ (side, rest) fields.follows in
+    let is = (responder_fields_is below).takes left fields.value.0 fields.value.1 fits fields.given in
+    let range = is.1 in
+    let heading = range.0 in
+    let txn = heading.1 in
+    let from_accepted = range.1 in
+    let from_cancel = from_accepted.1 in
+    let from_renew = from_cancel.1 in
+    let from_received = from_renew.1 in
+    let from_request = from_received.1 in
+    let from_issued = from_request.1 in
     subst (λ (x : Side × Cursor). ReadsSide roles.Responder left x.0 x.1) both (
       refl,
       is.0,
       record {
         parts = record {
-          txn = record { group = is.1.0.1.0; transaction = is.1.0.1.1 };
-          accepted = is.1.1.0;
-          last_cancel = is.1.1.1.0;
-          last_renew = is.1.1.1.1.0;
-          request = request_in_range _ is.1.1.1.1.1.1.0;
+          txn = record { group = txn.0; transaction = txn.1 };
+          accepted = from_accepted.0;
+          last_cancel = from_cancel.0;
+          last_renew = from_renew.0;
+          request = request_in_range _ from_request.0;
         };
-        issued = is.1.1.1.1.1.1.1.0;
-        few = omega (arith, is.1.1.1.1.1.1.1.1);
+        issued = from_issued.0;
+        few = omega (arith, from_issued.1);
       },
     )
 
@@ -225,17 +241,19 @@ pub side_takes : Below → (bytes : List ℕ) (side : Side) → IsBytes bytes �
 unfolding side_spelled record_spelling
 side_takes below bytes side fits e =
     let begun = bind_ok (start.read (cursor_at 0 bytes)) (λ start. side_at start.0.1 start.1) side e in
-    let first = start_is.takes (cursor_at 0 bytes) begun.0.0 begun.0.1 fits begun.1 in
-    let after_fits = rest_fits _ start start_is (cursor_at 0 bytes) begun.0.0 begun.0.1 fits begun.1 in
-    let found = bind_ok (read_fields begun.0.0.1 begun.0.1) (λ found. ended found.1 >>= λ _. Ok found.0) side begun.2 in
-    let last = bind_ok (ended found.0.1) (λ _. Ok found.0.0) side found.2 in
-    let same : found.0.0 ≡ side = ok_is found.0.0 side last.2 in
-    let fields = fields_take below begun.0.0.1 begun.0.1 found.0.0 found.0.1 after_fits found.1 in
-    let parts : bytes ≡ spell_start (role_of found.0.0) ++ spell_fields found.0.0 =
-    first.0 ∙ ap (λ (r : Role). spell_start r ++ begun.0.1.bytes) (sym fields.0)
-    ∙ ap (λ (x : List ℕ). spell_start (role_of found.0.0) ++ x)
-    (fields.1 ∙ ap (λ (x : List ℕ). spell_fields found.0.0 ++ x) (ends found.0.1 last.0 last.1)
-    ∙ append-nil (spell_fields found.0.0)) in
+    let version_and_role = begun.value.0 in
+    let first = start_is.takes (cursor_at 0 bytes) begun.value.0 begun.value.1 fits begun.given in
+    let after_fits = rest_fits _ start start_is (cursor_at 0 bytes) begun.value.0 begun.value.1 fits begun.given in
+    let found = bind_ok (read_fields version_and_role.1 begun.value.1) (λ found. ended found.1 >>= λ _. Ok found.0) side
+    begun.follows in
+    let last = bind_ok (ended found.value.1) (λ _. Ok found.value.0) side found.follows in
+    let same : found.value.0 ≡ side = ok_is found.value.0 side last.follows in
+    let fields = fields_take below version_and_role.1 begun.value.1 found.value.0 found.value.1 after_fits found.given in
+    let parts : bytes ≡ spell_start (role_of found.value.0) ++ spell_fields found.value.0 =
+    first.0 ∙ ap (λ (r : Role). spell_start r ++ begun.value.1.bytes) (sym fields.0)
+    ∙ ap (λ (x : List ℕ). spell_start (role_of found.value.0) ++ x)
+    (fields.1 ∙ ap (λ (x : List ℕ). spell_fields found.value.0 ++ x) (ends found.value.1 last.value last.given)
+    ∙ append-nil (spell_fields found.value.0)) in
     subst (λ (x : Side). (bytes ≡ spell_start (role_of x) ++ spell_fields x) × IsInRange x) same (parts, fields.2)
 
 -- A state that is not IN-PROCESS or CHECKED-IN is among the states of a requester.

@@ -12,7 +12,7 @@ use Rattle.ill_saved.specs.Side.{is_consistent, IsConsistent}
 use Rattle.ill_saved.specs.Records.{start, side_at, side_spelled, consistent_side, record_at, has_prefix, has_prefix_after}
 use Rattle.ill_saved.specs.Records.{begins_as_record, Decodes, record_spelling}
 use Rattle.ill_saved.specs.Ranges.{IsSide}
-use Rattle.ill_saved.proofs.Steps.{ok_is}
+use Rattle.ill_der.proofs.Chains.{ok_is}
 
 -- If a version and a role are read first, an answer that is right for the rest is right for the whole record.
 pub decodes_after : (bytes : List ℕ) (first left : Cursor) (found role : Role) (result : Result Side RecordFault)

@@ -30,7 +30,8 @@ use Rattle.ill_saved.specs.RecordsV2.{version_2, two_octets, few_sides, side_cou
 use Rattle.ill_saved.specs.RecordsV2.{body_of, sides_spelling, body, unsealed, consistent_sides, sides_at, read_alone}
 use Rattle.ill_saved.specs.RecordsV2.{is_version_1, records_at, AreSides}
 use Rattle.ill_saved.specs.Ranges.{IsSide}
-use Rattle.ill_saved.proofs.Steps.{bind_ok, ok_is, passed, went_on, IsBytes-take, IsBytes-rest}
+use Rattle.ill_der.proofs.Chains.{bind_ok, ok_is, passed, went_on}
+use Rattle.ill_saved.proofs.Steps.{IsBytes-take, IsBytes-rest}
 use Rattle.ill_saved.proofs.Fields.{ReadsAgain, Takes, IsField, IsSized, Any, Both, CountedBy, rest_fits, sized_is, followed_is}
 use Rattle.ill_saved.proofs.Fields.{counted_by_is, role_is}
 
@@ -109,13 +110,13 @@ part_takes : OneRecord → (left : Cursor) (side : Side) (rest : Cursor) → IsB
 part_takes one left side rest fits e =
     let size = bind_ok (bad_at left.at (two_octets.read left)) (λ size. bad_at size.1.at ((sized size.0 one_record).read size.1))
     (side, rest) e in
-    let read = good_at left.at (two_octets.read left) size.0 size.1 in
-    let first = two_octets_is.takes left size.0.0 size.0.1 fits read in
-    let after_fits = rest_fits (λ n. n < 65536) two_octets two_octets_is left size.0.0 size.0.1 fits read in
-    let second = (sized_is _ size.0.0 one_record (record_sized one size.0.0)).takes size.0.1 side rest after_fits
-    (good_at size.0.1.at _ (side, rest) size.2) in
+    let read = good_at left.at (two_octets.read left) size.value size.given in
+    let first = two_octets_is.takes left size.value.0 size.value.1 fits read in
+    let after_fits = rest_fits (λ n. n < 65536) two_octets two_octets_is left size.value.0 size.value.1 fits read in
+    let second = (sized_is _ size.value.0 one_record (record_sized one size.value.0)).takes size.value.1 side rest after_fits
+    (good_at size.value.1.at _ (side, rest) size.follows) in
     let parts : left.bytes ≡ (two_octets.spell (length (record_spelling side)) ++ record_spelling side) ++ rest.bytes =
-    first.0 ∙ ap (λ (x : List ℕ). two_octets.spell size.0.0 ++ x) second.0
+    first.0 ∙ ap (λ (x : List ℕ). two_octets.spell size.value.0 ++ x) second.0
     ∙ ap (λ (n : ℕ). two_octets.spell n ++ (record_spelling side ++ rest.bytes)) (sym second.1.1)
     ∙ sym (append_assoc (two_octets.spell (length (record_spelling side))) (record_spelling side) rest.bytes) in
     (parts, second.1.0)
@@ -222,12 +223,12 @@ sides_take one octets held fits e =
     let judged = judged_is (all_of (role_and_sides.read (cursor_at 4 octets))) held e in
     let found = bind_ok (role_and_sides.read (cursor_at 4 octets)) (λ found. ended found.1 >>= λ _. Ok found.0)
     (held.role, held.sides) judged.0 in
-    let last = bind_ok (ended found.0.1) (λ _. Ok found.0.0) (held.role, held.sides) found.2 in
-    let same : found.0.0 ≡ (held.role, held.sides) = ok_is found.0.0 (held.role, held.sides) last.2 in
-    let is = (role_and_sides_is one).takes (cursor_at 4 octets) found.0.0 found.0.1 fits found.1 in
+    let last = bind_ok (ended found.value.1) (λ _. Ok found.value.0) (held.role, held.sides) found.follows in
+    let same : found.value.0 ≡ (held.role, held.sides) = ok_is found.value.0 (held.role, held.sides) last.follows in
+    let is = (role_and_sides_is one).takes (cursor_at 4 octets) found.value.0 found.value.1 fits found.given in
     let spelled : octets ≡ octets_of held =
-    is.0 ∙ ap (λ (x : List ℕ). role_and_sides.spell found.0.0 ++ x) (ends found.0.1 last.0 last.1)
-    ∙ append-nil (role_and_sides.spell found.0.0) ∙ ap role_and_sides.spell same in
+    is.0 ∙ ap (λ (x : List ℕ). role_and_sides.spell found.value.0 ++ x) (ends found.value.1 last.value last.given)
+    ∙ append-nil (role_and_sides.spell found.value.0) ∙ ap role_and_sides.spell same in
     let parts : Both Any ManySides (held.role, held.sides) = subst (Both Any ManySides) same is.1 in
     (spelled, record { held = judged.1; each = parts.1.0; few = parts.1.1 })
 
@@ -271,8 +272,8 @@ spelled one bytes held fits another e =
     let many : (unsealed bytes >>= sides_at) ≡ Ok held =
     sym (ap (λ b. cond b (read_alone (record_at bytes)) (unsealed bytes >>= sides_at)) another) ∙ e in
     let octets = bind_ok (unsealed bytes) sides_at held many in
-    let sealed = unsealed_is bytes octets.0 fits octets.1 in
-    let is = sides_take one octets.0 held sealed.1 octets.2 in
+    let sealed = unsealed_is bytes octets.value fits octets.given in
+    let is = sides_take one octets.value held sealed.1 octets.follows in
     (sealed.0 ∙ ap (λ (x : List ℕ). (version_2 ++ x) ++ sha256 (version_2 ++ x)) is.0, is.1)
 
 -- If sides that may be saved are read from their encoding, such sides with equal encodings are equal.

@@ -24,7 +24,7 @@ use Rattle.ill_saved.specs.Records.{begins_as_record, Decodes}
 use Rattle.ill_saved.specs.RecordsV2.{part, side_count, role_and_sides, unsealed, together, consistent_sides, sides_at}
 use Rattle.ill_saved.specs.RecordsV2.{read_alone}
 use Rattle.ill_saved.specs.RecordsV2.{is_version_1, counts_any, has_sides, records_at, begins_as_records, PutsRead}
-use Rattle.ill_saved.proofs.Steps.{bind_ok}
+use Rattle.ill_der.proofs.Chains.{bind_ok}
 use Rattle.ill_saved.proofs.Records.{judged_ok}
 use Rattle.ill_saved.proofs.Finding.{apart_back}
 
@@ -115,12 +115,12 @@ ok_begins (Err fault) f w e = absurd cc
 fields_begin : (r : Role) (left : Cursor) (side : Side) → side_at r left ≡ Ok side → has_prefix r left ≡ true
 fields_begin roles.Requester left side e =
     let found = bind_ok (read_fields roles.Requester left) _ side e in
-    let fields = bind_ok (requester_fields.read left) _ found.0 found.1 in
-    ok_begins ((heading requester_states).read left) _ fields.0 fields.1
+    let fields = bind_ok (requester_fields.read left) _ found.value found.given in
+    ok_begins ((heading requester_states).read left) _ fields.value fields.given
 fields_begin roles.Responder left side e =
     let found = bind_ok (read_fields roles.Responder left) _ side e in
-    let fields = bind_ok (responder_fields.read left) _ found.0 found.1 in
-    ok_begins ((heading responder_states).read left) _ fields.0 fields.1
+    let fields = bind_ok (responder_fields.read left) _ found.value found.given in
+    ok_begins ((heading responder_states).read left) _ fields.value fields.given
 
 -- If bytes are read as a side, they begin as a record.
 read_begins : (bytes : List ℕ) (side : Side) → record_at bytes ≡ Ok side → begins_as_record bytes ≡ true
@@ -128,7 +128,8 @@ unfolding record_at side_spelled begins_as_record
 read_begins bytes side e =
     let read = judged_ok (side_spelled bytes) side e in
     let begun = bind_ok (start.read (cursor_at 0 bytes)) (λ start. side_at start.0.1 start.1) side read.0 in
-    ap has_prefix_after begun.1 ∙ fields_begin begun.0.0.1 begun.0.1 side begun.2
+    let version_and_role = begun.value.0 in
+    ap has_prefix_after begun.given ∙ fields_begin version_and_role.1 begun.value.1 side begun.follows
 
 -- Each role is equal to itself.
 own_role : (r : Role) → is_same_role r r ≡ true

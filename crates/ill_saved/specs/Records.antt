@@ -167,11 +167,15 @@ record_spelling side = spell_start (role_of side) ++ spell_fields side
 abbrev pub read_requester : Cursor → Result (Side × Cursor) LayoutFault
 read_requester left =
     requester_fields.read left >>= λ found.
-    let heading = found.0.0 in
-    let rest = found.0.1 in
+    let fields = found.0 in
+    let heading = fields.0 in
+    let txn = heading.1 in
+    let from_held = fields.1 in
+    let from_mark = from_held.1 in
+    let from_due = from_mark.1 in
     Ok (
-      sides.Requester (requester_of (record { group = heading.1.0; transaction = heading.1.1 }) heading.0
-          rest.0 rest.1.0 rest.1.1.0 rest.1.1.1),
+      sides.Requester (requester_of (record { group = txn.0; transaction = txn.1 }) heading.0
+          from_held.0 from_mark.0 from_due.0 from_due.1),
       found.1,
     )
 
@@ -179,11 +183,17 @@ read_requester left =
 abbrev pub read_responder : Cursor → Result (Side × Cursor) LayoutFault
 read_responder left =
     responder_fields.read left >>= λ found.
-    let heading = found.0.0 in
-    let rest = found.0.1 in
+    let fields = found.0 in
+    let heading = fields.0 in
+    let txn = heading.1 in
+    let from_accepted = fields.1 in
+    let from_cancel = from_accepted.1 in
+    let from_renew = from_cancel.1 in
+    let from_received = from_renew.1 in
+    let from_request = from_received.1 in
     Ok (
-      sides.Responder (responder_of (record { group = heading.1.0; transaction = heading.1.1 }) heading.0
-          rest.0 rest.1.0 rest.1.1.0 rest.1.1.1.0 rest.1.1.1.1.0 rest.1.1.1.1.1),
+      sides.Responder (responder_of (record { group = txn.0; transaction = txn.1 }) heading.0
+          from_accepted.0 from_cancel.0 from_renew.0 from_received.0 from_request.0 from_request.1),
       found.1,
     )
 

@@ -58,34 +58,34 @@ _ill_parts() {
   case $1 in
     '') parts=(command) options='--explain --help --version' ;;
     help) parts=(command) options='' ;;
-    new) parts=(file role) options='--help' ;;
-    act) parts=(file loan loan words) options='--today --help' ;;
-    list) parts=(files) options='--open --mine --today --due-before --state --json --help' ;;
-    loan) parts=(file loan loan) options='--picture --json --help' ;;
-    status) parts=(file) options='--json --help' ;;
-    report) parts=(files) options='--today --help' ;;
-    take) parts=(file) options='--long --keep --help' ;;
-    send) parts=(file loan loan none) options='--help' ;;
-    inbox) parts=(file folder) options='--help' ;;
-    outbox) parts=(file folder) options='--stream --help' ;;
-    exchange) parts=(file folder folder) options='--today --overdue --expire --copy --beat --help' ;;
-    verify) parts=(file) options='--help' ;;
-    show) parts=() options='--json --help' ;;
-    check) parts=() options='--help' ;;
-    simulate) parts=(none none) options='--help' ;;
-    simulate-desks) parts=() options='--help' ;;
-    shelf-) parts=(shelf-command) options='--help' ;;
+    new) parts=(file role) options='--explain --help' ;;
+    act) parts=(file loan loan words) options='--today --explain --help' ;;
+    list) parts=(files) options='--open --mine --today --due-before --state --json --explain --help' ;;
+    loan) parts=(file loan loan) options='--picture --json --explain --help' ;;
+    status) parts=(file) options='--json --explain --help' ;;
+    report) parts=(files) options='--today --explain --help' ;;
+    take) parts=(file) options='--long --keep --explain --help' ;;
+    send) parts=(file loan loan none) options='--explain --help' ;;
+    inbox) parts=(file folder) options='--explain --help' ;;
+    outbox) parts=(file folder) options='--stream --explain --help' ;;
+    exchange) parts=(file folder folder) options='--today --overdue --expire --copy --beat --explain --help' ;;
+    verify) parts=(file) options='--explain --help' ;;
+    show) parts=() options='--json --explain --help' ;;
+    check) parts=() options='--explain --help' ;;
+    simulate) parts=(none none) options='--explain --help' ;;
+    simulate-desks) parts=() options='--explain --help' ;;
+    shelf-) parts=(shelf-command) options='--explain --help' ;;
     shelf-help) parts=(shelf-command) options='' ;;
-    shelf-new) parts=(folder role) options='--help' ;;
-    shelf-act) parts=(folder loan loan words) options='--today --new-group --help' ;;
-    shelf-loan) parts=(folder loan loan) options='--picture --json --help' ;;
-    shelf-status) parts=(folder) options='--json --help' ;;
-    shelf-take) parts=(folder) options='--long --keep --help' ;;
-    shelf-send) parts=(folder loan loan none) options='--help' ;;
-    shelf-inbox) parts=(folder folder) options='--help' ;;
-    shelf-outbox) parts=(folder folder) options='--stream --help' ;;
-    shelf-exchange) parts=(folder folder folder) options='--today --overdue --expire --copy --beat --help' ;;
-    shelf-retire) parts=(folder loan) options='--help' ;;
+    shelf-new) parts=(folder role) options='--explain --help' ;;
+    shelf-act) parts=(folder loan loan words) options='--today --new-group --explain --help' ;;
+    shelf-loan) parts=(folder loan loan) options='--picture --json --explain --help' ;;
+    shelf-status) parts=(folder) options='--json --explain --help' ;;
+    shelf-take) parts=(folder) options='--long --keep --explain --help' ;;
+    shelf-send) parts=(folder loan loan none) options='--explain --help' ;;
+    shelf-inbox) parts=(folder folder) options='--explain --help' ;;
+    shelf-outbox) parts=(folder folder) options='--stream --explain --help' ;;
+    shelf-exchange) parts=(folder folder folder) options='--today --overdue --expire --copy --beat --explain --help' ;;
+    shelf-retire) parts=(folder loan) options='--explain --help' ;;
   esac
 }
 
@@ -123,6 +123,7 @@ _ill() {
   local shelf= command= kind offered= wanted=any parts=() options= arguments=()
   _ill_skip --explain
   if _ill_skip shelf; then shelf=shelf-; fi
+  _ill_skip --explain
   local word=${COMP_WORDS[COMP_CWORD]}
   COMPREPLY=()
   if [ "$COMP_CWORD" -gt 1 ]; then command=${COMP_WORDS[1]}; fi

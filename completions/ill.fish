@@ -10,6 +10,9 @@ function __ill_typed
     end
     if test "$words[2]" = shelf; and test (count $words) -gt 2
         set -e words[2]
+        if test "$words[2]" = --explain; and test (count $words) -gt 2
+            set -e words[2]
+        end
         set words[2] shelf-$words[2]
     end
     string join \n -- $words
@@ -146,7 +149,7 @@ complete -c ill -n '__ill_at 1 new shelf-new' -a 'requester responder'
 complete -c ill -n '__ill_at 1 act loan send shelf-act shelf-loan shelf-send shelf-retire' -a '(__ill_loans)'
 complete -c ill -n '__ill_at 2 act loan send shelf-act shelf-loan shelf-send' -a '(__ill_loans)'
 complete -c ill -n '__ill_at 3 act shelf-act' -a '(__ill_words)'
-complete -c ill -n "__ill_option any ''" -l explain -d 'Say more of what is wrong'
+complete -c ill -n "__ill_option any '' new act list loan status report take send inbox outbox exchange verify show check simulate simulate-desks shelf shelf-new shelf-act shelf-loan shelf-status shelf-take shelf-send shelf-inbox shelf-outbox shelf-exchange shelf-retire" -l explain -d 'Say more of what is wrong'
 complete -c ill -n "__ill_option any '' new act list loan status report take send inbox outbox exchange verify show check simulate simulate-desks shelf shelf-new shelf-act shelf-loan shelf-status shelf-take shelf-send shelf-inbox shelf-outbox shelf-exchange shelf-retire" -s h -l help -d 'Print help'
 complete -c ill -n "__ill_option any ''" -s V -l version -d 'Print the version'
 complete -c ill -n '__ill_option day act shelf-act' -l today -x -d 'The day of the action, as 20250301; a responder needs it'

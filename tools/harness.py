@@ -1,4 +1,5 @@
-"""What the tests of the built program share: folders, runs of a program, verdicts, helpers in C, and stops at calls.
+"""What the tests of the built program share: folders, a table, runs of a program, verdicts, helpers in C, and stops at
+calls.
 
 A test compares what has come with what is expected, and tells it with a `Report`: a line `ok: NAME`, or a line
 `FAILED: NAME:` that shows what came. A run is judged by its status and by the bytes of both its streams.
@@ -11,6 +12,7 @@ import dataclasses
 import errno
 import itertools
 import os
+import re
 import shutil
 import signal
 import subprocess
@@ -86,6 +88,25 @@ def build(source, folder, *options):
 def build_stop_nth(folder):
     """Compiles tools/stop-nth.c."""
     return build("stop-nth.c", folder, "-U_FORTIFY_SOURCE")
+
+
+# ---- A table
+
+STATES = ("IDLE PENDING IN-PROCESS CONDITIONAL CANCEL-PENDING CANCELLED NOT-SUPPLIED SHIPPED RECEIVED RENEW/PENDING "
+          "OVERDUE RENEW/OVERDUE NOT-RECEIVED/OVERDUE RECALL RETURNED CHECKED-IN").split()
+STATE = re.compile("|".join(rf"(?<![-/A-Z]){re.escape(state)}(?![-/A-Z])" for state in STATES))
+
+
+def pairs_in_step():
+    """Returns the pairs of states of docs/PROTOCOL.md's table of both sides."""
+    part = read(os.path.join(TOP, "docs", "PROTOCOL.md")).decode()
+    part = part.partition("### A pair of states that is in step")[2].partition("\n#")[0]
+    pairs = set()
+    for line in part.splitlines():
+        cells = [STATE.findall(cell) for cell in line.split("|")[1:3]]
+        if len(cells) == 2:
+            pairs.update(itertools.product(*cells))
+    return pairs
 
 
 # ---- Runs

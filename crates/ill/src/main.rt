@@ -2,15 +2,30 @@
 #![tactic(auto)]
 
 use ill_tool::run_words;
+use std::fs::File;
 use std::io::ErrorKind;
 use std::process::ExitCode;
-use std::{env, io};
+use std::{env, fs, io};
 
 fn main(rt: HostRuntime) -> ExitCode {
-    ExitCode::from(match perform(&rt) {
+    let held = hold_streams(&rt);
+    let status = match perform(&rt) {
         Ok(status) => status,
         Err(error) => refuse(&rt, &error),
-    })
+    };
+    drop(held);
+    ExitCode::from(status)
+}
+
+/// Takes the descriptors of the standard streams that are closed, before any file can get one of them. A stream that was
+/// closed is then empty, and nothing can be written to it. Where there is no `/dev/null`, closed streams stay closed.
+fn hold_streams(rt: &HostRuntime) -> [Option<File>; 3] {
+    [nothing(rt), nothing(rt), nothing(rt)]
+}
+
+/// Opens `/dev/null` for reading.
+fn nothing(rt: &HostRuntime) -> Option<File> {
+    fs::open(rt, "/dev/null").ok()
 }
 
 /// Performs the command line of this process, and returns the exit status.

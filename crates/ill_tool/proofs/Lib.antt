@@ -1,6 +1,7 @@
 pub mod InputLemmas
 pub mod SimulateLemmas
 pub mod ActionLemmas
+pub mod CopyLemmas
 pub mod HeldLemmas
 pub mod ActLemmas
 pub mod StatusLemmas

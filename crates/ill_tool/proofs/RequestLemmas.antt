@@ -1,6 +1,9 @@
 -- Relates the request of a command line to the arguments that the parser has found.
-use Rattle.std.proofs.Common.{rules, ◌≡◌, ℕ, Bool, true, List, Option, Some, None, Result, sym, ap, subst, ◌∙◌}
-use Rattle.std.specs.Prelude.{is_none, Box, option_map}
+use Rattle.std.proofs.Common.{rules, ◌≡◌, ℕ, ◌-◌, Bool, true, false, true≢false, Bor, List, [], ◌∷◌, length, map, take, Option}
+use Rattle.std.proofs.Common.{Some, None, Result, refl, sym, ap, subst, ◌∙◌}
+use Rattle.std.proofs.lemmas.List.{length-map, take-map}
+use Rattle.std.specs.Prelude.{is_none, not, ◌||◌, ◌&&◌, if◌then◌else◌, Box, option_map}
+use Rattle.std.specs.List.{list_any}
 use Rattle.std.specs.Box.{box_value}
 use Rattle.std.specs.Result.{result_ok}
 use Rattle.clap.specs.declared.parser.matches.ArgMatches.{ArgMatches}
@@ -17,9 +20,10 @@ use Rattle.ill_tool.specs.declared.fault.ToolFault.TheVariants.{Arguments, OutOf
 use Rattle.ill_tool.specs.declared.request.Refusal.{Refusal}
 use Rattle.ill_tool.specs.declared.request.Refusal.TheVariants.{Usage, Fault}
 use Rattle.ill_tool.specs.declared.command_line.Argument.{Argument}
-use Rattle.ill_tool.specs.CommandLine.{id_of}
+use Rattle.ill_tool.specs.CommandLine.{id_of, is_option}
 use Rattle.ill_tool.specs.declared.command_line.Argument.TheVariants.{InState}
-use Rattle.ill_tool.specs.Asked.{IsRefusal, text_of, texts_of, day_in, day_said, state_in, state_said}
+use Rattle.ill_tool.specs.Asked.{Asked, Act, IsRefusal, text_of, texts_of, day_in, day_said, state_in, state_said}
+use Rattle.ill_tool.specs.Asked.{end_with_dashes, has_option, said_free, unless_option}
 use Rattle.ill_core.specs.State.{state_named}
 use Rattle.ill_core.specs.declared.state.State.{State}
 
@@ -107,3 +111,48 @@ pub refused_third : {A B C D : Type 0} (first : Option A) (a : A) (second : Opti
 refused_third {A} first a second b third next refusal is also right =
     subst (λ (first : Option A). IsRefusal (is_none (first >>= λ a. second >>= λ b. third >>= next a b)) refusal) (sym is)
     (refused_after second b third (next a) refusal also right)
+
+-- The words before an action end with `--` if and only if their texts do.
+dashes_met : (words action : List (Bor (List ℕ))) (first : ℕ) (met : Bool) → first ≡ length words - length action
+    → met ≡ end_with_dashes (map (λ word. word.now) (take first words))
+    → end_with_dashes (take (length (map (λ word. word.now) words) - length (map (λ word. word.now) action))
+    (map (λ word. word.now) words)) ≡ met
+dashes_met words action first met is ends =
+    let text : Bor (List ℕ) → List ℕ = λ word. word.now in
+    ap (λ (size : ℕ). end_with_dashes (take (size - length (map text action)) (map text words))) (length-map words text)
+    ∙ ap (λ (size : ℕ). end_with_dashes (take (length words - size) (map text words))) (length-map action text)
+    ∙ ap (λ (first : ℕ). end_with_dashes (take first (map text words))) (sym is) ∙ ap end_with_dashes (take-map text first words)
+    ∙ sym ends
+
+-- A test passes for one of the words if and only if it does for one of their texts.
+any_text : (test : List ℕ → Bool) (words : List (Bor (List ℕ)))
+    → list_any test (map (λ word. word.now) words) ≡ list_any (λ (word : Bor (List ℕ)). test word.now) words
+any_text test [] = refl
+any_text test (word ∷ words) = ap (λ (rest : Bool). test word.now || rest) (any_text test words)
+
+-- `has_option` returns true if no `--` was met before the action, and an option was met in it.
+pub options_met : (words action : List (Bor (List ℕ))) (first : ℕ) (met : Bool) → first ≡ length words - length action
+    → met ≡ end_with_dashes (map (λ word. word.now) (take first words))
+    → has_option (map (λ word. word.now) words) (map (λ word. word.now) action)
+    ≡ (not met && list_any (λ (word : Bor (List ℕ)). is_option word.now) action)
+options_met words action first met is ends =
+    let text : Bor (List ℕ) → List ℕ = λ word. word.now in
+    ap (λ (met : Bool). not met && list_any is_option (map text action)) (dashes_met words action first met is ends)
+    ∙ ap (λ (any : Bool). not met && any) (any_text is_option action)
+
+-- A request that `unless_option` returns is the request that it was given.
+let_through : (words : List (List ℕ)) (asked : Asked) → is_none (unless_option words asked) ≡ false
+    → unless_option words asked ≡ Some asked
+let_through words (Act file txn today is_new_group action) is = go (has_option words action) is
+  where
+    go : (has : Bool) → is_none (if has then None else Some (Act file txn today is_new_group action)) ≡ false
+        → (if has then None else Some (Act file txn today is_new_group action)) ≡ Some (Act file txn today is_new_group action)
+    go true is = absurd (true≢false is)
+    go false is = refl
+let_through words other is = refl
+
+-- If no option is among the words of an action, the request is read as it is.
+pub read_whole : (words : List (List ℕ)) (said : Option Asked) (asked : Asked) → said ≡ Some asked
+    → is_none (unless_option words asked) ≡ false → said_free words said ≡ Some asked
+read_whole words said asked is free =
+    ap (said_free words) is ∙ let_through words asked free

@@ -1,7 +1,8 @@
 -- The requests of command lines: each is read from the words after the word of a command (this profile's
 -- own).
 use Rattle.std.specs.Prelude.{◌≡◌, ℕ, Bool, true, false, ◌||◌, if◌then◌else◌, List, map, codes, Option, None, Some, option_map}
-use Rattle.std.specs.Prelude.{is_none, Result, Ok, Err, is_ok}
+use Rattle.std.specs.Prelude.{is_none, Result, Ok, Err, is_ok, ◌-◌, ◌&&◌, not, length, slice_get, take}
+use Rattle.std.specs.List.{list_any}
 use Rattle.std.specs.Result.{result_ok}
 use Rattle.std.specs.Str.{bytes_eq}
 use Rattle.clap.specs.Words.{Row, Text, first_of, all_of}
@@ -29,7 +30,7 @@ use Rattle.ill_tool.specs.declared.command_line.Argument.TheVariants.{NewFile, F
 use Rattle.ill_tool.specs.declared.command_line.Argument.TheVariants.{Words, Number, Long, Keep, Picture, Open, Mine, Json, Paths}
 use Rattle.ill_tool.specs.declared.command_line.Argument.TheVariants.{OnDay, DueBefore, InState, ReportDay, OutFolder, Stream, In}
 use Rattle.ill_tool.specs.declared.command_line.Argument.TheVariants.{Out, NightDay, Overdue, Expire, Copy, Beat, NewGroup}
-use Rattle.ill_tool.specs.CommandLine.{name_read, id_of}
+use Rattle.ill_tool.specs.CommandLine.{name_read, id_of, is_beside, is_option}
 use Rattle.ill_core.specs.State.{state_named}
 
 -- ---- the arguments
@@ -53,14 +54,18 @@ loan_of found = do
   transaction ← text_of Transaction found
   result_ok (txn_id_of group transaction)
 
--- Returns `group` if the Bool is true.
-abbrev pub group_if : Bool → List ℕ → Option (List ℕ)
-group_if true group = Some group
-group_if false group = None
+-- Returns `text` if the Bool is true.
+abbrev pub text_if : Bool → List ℕ → Option (List ℕ)
+text_if true text = Some text
+text_if false text = None
 
 -- Returns the group in the arguments, if it is a valid qualifier.
 abbrev pub group_of : Found → Option (List ℕ)
-group_of found = text_of Group found >>= λ group. group_if (is_ok (qualifier_check group)) group
+group_of found = text_of Group found >>= λ group. text_if (is_ok (qualifier_check group)) group
+
+-- Returns the path of a new desk or shelf, if it has no ending of a file beside a desk.
+abbrev pub new_file_of : Found → Option (List ℕ)
+new_file_of found = text_of NewFile found >>= λ file. text_if (not (is_beside file)) file
 
 -- Returns the texts of an argument that may have several.
 abbrev pub texts_of : Argument → Found → Option (List (List ℕ))
@@ -191,6 +196,17 @@ asked (requests.Report paths today) = Report (map (λ path. path.now) paths.item
 asked (requests.Retire file group) = Retire file.now group.now
 asked (requests.Verify file) = Verify file.now
 
+-- Returns the file of the desk that a request may change, or from which it sends.
+abbrev pub desk_at_stake : Asked → Option (List ℕ)
+desk_at_stake (New file role) = Some file
+desk_at_stake (Act file txn today is_new_group words) = Some file
+desk_at_stake (Take file is_long is_kept) = Some file
+desk_at_stake (Inbox file folder) = Some file
+desk_at_stake (Outbox file folder) = Some file
+desk_at_stake (Exchange file incoming outgoing dates copy beat) = Some file
+desk_at_stake (Send file txn number) = Some file
+desk_at_stake other = None
+
 -- Returns the request of the command with these arguments, if each of them is valid.
 abbrev pub asked_of : Name → Found → Option Asked
 asked_of names.Show found = Some (Show (form_of found))
@@ -201,7 +217,7 @@ asked_of names.Simulate found = do
   Some (Simulate group transaction)
 asked_of names.SimulateDesks found = Some SimulateDesks
 asked_of names.New found = do
-  file ← text_of NewFile found
+  file ← new_file_of found
   role ← role_of found
   Some (New file role)
 asked_of names.Act found = do
@@ -263,6 +279,33 @@ asked_by word found = name_read word >>= λ name. asked_of name found
 abbrev pub asked_in : Option (Text × Found) → Option Asked
 asked_in None = None
 asked_in (Some said) = asked_by said.0 said.1
+
+-- ---- options among the words of an action
+
+-- Returns true if `word` is `--`, after which no word is an option.
+abbrev pub is_dashes : Option (List ℕ) → Bool
+is_dashes None = false
+is_dashes (Some word) = bytes_eq word (codes "--")
+
+-- Returns true if the last of `words` is `--`.
+abbrev pub end_with_dashes : List (List ℕ) → Bool
+end_with_dashes words = is_dashes (slice_get words (length words - 1))
+
+-- Returns true if an option of the program is among the words of an action, with which the command line `words` ends.
+-- If `--` stands right before them, none is an option.
+abbrev pub has_option : (words action : List (List ℕ)) → Bool
+has_option words action =
+    not (end_with_dashes (take (length words - length action) words)) && list_any is_option action
+
+-- Returns the request of the command line `words`, unless an option is among the words of its action.
+abbrev pub unless_option : (words : List (List ℕ)) → Asked → Option Asked
+unless_option words (Act file txn today is_new_group action) =
+    if has_option words action then None else Some (Act file txn today is_new_group action)
+unless_option words other = Some other
+
+-- Returns the request `said`, if there is one, unless an option is among the words of its action.
+abbrev pub said_free : (words : List (List ℕ)) → Option Asked → Option Asked
+said_free words said = said >>= unless_option words
 
 -- ---- the reading of the words
 

@@ -1,5 +1,6 @@
 -- The words of the commands, and the names of their arguments for `clap`.
-use Rattle.std.specs.Prelude.{ℕ, List, [], ◌∷◌, codes, Option, find, bytes_eq}
+use Rattle.std.specs.Prelude.{ℕ, Bool, List, [], ◌∷◌, codes, Option, find, bytes_eq, nat_eq, ◌==◌}
+use Rattle.std.specs.List.{before_first, ends_with, list_any}
 use Rattle.ill_tool.specs.declared.command_line.Name.{Name}
 use Rattle.ill_tool.specs.declared.command_line.Name.TheVariants.{New, Act, Take, Inbox, Outbox, Exchange, Send, Status, Loan}
 use Rattle.ill_tool.specs.declared.command_line.Name.TheVariants.{Report, Retire, Verify, Show, Check, Simulate, SimulateDesks}
@@ -68,3 +69,24 @@ id_of Expire = codes "expire"
 id_of Copy = codes "copy"
 id_of Beat = codes "beat"
 id_of NewGroup = codes "new-group"
+
+-- Returns true if `path` has the ending of what lies beside the file of a desk.
+abbrev pub is_beside : List ℕ → Bool
+is_beside path = list_any (λ ending. ends_with nat_eq path ending)
+    (codes ".new" ∷ codes ".lck" ∷ codes ".came" ∷ codes ".mail" ∷ codes ".retired" ∷ [])
+
+-- All options of the program.
+abbrev pub options : List (List ℕ)
+options =
+    codes "--today" ∷ codes "--due-before" ∷ codes "--state" ∷ codes "--copy" ∷ codes "--beat" ∷ codes "--stream"
+    ∷ codes "--overdue" ∷ codes "--expire" ∷ codes "--long" ∷ codes "--keep" ∷ codes "--picture" ∷ codes "--open"
+    ∷ codes "--mine" ∷ codes "--json" ∷ codes "--new-group" ∷ codes "--explain" ∷ codes "--help" ∷ codes "--version"
+    ∷ codes "-h" ∷ codes "-V" ∷ []
+
+-- Returns `word` before its first `=`, which is the byte 61.
+abbrev pub name_in : List ℕ → List ℕ
+name_in word = before_first (λ byte. byte == 61) word
+
+-- Returns true if `word` is an option of the program, also with a value after `=`.
+abbrev pub is_option : List ℕ → Bool
+is_option word = list_any (λ option. bytes_eq option (name_in word)) options

@@ -1,6 +1,8 @@
 -- The command `inbox`: it takes the mails of a folder in order, and saves the desk once (this profile's own).
 use Rattle.std.specs.Prelude.{◌≡◌, ℕ, nat_lt, Bool, true, false, not, ◌||◌, if◌then◌else◌, List, [], ◌∷◌, ◌++◌, length, fold}
-use Rattle.std.specs.Prelude.{count_by, codes, Option, None, Some, option_map, Result, Ok, Err}
+use Rattle.std.specs.Prelude.{◌-◌, take, count_by, codes, nat_eq, Option, None, Some, option_map, Result, Ok, Err}
+use Rattle.std.specs.List.{starts_with}
+use Rattle.std.specs.Str.{bytes_eq}
 use Rattle.std.specs.Fmt.{decimal}
 use Rattle.ill_values.specs.declared.apdu.Apdu.{Apdu}
 use Rattle.ill_der.specs.declared.fault.DerFault.{DerFault}
@@ -37,6 +39,19 @@ use Rattle.ill_tool.specs.Telling.{as_told, long}
 
 -- ---- the message of a mail
 
+-- Returns true for the bytes of a line end: a line feed (10), perhaps after a carriage return (13).
+abbrev pub is_line_end : List ℕ → Bool
+is_line_end bytes = bytes_eq bytes (10 ∷ []) || bytes_eq bytes (13 ∷ 10 ∷ [])
+
+-- Returns the bytes of a message that was read from `bytes`, if only a line end follows it. Else it returns `bytes`.
+abbrev pub message_before : List ℕ → Result (Apdu × List ℕ) DerFault → List ℕ
+message_before bytes (Ok (a, rest)) = if is_line_end rest then take (length bytes - length rest) bytes else bytes
+message_before bytes (Err fault) = bytes
+
+-- Returns the bytes of a mail without the line end after its message. A program that copies a mail as text may add one.
+abbrev pub without_line_end : List ℕ → List ℕ
+without_line_end bytes = message_before bytes (apdu_at bytes)
+
 -- Returns the only message of a mail. If decoding fails or bytes follow the message, it returns the reason
 -- why no desk takes the mail.
 abbrev pub one_message : Result (Apdu × List ℕ) DerFault → Result Apdu Unfit
@@ -59,6 +74,15 @@ verdict_of role (seen.Plain (outcomes.Refused refusal)) = Aside (unfits.Refused 
 verdict_of Requester seen.NoSuchTransaction = Left delays.NoSuchTransaction
 verdict_of role seen.DeskFull = Left delays.DeskFull
 verdict_of role outcome = Done outcome
+
+-- Returns true if the bytes begin as the record of a desk does, in either version.
+abbrev pub begins_as_record : List ℕ → Bool
+begins_as_record bytes = starts_with nat_eq bytes (codes "ILL1") || starts_with nat_eq bytes (codes "ILL2")
+
+-- Returns the verdict of a mail without a message. The record of a desk came by mistake, so it waits in its
+-- folder. Any other mail is put aside.
+abbrev pub verdict_without_message : List ℕ → Unfit → Verdict
+verdict_without_message bytes unfit = if begins_as_record bytes then Left delays.Record else Aside unfit
 
 -- ---- the words of it
 
@@ -85,6 +109,7 @@ unfit_text (unfits.Refused refusal) = desk_outcome_word (seen.Plain (outcomes.Re
 -- Returns the text of the reason why a mail waits for the next run.
 abbrev pub delay_text : Delay → List ℕ
 delay_text delays.NotRead = codes "not-read"
+delay_text delays.Record = codes "record"
 delay_text delays.NoSuchTransaction = desk_outcome_word seen.NoSuchTransaction
 delay_text delays.DeskFull = desk_outcome_word seen.DeskFull
 
@@ -154,7 +179,7 @@ after_handing effects name bytes a (Err fault, live) old = old
 -- Returns the state after a mail with this message, or with the reason that it has none.
 abbrev pub after_message : {L K : Type 0} → Effects L K → List ℕ → List ℕ → Result Apdu Unfit → Sorting L → Sorting L
 after_message effects name bytes (Ok a) old = after_handing effects name bytes a (handed effects old.live a) old
-after_message effects name bytes (Err unfit) old = with_verdict name (Aside unfit) old
+after_message effects name bytes (Err unfit) old = with_verdict name (verdict_without_message bytes unfit) old
 
 -- Returns the state after a mail with these bytes, or after one that could not be read.
 abbrev pub after_bytes : {L K : Type 0} → Effects L K → List ℕ → Option (List ℕ) → Sorting L → Sorting L

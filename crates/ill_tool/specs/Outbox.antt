@@ -12,6 +12,7 @@ use Rattle.ill_values.specs.TxnId.{Qualifiers}
 use Rattle.ill_values.specs.declared.apdu.Apdu.{Apdu}
 use Rattle.ill_der.specs.ShortForm.{spelling}
 use Rattle.ill_core.specs.Issued.{is_same_txn}
+use Rattle.ill_saved.specs.declared.role.Role.{Role}
 use Rattle.ill_saved.specs.declared.side.Side.{Side}
 use Rattle.ill_saved.specs.declared.fault.DeskFault.TheVariants.{Store}
 use Rattle.ill_saved.specs.declared.store.StoreFault.TheVariants.{Failed}
@@ -76,27 +77,29 @@ pub record Letter : Type 0 where
 abbrev pub line_of : List ℕ → List ℕ
 line_of text = text ++ codes "\n"
 
--- Returns a text that differs from the text of any other loan or role.
-abbrev pub loan_text : Side → List ℕ
-loan_text side =
-    line_of (role_name (role_of side)) ++ (line_of (txn_of side).group ++ line_of (txn_of side).transaction)
+-- Returns a text of the loan `txn` at a desk of the role `role`. It differs from the text of any other loan or role.
+abbrev pub loan_text : Role → Qualifiers → List ℕ
+loan_text role txn = line_of (role_name role) ++ (line_of txn.group ++ line_of txn.transaction)
 
 -- Returns the first half of the digest of `loan_text`, in hexadecimal.
-abbrev pub loan_stem : Side → List ℕ
-loan_stem side = take 32 (encode_lower (sha256 (loan_text side)))
+abbrev pub loan_stem : Role → Qualifiers → List ℕ
+loan_stem role txn = take 32 (encode_lower (sha256 (loan_text role txn)))
 
 -- Returns `n`, a number below 1,000, in three digits.
 abbrev pub three_digits : ℕ → List ℕ
 three_digits n = (48 + n / 100) ∷ (48 + n / 10 % 10) ∷ (48 + n % 10) ∷ []
 
--- Returns the name of the mail of a message. It does not change from run to run. Sorted by name, the mails of
--- a loan are next to each other, in the order of their numbers.
-abbrev pub mail_name : Side → ℕ → List ℕ
-mail_name side number = loan_stem side ++ (codes "-" ++ three_digits number)
+-- Returns the name of the mail of the message `number` in a loan. It does not change from run to run. Sorted by
+-- name, the mails of a loan are next to each other, in the order of their numbers.
+abbrev pub mail_name : Role → Qualifiers → ℕ → List ℕ
+mail_name role txn number = loan_stem role txn ++ (codes "-" ++ three_digits number)
 
 -- Returns the mail of a message.
 abbrev pub letter_of : Issue → Letter
-letter_of issue = record { name = mail_name issue.side issue.apdu.number; bytes = spelling issue.apdu }
+letter_of issue = record {
+  name = mail_name (role_of issue.side) (txn_of issue.side) issue.apdu.number;
+  bytes = spelling issue.apdu;
+}
 
 -- Returns the mails that leave a desk, given the messages that ask.
 abbrev pub letters_of : List Apdu → List DeskEntry → List Letter

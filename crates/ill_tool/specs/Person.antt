@@ -52,6 +52,7 @@ conflict_in role (Some bytes) = conflict_of role (message_in bytes)
 -- Returns the matter of a mail that waits.
 abbrev pub delay_matter : Delay → Matter
 delay_matter delays.NotRead = matters.NotRead
+delay_matter delays.Record = matters.Record
 delay_matter delays.NoSuchTransaction = matters.NoSuchTransaction
 delay_matter delays.DeskFull = matters.DeskFull
 

@@ -1,12 +1,17 @@
 -- A shelf: a folder of desks of one role, one for each group of transactions. The group of a transaction
 -- gives the name of its desk (this profile's own).
-use Rattle.std.specs.Prelude.{◌≡◌, ◌⊎◌, All, ℕ, Bool, true, false, ◌&&◌, List, [], ◌∷◌, ◌++◌, map, fold, codes, Option, Some}
-use Rattle.std.specs.Prelude.{is_some, Result, Ok, Err}
-use Rattle.std.specs.List.{list_all}
-use Rattle.percent_encoding.specs.Percent.{percent_encode}
+use Rattle.std.specs.Prelude.{◌≡◌, ◌⊎◌, All, ℕ, ◌-◌, Bool, true, false, ◌&&◌, List, [], ◌∷◌, ◌++◌, length, take, map, fold, codes}
+use Rattle.std.specs.Prelude.{Option, None, Some, is_some, IsSomeAnd, Result, Ok, Err, IsErrAnd}
+use Rattle.std.specs.List.{flat_map, list_all}
+use Rattle.std.specs.Path.{path_file_name}
+use Rattle.percent_encoding.specs.Percent.{percent_decode, percent_encode}
+use Rattle.ill_values.specs.Text.{IsQualifier}
+use Rattle.ill_values.specs.declared.apdu.Apdu.{Apdu}
+use Rattle.ill_core.specs.Issued.{message}
 use Rattle.ill_saved.specs.declared.role.Role.{Role}
-use Rattle.ill_saved.specs.declared.role.Role.TheVariants.{Responder}
+use Rattle.ill_saved.specs.declared.role.Role.TheVariants.{Requester, Responder}
 use Rattle.ill_saved.specs.declared.side.Side.{Side}
+use Rattle.ill_saved.specs.declared.side.Side.TheVariants as sides
 use Rattle.ill_world.specs.Night.{is_over}
 use Rattle.ill_tool.specs.declared.fault.ToolFault.{ToolFault}
 use Rattle.ill_tool.specs.declared.fault.ToolFault.TheVariants.{Arguments, Left, OutOfMemory}
@@ -21,10 +26,10 @@ use Rattle.ill_tool.specs.declared.visit.Visit.{Visit}
 use Rattle.ill_tool.specs.declared.visit.Visit.TheVariants as visits
 use Rattle.ill_der.specs.Handling.{Handles}
 use Rattle.ill_der.specs.ShortForm.{spelling}
-use Rattle.ill_tool.specs.Asked.{Asked}
+use Rattle.ill_tool.specs.Asked.{Asked, desk_at_stake}
 use Rattle.ill_tool.specs.Asked as asks
-use Rattle.ill_tool.specs.Commands.{ActsAtFile, ExchangesAtFile, InboxAtFile, FailsToOpen, LoanAtFile, NewAtFile, OutboxAtFile}
-use Rattle.ill_tool.specs.Commands.{SendsAtFile, ShowsFile, TakesAtFile}
+use Rattle.ill_tool.specs.Commands.{ActsAtFile, ExchangesAtFile, InboxAtFile, FailsToOpen, IsOpenFault, LoanAtFile, NewAtFile}
+use Rattle.ill_tool.specs.Commands.{OutboxAtFile, Runs, SendsAtFile, ShowsFile, TakesAtFile}
 use Rattle.ill_tool.specs.Copy.{Copies}
 use Rattle.ill_tool.specs.Input.{ReadsInput}
 use Rattle.ill_tool.specs.Take.{answer_of}
@@ -42,6 +47,37 @@ desk_name role group = percent_encode ESCAPED group ++ (codes "." ++ role_name r
 -- Returns the path of the desk of `group`, on the shelf in `folder`.
 abbrev pub desk_path : List ℕ → Role → List ℕ → List ℕ
 desk_path folder role group = folder ++ (codes "/" ++ desk_name role group)
+
+-- Returns the group in `name`, if `name` is that of a desk of `role`.
+abbrev pub group_in : Role → List ℕ → List ℕ
+group_in role name = percent_decode (take (length name - length (role_name role) - 1) name)
+
+-- `name` is the name of the desk of a group.
+abbrev pub IsDeskName : Role → List ℕ → Type 0
+IsDeskName role name = (group : List ℕ) × IsQualifier group × (name ≡ desk_name role group)
+
+-- ---- the guard of the desks
+
+-- `name` is the name of the own desk of a shelf, or of the desk of a group.
+abbrev pub IsNamedOnShelf : List ℕ → Type 0
+IsNamedOnShelf name = (name ≡ codes ".shelf") ⊎ (IsDeskName Requester name ⊎ IsDeskName Responder name)
+
+-- The guard may answer a request for the desk in `file` with the fault. It refuses only a file with the name of a
+-- desk on a shelf. Else its folder could not be looked at, or memory ran out.
+abbrev pub IsGuardedAt : List ℕ → ToolFault → Type 0
+IsGuardedAt file Arguments = IsSomeAnd (path_file_name file) IsNamedOnShelf
+IsGuardedAt file fault = IsOpenFault fault
+
+-- The guard may answer a request with the fault. It lets each request through that changes no desk, and sends from
+-- none.
+abbrev pub IsGuarded : Asked → ToolFault → Type 0
+IsGuarded asked fault = IsSomeAnd (desk_at_stake asked) (λ file. IsGuardedAt file fault)
+
+-- The guard refused a request for one desk, and nothing was read or written. Or its command has this result.
+abbrev pub RunsGuarded : Asked → Option (List ℕ) → Option (List ℕ) → Option (List ℕ) → Option (List ℕ) →
+    Result Bool ToolFault → Type 0
+RunsGuarded asked left rest before after result =
+    (IsErrAnd result (IsGuarded asked) × (rest ≡ left) × (after ≡ before)) ⊎ Runs asked left rest before after result
 
 -- ---- mail
 
@@ -143,17 +179,32 @@ VisitsShelf is_headed Runs before after result =
 abbrev pub are_all_over : List Side → Bool
 are_all_over sides = list_all is_over sides
 
--- Returns the bytes of the file that marks a retired group.
-abbrev pub retired_mark : List ℕ
-retired_mark = codes "retired\n"
+-- Returns the last message of a responder's side. In a loan that is over it says how the loan ended, which is enough for
+-- the requester. A requester's side needs none.
+abbrev pub last_word : Side → Option Apdu
+last_word (sides.Requester x) = None
+last_word (sides.Responder y) = message y.issued (length y.issued)
+
+-- Returns the bytes of a message, if there is one.
+abbrev pub word_bytes : Option Apdu → List ℕ
+word_bytes None = []
+word_bytes (Some a) = spelling a
+
+-- Returns the bytes of the last words of some sides, one after another.
+abbrev pub last_words : List Side → List ℕ
+last_words sides = flat_map (λ side. word_bytes (last_word side)) sides
+
+-- Returns the bytes of the file that marks a retired group: a line, and the last word of each loan.
+abbrev pub retired_mark : List Side → List ℕ
+retired_mark sides = codes "retired\n" ++ last_words sides
 
 -- The group of a desk is marked as retired if all loans of the desk are over. The content of the mark's store
 -- goes from `old` to `new`. If a loan is not over, or memory ran out, the store is unchanged.
 abbrev pub Retires : List Side → Option (Option (List ℕ)) → Result Bool ToolFault → Option (Option (List ℕ)) → Type 0
-Retires sides old (Ok true) new = (are_all_over sides ≡ true) × Copies retired_mark old (Ok tt) new
+Retires sides old (Ok true) new = (are_all_over sides ≡ true) × Copies (retired_mark sides) old (Ok tt) new
 Retires sides old (Ok false) new = (are_all_over sides ≡ false) × (new ≡ old)
 Retires sides old (Err OutOfMemory) new = new ≡ old
-Retires sides old (Err fault) new = (are_all_over sides ≡ true) × Copies retired_mark old (Err fault) new
+Retires sides old (Err fault) new = (are_all_over sides ≡ true) × Copies (retired_mark sides) old (Err fault) new
 
 -- Returns the line of the command: `done` if the group is retired, `not-now` if a loan is not over.
 abbrev pub retired_line : Bool → List ℕ
@@ -208,8 +259,8 @@ TakesAtShelf is_kept is_long left rest before after result =
 
 -- ---- the commands
 
--- A command on a shelf. In a transaction it has the effect of the command for one desk, at the desk of the
--- transaction's group. The input goes from `left` to `rest`, and the output from `before` to `after`.
+-- A command on a shelf. In a transaction it has the effect of the command for one desk, whichever desk that is. The
+-- input goes from `left` to `rest`, and the output from `before` to `after`.
 abbrev pub RunsShelf : Asked → Option (List ℕ) → Option (List ℕ) → Option (List ℕ) → Option (List ℕ) →
     Result Bool ToolFault → Type 0
 RunsShelf (asks.New folder role) left rest before after result = (rest ≡ left) × NewAtFile before after result

@@ -1,7 +1,8 @@
 //! The command line of `ill`: its commands and their arguments, as `clap` has them.
 
-ghost use Rattle.std.specs.Prelude.{◌≡◌};
-ghost use Rattle.ill_tool.specs.CommandLine.{word_of, name_read, id_of};
+ghost use Rattle.std.specs.Prelude.{◌≡◌, bytes_eq};
+ghost use Rattle.std.specs.List.{list_any};
+ghost use Rattle.ill_tool.specs.CommandLine.{word_of, name_read, id_of, is_option, name_in};
 
 use crate::help;
 use clap::{Arg, ArgAction, Command, Error};
@@ -453,6 +454,54 @@ fn valued<'a>(arg: Arg<'a>, name: &'a str, value: &'a str) -> Arg<'a> {
     arg.long(name).value_name(value).allow_hyphen_values(true)
 }
 
+/// All options of the program, also those that `clap` adds.
+const OPTIONS: [&str; 20] = [
+    "--today",
+    "--due-before",
+    "--state",
+    "--copy",
+    "--beat",
+    "--stream",
+    "--overdue",
+    "--expire",
+    "--long",
+    "--keep",
+    "--picture",
+    "--open",
+    "--mine",
+    "--json",
+    "--new-group",
+    "--explain",
+    "--help",
+    "--version",
+    "-h",
+    "-V",
+];
+
+/// Returns true if `word` is an option of the program, also with a value after `=`.
+pub fn is_option(word: &str) -> bool
+    ensures { result ≡ is_option word.now }
+{
+    is_among(name_in(word), &OPTIONS)
+}
+
+/// Returns `word` before its first `=`.
+fn name_in(word: &str) -> &str
+    ensures { result.now ≡ name_in word.now }
+{
+    match word.split_once('=') {
+        Some((name, _)) => name,
+        None => word,
+    }
+}
+
+/// Returns true if `name` is one of `names`.
+fn is_among(name: &str, names: &[&str]) -> bool
+    ensures { result ≡ list_any (λ other. bytes_eq other.now name.now) names.now }
+{
+    names.iter().any(|other| *other == name)
+}
+
 /// Returns the command line of `ill`.
 pub fn command<'a>(alloc: Global) -> Result<Command<'a>, Error> {
     let mut command = Command::new(alloc, "ill")
@@ -467,7 +516,8 @@ pub fn command<'a>(alloc: Global) -> Result<Command<'a>, Error> {
     Ok(command.subcommand(shelf(alloc)?)?)
 }
 
-/// Returns the option `--explain`, which asks for more lines on a fault. It is typed before the command.
+/// Returns the option `--explain`, which asks for more lines on a fault. Each command has it, and it is no global option
+/// of `clap`: of matches with one the contracts of `clap` say nothing.
 fn explain<'a>(alloc: Global) -> Arg<'a> {
     Arg::new(alloc, "explain")
         .long("explain")
@@ -484,7 +534,7 @@ fn subcommand<'a>(alloc: Global, name: Name) -> Result<Command<'a>, Error> {
     for argument in name.arguments() {
         command = command.arg(argument.arg(alloc))?;
     }
-    Ok(command)
+    Ok(command.arg(explain(alloc))?)
 }
 
 /// Returns the command line of the commands on a shelf.
@@ -493,7 +543,8 @@ fn shelf<'a>(alloc: Global) -> Result<Command<'a>, Error> {
         .about("Keep a folder of desks, one for each group of loans")
         .subcommand_required(true)
         .long_about(help::SHELF)
-        .after_long_help(help::SHELF_EXAMPLE);
+        .after_long_help(help::SHELF_EXAMPLE)
+        .arg(explain(alloc))?;
     for name in &SHELF_NAMES {
         command = command.subcommand(shelf_subcommand(alloc, *name)?)?;
     }
@@ -509,9 +560,10 @@ fn shelf_subcommand<'a>(alloc: Global, name: Name) -> Result<Command<'a>, Error>
     for argument in name.arguments() {
         command = command.arg(argument.arg_on_shelf(alloc))?;
     }
-    match name {
-        Name::Act => Ok(command.arg(Argument::NewGroup.arg(alloc))?),
-        Name::Retire => Ok(command.after_long_help(name.example())),
-        _ => Ok(command),
-    }
+    command = match name {
+        Name::Act => command.arg(Argument::NewGroup.arg(alloc))?,
+        Name::Retire => command.after_long_help(name.example()),
+        _ => command,
+    };
+    Ok(command.arg(explain(alloc))?)
 }

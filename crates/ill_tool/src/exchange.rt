@@ -8,12 +8,12 @@ ghost use Rattle.ill_tool.specs.Performing.{view_of};
 ghost use Rattle.ill_tool.specs.Outbox.{IsFileFault};
 
 use crate::asked::asked_by;
+use crate::backup::{beat, copy_desk};
 use crate::came::{STORE_FAILED, open_came};
-use crate::copy::{Copied, run_desk_copy_over};
 use crate::dates::{Dates, run_desk_dates};
 use crate::fault::ToolFault;
 use crate::file::{all_well, open_locked, release};
-use crate::folder::fault;
+use crate::folder::{fault, folder_of};
 use crate::inbox::run_desk_inbox;
 use crate::mail::{Incoming, Mails, begin_run, claim_mails, sorted_mails};
 use crate::mail_box::{MailBox, asked_bytes};
@@ -21,18 +21,16 @@ use crate::outbox::{run_desk_outbox, run_desk_outbox_stream};
 use crate::outgoing::MailFolder;
 use crate::output::write_and_flush;
 use crate::person::{tell_person, wants_person};
+use crate::places::{Places, look_at_out, look_at_places};
 use crate::settle::{MailPaths, settle_mails};
 use crate::tally::Tally;
 use crate::verdict::Verdict;
 use crate::warning::warn;
-use ill_saved::{Desk, FileStore, LockFiles, RECORD_LIMIT, Role, Store};
-use ill_values::{Day, OutOfMemory};
+use ill_saved::{Desk, LockFiles, Role, Store};
+use ill_values::Day;
 use std::alloc::Global;
-use std::fs::OpenOptions;
 use std::io::{ErrorKind, Write};
-use std::path::Path;
 use std::rt::Files;
-use std::{fs, io};
 
 /// `ill inbox`: takes the mails of a folder.
 pub fn inbox<T: LockFiles, W: Write, E: Write>(
@@ -81,7 +79,7 @@ fn take_mails<T: Files, S: Store, W: Write, E: Write>(
     ensures { TakesMails (view_of S.state desk.old) (W.contents writer.old) (W.contents writer.new)
         (answered_with taken_of result) (view_of S.state desk.new) }
 {
-    let mail_box = blame(alloc, open_box(rt, alloc, file), file, NO_BOX, errors)?;
+    let mail_box = blame(alloc, open_box(rt, alloc, file, file), file, NO_BOX, errors)?;
     let mut came = blame(alloc, open_came(rt, alloc, file), file, NO_CAME, errors)?;
     let role = desk.sides().role();
     let found = find_mails(rt, alloc, &mail_box, file, incoming, role, errors)?;
@@ -136,21 +134,20 @@ const NO_CAME: &str = ".came cannot be read or written";
 
 const NOT_ASKED: &str = ".mail/asked cannot be read or written";
 
-const NO_COPY: &str = " is not written, so nothing is sent";
-
-const KEPT: &str = ": put it back or move it away, since nothing is sent without a copy";
-
 const NOT_SENT: &str = " is not written, so nothing more is sent";
 
 pub(crate) const NO_FOLDER: &str = " is no folder";
 
-const NO_BEAT: &str = " is not made anew";
-
-/// Opens the folder of the mail of the desk in `file`.
-pub(crate) fn open_box<T: Files>(rt: &T, alloc: Global, file: &str) -> Result<MailBox, ToolFault>
+/// Opens the folder of the mail of the desk in `file`. What is made in it belongs to the owner of the file `original`.
+pub(crate) fn open_box<T: Files>(
+    rt: &T,
+    alloc: Global,
+    file: &str,
+    original: &str,
+) -> Result<MailBox, ToolFault>
     ensures { IfErr result IsOpenFault }
 {
-    match MailBox::open(rt, alloc, file) {
+    match MailBox::open(rt, alloc, file, original) {
         Ok(mail_box) => Ok(mail_box),
         Err(error) => Err(fault(&error)),
     }
@@ -297,12 +294,12 @@ fn send_into<T: Files, S: Store, W: Write, E: Write>(
 ) -> Result<(), ToolFault>
     ensures { SendsTo desk.now.live.held (W.contents writer.old) (W.contents writer.new) result }
 {
-    blame(alloc, find_folder(rt, folder), folder, NO_FOLDER, errors)?;
+    look_at_out(rt, alloc, file, folder, errors)?;
     send_to(rt, alloc, file, desk, folder, writer, errors)
 }
 
 /// Returns `sent`. If a mail could not be put into its folder, a line with its path goes to `errors`.
-fn blame_mail<T: Files, E: Write>(
+pub(crate) fn blame_mail<T: Files, E: Write>(
     alloc: Global,
     sent: Result<usize, ToolFault>,
     out: &MailFolder<'_, T>,
@@ -357,20 +354,30 @@ pub fn exchange<T: LockFiles, W: Write, E: Write>(
     ensures { ExchangesAtFile night.now.dates (W.contents writer.old) (W.contents writer.new) result }
 {
     let (lock, mut desk) = open_locked(rt, alloc, file)?;
-    let found = find_folder(rt, night.outgoing);
-    blame(alloc, found, night.outgoing, NO_FOLDER, errors)?;
+    look_at_night(rt, alloc, file, night, errors)?;
     let done = exchange_at(rt, alloc, file, night, &mut desk, writer, errors);
     release(done, desk, lock)
 }
 
-/// Finds the folder at `path`.
-pub(crate) fn find_folder<T: Files>(rt: &T, path: &str) -> Result<(), ToolFault>
+/// Looks at the paths of `night` before anything is done. A shelf has looked at those of its desks once for all.
+fn look_at_night<T: Files, E: Write>(
+    rt: &T,
+    alloc: Global,
+    file: &str,
+    night: &Night<'_>,
+    errors: &mut E,
+) -> Result<(), ToolFault>
     ensures { IfErr result IsOpenFault }
 {
-    match fs::metadata(rt, path) {
-        Ok(found) if found.is_dir() => Ok(()),
-        _ => Err(STORE_FAILED),
+    if night.is_on_shelf {
+        return Ok(());
     }
+    let places = Places {
+        file,
+        original: file,
+        copies: night.copy.map(folder_of),
+    };
+    look_at_places(rt, alloc, &places, night, errors)
 }
 
 /// Exchanges the mail of `desk`. If its mail cannot be taken, nothing is sent.
@@ -463,90 +470,13 @@ fn send_all<T: Files, S: Store, W: Write, E: Write>(
     ensures { SendsAll (taken_of taken.now) desk.now.live (W.contents writer.old) (W.contents writer.new) (Ok tt)
         result }
 {
-    let copy = copy_path(alloc, file, night)?;
-    copy_to(rt, alloc, desk, copy.as_ref(), errors)?;
+    copy_desk(rt, alloc, file, night, desk, errors)?;
     let asked = asked_by(alloc, desk, &taken.found.mails, &taken.verdicts)?;
     let sent = send_asked(rt, alloc, desk, &asked, night.outgoing, writer, errors);
     match sent {
-        Ok(()) => finish(rt, alloc, night.beat, desk, taken, errors),
+        Ok(()) => finish(rt, alloc, file, night.beat, desk, taken, errors),
         Err(fault) => Err(fault),
     }
-}
-
-/// Copies `desk` to the file at `path`, if there is a path. A copy with more loans is not replaced, which is a failure.
-fn copy_to<T: Files, S: Store, E: Write>(
-    rt: &T,
-    alloc: Global,
-    desk: &Desk<S>,
-    path: Option<&String>,
-    errors: &mut E,
-) -> Result<(), ToolFault>
-    ensures { IfErr result IsFileFault }
-{
-    let Some(path) = path else {
-        return Ok(());
-    };
-    let mut copy = FileStore::at(rt, alloc, path.as_str(), RECORD_LIMIT)?;
-    match run_desk_copy_over(alloc, desk, &mut copy) {
-        Ok(Copied::Done) => Ok(()),
-        Ok(Copied::Kept(count)) => {
-            tell_kept(alloc, path.as_str(), count, desk.sides().len(), errors);
-            Err(STORE_FAILED)
-        }
-        Err(fault) => blame(alloc, Err(fault), path.as_str(), NO_COPY, errors),
-    }
-}
-
-/// Writes a line to `errors` about a copy that has more loans than its desk. If memory runs out, it writes none.
-fn tell_kept<E: Write>(alloc: Global, path: &str, count: usize, own: usize, errors: &mut E) {
-    if let Ok(text) = format!(in alloc; " has {count} loans, and the desk {own}{KEPT}") {
-        warn(alloc, path.as_bytes(), text.as_str(), errors);
-    }
-}
-
-/// Returns the path of the copy of the desk in `file`, if `night` wants one.
-fn copy_path(alloc: Global, file: &str, night: &Night<'_>) -> Result<Option<String>, OutOfMemory> {
-    let Some(copy) = night.copy else {
-        return Ok(None);
-    };
-    if !night.is_on_shelf {
-        return Ok(Some(String::from_str(alloc, copy)?));
-    }
-    let name = Path::new(file).file_name().unwrap_or(file);
-    Ok(Some(format!(in alloc; "{copy}/{name}")?))
-}
-
-/// Writes the file at `path` anew, if there is a path. Its time is then the time of the run.
-pub(crate) fn beat<T: Files, E: Write>(
-    rt: &T,
-    alloc: Global,
-    path: Option<&str>,
-    errors: &mut E,
-) -> Result<(), ToolFault>
-    ensures { IfErr result IsFileFault }
-{
-    let Some(path) = path else {
-        return Ok(());
-    };
-    match make_anew(rt, path) {
-        Ok(()) => Ok(()),
-        Err(_) => blame(alloc, Err(STORE_FAILED), path, NO_BEAT, errors),
-    }
-}
-
-/// Writes a file at `path` that has only the end of a line. It replaces a regular file of at most one byte, and no
-/// other.
-fn make_anew<T: Files>(rt: &T, path: &str) -> io::Result<()> {
-    match fs::symlink_metadata(rt, path) {
-        Ok(found) if found.is_file() && found.len() <= 1 => fs::remove_file(rt, path)?,
-        Ok(_) => return Err(ErrorKind::AlreadyExists.into()),
-        Err(error) if error.kind() == ErrorKind::NotFound => {}
-        Err(error) => return Err(error),
-    }
-    let mut options = OpenOptions::new();
-    options.write(true);
-    options.create_new(true);
-    options.open(rt, path)?.write_all(b"\n")
 }
 
 /// Writes the file at `path` anew, if there is a path, and returns the ending of the run. All messages were sent
@@ -554,6 +484,7 @@ fn make_anew<T: Files>(rt: &T, path: &str) -> io::Result<()> {
 fn finish<T: Files, S: Store, E: Write>(
     rt: &T,
     alloc: Global,
+    file: &str,
     path: Option<&str>,
     desk: &Desk<S>,
     taken: &Taken,
@@ -561,7 +492,7 @@ fn finish<T: Files, S: Store, E: Write>(
 ) -> Result<bool, ToolFault>
     ensures { EndsAfterSending (night_ending desk.now.live.role (taken_of taken.now)) (Ok tt) result }
 {
-    match beat(rt, alloc, path, errors) {
+    match beat(rt, alloc, path, file, errors) {
         Ok(()) => ending(desk, taken),
         Err(fault) => Err(fault),
     }

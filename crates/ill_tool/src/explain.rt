@@ -7,12 +7,14 @@ mod action;
 mod arguments;
 mod file;
 mod input;
+mod refused;
 mod shelf;
 mod shown;
 mod verbs;
 
 use crate::command_line::{Name, SHELF, command};
 use crate::fault::ToolFault;
+use crate::request::DASHES;
 use arguments::tell_arguments;
 use clap::ArgMatches;
 use file::tell_desk_fault;
@@ -20,19 +22,20 @@ use ill_saved::LockFiles;
 use ill_values::OutOfMemory;
 pub use input::{Passed, Watched};
 use input::{tell_bad_bytes, tell_bad_line};
+use refused::tell_refused;
 use shelf::tell_shelf_fault;
 use std::alloc::Global;
 use std::io::Write;
 
-/// The option, which is typed before the command.
+/// The option.
 const OPTION: &str = "--explain";
 
-/// Returns true if `words` ask for explanations. The first word is the name of the program.
+/// Returns true if `words` ask for explanations, before any `--`. The first word is the name of the program.
 pub fn is_asked(words: &[&str]) -> bool {
     words
         .iter()
         .skip(1)
-        .take_while(|word| word.starts_with('-'))
+        .take_while(|word| **word != DASHES)
         .any(|word| *word == OPTION)
 }
 
@@ -67,12 +70,30 @@ fn tell<T: LockFiles>(
         (word, matches) if word == SHELF => {
             let (word, matches) = matches.subcommand()?;
             let name = Name::read(word)?;
+            tell_first(rt, alloc, text, words, name, matches, fault).ok()?;
             tell_on_shelf(rt, alloc, text, name, matches, fault, passed).ok()
         }
         (word, matches) => {
             let name = Name::read(word)?;
+            tell_first(rt, alloc, text, words, name, matches, fault).ok()?;
             tell_fault(rt, alloc, text, name, matches, fault, passed).ok()
         }
+    }
+}
+
+/// Appends to `text` the lines about words that are refused before a file is opened, if `fault` is one of arguments.
+fn tell_first<T: LockFiles>(
+    rt: &T,
+    alloc: Global,
+    text: &mut String,
+    words: &[&str],
+    name: Name,
+    matches: &ArgMatches<'_>,
+    fault: ToolFault,
+) -> Result<(), OutOfMemory> {
+    match fault {
+        ToolFault::Arguments => tell_refused(rt, alloc, text, words, name, matches),
+        _ => Ok(()),
     }
 }
 

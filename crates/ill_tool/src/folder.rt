@@ -1,19 +1,23 @@
 //! The desks at paths: a path is that of a desk's file, or of a folder of desks.
 
-ghost use Rattle.std.specs.Prelude.{IfErr};
+ghost use Rattle.std.specs.Prelude.{◌≡◌, IfErr, nat_eq};
+ghost use Rattle.std.specs.List.{ends_with, list_any};
+ghost use Rattle.ill_tool.specs.CommandLine.{is_beside};
 ghost use Rattle.ill_tool.specs.Commands.{IsOpenFault};
 
 use crate::came::CAME;
 use crate::fault::ToolFault;
+use crate::mail_box::MAIL;
 use crate::shelf::RETIRED;
 use ill_saved::{DeskFault, StoreFault};
 use std::alloc::Global;
 use std::io::{BufRead, BufReader, ErrorKind};
+use std::path::Path;
 use std::rt::Files;
 use std::{fs, io};
 
-/// The endings of the names of files that lie beside the file of a desk.
-const BESIDE: [&str; 4] = [".new", ".lck", CAME, RETIRED];
+/// The endings of the names of the files, and of the folder, that lie beside the file of a desk.
+pub(crate) const BESIDE: [&str; 5] = [".new", ".lck", CAME, MAIL, RETIRED];
 
 /// The number of bytes of names that are read from a folder at once. Any name fits.
 const NAMES: usize = 4096;
@@ -84,7 +88,31 @@ pub(crate) fn raw_names<T: Files>(rt: &T, alloc: Global, folder: &str) -> io::Re
 
 /// Returns true if a file named `name` in a folder of desks is a desk.
 fn is_desk_name(name: &str) -> bool {
-    !name.starts_with('.') && !BESIDE.iter().any(|ending| name.ends_with(*ending))
+    !name.starts_with('.') && !is_beside(name)
+}
+
+/// Returns true if `path` has the ending of what lies beside the file of a desk.
+pub(crate) fn is_beside(path: &str) -> bool
+    ensures { result ≡ is_beside path.now }
+{
+    has_ending(path, &BESIDE)
+}
+
+/// Returns true if `path` has one of `endings`.
+fn has_ending(path: &str, endings: &[&str]) -> bool
+    ensures { result ≡ list_any (λ ending. ends_with nat_eq path.now ending.now) endings.now }
+{
+    endings
+        .iter()
+        .any(|ending| path.as_bytes().ends_with(ending.as_bytes()))
+}
+
+/// Returns the folder of the file at `path`.
+pub(crate) fn folder_of(path: &str) -> &str {
+    match Path::new(path).parent() {
+        Some(folder) if !folder.as_str().is_empty() => folder.as_str(),
+        _ => ".",
+    }
 }
 
 /// Returns the fault of a folder that cannot be read.

@@ -22,16 +22,16 @@ A loan is named by its GROUP and TRANSACTION. How messages are carried, by mail
 or by hand, is left to the libraries. `ill COMMAND --help` tells more of a
 command.
 
-With `--explain` before the command, lines after that of a fault tell which
-word, file or message is wrong, and what would be right. They begin with spaces,
-and no program may rest on them.
+With `--explain`, lines after that of a fault tell which word, file or message
+is wrong, and what would be right. It stands before the command, or after it
+before the words of an action. The lines begin with spaces, and no program may
+rest on them.
 
 Several commands may be started at once on one file. Those that may change it,
 `new`, `act`, `take`, `inbox`, `outbox` and `exchange`, wait for each other: ten
 seconds, and then they end with `store failed`. A `take` holds the file until
 its input ends. `list`, `loan`, `status`, `report`, `send` and `verify` wait for
-nobody. No file of a desk may have a name that ends in `.new` or `.lck`: such
-files are the program's.
+nobody.
 
 The start of a loan, with the requester's desk in the file `here` and the
 responder's in the file `there`:
@@ -81,9 +81,10 @@ Begin a desk of one role, in a file.
 The desk has no loan yet. A library that both asks and is asked has two desks,
 one as requester and one as responder, in two files.
 
-FILE must not be there yet, and its folder must. The program writes a record by
-way of FILE.new, beside it; that file belongs to the program. Other commands may
-run on FILE at any time, as `ill --help` tells. One line, `done`, is written to
+FILE must not be there yet, and its folder must. Its name may not end in .new,
+.lck, .came, .mail or .retired: what lies beside a desk has such names, and is
+the program's. A record is written by way of FILE.new. Other commands may run on
+FILE at any time, as `ill --help` tells. One line, `done`, is written to
 standard output. Standard input is not read.
 
 The exit status is 0 if the desk is saved, 1 with `exists`, 2 for wrong
@@ -131,10 +132,12 @@ locations-provided, will-supply, hold-placed or estimate. ITEM is all the words
 that remain, of 200 bytes at most. None of the words may hold a space, so a
 title has no quotes round it: `request none War and Peace`.
 
-A responder's action needs --today; a requester's has no use for it. It stands
-before the words: after them it would be one of them, as of a title. One action
-issues one message; `take` may issue one too, as `ill take --help` tells. The
-messages of each loan are numbered 1, 2, 3, up to 255.
+A responder's action needs --today; a requester's has no use for it. Options
+stand before the words. Among them an option of any command is `arguments`; if
+`--` stands right before the words, it is one of them, as of a title.
+
+One action issues one message; `take` may issue one too, as `ill take --help`
+tells. The messages of each loan are numbered 1, 2, 3, up to 255.
 
 The action is saved in FILE before a line of it is written to standard output:
   OUTCOME STATE DUE RELEASED/ISSUED
@@ -244,14 +247,20 @@ pub const INBOX: &str = "\
 Take the mails of a folder, and save what they change once.
 
 A mail is a regular file of FOLDER whose name begins with no dot, with one APDU:
-a message of another library, as `ill send` gives it there. FILE has at most
-67,108,864 bytes. While another command changes FILE, this one waits, as
-`ill --help` tells, and holds FILE itself until it ends.
+a message of another library, as `ill send` gives it there. One line end may
+stand after it. FILE has at most 67,108,864 bytes. While another command changes
+FILE, this one waits, as `ill --help` tells, and holds FILE itself until it
+ends.
 
-First each mail is moved into a folder in FILE.mail/in, and read there.
-FILE.mail is made for its owner alone, and has to be on the disk of FOLDER. The
-mails are taken in the order of the bytes of their names, 10,000 at most in one
-run. Those that a run has moved that was killed come before the others.
+FOLDER may be neither the folder of FILE nor a shelf, and lie in no folder whose
+name ends in .mail: files there belong to desks.
+
+First each mail is moved into a folder in FILE.mail/in, and read there, in the
+order of the bytes of their names and 10,000 at most in one run. Those that a
+run has moved that was killed come before the others. FILE.mail is made for the
+owner of FILE alone, also if root runs this, and has to be on the disk of
+FOLDER. Then the mails are taken: those without a message, and after them those
+of each loan, in the order of their numbers.
 
 Each message that is taken is kept in FILE.came, as `ill take --keep` does. Then
 the desk is saved, once, if a message was taken. Only then files go:
@@ -260,26 +269,29 @@ the desk is saved, once, if a message was taken. Only then files go:
   put aside              no desk will ever take it; its file becomes
                          FILE.mail/aside/DIGEST, and DIGEST.why beside it has a
                          line that says why. DIGEST is the SHA-256 of the mail,
-                         of at most its first 360 bytes.
+                         without the line end after its message, of at most its
+                         first 362 bytes.
 Any other mail goes back to FOLDER. If a fault comes, all stay in FILE.mail/in
 for the next run: to take a message twice does no harm. FILE.mail/asked has the
 messages that came for loans that are over, which `ill outbox` answers.
 
-For each mail with a message the lines of `ill take --long` are written to
-standard output, as the loan stands once the desk is saved. Of a mail that is
-put aside or stays, a line `NAME aside REASON` or `NAME left REASON` stands
-after them. The reasons to put a mail aside:
+Once the desk is saved, the lines of `ill take --long` are written to standard
+output for each mail with a message. They tell how the loan stood after that
+message, before those that come after it. Of a mail that is put aside or stays,
+a line `NAME aside REASON` or `NAME left REASON` stands after them. The reasons
+to put a mail aside:
   short at N             the mail ends within a message, after N bytes of it
   tag at N               it is no message: a wrong field, at its byte N
   length at N            it is none: a wrong length, at its byte N
   field at N             it is none: a wrong value, at its byte N
   too-long               it is longer than 359 bytes
-  trailing               bytes stand after its message
+  trailing               more than a line end stands after its message
   wrong-role             its message is of a kind that this desk sends
   numbers-used           it wants an answer, and all 255 numbers are used
 
 The reasons for which a mail stays:
   not-read               it cannot be moved or read, or its name is no UTF-8
+  record                 it is the record of a desk: look if FOLDER is right
   no-such-transaction    a requester's desk has no such loan, or not yet
   desk-full              it would begin a loan, and the desk has 1,000
 
@@ -325,11 +337,13 @@ requester in RETURNED with the mark checked-in. Then a requester is silent. A
 responder sends if a message of the loan came in the last `ill inbox`: its last
 word may be lost.
 
-Each message becomes a file of FOLDER, whole or not at all, by way of
-FOLDER/.new. Its name is made of its loan and its number, as
+Each message becomes a file of FOLDER, whole or not at all, also after a loss of
+power. Its name is made of its loan and its number, as
 `7ce619cb6e23ba0dd166097fce0754f3-001`, and is the same in every run. So a mail
-that nobody has fetched is there once. After a loss of power one may be cut: the
-next run replaces it. A line `sent N` tells how many they are.
+that nobody has fetched is there once. It is written to a file with a dot before
+this name, and renamed once the disk has it. A line `sent N` tells how many they
+are. FOLDER may be neither the folder of FILE nor a shelf, and lie in no folder
+whose name ends in .mail.
 
 With --stream the messages are written to standard output in place of FOLDER,
 one after another and nothing else. FILE has at most 67,108,864 bytes; it is
@@ -356,14 +370,16 @@ pub const OUTBOX_EXAMPLE: &str = "Example:
 pub const EXCHANGE: &str = "\
 Take the mails of a folder, and send into another.
 
-This is the night of a desk, for a machine that does it by itself:
+A run does this, for a machine that works by itself:
   1. The mails of the folder IN are taken, as `ill inbox` does.
   2. With --overdue a responder says of each loan that is past its due date on
      DAY that it is overdue. With --expire it ends each request that is past its
      last day. Both want --today. A line for each is written:
        GROUP TRANSACTION VERB done STATE DUE RELEASED/ISSUED
   3. With --copy the desk is copied to a file, which should be on another disk.
-     A copy that has more loans than the desk stays, and that is a failure.
+     A copy is replaced only if the desk has its role, its loans, and in each
+     its messages as the first ones. Any other copy stays, and so does what is
+     no record of a desk: that is a failure.
   4. The messages that want sending are put into the folder OUT, as `ill outbox`
      does.
   5. With --beat a file is made anew: its time tells when a run ended. It has
@@ -371,6 +387,14 @@ This is the night of a desk, for a machine that does it by itself:
 If one of these fails, the further ones are not done: without a copy nothing is
 sent. The desk is locked from the first to the last. A run may be killed at any
 moment, and run again.
+
+A night is the run of the requester, that of the responder, and the requester's
+again, which takes the answers.
+
+Before the first step the folders are looked at. IN is not OUT, and each may be
+what `ill inbox` and `ill outbox` let it be. The copy is another file than FILE,
+in a folder that is there. Neither it nor the file of --beat may be in IN or
+OUT. Both get the owner of FILE, also if root runs this.
 
 Standard output has the lines of `ill inbox`, those of the second step and the
 line `sent N`. Standard error has a line for each mail that wants a person: one
@@ -458,8 +482,9 @@ too.
 
 PATH is the file of a desk, or a folder of desks. A folder's desks are listed in
 the order of their names: all regular files, but for those that begin with a dot
-or end in .new, .lck or .came. If several desks are listed, a line `PATH:`
-stands before each, and an empty line between each and the next.
+or that lie beside a desk, as `ill new --help` names them. If several desks are
+listed, a line `PATH:` stands before each, and an empty line between each and
+the next.
 
 With --json each loan that is listed is an object of JSON on a line, in the same
 order: `next`, `state`, `due`, `group`, `transaction`, `now` (what `act` takes
@@ -771,12 +796,16 @@ Replace a desk whose loans are over by a mark of its group.
 Titles and names of loans that are over may have to be forgotten, and a desk
 cannot be removed alone: a request that is sent again would begin its loan a
 second time. So the mark stays in place of the desk, in DESK.retired, and no
-desk of GROUP is ever made again. Mail of the group is removed, and told.
+desk of GROUP is ever made again. A responder's mark has its last message of
+each loan, which says how the loan ended, and no title.
+
+The next `ill shelf exchange` removes each mail of the group. If the mark has
+the last message of its loan, that is sent again: so a requester who missed it
+ends the loan. Else standard error tells of the mail, once a month for a group.
 
 One line is written: `done`, or `not-now` if a loan of the group is not over.
-Then nothing is changed. After `done`, nothing is known of the loans any more.
-A requester may retire a group as soon as its loans are over; a responder once
-the requester asks no more, since it could not answer.
+Then nothing is changed. After `done`, nothing else is known of the loans. Both
+libraries may retire a group as soon as its loans are over.
 
 The exit status is 0 after `done`, 1 after `not-now` or with `no-record`, 2
 for wrong arguments or a bad record, and 3 with `store failed`, `write` or
@@ -799,10 +828,14 @@ The group of a loan names its desk, so no loan can come to two of them. Begin a
 new group, such as a partner and a year, before a desk is full.
 
 The commands take the words of those for one desk, with DIR in place of FILE.
-`ill list DIR` and `ill report DIR` take a shelf too. The desk of GROUP is the
-file DIR/GROUP.requester or DIR/GROUP.responder. All bytes of the name but
-letters, digits, `-` and `_` are written as `%` and two digits. DIR/.shelf is
-the shelf's own desk: it says the role, and takes the mail that has no desk.
+They alone change a desk of the shelf, or send from it: with such a FILE `ill
+act`, `ill take` and their like are `arguments`. `ill list DIR` and `ill report
+DIR` take a shelf too.
+
+The desk of GROUP is the file DIR/GROUP.requester or DIR/GROUP.responder. All
+bytes of the name but letters, digits, `-` and `_` are written as `%` and two
+digits. DIR/.shelf is the shelf's own desk: it says the role, and takes the mail
+that has no desk.
 
 A requester's shelf begins a group if `act --new-group` says so. A
 responder's begins one for an ILL-Request: the mail of one run makes 16 desks at
@@ -834,11 +867,11 @@ Perform one action in a loan, at the desk of its group.
 
 The words and the answers are those of `ill act`. If DIR has no desk of GROUP,
 that is `no-record`, so that a slip of the pen begins no group. With
---new-group a requester's `request` begins one. A retired group is
-`no-such-transaction`.
+--new-group a requester's `request` begins one, and any other action there is
+`no-such-transaction`. So is each action of a retired group.
 
 If a desk is full, go on in a new group, which you name: the other library
-needs no notice.";
+needs no notice. The exit status is as of `ill act`.";
 
 pub const SHELF_LOAN: &str = "\
 Show all of one loan: request, messages, what may be done.
@@ -858,7 +891,7 @@ Take the APDUs on standard input, each at the desk of its group.
 It does what `ill take` does, and saves each desk as it goes. An ILL-Request of
 a new group makes its desk at a responder's shelf. Other messages of groups that
 have no desk are `no-such-transaction`; one of a retired group ends the command
-with that.";
+with that. The exit status is as of `ill take`.";
 
 pub const SHELF_SEND: &str = "\
 Write the bytes of one message of a loan.
@@ -875,23 +908,39 @@ no message is put aside in DIR/.shelf.mail/aside.
 
 An ILL-Request of a new group makes its desk at a responder's shelf. A run makes
 16 desks at most; standard error tells of each, and of the requests that wait. A
-message of a retired group is removed, and told.
+message of a retired group is removed. The next `ill shelf outbox` answers it,
+or standard error tells of it, once a month for a group.
 
 A desk that fails is told on standard error, and the others go on. So is a desk
 that is lost, in each run: DESK.came or DESK.mail is there, and DESK is not. It
-counts as mails that are left. The exit status is the gravest: 3 for a fault or
-mails that are left, 1 if a mail wants a person, else 0.";
+counts as mails that are left.
+
+The exit status is that of the first desk that fails, as of `ill inbox`. If none
+fails, it is 3 if mails are left, 1 if one was put aside or in conflict, else 0.
+If DIR is no shelf, it is 1 with `no-record`.";
 
 pub const SHELF_OUTBOX: &str = "\
 Put the messages of all desks that want sending into a folder.
 
 Each desk puts its messages into FOLDER, or onto standard output, as `ill
-outbox` does. A line of its path stands before what it tells of FOLDER.";
+outbox` does. A line of its path stands before what it tells of FOLDER. The last
+messages of retired groups for which mail has asked in the last `ill shelf
+inbox` go into FOLDER too, and no line tells it.";
 
 pub const SHELF_EXCHANGE: &str = "\
 Take the mails of a folder, and send into another.
 
 The mails of IN are sorted to the desks, as `ill shelf inbox` does, and then
-each desk does what `ill exchange` does, after a line of its path. --copy names
-a folder: each desk is copied into it before its messages leave. --beat makes
-its file anew in the end, unless a desk has failed.";
+each desk does what `ill exchange` does, after a line of its path. At the end go
+the last messages of retired groups for which mail has asked. The folders are
+looked at first, as by `ill exchange`.
+
+--copy names a folder, which has to be there and is not DIR: each desk is copied
+into it before its messages leave, and the mark of each retired group. If it has
+a desk or a mark of which DIR has neither, that desk is lost: its mail is left.
+--beat makes its file anew in the end, unless a desk has failed.
+
+The exit status is that of the first desk that fails, as of `ill exchange`. If
+none fails, it is 3 if mails are left, or with `store failed` of IN, OUT, --copy
+or --beat. Else it is 1 if a mail wants a person, or 0. If DIR is no shelf, it
+is 1 with `no-record`.";

@@ -168,7 +168,7 @@ impl Sorted {
     {
         match message_in(bytes) {
             Ok(apdu) => self.sort_message(alloc, desk, name, bytes, &apdu),
-            Err(unfit) => self.settle(name, Verdict::Aside(unfit)),
+            Err(unfit) => self.settle(name, Verdict::without_message(bytes, unfit)),
         }
     }
 

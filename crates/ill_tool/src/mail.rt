@@ -6,22 +6,24 @@
 //! folders in it, the run looks at each entry before the claim. So it moves no folder, except one that was put there at
 //! that moment.
 
-ghost use Rattle.std.specs.Prelude.{IfErr};
+ghost use Rattle.std.specs.Prelude.{◌≡◌, IfErr};
 ghost use Rattle.ill_tool.specs.Commands.{IsOpenFault};
+ghost use Rattle.ill_tool.specs.Inbox.{is_line_end, without_line_end};
 
 use crate::fault::ToolFault;
 use crate::folder::{fault, raw_names};
+use crate::inbox::message_in;
 use crate::mail_box::MailBox;
 use crate::settle::give_back;
 use crate::shelf::is_for_desk;
 use crate::verdict::Mail;
-use ill_der::APDU_LIMIT;
+use ill_der::{APDU_LIMIT, view};
 use ill_saved::Role;
 use ill_values::OutOfMemory;
 use std::alloc::Global;
-use std::fs::{DirBuilder, Metadata};
+use std::fs::Metadata;
 use std::io::{ErrorKind, Read};
-use std::os::unix::fs::{DirBuilderExt, MetadataExt};
+use std::os::unix::fs::MetadataExt;
 use std::rt::Files;
 use std::{fs, io};
 
@@ -34,8 +36,8 @@ const TRIES: u32 = 100;
 /// The mails of a run.
 #[derive(Drop)]
 pub struct Mails {
-    /// The mails that were read. The mails of earlier runs come first, and then the others in the order of the bytes of
-    /// their names.
+    /// The mails that were read. Those without a message come first, and then the others in the order of their loans. The
+    /// mails of a loan have the order of their numbers.
     pub mails: Vec<Mail>,
     /// The path of the file of each, or none if it could not be claimed.
     pub files: Vec<Option<String>>,
@@ -63,6 +65,34 @@ impl Mails {
         Ok(())
     }
 
+    /// Puts the mails into the order of their loans and numbers. Mails without a message come first.
+    fn by_loan(self) -> io::Result<Mails> {
+        let Mails {
+            mails,
+            files,
+            waiting,
+            runs,
+        } = self;
+        let alloc = *mails.allocator();
+        let mut placed = Vec::new(alloc);
+        for (mail, file) in mails.into_iter().zip(files) {
+            let place = place_of(alloc, &mail)?;
+            placed.push(Placed { place, mail, file })?;
+        }
+        placed.sort_by(|one, other| one.place.cmp(&other.place))?;
+        let mut ordered = Mails {
+            mails: Vec::new(alloc),
+            files: Vec::new(alloc),
+            waiting,
+            runs,
+        };
+        for placed in placed {
+            ordered.mails.push(placed.mail)?;
+            ordered.files.push(placed.file)?;
+        }
+        Ok(ordered)
+    }
+
     /// Adds a mail that cannot be read, or counts it if the run is full.
     fn add_or_count(&mut self, name: Vec<u8>) -> io::Result<()> {
         if self.is_full() {
@@ -88,6 +118,31 @@ impl Mails {
         };
         self.add(name, bytes_if_read(read)?, Some(file))
     }
+}
+
+/// A mail, the path of its file, and its place in the order of the mails of a run.
+#[derive(Drop)]
+struct Placed {
+    place: Vec<u8>,
+    mail: Mail,
+    file: Option<String>,
+}
+
+/// Returns the place of a mail in the order of the mails of a run: the group, the transaction and the number of its
+/// message, with a zero after each qualifier. It is empty for a mail without a message.
+fn place_of(alloc: Global, mail: &Mail) -> Result<Vec<u8>, OutOfMemory> {
+    let mut place = Vec::new(alloc);
+    let Some(bytes) = &mail.bytes else {
+        return Ok(place);
+    };
+    if let Ok(message) = message_in(bytes) {
+        place.extend_from_slice(message.group())?;
+        place.push(0)?;
+        place.extend_from_slice(message.transaction())?;
+        place.push(0)?;
+        place.push(message.number().get())?;
+    }
+    Ok(place)
 }
 
 /// The folder from which the mails of a desk come.
@@ -187,7 +242,7 @@ fn all_mails<T: Files>(
     if let Some(run) = run {
         claim_from(rt, alloc, mail_box, folder, run, &mut mails)?;
     }
-    Ok(mails)
+    mails.by_loan()
 }
 
 /// Claims the mails of `folder` into the folder `run`, up to the room of a run, and reads them.
@@ -237,7 +292,7 @@ pub(crate) fn new_run<T: Files>(rt: &T, alloc: Global, mail_box: &MailBox) -> io
     }
     for number in last.saturating_add(1)..=last.saturating_add(TRIES) {
         let run = format!(in alloc; "{}/{number:010}", mail_box.claimed())?;
-        match DirBuilder::new().mode(0o700).create(rt, run.as_str()) {
+        match mail_box.make_run(rt, run.as_str()) {
             Ok(()) => return Ok(run),
             Err(error) if error.kind() == ErrorKind::AlreadyExists => {}
             Err(error) => return Err(error),
@@ -421,11 +476,14 @@ fn no_failure(done: io::Result<()>) -> io::Result<()> {
     }
 }
 
-/// The greatest number of bytes read from a mail: one more than a message has.
-const MOST: usize = APDU_LIMIT + 1;
+/// The greatest number of bytes in a line end.
+const LINE_END: usize = 2;
 
-/// Returns the first bytes of the file at `path`, whose size was `size`. If that is still its size, one call reads
-/// them.
+/// The greatest number of bytes read from a mail: one more than a message and a line end have.
+const MOST: usize = APDU_LIMIT + LINE_END + 1;
+
+/// Returns the first bytes of the file at `path`, whose size was `size`, without a line end after a message. If that is
+/// still its size, one call reads them.
 fn first_bytes<T: Files>(rt: &T, alloc: Global, path: &str, size: u64) -> io::Result<Vec<u8>> {
     let mut file = fs::open(rt, path)?;
     let mut first = [0; MOST];
@@ -435,5 +493,29 @@ fn first_bytes<T: Files>(rt: &T, alloc: Global, path: &str, size: u64) -> io::Re
         file.take(MOST.saturating_sub(count) as u64)
             .read_to_end(&mut bytes)?;
     }
+    bytes.truncate(without_line_end(&bytes).len());
     Ok(bytes)
+}
+
+/// Returns the message at the start of `bytes`, if only a line end follows it. Else it returns `bytes`.
+fn without_line_end(bytes: &[u8]) -> &[u8]
+    ensures { result.now ≡ without_line_end bytes.now }
+{
+    match view(bytes) {
+        Ok((_, size)) => {
+            if is_line_end(&bytes[size..]) {
+                &bytes[..size]
+            } else {
+                bytes
+            }
+        }
+        Err(_) => bytes,
+    }
+}
+
+/// Returns true if `bytes` are a line end: a line feed, perhaps after a carriage return.
+fn is_line_end(bytes: &[u8]) -> bool
+    ensures { result ≡ is_line_end bytes.now }
+{
+    bytes == b"\n".as_slice() || bytes == b"\r\n".as_slice()
 }

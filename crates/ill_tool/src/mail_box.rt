@@ -1,12 +1,13 @@
 //! The folder of a desk's mail, beside its file. Only the user of the desk may write there, so nobody else changes a
 //! file there.
 
-use ill_saved::{FileStore, RECORD_LIMIT, Store, StoreFault};
+use crate::durable::{Owner, error_of_store, flush};
+use crate::places::is_reserved;
+use ill_saved::{FileStore, RECORD_LIMIT, Store};
 use std::alloc::Global;
 use std::fs::{DirBuilder, Metadata, OpenOptions};
 use std::io::{ErrorKind, Write};
 use std::os::unix::fs::{DirBuilderExt, MetadataExt, OpenOptionsExt, PermissionsExt};
-use std::path::Path;
 use std::rt::Files;
 use std::{fs, io};
 
@@ -16,22 +17,36 @@ pub(crate) const MAIL: &str = ".mail";
 /// The ending of the name of the file with the reason why a mail was put aside.
 const WHY: &str = ".why";
 
+/// The seconds of a month of thirty days.
+const MONTH: i64 = 30 * 24 * 60 * 60;
+
 /// The folder of a desk's mail.
 #[derive(Drop)]
 pub struct MailBox {
     path: String,
     claimed: String,
+    owner: Owner,
 }
 
 impl MailBox {
     /// Opens the folder of the mail of the desk in the file `desk`. If it does not exist, it is made for its owner
-    /// alone.
-    pub fn open<T: Files>(rt: &T, alloc: Global, desk: &str) -> io::Result<MailBox> {
+    /// alone. All that is made in it belongs to the owner of the file `original`.
+    pub fn open<T: Files>(
+        rt: &T,
+        alloc: Global,
+        desk: &str,
+        original: &str,
+    ) -> io::Result<MailBox> {
+        let owner = Owner::of(&fs::symlink_metadata(rt, original)?);
         let path = format!(in alloc; "{desk}{MAIL}")?;
-        make_own_folder(rt, path.as_str())?;
+        make_own_folder(rt, path.as_str(), owner)?;
         let claimed = format!(in alloc; "{path}/in")?;
-        make_folder(rt, claimed.as_str())?;
-        Ok(MailBox { path, claimed })
+        make_folder(rt, claimed.as_str(), owner)?;
+        Ok(MailBox {
+            path,
+            claimed,
+            owner,
+        })
     }
 
     /// Returns the folder of the mails that were claimed. Each run has a folder of its own in it.
@@ -39,21 +54,17 @@ impl MailBox {
         self.claimed.as_str()
     }
 
-    /// Returns true if `path` leads to this folder, into it, or to the folder of the desk's file. No mail may be there.
-    pub fn is_at<T: Files>(&self, rt: &T, alloc: Global, path: &str) -> io::Result<bool> {
-        let above = fs::metadata(rt, self.above())?;
+    /// Returns true if `folder` leads to this folder or into it, or has files of a desk. No mail may be there.
+    pub fn is_at<T: Files>(&self, rt: &T, alloc: Global, folder: &str) -> io::Result<bool> {
         Ok(
-            is_same(&fs::metadata(rt, path)?, &above)
-                || is_within(rt, alloc, path, self.path.as_str())?,
+            is_within(rt, alloc, folder, self.path.as_str())?
+                || is_reserved(rt, alloc, self.path.as_str(), folder)?,
         )
     }
 
-    /// Returns the path of the folder that has this one.
-    fn above(&self) -> &str {
-        match Path::new(self.path.as_str()).parent() {
-            Some(folder) if !folder.as_str().is_empty() => folder.as_str(),
-            _ => ".",
-        }
+    /// Makes the folder of a run among the claimed mails. If there is a folder at `path`, that is a fault.
+    pub fn make_run<T: Files>(&self, rt: &T, path: &str) -> io::Result<()> {
+        make_new_folder(rt, path, self.owner)
     }
 
     /// Returns the path of the file of the messages that ask.
@@ -61,7 +72,8 @@ impl MailBox {
         asked_at(alloc, self.path.as_str())
     }
 
-    /// Puts `file` aside under `name`, with the line `why` in another file beside it.
+    /// Puts `file` aside under `name`, with the line `why` in another file beside it. A file of its size beside it has that
+    /// line already, since equal mails have equal names and reasons.
     pub fn put_aside<T: Files>(
         &self,
         rt: &T,
@@ -71,13 +83,40 @@ impl MailBox {
         why: &[u8],
     ) -> io::Result<()> {
         let aside = format!(in alloc; "{}/aside", self.path)?;
-        make_folder(rt, aside.as_str())?;
+        make_folder(rt, aside.as_str(), self.owner)?;
         let place = format!(in alloc; "{aside}/{name}")?;
         let reason = format!(in alloc; "{place}{WHY}")?;
-        write_anew(rt, reason.as_str(), why)?;
+        if !has_size(rt, reason.as_str(), why.len()) {
+            write_anew(rt, reason.as_str(), why, self.owner)?;
+        }
         match fs::rename(rt, file, place.as_str()) {
             Err(error) if error.kind() != ErrorKind::NotFound => Err(error),
             _ => Ok(()),
+        }
+    }
+
+    /// Returns true once a month for each `name`: if it did so more than a month before the folder `run` was made, or
+    /// never. The file `told/NAME` has the time when it did.
+    pub fn is_to_tell<T: Files>(
+        &self,
+        rt: &T,
+        alloc: Global,
+        name: &str,
+        run: &str,
+    ) -> io::Result<bool> {
+        let told = format!(in alloc; "{}/told", self.path)?;
+        make_folder(rt, told.as_str(), self.owner)?;
+        let path = format!(in alloc; "{told}/{name}")?;
+        let now = fs::symlink_metadata(rt, run)?.mtime();
+        match fs::symlink_metadata(rt, path.as_str()) {
+            Ok(found) if found.mtime() <= now && now < found.mtime().saturating_add(MONTH) => {
+                Ok(false)
+            }
+            Err(error) if error.kind() != ErrorKind::NotFound => Err(error),
+            _ => {
+                write_anew(rt, path.as_str(), b"", self.owner)?;
+                Ok(true)
+            }
         }
     }
 
@@ -89,8 +128,11 @@ impl MailBox {
         }
         let mut store = FileStore::at(rt, alloc, path.as_str(), RECORD_LIMIT)?;
         match store.save(alloc, asked) {
-            Ok(()) => Ok(()),
-            Err(_) => Err(ErrorKind::Other.into()),
+            Ok(()) => {
+                self.owner.take(rt, path.as_str());
+                Ok(())
+            }
+            Err(fault) => Err(error_of_store(fault)),
         }
     }
 }
@@ -108,14 +150,13 @@ pub fn asked_bytes<T: Files>(rt: &T, alloc: Global, desk: &str) -> io::Result<Ve
     let mut store = FileStore::at(rt, alloc, asked.as_str(), RECORD_LIMIT)?;
     match store.load(alloc) {
         Ok(bytes) => Ok(bytes.unwrap_or(Vec::new(alloc))),
-        Err(StoreFault::OutOfMemory) => Err(ErrorKind::OutOfMemory.into()),
-        Err(_) => Err(ErrorKind::Other.into()),
+        Err(fault) => Err(error_of_store(fault)),
     }
 }
 
 /// Makes a folder that only its owner may enter, if it does not exist. A folder that others may enter is a fault.
-fn make_own_folder<T: Files>(rt: &T, path: &str) -> io::Result<()> {
-    make_folder(rt, path)?;
+fn make_own_folder<T: Files>(rt: &T, path: &str, owner: Owner) -> io::Result<()> {
+    make_folder(rt, path, owner)?;
     let found = fs::symlink_metadata(rt, path)?;
     if found.permissions().mode() & 0o077 == 0 {
         Ok(())
@@ -125,15 +166,20 @@ fn make_own_folder<T: Files>(rt: &T, path: &str) -> io::Result<()> {
 }
 
 /// Makes a folder for its owner alone, if it does not exist. A link to a folder is a fault.
-pub(crate) fn make_folder<T: Files>(rt: &T, path: &str) -> io::Result<()> {
+fn make_folder<T: Files>(rt: &T, path: &str, owner: Owner) -> io::Result<()> {
     match fs::symlink_metadata(rt, path) {
         Ok(found) if found.is_dir() => Ok(()),
         Ok(_) => Err(ErrorKind::AlreadyExists.into()),
-        Err(error) if error.kind() == ErrorKind::NotFound => {
-            DirBuilder::new().mode(0o700).create(rt, path)
-        }
+        Err(error) if error.kind() == ErrorKind::NotFound => make_new_folder(rt, path, owner),
         Err(error) => Err(error),
     }
+}
+
+/// Makes a folder for its owner alone. If something is at `path`, that is a fault.
+fn make_new_folder<T: Files>(rt: &T, path: &str, owner: Owner) -> io::Result<()> {
+    DirBuilder::new().mode(0o700).create(rt, path)?;
+    owner.take(rt, path);
+    Ok(())
 }
 
 /// Returns true if two paths led to one file or folder.
@@ -171,12 +217,23 @@ pub(crate) fn remove_if_there<T: Files>(rt: &T, path: &str) -> io::Result<()> {
     }
 }
 
-/// Writes `line` to the file at `path`, and replaces a file there.
-fn write_anew<T: Files>(rt: &T, path: &str, line: &[u8]) -> io::Result<()> {
+/// Returns true if there is a regular file of `size` bytes at `path`.
+fn has_size<T: Files>(rt: &T, path: &str, size: usize) -> bool {
+    match fs::symlink_metadata(rt, path) {
+        Ok(found) => found.is_file() && found.len() == size as u64,
+        Err(_) => false,
+    }
+}
+
+/// Writes `line` to the file at `path`, which replaces a file there, and makes it durable.
+fn write_anew<T: Files>(rt: &T, path: &str, line: &[u8], owner: Owner) -> io::Result<()> {
     remove_if_there(rt, path)?;
     let mut options = OpenOptions::new();
     options.write(true);
     options.create_new(true);
     options.mode(0o600);
-    options.open(rt, path)?.write_all(line)
+    let mut file = options.open(rt, path)?;
+    file.write_all(line)?;
+    owner.take(rt, path);
+    flush(&file)
 }

@@ -7,16 +7,20 @@ ghost use Rattle.ill_tool.specs.Outbox.{IsFileFault};
 ghost use Rattle.ill_tool.specs.Output.{WritesText};
 
 use crate::act::run_desk_act;
+use crate::backup::beat;
 use crate::came::{CAME, STORE_FAILED};
-use crate::exchange::{NO_FOLDER, Night, beat, blame, find_folder};
+use crate::durable::error_of_store;
+use crate::exchange::{Night, blame};
 use crate::fault::ToolFault;
 use crate::file::{loan, lock, new, open, release, send};
 use crate::folder::fault;
 use crate::form::Form;
+use crate::last_words::{load_mark, send_last_words};
 use crate::mail::{names_in, path_of};
 use crate::mail_box::{MAIL, remove_if_there};
 use crate::output::write_whole;
-use crate::retire::{MARK, run_desk_retire};
+use crate::places::{Places, look_at_places};
+use crate::retire::run_desk_retire;
 use crate::shelf::{
     RETIRED, Shelf, is_retired, is_there, names_of_desks, own_path, refuse_retired, retired_path,
 };
@@ -186,7 +190,24 @@ pub fn outbox_of_shelf<T: LockFiles, W: Write, E: Write>(
 {
     let shelf = Shelf::open(rt, alloc, folder)?;
     let desks = shelf.desks(rt, alloc)?;
-    visit_all(rt, alloc, &desks, &Visit::Outbox(outgoing), writer, errors)
+    let answer = visit_all(rt, alloc, &desks, &Visit::Outbox(outgoing), writer, errors);
+    graver(answer, send_words_to(rt, alloc, &shelf, outgoing, errors))
+}
+
+/// Sends the last words of retired groups into a folder, if there is one.
+fn send_words_to<T: Files, E: Write>(
+    rt: &T,
+    alloc: Global,
+    shelf: &Shelf<'_>,
+    outgoing: Option<&str>,
+    errors: &mut E,
+) -> Result<bool, ToolFault>
+    ensures { IsFurther result }
+{
+    match outgoing {
+        Some(out) => send_last_words(rt, alloc, shelf, out, errors),
+        None => Ok(true),
+    }
 }
 
 /// `ill shelf inbox`: takes the mails of a folder, each at the desk of its group.
@@ -201,7 +222,7 @@ pub fn inbox_of_shelf<T: LockFiles, W: Write, E: Write>(
     ensures { VisitsShelf true InboxAtFile (W.contents writer.old) (W.contents writer.new) result }
 {
     let shelf = Shelf::open(rt, alloc, folder)?;
-    let is_waiting = sort_mails(rt, alloc, &shelf, incoming, errors)?;
+    let is_waiting = sort_mails(rt, alloc, &shelf, incoming, None, errors)?;
     let desks = desks_and_own(rt, alloc, &shelf)?;
     let answer = visit_all(rt, alloc, &desks, &Visit::Inbox(incoming), writer, errors);
     graver(answer, waiting(is_waiting))
@@ -243,9 +264,14 @@ pub fn exchange_of_shelf<T: LockFiles, W: Write, E: Write>(
     ensures { VisitsShelf true (ExchangesAtFile night.now.dates) (W.contents writer.old) (W.contents writer.new) result }
 {
     let shelf = Shelf::open(rt, alloc, folder)?;
-    let found = find_folder(rt, night.outgoing);
-    blame(alloc, found, night.outgoing, NO_FOLDER, errors)?;
-    let is_waiting = sort_mails(rt, alloc, &shelf, night.incoming, errors)?;
+    let own = shelf.own_desk(alloc)?;
+    let places = Places {
+        file: own.as_str(),
+        original: shelf.folder,
+        copies: night.copy,
+    };
+    look_at_places(rt, alloc, &places, night, errors)?;
+    let is_waiting = sort_mails(rt, alloc, &shelf, night.incoming, night.copy, errors)?;
     let desks = desks_and_own(rt, alloc, &shelf)?;
     let visit = Visit::Exchange(at_each(night));
     let answer = visit_all(rt, alloc, &desks, &visit, writer, errors);
@@ -267,8 +293,8 @@ fn at_each<'a>(night: &Night<'a>) -> Night<'a>
     }
 }
 
-/// Copies the marks of retired groups to the folder of copies. Then it gives the sign of life of the night, unless a
-/// desk has failed. It returns the fault `Left` if mails wait.
+/// Sends the last words of retired groups, and copies the marks of these groups to the folder of copies. Then it gives the
+/// sign of life of the night, unless a desk has failed. It returns the fault `Left` if mails wait.
 fn end_night<T: Files, E: Write>(
     rt: &T,
     alloc: Global,
@@ -280,13 +306,17 @@ fn end_night<T: Files, E: Write>(
 ) -> Result<bool, ToolFault>
     ensures { IsFurther result }
 {
+    if let Err(fault) = send_last_words(rt, alloc, shelf, night.outgoing, errors) {
+        return Err(fault);
+    }
     if let Some(folder) = night.copy
         && let Err(error) = copy_marks(rt, alloc, shelf, folder)
     {
         return blame(alloc, Err(file_fault(&error)), folder, NO_MARKS, errors);
     }
     if let Ok(_) | Err(ToolFault::Left) = answer {
-        if let Err(fault) = beat(rt, alloc, night.beat, errors) {
+        let own = shelf.own_desk(alloc)?;
+        if let Err(fault) = beat(rt, alloc, night.beat, own.as_str(), errors) {
             return Err(fault);
         }
     }
@@ -299,19 +329,24 @@ const NO_MARKS: &str = " does not have the marks of all retired groups";
 /// Writes the mark of each retired group into `folder`, the folder of copies. It removes the copy of its desk there.
 fn copy_marks<T: Files>(rt: &T, alloc: Global, shelf: &Shelf<'_>, folder: &str) -> io::Result<()> {
     for name in names_of_desks(rt, alloc, shelf.folder, shelf.role, RETIRED)? {
+        let desk = format!(in alloc; "{}/{name}", shelf.folder)?;
         let copy = format!(in alloc; "{folder}/{name}")?;
-        if !is_retired(rt, alloc, copy.as_str())? {
-            save_mark(rt, alloc, copy.as_str())?;
+        let mark = load_mark(rt, alloc, desk.as_str())?;
+        if mark != load_mark(rt, alloc, copy.as_str())? {
+            save_mark(rt, alloc, copy.as_str(), mark)?;
         }
         remove_if_there(rt, copy.as_str())?;
     }
     Ok(())
 }
 
-/// Saves the mark that the group of `desk` is retired, and makes it durable with its folder.
-fn save_mark<T: Files>(rt: &T, alloc: Global, desk: &str) -> io::Result<()> {
+/// Saves `mark`, the mark that the group of `desk` is retired, and makes it durable with its folder.
+fn save_mark<T: Files>(rt: &T, alloc: Global, desk: &str, mark: Option<Vec<u8>>) -> io::Result<()> {
     let path = retired_path(alloc, desk)?;
-    save_file(rt, alloc, path.as_str(), MARK)
+    match mark {
+        Some(mark) => save_file(rt, alloc, path.as_str(), &mark),
+        None => Ok(()),
+    }
 }
 
 /// Saves `bytes` in the file at `path`, and makes it durable with its folder.
@@ -319,7 +354,7 @@ fn save_file<T: Files>(rt: &T, alloc: Global, path: &str, bytes: &[u8]) -> io::R
     let mut store = FileStore::at(rt, alloc, path, RECORD_LIMIT)?;
     match store.save(alloc, bytes) {
         Ok(()) => Ok(()),
-        Err(_) => Err(ErrorKind::Other.into()),
+        Err(fault) => Err(error_of_store(fault)),
     }
 }
 
@@ -408,7 +443,7 @@ fn clear<T: Files>(rt: &T, alloc: Global, file: &str) -> io::Result<()> {
     remove_if_there(rt, came.as_str())?;
     clear_mail(rt, alloc, mail.as_str())?;
     remove_if_there(rt, file)?;
-    save_mark(rt, alloc, file)
+    save_mark(rt, alloc, file, load_mark(rt, alloc, file)?)
 }
 
 /// Removes the mails that were claimed for a desk, the messages that ask, and their folder. If mails were put aside,

@@ -11,7 +11,7 @@ use crate::output::write_whole;
 use crate::sides::{HeldSide, all_held};
 use crate::status::role_name;
 use ill_der::encode;
-use ill_saved::{Desk, Side, Store};
+use ill_saved::{Desk, Role, Side, Store};
 use ill_values::{Apdu, Number, OutOfMemory, TxnId};
 use ill_world::wants_sending;
 use sha2::{Digest, Sha256};
@@ -169,26 +169,32 @@ fn put_all<O: Outgoing>(
 fn put<O: Outgoing>(alloc: Global, leaving: Leaving<'_>, out: &mut O) -> Result<(), ToolFault>
     ensures { PutsOne O.after (letter_of (issue_of leaving.entry)) (O.mails out.old) (O.mails out.new) result }
 {
-    let name = mail_name(alloc, leaving.side, leaving.apdu.number)?;
+    let side = leaving.side;
+    let name = mail_name(alloc, side.role(), side.txn(), leaving.apdu.number)?;
     let bytes = encode(alloc, leaving.apdu)?;
     out.put(&name, &bytes)
 }
 
-/// Returns the name of the mail of the message `number` of `side`.
-fn mail_name(alloc: Global, side: &Side, number: Number) -> Result<Vec<u8>, OutOfMemory>
-    ensures { IfOk result (λ name. name.items ≡ mail_name side.now number) }
+/// Returns the name of the mail of the message `number` in the loan `txn`, from a desk of the role `role`.
+pub(crate) fn mail_name(
+    alloc: Global,
+    role: Role,
+    txn: &TxnId,
+    number: Number,
+) -> Result<Vec<u8>, OutOfMemory>
+    ensures { IfOk result (λ name. name.items ≡ mail_name role txn.now number) }
 {
-    let mut name = loan_stem(alloc, side)?;
+    let mut name = loan_stem(alloc, role, txn)?;
     name.push(b'-')?;
     name.extend_from_slice(&three_digits(number.get()))?;
     Ok(name)
 }
 
 /// Returns the text with which the names of all mails of a loan begin.
-fn loan_stem(alloc: Global, side: &Side) -> Result<Vec<u8>, OutOfMemory>
-    ensures { IfOk result (λ stem. stem.items ≡ loan_stem side.now) }
+fn loan_stem(alloc: Global, role: Role, txn: &TxnId) -> Result<Vec<u8>, OutOfMemory>
+    ensures { IfOk result (λ stem. stem.items ≡ loan_stem role txn.now) }
 {
-    let text = loan_text(alloc, side)?;
+    let text = loan_text(alloc, role, txn)?;
     let digest = hex::encode(alloc, Sha256::digest(&text))?;
     let mut stem = digest.into_bytes();
     stem.truncate(STEM);
@@ -199,13 +205,13 @@ fn loan_stem(alloc: Global, side: &Side) -> Result<Vec<u8>, OutOfMemory>
 const STEM: usize = 32;
 
 /// Returns a text that differs from the text of any other loan or role.
-fn loan_text(alloc: Global, side: &Side) -> Result<Vec<u8>, OutOfMemory>
-    ensures { IfOk result (λ text. text.items ≡ loan_text side.now) }
+fn loan_text(alloc: Global, role: Role, txn: &TxnId) -> Result<Vec<u8>, OutOfMemory>
+    ensures { IfOk result (λ text. text.items ≡ loan_text role txn.now) }
 {
     let mut text = Vec::new(alloc);
-    push_line(&mut text, role_name(side.role()).as_bytes())?;
-    push_line(&mut text, side.txn().group())?;
-    push_line(&mut text, side.txn().transaction())?;
+    push_line(&mut text, role_name(role).as_bytes())?;
+    push_line(&mut text, txn.group())?;
+    push_line(&mut text, txn.transaction())?;
     Ok(text)
 }
 

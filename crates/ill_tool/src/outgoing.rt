@@ -4,6 +4,7 @@ ghost use Rattle.std.specs.Prelude.{◌++◌, ℕ, List, Option, Some, None};
 ghost use Rattle.ill_tool.specs.Outbox.{Letter, PutsOne};
 
 use crate::came::STORE_FAILED;
+use crate::durable::flush;
 use crate::fault::ToolFault;
 use ill_values::OutOfMemory;
 use std::alloc::Global;
@@ -78,12 +79,14 @@ impl<'a, R: Files> MailFolder<'a, R> {
         Ok(Some(format!(in self.alloc; "{folder}/{name}")?))
     }
 
-    /// Writes a message to a new file, and then renames the file to `name`. So the mail `name` is there whole, or
-    /// unchanged. It follows no link. The new file is made at a path without a file, and the rename replaces a link.
+    /// Writes a message to a new file, makes it durable, and then renames the file to `name`. So the mail `name` is there
+    /// whole, or unchanged, even after a loss of power. The new file has the name of its mail after a dot, so only a run
+    /// that holds the desk of this mail writes it. It follows no link. The new file is made at a path without a file, and
+    /// the rename replaces a link.
     fn write(&self, name: &[u8], bytes: &[u8]) -> io::Result<()> {
         let folder = self.path;
         let name = str::from_utf8(name).unwrap_or_default();
-        let new = format!(in self.alloc; "{folder}/.new")?;
+        let new = format!(in self.alloc; "{folder}/.{name}")?;
         let place = format!(in self.alloc; "{folder}/{name}")?;
         let _ = fs::remove_file(self.rt, new.as_str());
         let written = write_new(self.rt, new.as_str(), bytes);
@@ -98,12 +101,14 @@ impl<'a, R: Files> MailFolder<'a, R> {
     }
 }
 
-/// Writes `bytes` to a file that did not exist.
+/// Writes `bytes` to a file that did not exist, and makes them durable.
 fn write_new<R: Files>(rt: &R, path: &str, bytes: &[u8]) -> io::Result<()> {
     let mut options = OpenOptions::new();
     options.write(true);
     options.create_new(true);
-    options.open(rt, path)?.write_all(bytes)
+    let mut file = options.open(rt, path)?;
+    file.write_all(bytes)?;
+    flush(&file)
 }
 
 impl<'a, R: Files> Outgoing for MailFolder<'a, R> {

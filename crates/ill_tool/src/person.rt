@@ -25,6 +25,8 @@ pub(crate) enum Matter {
     Aside,
     /// It cannot be read.
     NotRead,
+    /// It is the record of a desk.
+    Record,
     /// A requester's desk has no such loan.
     NoSuchTransaction,
     /// The desk has no room for its loan.
@@ -54,6 +56,7 @@ impl Matter {
     {
         match delay {
             Delay::NotRead => Matter::NotRead,
+            Delay::Record => Matter::Record,
             Delay::NoSuchTransaction => Matter::NoSuchTransaction,
             Delay::DeskFull => Matter::DeskFull,
         }
@@ -84,6 +87,7 @@ impl Matter {
         match self {
             Matter::Aside => "put aside",
             Matter::NotRead => "stays: not read; look at its name, its permissions and its disk",
+            Matter::Record => "stays: it is the record of a desk; look if IN is the right folder",
             Matter::NoSuchTransaction => {
                 "stays: this desk has no such loan; ask the partner which loan that is"
             }

@@ -1,16 +1,19 @@
 //! The requests of command lines, which are read before any file is opened.
 
-ghost use Rattle.std.specs.Prelude.{◌≡◌, true, map, option_map};
+ghost use Rattle.std.specs.Prelude.{◌≡◌, true, is_none, map, option_map};
+ghost use Rattle.std.specs.List.{list_any};
 ghost use Rattle.clap.specs.Words.{found_of, rows_of, subcommand_rows_of};
+ghost use Rattle.ill_tool.specs.CommandLine.{is_option};
 ghost use Rattle.ill_tool.specs.declared.request.Refusal.TheVariants.{Usage, Fault};
 ghost use Rattle.ill_tool.specs.declared.fault.ToolFault.TheVariants.{OutOfMemory};
 ghost use Rattle.ill_tool.specs.declared.command_line.Name.TheVariants as names;
-ghost use Rattle.ill_tool.specs.Asked.{ReadsValue, IsRefusal, asked_by, asked_in, asked_of, text_of, texts_of, role_of, loan_of, group_of, day_in, state_in, number_of_message, dates_of, outlet_of, is_set, which_of, form_of, wanted_of, report_day_of, asked};
+ghost use Rattle.ill_tool.specs.Asked.{ReadsValue, IsRefusal, asked_by, asked_in, asked_of, text_of, texts_of, role_of, loan_of, group_of, new_file_of, day_in, state_in, number_of_message, dates_of, outlet_of, is_set, which_of, form_of, wanted_of, report_day_of, asked, desk_at_stake, end_with_dashes, has_option, said_free, unless_option};
 
-use crate::command_line::{Argument, Name, SHELF, command};
+use crate::command_line::{Argument, Name, SHELF, command, is_option};
 use crate::dates::Dates;
 use crate::exchange::Night;
 use crate::fault::ToolFault;
+use crate::folder::is_beside;
 use crate::form::Form;
 use crate::list::{Wanted, Which};
 use crate::simulate::id;
@@ -148,6 +151,24 @@ pub enum Request<'a> {
     },
 }
 
+impl<'a> Request<'a> {
+    /// Returns the file of the desk that the request may change, or from which it sends.
+    pub(crate) fn desk_at_stake(&self) -> Option<&'a str>
+        ensures { option_map (λ file. file.now) result ≡ desk_at_stake (asked self.now) }
+    {
+        match self {
+            Request::New { file, .. }
+            | Request::Act { file, .. }
+            | Request::Take { file, .. }
+            | Request::Inbox { file, .. }
+            | Request::Outbox { file, .. }
+            | Request::Exchange { file, .. }
+            | Request::Send { file, .. } => Some(*file),
+            _ => None,
+        }
+    }
+}
+
 /// The reason why words are no request.
 #[derive(Drop)]
 pub enum Refusal {
@@ -190,12 +211,66 @@ pub enum Call<'a> {
     Shelf(Request<'a>),
 }
 
+/// The word after which no word is an option.
+pub const DASHES: &str = "--";
+
 /// Reads the words of a command line. The first word is the name of the program.
 pub fn read_words<'a>(alloc: Global, words: &'a [&'a str]) -> Result<Call<'a>, Refusal> {
     let matches = command(alloc)?.try_get_matches_from(words)?;
     match matches.subcommand() {
-        Some((word, matches)) if word == SHELF => Ok(Call::Shelf(found(alloc, matches)?)),
-        _ => Ok(Call::Desk(found(alloc, &matches)?)),
+        Some((word, matches)) if word == SHELF => Ok(Call::Shelf(read(alloc, words, matches)?)),
+        _ => Ok(Call::Desk(read(alloc, words, &matches)?)),
+    }
+}
+
+/// Returns the request of the command in `matches`. `words` are the whole command line. An action may have no option of
+/// the program among its words.
+fn read<'a>(alloc: Global, words: &[&str], matches: &ArgMatches<'a>) -> Result<Request<'a>, Refusal>
+    ensures { ReadsValue asked (said_free (map (λ word. word.now) words.now) (asked_in (subcommand_rows_of matches.now))) result }
+{
+    let request = match found(alloc, matches) {
+        Ok(request) => request,
+        Err(refusal) => return Err(refusal),
+    };
+    if has_option_of(words, &request) {
+        return Err(Refusal::Fault(ToolFault::Arguments));
+    }
+    Ok(request)
+}
+
+/// Returns true if an option of the program is among the words of an action, with which `words` end.
+fn has_option_of(words: &[&str], request: &Request<'_>) -> bool
+    ensures { result ≡ is_none (unless_option (map (λ word. word.now) words.now) (asked request.now)) }
+{
+    match request {
+        Request::Act { words: action, .. } => has_option(words, action),
+        _ => false,
+    }
+}
+
+/// Returns true if an option of the program is in `action`, with which `words` end. If `--` stands right before `action`,
+/// none is an option.
+pub fn has_option(words: &[&str], action: &[&str]) -> bool
+    ensures { result ≡ has_option (map (λ word. word.now) words.now) (map (λ word. word.now) action.now) }
+{
+    let first = words.len().saturating_sub(action.len());
+    !end_with_dashes(&words[..first]) && is_any_option(action)
+}
+
+/// Returns true if an option of the program is one of `words`.
+fn is_any_option(words: &[&str]) -> bool
+    ensures { result ≡ list_any (λ word. is_option word.now) words.now }
+{
+    words.iter().any(|word| is_option(word))
+}
+
+/// Returns true if the last of `words` is `--`.
+fn end_with_dashes(words: &[&str]) -> bool
+    ensures { result ≡ end_with_dashes (map (λ word. word.now) words.now) }
+{
+    match words.last() {
+        Some(word) => *word == DASHES,
+        None => false,
     }
 }
 
@@ -254,9 +329,23 @@ fn requested<'a>(
 fn new_request<'a>(alloc: Global, matches: &ArgMatches<'a>) -> Result<Request<'a>, Refusal>
     ensures { ReadsValue asked (asked_of names.New (rows_of (found_of matches.now))) result }
 {
-    let file = text(alloc, matches, Argument::NewFile)?;
+    let file = match new_file(alloc, matches) {
+        Ok(file) => file,
+        Err(refusal) => return Err(refusal),
+    };
     let role = role(alloc, matches)?;
     Ok(Request::New { file, role })
+}
+
+/// Returns the path of a new desk or shelf. None may have the ending of a file beside a desk.
+fn new_file<'a>(alloc: Global, matches: &ArgMatches<'a>) -> Result<&'a str, Refusal>
+    ensures { ReadsValue (λ file. file.now) (new_file_of (rows_of (found_of matches.now))) result }
+{
+    let file = text(alloc, matches, Argument::NewFile)?;
+    if is_beside(file) {
+        return Err(Refusal::Fault(ToolFault::Arguments));
+    }
+    Ok(file)
 }
 
 /// Returns the request of `ill act`.

@@ -1,11 +1,11 @@
 //! A shelf: a folder of desks of one role, one for each group of transactions. The group of a transaction names its
 //! desk.
 
-ghost use Rattle.std.specs.Prelude.{◌≡◌, ℕ, List, IfErr, IfOk, string_bytes};
+ghost use Rattle.std.specs.Prelude.{◌≡◌, ℕ, List, Decides, IfErr, IfOk, string_bytes};
 ghost use Rattle.ill_values.specs.Text.{IsQualifier};
 ghost use Rattle.ill_saved.specs.declared.role.Role.{Role};
 ghost use Rattle.ill_tool.specs.Commands.{IsOpenFault};
-ghost use Rattle.ill_tool.specs.Shelf.{desk_name, desk_path};
+ghost use Rattle.ill_tool.specs.Shelf.{IsDeskName, desk_name, desk_path, group_in};
 
 use crate::came::STORE_FAILED;
 use crate::fault::ToolFault;
@@ -25,7 +25,7 @@ use std::{fs, io};
 
 /// The name of the shelf's own desk, which has no loans. Its role is the role of the shelf. It takes mails that no desk
 /// of a group can take.
-const OWN: &str = ".shelf";
+pub(crate) const OWN: &str = ".shelf";
 
 /// The name, before `.mail`, of the folder of mails that are not sorted yet.
 const UNSORTED: &str = ".unsorted";
@@ -112,6 +112,12 @@ pub(crate) fn own_path(alloc: Global, folder: &str) -> Result<String, OutOfMemor
     Ok(format!(in alloc; "{folder}/{OWN}")?)
 }
 
+/// Returns true if there is a shelf in `folder`.
+pub(crate) fn is_shelf<T: Files>(rt: &T, alloc: Global, folder: &str) -> io::Result<bool> {
+    let own = own_path(alloc, folder)?;
+    is_there(rt, own.as_str())
+}
+
 /// Returns the paths of the desks of `role` in `folder`, in the order of their names. The desks of retired groups are
 /// left out.
 fn desks_in<T: Files>(rt: &T, alloc: Global, folder: &str, role: Role) -> io::Result<Vec<String>> {
@@ -148,13 +154,26 @@ pub(crate) fn names_of_desks<T: Files>(
 }
 
 /// Returns true if `name` is the name of the desk of a group.
-fn is_desk_name(alloc: Global, role: Role, name: &str) -> Result<bool, OutOfMemory> {
-    let Some((stem, _)) = name.rsplit_once('.') else {
+pub(crate) fn is_desk_name(alloc: Global, role: Role, name: &str) -> Result<bool, OutOfMemory>
+    ensures { IfOk result (λ is_name. Decides is_name (IsDeskName role name.now)) }
+{
+    let group = group_in(alloc, role, name)?;
+    if !TxnId::is_qualifier(&group) {
         return Ok(false);
-    };
+    }
+    let own = desk_name(alloc, role, &group)?;
+    Ok(own.as_str() == name)
+}
+
+/// Returns the group in `name`, which may be the name of a desk of `role`.
+fn group_in(alloc: Global, role: Role, name: &str) -> Result<Vec<u8>, OutOfMemory>
+    ensures { IfOk result (λ group. group.items ≡ group_in role name.now) }
+{
+    let ending = role_name(role).len();
+    let stem = name.len().saturating_sub(ending).saturating_sub(1);
     let mut group = Vec::new(alloc);
-    percent_decode(stem.as_bytes()).append_to(&mut group)?;
-    Ok(TxnId::is_qualifier(&group) && desk_name(alloc, role, &group)?.as_str() == name)
+    percent_decode(&name.as_bytes()[..stem]).append_to(&mut group)?;
+    Ok(group)
 }
 
 /// Returns true if the desk in `file` of a shelf may take `bytes`: no message, or one of its group. The shelf's own

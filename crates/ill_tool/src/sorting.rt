@@ -14,15 +14,17 @@ use crate::fault::ToolFault;
 use crate::file::lock;
 use crate::folder::fault;
 use crate::inbox::message_in;
+use crate::last_words::LastWords;
 use crate::mail::{Mails, begin_run, claim_mails, new_run, path_of};
 use crate::mail_box::{MAIL, MailBox, is_within, remove_if_there};
 use crate::new::run_desk_new;
 use crate::settle::{give_back, remove_runs};
-use crate::shelf::{Shelf, is_retired, is_there, names_of_desks, refuse_retired};
+use crate::shelf::{RETIRED, Shelf, is_retired, is_there, names_of_desks, refuse_retired};
 use crate::verdict::Mail;
 use crate::warning::{warn, warn_of_message};
-use ill_der::{ApduView, BodyView};
+use ill_der::{ApduView, BodyView, encode};
 use ill_saved::{DeskFault, FileStore, LockFiles, RECORD_LIMIT, Role};
+use ill_values::Apdu;
 use std::alloc::Global;
 use std::io::{ErrorKind, Write, sink};
 use std::path::Path;
@@ -76,19 +78,21 @@ pub(crate) fn route_of(role: Role, home: Home, is_request: bool, has_room: bool)
 }
 
 /// Sorts the mails of `folder` to the desks of `shelf`. Returns true if a mail waits for the next run, or a desk is
-/// lost. It writes lines to `errors` about these, new desks, and mails of retired groups.
+/// lost. It writes lines to `errors` about these, new desks, and mails of retired groups. `copies` is the folder that has
+/// copies of the desks, if the run makes any.
 pub(crate) fn sort_mails<T: LockFiles, E: Write>(
     rt: &T,
     alloc: Global,
     shelf: &Shelf<'_>,
     folder: &str,
+    copies: Option<&str>,
     errors: &mut E,
 ) -> Result<bool, ToolFault>
     ensures { IfErr result IsOpenFault }
 {
     let own = shelf.own_desk(alloc)?;
     let held = lock(rt, alloc, own.as_str())?;
-    let sorted = sort_under_lock(rt, alloc, shelf, folder, errors);
+    let sorted = sort_under_lock(rt, alloc, shelf, folder, copies, errors);
     drop(held);
     sorted
 }
@@ -99,21 +103,42 @@ fn sort_under_lock<T: LockFiles, E: Write>(
     alloc: Global,
     shelf: &Shelf<'_>,
     folder: &str,
+    copies: Option<&str>,
     errors: &mut E,
 ) -> Result<bool, ToolFault>
     ensures { IfErr result IsOpenFault }
 {
     let unsorted = shelf.unsorted(alloc)?;
-    let mail_box = open_box(rt, alloc, unsorted.as_str());
+    let own = shelf.own_desk(alloc)?;
+    let mail_box = open_box(rt, alloc, unsorted.as_str(), own.as_str());
     let mail_box = blame(alloc, mail_box, unsorted.as_str(), NO_BOX, errors)?;
     let run = begin_run(rt, alloc, &mail_box);
     let run = blame(alloc, run, unsorted.as_str(), NO_RUN, errors)?;
     let found = claim_from_outside(rt, alloc, shelf, &mail_box, folder, run.as_str());
     let found = blame(alloc, found, folder, NOT_READ, errors)?;
-    match sort_found(rt, alloc, shelf, folder, &found, errors) {
+    let sources = Sources {
+        folder,
+        copies,
+        mail_box: &mail_box,
+        run: run.as_str(),
+    };
+    match sort_found(rt, alloc, shelf, sources, &found, errors) {
         Ok(is_waiting) => Ok(is_waiting),
         Err(error) => Err(fault(&error)),
     }
+}
+
+/// The places from which a shelf learns what it sorts.
+#[derive(Clone, Copy)]
+struct Sources<'a> {
+    /// The folder from which the mails come.
+    folder: &'a str,
+    /// The folder that has copies of the desks, if the run makes any.
+    copies: Option<&'a str>,
+    /// The folder of the mails that are not sorted yet.
+    mail_box: &'a MailBox,
+    /// The folder of this run in it.
+    run: &'a str,
 }
 
 /// Claims the mails of `folder`, which may not lie within the shelf, since files there belong to a desk.
@@ -140,7 +165,7 @@ fn sort_found<T: LockFiles, E: Write>(
     rt: &T,
     alloc: Global,
     shelf: &Shelf<'_>,
-    folder: &str,
+    sources: Sources<'_>,
     found: &Mails,
     errors: &mut E,
 ) -> io::Result<bool> {
@@ -148,10 +173,12 @@ fn sort_found<T: LockFiles, E: Write>(
         rt,
         alloc,
         shelf: *shelf,
-        folder,
+        sources,
         boxes: Vec::new(alloc),
         made: 0,
         lost: Vec::new(alloc),
+        mark: None,
+        words: Vec::new(alloc),
         is_waiting: found.waiting > 0,
     };
     sorting.tell_lost_desks(errors)?;
@@ -162,6 +189,7 @@ fn sort_found<T: LockFiles, E: Write>(
             Err(_) => sorting.leave(&mail.name, NOT_SORTED, errors),
         }
     }
+    sorting.keep_words()?;
     remove_runs(rt, found);
     Ok(sorting.is_waiting)
 }
@@ -196,30 +224,65 @@ struct Sorting<'a, T: LockFiles> {
     rt: &'a T,
     alloc: Global,
     shelf: Shelf<'a>,
-    /// The folder from which the mails come.
-    folder: &'a str,
+    sources: Sources<'a>,
     boxes: Vec<SortedBox>,
     /// The number of desks that were made.
     made: usize,
     /// The paths of the lost desks about which a line was written.
     lost: Vec<String>,
+    /// The mark that was read last.
+    mark: Option<LastWords>,
+    /// The last words of retired groups that mails ask for.
+    words: Vec<Apdu>,
     /// Set if a mail waits for the next run, or a desk is lost.
     is_waiting: bool,
 }
 
 impl<T: LockFiles> Sorting<'_, T> {
-    /// Writes a line about each lost desk: a file that lies beside a desk is there without it.
+    /// Writes a line about each lost desk: a file that lies beside a desk, or its copy, is there without it.
     fn tell_lost_desks<E: Write>(&mut self, errors: &mut E) -> io::Result<()> {
-        let shelf = self.shelf;
         for ending in [CAME, MAIL] {
-            for name in names_of_desks(self.rt, self.alloc, shelf.folder, shelf.role, ending)? {
-                let desk = format!(in self.alloc; "{}/{name}", shelf.folder)?;
-                if let Home::Lost = home_at(self.rt, self.alloc, desk.as_str())? {
-                    self.tell_lost(desk, errors)?;
-                }
+            self.tell_lost_in(self.shelf.folder, ending, errors)?;
+        }
+        let Some(copies) = self.sources.copies else {
+            return Ok(());
+        };
+        for ending in ["", RETIRED] {
+            self.tell_lost_in(copies, ending, errors)?;
+        }
+        Ok(())
+    }
+
+    /// Writes a line about each lost desk of which a file is in `folder`. The name of the file is that of the desk, and
+    /// then `ending`.
+    fn tell_lost_in<E: Write>(
+        &mut self,
+        folder: &str,
+        ending: &str,
+        errors: &mut E,
+    ) -> io::Result<()> {
+        let shelf = self.shelf;
+        for name in names_of_desks(self.rt, self.alloc, folder, shelf.role, ending)? {
+            let desk = format!(in self.alloc; "{}/{name}", shelf.folder)?;
+            if let Home::Lost = self.home_of(desk.as_str())? {
+                self.tell_lost(desk, errors)?;
             }
         }
         Ok(())
+    }
+
+    /// Returns the home of the group of `desk`. If only a copy of the desk or of its mark is there, it is lost.
+    fn home_of(&self, desk: &str) -> io::Result<Home> {
+        let home = home_at(self.rt, self.alloc, desk)?;
+        let (Home::Nothing, Some(copies)) = (home, self.sources.copies) else {
+            return Ok(home);
+        };
+        let name = Path::new(desk).file_name().unwrap_or(desk);
+        let copy = format!(in self.alloc; "{copies}/{name}")?;
+        match home_at(self.rt, self.alloc, copy.as_str())? {
+            Home::Nothing => Ok(Home::Nothing),
+            _ => Ok(Home::Lost),
+        }
     }
 
     /// Writes a line about the lost desk `desk`, once in a run.
@@ -246,7 +309,13 @@ impl<T: LockFiles> Sorting<'_, T> {
             Some(bytes) => self.sort_bytes(mail, bytes, file.as_str(), errors),
             None => {
                 self.leave(&mail.name, NOT_READ_NOW, errors);
-                give_back(self.rt, self.alloc, self.folder, file.as_str(), &mail.name)
+                give_back(
+                    self.rt,
+                    self.alloc,
+                    self.sources.folder,
+                    file.as_str(),
+                    &mail.name,
+                )
             }
         }
     }
@@ -276,7 +345,7 @@ impl<T: LockFiles> Sorting<'_, T> {
         let shelf = self.shelf;
         let desk = shelf.desk_of(self.alloc, message.group())?;
         let is_request = matches!(message.body(), BodyView::IllRequest { .. });
-        let home = home_at(self.rt, self.alloc, desk.as_str())?;
+        let home = self.home_of(desk.as_str())?;
         match route_of(shelf.role, home, is_request, self.made < NEW_DESKS) {
             Route::Home => self.hand_over(mail, file, desk),
             Route::New => {
@@ -287,14 +356,69 @@ impl<T: LockFiles> Sorting<'_, T> {
             }
             Route::Back => {
                 self.tell_back(mail, home, desk, errors)?;
-                give_back(self.rt, self.alloc, self.folder, file, &mail.name)
+                give_back(self.rt, self.alloc, self.sources.folder, file, &mail.name)
             }
             Route::Gone => {
-                warn_of_message(self.alloc, &mail.name, message, RETIRED_GROUP, errors);
+                self.answer(mail, message, desk.as_str(), errors)?;
                 remove_if_there(self.rt, file)
             }
             Route::Stray => self.set_aside(mail, file),
         }
+    }
+
+    /// Adds the last word of the loan of a mail, whose group is retired. If there is none, it writes a line about the
+    /// mail, once a month for each group.
+    fn answer<E: Write>(
+        &mut self,
+        mail: &Mail,
+        message: &ApduView<'_>,
+        desk: &str,
+        errors: &mut E,
+    ) -> io::Result<()> {
+        if let Some(word) = self.last_word(desk, message)? {
+            return self.add_word(word);
+        }
+        let Sources { mail_box, run, .. } = self.sources;
+        let name = Path::new(desk).file_name().unwrap_or(desk);
+        if mail_box.is_to_tell(self.rt, self.alloc, name, run)? {
+            warn_of_message(self.alloc, &mail.name, message, RETIRED_GROUP, errors);
+        }
+        Ok(())
+    }
+
+    /// Returns the last word of the loan of `message`, if the mark of the group of `desk` has one. Mails come in the order
+    /// of their groups, so a mark is read once.
+    fn last_word(&mut self, desk: &str, message: &ApduView<'_>) -> io::Result<Option<Apdu>> {
+        let is_read = match &self.mark {
+            Some(mark) => mark.is_of(desk),
+            None => false,
+        };
+        if !is_read {
+            self.mark = Some(LastWords::read(self.rt, self.alloc, desk)?);
+        }
+        match &self.mark {
+            Some(mark) => mark.find(self.alloc, message),
+            None => Ok(None),
+        }
+    }
+
+    /// Adds a last word that a mail asks for, if it was not asked for before in this run.
+    fn add_word(&mut self, word: Apdu) -> io::Result<()> {
+        if !self.words.contains(&word) {
+            self.words.push(word)?;
+        }
+        Ok(())
+    }
+
+    /// Keeps the last words that mails ask for. They replace the ones of the run before.
+    fn keep_words(&self) -> io::Result<()> {
+        let mut bytes = Vec::new(self.alloc);
+        for word in &self.words {
+            bytes.extend_from_slice(&encode(self.alloc, word)?)?;
+        }
+        self.sources
+            .mail_box
+            .keep_asked(self.rt, self.alloc, &bytes)
     }
 
     /// Renames the file of a mail into the mails of the shelf's own desk.
@@ -359,7 +483,7 @@ impl<T: LockFiles> Sorting<'_, T> {
 
     /// Makes a folder for the mails of `desk`.
     fn run_at(&self, desk: &str) -> io::Result<String> {
-        let mail_box = MailBox::open(self.rt, self.alloc, desk)?;
+        let mail_box = MailBox::open(self.rt, self.alloc, desk, desk)?;
         new_run(self.rt, self.alloc, &mail_box)
     }
 

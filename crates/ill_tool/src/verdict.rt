@@ -2,7 +2,7 @@
 
 ghost use Rattle.std.specs.Prelude.{◌≡◌, ◌++◌, codes, OnOk};
 ghost use Rattle.ill_tool.specs.declared.verdict.Unfit.TheVariants as unfits;
-ghost use Rattle.ill_tool.specs.Inbox.{delay_text, der_word, place_text, stays_line, unfit_text, verdict_line, verdict_of};
+ghost use Rattle.ill_tool.specs.Inbox.{begins_as_record, delay_text, der_word, place_text, stays_line, unfit_text, verdict_line, verdict_of, verdict_without_message};
 
 use crate::escape::push_escaped;
 use ill_core::Refusal;
@@ -52,6 +52,8 @@ pub enum Unfit {
 pub enum Delay {
     /// It cannot be read.
     NotRead,
+    /// It begins as the record of a desk does, and came into the folder by mistake.
+    Record,
     /// The desk has not begun the loan of its message.
     NoSuchTransaction,
     /// The desk has no room for the loan of its message.
@@ -85,6 +87,24 @@ impl Verdict {
             outcome => Verdict::Done(outcome),
         }
     }
+
+    /// Returns the verdict of a mail whose `bytes` have no message, for the reason `unfit`.
+    pub(crate) fn without_message(bytes: &[u8], unfit: Unfit) -> Verdict
+        ensures { result ≡ verdict_without_message bytes.now unfit }
+    {
+        if begins_as_record(bytes) {
+            Verdict::Left(Delay::Record)
+        } else {
+            Verdict::Aside(unfit)
+        }
+    }
+}
+
+/// Returns true if `bytes` begin as the record of a desk does.
+fn begins_as_record(bytes: &[u8]) -> bool
+    ensures { result ≡ begins_as_record bytes.now }
+{
+    bytes.starts_with(b"ILL1") || bytes.starts_with(b"ILL2")
 }
 
 /// Appends the line of the mail `name`. A mail that is done has none.
@@ -132,6 +152,7 @@ fn delay_word(delay: Delay) -> &'static str
 {
     match delay {
         Delay::NotRead => "not-read",
+        Delay::Record => "record",
         Delay::NoSuchTransaction => DeskOutcome::NoSuchTransaction.word(),
         Delay::DeskFull => DeskOutcome::DeskFull.word(),
     }

@@ -3,7 +3,7 @@
 ghost use Rattle.std.specs.Prelude.{◌≡◌, ◌≤◌};
 ghost use Rattle.ill_tool.specs.Asked.{asked};
 ghost use Rattle.ill_tool.specs.Commands.{Runs};
-ghost use Rattle.ill_tool.specs.Shelf.{RunsShelf};
+ghost use Rattle.ill_tool.specs.Shelf.{RunsGuarded, RunsShelf};
 ghost use Rattle.ill_tool.specs.ExitStatus.{IsFlushed, desk_status, exit_status, status_of};
 
 use crate::check::run_check;
@@ -11,6 +11,7 @@ use crate::exchange::{exchange, inbox, outbox};
 use crate::explain::{Passed, Watched, explain, is_asked};
 use crate::fault::ToolFault;
 use crate::file::{act, all_well, list, loan, new, report, send, status, take, verify};
+use crate::guard::refuse_desk_of_shelf;
 use crate::mail::Incoming;
 use crate::on_shelf::{
     act_on_shelf, exchange_of_shelf, inbox_of_shelf, loan_on_shelf, new_shelf, outbox_of_shelf,
@@ -90,7 +91,7 @@ fn perform<T: LockFiles, R: Read, W: Write, E: Write>(
         |_| ToolFault::OutOfMemory,
     )?;
     let done = match call {
-        Call::Desk(request) => run(rt, alloc, request, reader, &mut writer, errors),
+        Call::Desk(request) => run_guarded(rt, alloc, request, reader, &mut writer, errors),
         Call::Shelf(request) => run_on_shelf(rt, alloc, request, reader, &mut writer, errors),
     };
     finish_writing(writer, done)
@@ -118,6 +119,24 @@ fn flush<W: Write>(writer: &mut W, done: Result<bool, ToolFault>) -> Result<bool
         Ok(()) => done,
         Err(_) => Err(ToolFault::Write),
     }
+}
+
+/// Runs the engine of a command for one desk, unless that is a desk of a shelf and is at stake.
+fn run_guarded<T: LockFiles, R: Read, W: Write, E: Write>(
+    rt: &T,
+    alloc: Global,
+    request: &Request<'_>,
+    reader: &mut R,
+    writer: &mut W,
+    errors: &mut E,
+) -> Result<bool, ToolFault>
+    ensures { RunsGuarded (asked request.now) (R.remaining reader.old) (R.remaining reader.new)
+        (W.contents writer.old) (W.contents writer.new) result }
+{
+    if let Err(fault) = refuse_desk_of_shelf(rt, alloc, request) {
+        return Err(fault);
+    }
+    run(rt, alloc, request, reader, writer, errors)
 }
 
 /// Runs the engine of a command. Lines that are not about a fault of the command go to `errors`.

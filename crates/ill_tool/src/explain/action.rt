@@ -58,9 +58,7 @@ fn tell_words(
     match form_of(verb) {
         None => tell_no_verb(alloc, text, role, verb),
         Some(form) if form.role != role => tell_other_role(text, role, form),
-        Some(form) if role == Role::Responder && today.is_none() => tell_no_today(
-            text, form, parts,
-        ),
+        Some(form) if role == Role::Responder && today.is_none() => tell_no_today(text, form),
         Some(form) => tell_parts(alloc, text, form, today, parts),
     }
 }
@@ -115,17 +113,13 @@ fn tell_verbs(text: &mut String, role: Role) -> Result<(), OutOfMemory> {
     writeln!(text, ".")
 }
 
-/// Appends that the day of a responder's action is missing, or is after its verb.
-fn tell_no_today(text: &mut String, form: Form, parts: &[&str]) -> Result<(), OutOfMemory> {
+/// Appends that the day of a responder's action is missing.
+fn tell_no_today(text: &mut String, form: Form) -> Result<(), OutOfMemory> {
     let verb = form.verb;
     writeln!(
         text,
         "  A responder's action has a day: `--today DAY` before `{verb}`."
-    )?;
-    if parts.iter().any(|part| part.starts_with("--today")) {
-        writeln!(text, "  After the verb, `--today` is a word of the action.")?;
-    }
-    Ok(())
+    )
 }
 
 /// Appends the lines about wrong parts after a verb.

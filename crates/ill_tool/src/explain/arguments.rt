@@ -2,6 +2,7 @@
 
 use crate::command_line::{Argument, Name};
 use crate::explain::action::tell_action;
+use crate::explain::file::tell_reserved;
 use crate::explain::shown::Shown;
 use crate::explain::verbs::nearest;
 use clap::ArgMatches;
@@ -61,6 +62,7 @@ fn tell_argument(
     word: &str,
 ) -> Result<(), OutOfMemory> {
     match argument {
+        Argument::NewFile => tell_reserved(text, word).map(|_| ()),
         Argument::Role => tell_role(text, word),
         Argument::Group => tell_qualifier(alloc, text, "group", word),
         Argument::Transaction => tell_qualifier(alloc, text, "transaction", word),

@@ -4,7 +4,7 @@ use crate::came::CAME;
 use crate::command_line::Argument;
 use crate::explain::shown::Shown;
 use crate::file::open;
-use crate::folder::desk_paths;
+use crate::folder::{BESIDE, desk_paths, folder_of};
 use clap::ArgMatches;
 use ill_saved::{DeskFault, LockFiles, RECORD_LIMIT, RecordFault, StoreFault};
 use ill_values::OutOfMemory;
@@ -12,13 +12,9 @@ use std::alloc::Global;
 use std::fs;
 use std::fs::Metadata;
 use std::io::ErrorKind;
-use std::path::Path;
 
 /// The ending of the name of the file that is locked instead of a desk's.
 const LOCK: &str = ".lck";
-
-/// The endings of the names of the program's own files.
-const RESERVED: [&str; 2] = [".new", LOCK];
 
 /// The number of bytes at the beginning of each record, which give its version.
 const MARK: u32 = 4;
@@ -169,14 +165,6 @@ fn tell_no_folder<T: LockFiles>(
     Ok(!is_folder)
 }
 
-/// Returns the folder of the file at `path`.
-fn folder_of(path: &str) -> &str {
-    match Path::new(path).parent() {
-        Some(folder) if !folder.as_str().is_empty() => folder.as_str(),
-        _ => ".",
-    }
-}
-
 /// Appends the reason why the file at `path` was not read, locked or written.
 fn tell_failed<T: LockFiles>(
     rt: &T,
@@ -188,19 +176,29 @@ fn tell_failed<T: LockFiles>(
     if path.is_empty() {
         return writeln!(text, "  The name of the file is empty.");
     }
-    for ending in RESERVED {
-        if path.ends_with(ending) {
-            return writeln!(
-                text,
-                "  {shown} ends in {ending}: such files are the program's own."
-            );
-        }
+    if tell_reserved(text, path)? {
+        return Ok(());
     }
     match fs::symlink_metadata(rt, path) {
         Ok(found) if !found.is_file() => tell_kind(rt, text, path, &found),
         Ok(_) => tell_closed(rt, alloc, text, path),
         Err(error) => tell_not_found(rt, alloc, text, path, error.kind()),
     }
+}
+
+/// Appends that a file named as `path` lies beside a desk, and returns true, if that is so.
+pub fn tell_reserved(text: &mut String, path: &str) -> Result<bool, OutOfMemory> {
+    let shown = Shown::of(path);
+    for ending in &BESIDE {
+        if path.ends_with(*ending) {
+            writeln!(
+                text,
+                "  {shown} ends in {ending}: such files are the program's own."
+            )?;
+            return Ok(true);
+        }
+    }
+    Ok(false)
 }
 
 /// Appends the kind of thing that is at `path` instead of a file.

@@ -6,7 +6,7 @@ pub mod HeldLemmas
 pub mod ActLemmas
 pub mod StatusLemmas
 pub mod ListLemmas
-pub mod DesksLemmas
+pub mod VisitsLemmas
 pub mod EscapeLemmas
 pub mod LoanLemmas
 pub mod JsonLemmas
@@ -21,5 +21,6 @@ pub mod ReportLemmas
 pub mod SidesLemmas
 pub mod OrderLemmas
 pub mod OutboxLemmas
+pub mod PossibleLemmas
 pub mod WaitingLemmas
 pub mod ShelfLemmas

@@ -1,13 +1,12 @@
--- Proves how the desks of a shelf are visited one after another, and what their names tell.
-use Rattle.std.proofs.Common.{arith, ◌≡◌, ℕ, ◌+◌, ◌-◌, ◌<◌, ◌++◌, Bool, true, false, true≢false, List, [], ◌∷◌, All, length, map}
-use Rattle.std.proofs.Common.{fold, take, codes, get_or, Option, Result, Ok, Err, refl, ap, sym, subst, ◌∙◌, add-one}
+-- Proves what the names of a shelf's desks tell.
+use Rattle.std.proofs.Common.{arith, ◌≡◌, ℕ, ◌-◌, ◌<◌, ◌++◌, Bool, true, false, true≢false, List, All, length}
+use Rattle.std.proofs.Common.{take, codes, Option, Result, Ok, Err, refl, ap, sym, subst, ◌∙◌}
 use Rattle.std.specs.Prelude.{Decides, bytes_eq, is_ok}
 use Rattle.std.specs.List.{list_all}
-use Rattle.std.proofs.Math.Seq.{take-suc, take-append_seam}
-use Rattle.std.proofs.lemmas.List.{map-append, append_cancel_right, length-append}
+use Rattle.std.proofs.Math.Seq.{take-append_seam}
+use Rattle.std.proofs.lemmas.List.{append_cancel_right, length-append}
 use Rattle.std.proofs.lemmas.Slice.Eq.{bytes_eq-Decides}
-use Rattle.std.proofs.lemmas.List.Elements.{All-nil, All-push}
-use Rattle.std.proofs.lemmas.List.Sums.{fold-append, AllPass-from_list_all}
+use Rattle.std.proofs.lemmas.List.Sums.{AllPass-from_list_all}
 use Rattle.std.proofs.lemmas.Bool.Decides.{nat_tests}
 use Rattle.percent_encoding.proofs.PercentLemmas.{round_trip, IsByte}
 use Rattle.percent_encoding.specs.Percent.{percent_decode, percent_encode}
@@ -21,53 +20,9 @@ use Rattle.ill_tool.specs.declared.fault.ToolFault.TheVariants.{OutOfMemory}
 use Rattle.ill_tool.specs.declared.shelf.TheConstants.{ESCAPED}
 use Rattle.ill_tool.specs.Input.{ReadsInput}
 use Rattle.ill_tool.proofs.InputLemmas.{reads_on_views}
-use Rattle.ill_tool.specs.Shelf.{ShelfTaking, AreConsecutive, Headed, Stop, VisitsAll, desk_name, graver, gravest, TakesAtHome}
-use Rattle.ill_tool.specs.Shelf.{IsDeskName, group_in}
+use Rattle.ill_tool.specs.Shelf.{IsDeskName, ShelfTaking, TakesAtHome, desk_name, group_in}
 use Rattle.ill_tool.specs.Status.{role_name}
-
--- If visits lead from `before` to `between`, and `stop` begins there, `stop` may follow them.
-follow_more : (before between : Option (List ℕ)) (stops : List Stop) (stop : Stop)
-    → AreConsecutive before stops between → stop.before ≡ between → AreConsecutive before (stops ++ stop ∷ []) stop.after
-unfolding AreConsecutive
-follow_more before between [] stop is begins = (begins ∙ is, refl)
-follow_more before between (first ∷ stops) stop follows begins =
-    (follows.0, follow_more first.after between stops stop follows.1 begins)
-
--- Appending `stop` makes the gravest answer the graver of the old one and the answer of `stop`.
-gravest_more : (stops : List Stop) (stop : Stop) → gravest (stops ++ stop ∷ []) ≡ graver (gravest stops) stop.answer
-gravest_more stops stop =
-    let answer : Stop → Result Bool ToolFault = λ stop. stop.answer in
-    ap (λ answers. fold graver (Ok true) answers) (map-append answer stops (stop ∷ []))
-    ∙ fold-append graver (Ok true) (map answer stops) (stop.answer ∷ [])
-
--- If the desks at the first `place` of `paths` were visited, and then the next, the first `place + 1` were visited.
-pub one_more_visit : (is_headed : Bool) (Runs : Option (List ℕ) → Option (List ℕ) → Result Bool ToolFault → Type 0)
-    (paths : List (List ℕ)) (place : ℕ) (path : List ℕ)
-    (before between after : Option (List ℕ)) (answer next : Result Bool ToolFault)
-    → place < length paths → path ≡ get_or paths place path → VisitsAll is_headed Runs (take place paths) before between answer
-    → Headed is_headed Runs (record { path = path; before = between; after = after; answer = next })
-    → VisitsAll is_headed Runs (take (place + 1) paths) before after (graver answer next)
-one_more_visit is_headed Runs paths place path before between after answer next within at so_far headed =
-    let stops = so_far.0 in
-    let stop : Stop = record { path = path; before = between; after = after; answer = next } in
-    let path_of : Stop → List ℕ = λ stop. stop.path in
-    let visited : map path_of (stops ++ stop ∷ []) ≡ take (place + 1) paths =
-    map-append path_of stops (stop ∷ []) ∙ ap (λ done. done ++ path ∷ []) so_far.1 ∙ ap (λ path. take place paths ++ path ∷ []) at
-    ∙ sym (take-suc paths place path within) ∙ ap (λ count. take count paths) (sym (add-one place)) in
-    let graver_is = ap (λ answer. graver answer next) so_far.4 ∙ sym (gravest_more stops stop) in (
-      stops ++ stop ∷ [],
-      visited,
-      follow_more before between stops stop so_far.2 refl,
-      All-push (Headed is_headed Runs) stops stop so_far.3 headed,
-      graver_is,
-    )
-
--- Before the first visit, `VisitsAll` holds of no paths with the answer true.
-pub no_visit : (is_headed : Bool) (Runs : Option (List ℕ) → Option (List ℕ) → Result Bool ToolFault → Type 0)
-    (before : Option (List ℕ))
-    → VisitsAll is_headed Runs [] before before (Ok true)
-unfolding AreConsecutive
-no_visit is_headed Runs before = ([], refl, refl, All-nil (Headed is_headed Runs), refl)
+use Rattle.ill_tool.specs.Visits.{graver}
 
 -- `graver answer (Ok true)` is `answer`.
 pub graver_well : (answer : Result Bool ToolFault) → answer ≡ graver answer (Ok true)

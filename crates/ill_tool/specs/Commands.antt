@@ -1,12 +1,13 @@
 -- The effect of each command. A desk here was loaded from a file, so nothing is known of its content.
-use Rattle.std.specs.Prelude.{◌≡◌, ◌⊎◌, ℕ, Bool, true, false, not, if◌then◌else◌, nat_lt, List, ◌++◌, length, map, codes, Option}
-use Rattle.std.specs.Prelude.{None, Some, is_some, Result, Ok, Err, IsErrAnd}
-use Rattle.std.specs.Io.KnownBytes.{Appends}
+use Rattle.std.specs.Prelude.{◌≡◌, ◌⊎◌, ℕ, Bool, true, false, not, if◌then◌else◌, nat_lt, List, ◌++◌, length, codes, Option}
+use Rattle.std.specs.Prelude.{None, Some, is_some, Result, Ok, Err, IfErr, IsErrAnd}
 use Rattle.ill_values.specs.Day.{Date}
 use Rattle.ill_values.specs.TxnId.{Qualifiers, txn_id_of}
 use Rattle.ill_values.specs.declared.apdu.Apdu.{Apdu}
 use Rattle.ill_saved.specs.declared.side.Side.{Side}
+use Rattle.ill_saved.specs.declared.fault.DeskFault.TheVariants.{Store}
 use Rattle.ill_saved.specs.declared.store.StoreFault.{StoreFault}
+use Rattle.ill_saved.specs.declared.store.StoreFault.TheVariants.{Failed}
 use Rattle.ill_saved.specs.Holdings.{DeskEntry}
 use Rattle.ill_saved.specs.ManySides.{DeskContents, found_by, txn_held}
 use Rattle.ill_tool.specs.declared.fault.ToolFault.{ToolFault}
@@ -38,10 +39,11 @@ use Rattle.ill_tool.specs.Kept.{RunsKeptLoan}
 use Rattle.ill_tool.specs.Picture.{drawn_or_shown}
 use Rattle.ill_tool.specs.Verify.{VerifiesLoaded}
 use Rattle.ill_tool.specs.declared.list.Wanted.{Wanted}
-use Rattle.ill_tool.specs.Listing.{between, listed_desk, listed_desks}
-use Rattle.ill_tool.specs.Report.{report_page}
+use Rattle.ill_tool.specs.Listing.{between, listed_desk}
+use Rattle.ill_tool.specs.Report.{Part, gravest_part, report_page}
 use Rattle.ill_tool.specs.declared.form.Form.{Form}
 use Rattle.ill_tool.specs.Objects.{status_of_desk}
+use Rattle.ill_tool.specs.Visits.{Stop, VisitsEach, graver}
 use Rattle.ill_tool.specs.Asked.{Asked}
 use Rattle.ill_tool.specs.Asked as asks
 
@@ -228,35 +230,36 @@ ShowsFile form before after result =
     FailsToOpen before after result
     ⊎ ((held : List DeskEntry) × GoesWell (WritesText before after (status_of_desk form held)) result)
 
--- The wanted sides of a desk were listed. If `is_first`, no desk is before it. If `is_headed`, the path is
--- written first. Or its file could not be opened.
-abbrev pub ListsDesk : Form → Wanted → (is_first is_headed : Bool) → List ℕ → Option (List ℕ) → Option (List ℕ) →
-    Result (Unit {0}) ToolFault → Type 0
-ListsDesk form wanted is_first is_headed path before after result =
-    FailsToOpen before after result
+-- The wanted sides of a desk were listed in a visit. If `is_first`, no desk is before it. If `is_headed`, the
+-- path is written first. Or its file could not be opened, and nothing was written.
+abbrev pub ListsDesk : Form → Wanted → (is_headed is_first : Bool) → Stop → Type 0
+ListsDesk form wanted is_headed is_first stop =
+    FailsToOpen stop.before stop.after stop.answer
     ⊎ ((sides : List Side)
-    × WritesText before after (between form is_first ++ listed_desk form is_headed wanted path sides) result)
+    × GoesWell (WritesText stop.before stop.after
+    (between form is_first ++ listed_desk form is_headed wanted stop.path sides)) stop.answer)
 
 -- Returns true if there are several desks to list.
 abbrev pub are_several : List (List ℕ) → Bool
 are_several files = nat_lt 1 (length files)
 
--- The desks in `files` were listed, one after another. Or some were, and then one failed.
-abbrev pub ListsDesks : Form → Wanted → List (List ℕ) → Option (List ℕ) → Option (List ℕ) →
-    Result (Unit {0}) ToolFault → Type 0
-ListsDesks form wanted files before after (Ok done) =
-    (desks : List (List ℕ × List Side)) × (map (λ desk. desk.0) desks ≡ files)
-    × Appends before after (listed_desks form (are_several files) wanted desks)
-ListsDesks form wanted files before after (Err fault) =
-    (desks : List (List ℕ × List Side)) × (middle : Option (List ℕ)) × (is_first : Bool) × (is_headed : Bool)
-    × (path : List ℕ) × Appends before middle (listed_desks form (are_several files) wanted desks)
-    × ListsDesk form wanted is_first is_headed path middle after (Err fault)
+-- The desks in `files` were listed, one after another. `answer` is the gravest of their answers.
+abbrev pub ListsDesks : Form → Wanted → List (List ℕ) → Option (List ℕ) → Option (List ℕ) → Result Bool ToolFault → Type 0
+ListsDesks form wanted files before after answer =
+    VisitsEach (ListsDesk form wanted (are_several files)) files before after answer
 
--- All desks at the paths were listed. Or a file could not be opened.
+-- Returns that all is well if each name in the folders is a text. Else it returns the fault of a folder.
+abbrev pub names_answer : Bool → Result Bool ToolFault
+names_answer true = Ok true
+names_answer false = Err (Desk (Store Failed))
+
+-- The desks at the paths were listed, one after another. The result is the gravest of their answers and of that
+-- about the names in the folders. Or memory ran out before the first desk.
 abbrev pub ListsPaths : Form → Wanted → Option (List ℕ) → Option (List ℕ) → Result Bool ToolFault → Type 0
 ListsPaths form wanted before after result =
-    FailsToOpen before after result
-    ⊎ ((files : List (List ℕ)) × GoesWell (ListsDesks form wanted files before after) result)
+    ((result ≡ Err OutOfMemory) × (after ≡ before))
+    ⊎ ((files : List (List ℕ)) × (are_texts : Bool) × (answer : Result Bool ToolFault)
+    × ListsDesks form wanted files before after answer × (result ≡ graver answer (names_answer are_texts)))
 
 -- The transaction `txn` at a desk was shown or drawn, with the messages that came. Or a file could not be
 -- opened.
@@ -272,11 +275,19 @@ VerifiesFile before after result =
     FailsToOpen before after result
     ⊎ ((loaded : Result (Option (List ℕ)) StoreFault) × GoesWell (VerifiesLoaded loaded before after) result)
 
--- A page of the desks at the paths was written. Or a file could not be opened.
+-- Returns `answer` if the output was written, else the fault.
+abbrev pub after_writing : Result (Unit {0}) ToolFault → Result Bool ToolFault → Result Bool ToolFault
+after_writing (Ok done) answer = answer
+after_writing (Err fault) answer = Err fault
+
+-- A page of the desks at the paths was written, with a part for each. The result is the gravest of the faults of
+-- desks that could not be opened, and of that about the names in the folders. Or memory ran out before the page.
 abbrev pub ReportsPaths : Date → Option (List ℕ) → Option (List ℕ) → Result Bool ToolFault → Type 0
 ReportsPaths today before after result =
-    FailsToOpen before after result
-    ⊎ ((desks : List (List ℕ × List Side)) × GoesWell (WritesText before after (report_page today desks)) result)
+    ((result ≡ Err OutOfMemory) × (after ≡ before))
+    ⊎ ((parts : List Part) × (are_texts : Bool) × (written : Result (Unit {0}) ToolFault)
+    × IfErr (gravest_part parts) IsOpenFault × WritesText before after (report_page today parts) written
+    × (result ≡ after_writing written (graver (gravest_part parts) (names_answer are_texts))))
 
 -- A command has this result. The input went from `left` to `rest`, and the output from `before` to `after`.
 -- Only a shelf retires a group.

@@ -3,6 +3,7 @@ pub mod Json
 pub mod Lines
 pub mod Input
 pub mod Output
+pub mod Visits
 pub mod Show
 pub mod Check
 pub mod Simulate
@@ -18,6 +19,7 @@ pub mod Copy
 pub mod CopyOver
 pub mod Send
 pub mod Status
+pub mod Possible
 pub mod Loan
 pub mod Waiting
 pub mod Kept

@@ -1,6 +1,6 @@
 -- The loans in the output of `list`, the line of each, and the line of the counts.
-use Rattle.std.specs.Prelude.{ℕ, ◌-◌, max, Bool, true, false, ◌&&◌, List, [], ◌∷◌, ◌++◌, length, fold, count_by, replicate}
-use Rattle.std.specs.Prelude.{Option, Some, None, codes}
+use Rattle.std.specs.Prelude.{ℕ, ◌-◌, max, Bool, true, false, ◌&&◌, ◌||◌, ◌==◌, if◌then◌else◌, List, [], ◌∷◌, ◌++◌, length}
+use Rattle.std.specs.Prelude.{fold, count_by, replicate, Option, Some, None, is_none, not, codes}
 use Rattle.std.specs.List.{join_by}
 use Rattle.std.specs.Fmt.{decimal}
 use Rattle.ill_values.specs.Day.{Date}
@@ -14,7 +14,6 @@ use Rattle.ill_core.specs.State.{is_among, state_name}
 use Rattle.ill_core.specs.Verbs.{verb_name}
 use Rattle.ill_saved.specs.declared.side.Side.{Side}
 use Rattle.ill_saved.specs.Side.{txn_of, state_of, due_date_of}
-use Rattle.ill_saved.specs.SideVerbs.{verbs_of}
 use Rattle.ill_saved.specs.Sides.{most_sides}
 use Rattle.ill_world.specs.Trace.{due_text}
 use Rattle.ill_tool.specs.declared.list.Which.{Which}
@@ -23,8 +22,9 @@ use Rattle.ill_tool.specs.declared.list.Wanted.{Wanted}
 use Rattle.ill_tool.specs.declared.list.Counts.{Counts}
 use Rattle.ill_tool.specs.declared.row.Columns.{Columns}
 use Rattle.ill_tool.specs.Escape.{escaped}
-use Rattle.ill_tool.specs.Loan.{turn_word, request_of}
-use Rattle.ill_tool.specs.Waiting.{is_turn, is_sooner, turn_on}
+use Rattle.ill_tool.specs.Loan.{turn_word}
+use Rattle.ill_tool.specs.Possible.{possible_on, request_of}
+use Rattle.ill_tool.specs.Waiting.{is_turn, is_sooner, turn_on, waits_by_date}
 
 -- ---- the loans that are listed
 
@@ -68,6 +68,24 @@ title_text (Some item) = escaped item
 
 -- ---- the line of a loan
 
+-- Returns a byte of a column. A space is an escape if it is at an edge of the text or after another one.
+abbrev pub column_byte : (is_edge : Bool) → ℕ → List ℕ
+column_byte is_edge byte = if is_edge && byte == 0x20 then codes "\\u{20}" else byte ∷ []
+
+-- Returns true if there is no further byte.
+abbrev pub is_end : List ℕ → Bool
+is_end [] = true
+is_end after = false
+
+-- Returns the rest of a column. `is_edge` says that nothing, or a space, is before it.
+unfoldable pub column_rest : (is_edge : Bool) → List ℕ → List ℕ
+column_rest is_edge [] = []
+column_rest is_edge (byte ∷ after) = column_byte (is_edge || is_end after) byte ++ column_rest (byte == 0x20) after
+
+-- Returns a qualifier for a column. No two spaces stand side by side in it, since two spaces end a column.
+abbrev pub column : List ℕ → List ℕ
+column text = column_rest true text
+
 -- Returns `text` with spaces after it, up to `width`.
 unfoldable pub padded : ℕ → List ℕ → List ℕ
 padded width text = text ++ replicate (width - length text) 32
@@ -90,26 +108,27 @@ has_verbs Mine = true
 -- Returns the columns that are wide enough for all sides of a desk, listed or not.
 abbrev pub columns_of : Bool → List Side → Columns
 columns_of has_verbs sides = record {
-  group = widest (λ side. (txn_of side).group) sides;
-  transaction = widest (λ side. (txn_of side).transaction) sides;
+  group = widest (λ side. column (txn_of side).group) sides;
+  transaction = widest (λ side. column (txn_of side).transaction) sides;
   has_verbs = has_verbs;
 }
 
--- Returns the actions that the side may do now, with a comma between two of them.
-abbrev pub verbs_text : Side → List ℕ
-verbs_text side = join_by verb_name (codes ",") (verbs_of side)
+-- Returns the actions that the side may do on the day `today`, or on some day without one. A comma stands between two
+-- of them.
+abbrev pub verbs_text : Option Date → Side → List ℕ
+verbs_text today side = join_by verb_name (codes ",") (possible_on today side)
 
 -- Returns the column of these actions, if the list has one.
-abbrev pub verbs_cell : Bool → Side → List ℕ
-verbs_cell true side = cell 20 (verbs_text side)
-verbs_cell false side = []
+abbrev pub verbs_cell : Bool → Option Date → Side → List ℕ
+verbs_cell true today side = cell 20 (verbs_text today side)
+verbs_cell false today side = []
 
--- Returns the line of a loan with the turn `turn`.
-unfoldable pub row : Columns → Turn → Side → List ℕ
-row columns turn side =
+-- Returns the line of a loan with the turn `turn` on the day `today`.
+unfoldable pub row : Columns → Option Date → Turn → Side → List ℕ
+row columns today turn side =
     cell 6 (turn_word turn) ++ cell 20 (state_name (state_of side))
-    ++ cell 8 (due_text (due_date_of side)) ++ cell columns.group (txn_of side).group
-    ++ cell columns.transaction (txn_of side).transaction ++ verbs_cell columns.has_verbs side
+    ++ cell 8 (due_text (due_date_of side)) ++ cell columns.group (column (txn_of side).group)
+    ++ cell columns.transaction (column (txn_of side).transaction) ++ verbs_cell columns.has_verbs today side
     ++ title_text (item_asked (request_of side)) ++ codes "\n"
 
 -- ---- the loans that have a line
@@ -121,6 +140,21 @@ has_turn today turn side = is_turn turn (turn_on today side)
 -- Returns true if the loan has the turn `turn` and meets the other conditions.
 abbrev pub is_listed : Wanted → Turn → Side → Bool
 is_listed wanted turn side = has_turn wanted.today turn side && is_wanted wanted side
+
+-- ---- the loans that a list without a day leaves out
+
+-- Returns true if only the loans that wait for this library are listed, and no day is given.
+abbrev pub lacks_day : Wanted → Bool
+lacks_day wanted = has_verbs wanted.which && is_none wanted.today
+
+-- Returns true if the loan is not among those that wait for this library, and may wait for it by its date. It
+-- meets the other conditions.
+abbrev pub is_left_out : Wanted → Side → Bool
+is_left_out wanted side = not (has_turn wanted.today turns.Mine side) && waits_by_date side && is_wanted wanted side
+
+-- Returns the number of loans that a list leaves out since no day is given.
+abbrev pub left_out : Wanted → List Side → ℕ
+left_out wanted sides = if lacks_day wanted then count_by (is_left_out wanted) sides else 0
 
 -- ---- counts
 

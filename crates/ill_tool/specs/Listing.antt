@@ -1,7 +1,8 @@
 -- The texts of `list`, in lines or in objects of JSON.
-use Rattle.std.specs.Prelude.{ℕ, Bool, true, false, List, [], ◌++◌, filter, Option, None, Some, option_map, codes}
-use Rattle.std.specs.List.{flat_map, join_by}
+use Rattle.std.specs.Prelude.{ℕ, Bool, true, false, nat_eq, List, [], ◌++◌, filter, Option, None, Some, option_map, codes}
+use Rattle.std.specs.List.{flat_map}
 use Rattle.std.specs.Fmt.{decimal}
+use Rattle.ill_values.specs.Day.{Date}
 use Rattle.ill_core.specs.declared.turn.Turn.{Turn}
 use Rattle.ill_saved.specs.declared.side.Side.{Side}
 use Rattle.ill_tool.specs.declared.form.Form.{Form}
@@ -18,17 +19,17 @@ use Rattle.ill_tool.specs.Objects.{row_object, counts_object}
 -- ---- one desk
 
 -- Returns the rows of the listed loans that have the turn `turn`, in the order of `sides`.
-abbrev pub rows_of : (Turn → Side → List ℕ) → Wanted → List Side → Turn → List ℕ
-rows_of text wanted sides turn = flat_map (text turn) (filter (is_listed wanted turn) sides)
+abbrev pub rows_of : (Option Date → Turn → Side → List ℕ) → Wanted → List Side → Turn → List ℕ
+rows_of text wanted sides turn = flat_map (text wanted.today turn) (filter (is_listed wanted turn) sides)
 
 -- Returns the rows of the listed loans, grouped by turn, and then the counts of all loans. Within a turn the
 -- loans are in the order of `sides`.
-abbrev pub listed : (Turn → Side → List ℕ) → (Counts → List ℕ) → Wanted → List Side → List ℕ
+abbrev pub listed : (Option Date → Turn → Side → List ℕ) → (Counts → List ℕ) → Wanted → List Side → List ℕ
 listed text counts_text wanted sides =
     flat_map (rows_of text wanted sides) (turns_of wanted.which) ++ counts_text (counts_of wanted.today sides)
 
--- Returns the row of a loan of this turn, as a line or an object.
-abbrev pub row_text : Rows → Turn → Side → List ℕ
+-- Returns the row of a loan of this turn on a day, as a line or an object.
+abbrev pub row_text : Rows → Option Date → Turn → Side → List ℕ
 row_text (rows.Lines columns) = row columns
 row_text (rows.Objects file) = row_object (option_map (λ path. path.now) file)
 
@@ -76,12 +77,17 @@ abbrev pub between : Form → Bool → List ℕ
 between Lines is_first = gap is_first
 between Json is_first = []
 
--- Returns the texts of several desks, one after another.
-abbrev pub listed_desks : Form → Bool → Wanted → List (List ℕ × List Side) → List ℕ
-listed_desks form is_headed wanted desks =
-    join_by (λ desk. listed_desk form is_headed wanted desk.0 desk.1) (between form false) desks
-
 -- Returns the line that warns of the room left at a desk.
 abbrev pub room_line : List ℕ → ℕ → List ℕ
 room_line path room =
     codes "ill: " ++ escaped path ++ (codes " has room for " ++ (decimal room ++ codes " more loans\n"))
+
+-- Returns the words of the line that tells what a list leaves out, after the number of loans.
+abbrev pub left_out_words : Bool → List ℕ
+left_out_words true = codes " more loan may wait for us by its date: give --today DAY\n"
+left_out_words false = codes " more loans may wait for us by their dates: give --today DAY\n"
+
+-- Returns the line that tells how many loans of a desk a list leaves out since no day is given.
+abbrev pub left_out_line : List ℕ → ℕ → List ℕ
+left_out_line path count =
+    codes "ill: " ++ escaped path ++ (codes ": " ++ (decimal count ++ left_out_words (nat_eq count 1)))

@@ -1,5 +1,5 @@
 -- The command `loan`: all that a desk knows of one loan.
-use Rattle.std.specs.Prelude.{◌≡◌, ℕ, nat_le, Bool, List, [], ◌++◌, map, slice_get, codes, Option, None, Some, Result, Err}
+use Rattle.std.specs.Prelude.{◌≡◌, ℕ, nat_le, Bool, List, [], ◌++◌, map, codes, Option, None, Some, Result, Err}
 use Rattle.std.specs.List.{flat_map}
 use Rattle.std.specs.Fmt.{decimal}
 use Rattle.std.specs.Io.KnownBytes.{Appends}
@@ -12,7 +12,7 @@ use Rattle.ill_core.specs.Verbs.{verb_name}
 use Rattle.ill_saved.specs.declared.side.Side.{Side}
 use Rattle.ill_saved.specs.declared.side.Side.TheVariants.{Requester, Responder}
 use Rattle.ill_saved.specs.Side.{issued_of}
-use Rattle.ill_saved.specs.SideVerbs.{turn_of, verbs_of}
+use Rattle.ill_saved.specs.SideVerbs.{turn_of}
 use Rattle.ill_saved.specs.Holdings.{DeskEntry}
 use Rattle.ill_saved.specs.declared.fault.DeskFault.TheVariants.{NoSuchTransaction}
 use Rattle.ill_world.specs.Trace.{due_text}
@@ -20,6 +20,7 @@ use Rattle.ill_tool.specs.declared.fault.ToolFault.{ToolFault}
 use Rattle.ill_tool.specs.declared.fault.ToolFault.TheVariants.{Desk}
 use Rattle.ill_tool.specs.Escape.{escaped}
 use Rattle.ill_tool.specs.Lines.{line, reply_word, shown_lines}
+use Rattle.ill_tool.specs.Possible.{possible_on, request_of}
 use Rattle.ill_tool.specs.Status.{status_lines, spaced_or_dash}
 use Rattle.ill_tool.specs.Output.{WritesText}
 
@@ -29,16 +30,11 @@ turn_word Over = codes "over"
 turn_word Mine = codes "mine"
 turn_word Theirs = codes "theirs"
 
--- Returns the lines of the library that acts next, and of the actions that the side may do now.
+-- Returns the lines of the library that acts next, and of the actions that the side may do now on some day.
 abbrev pub turn_lines : Side → List ℕ
 turn_lines side =
     line (codes "next") (turn_word (turn_of side))
-    ++ line (codes "now") (spaced_or_dash (map verb_name (verbs_of side)))
-
--- Returns the request of a loan: a requester's first message, or the request in a responder's record.
-abbrev pub request_of : Side → Option Apdu
-request_of (Requester x) = slice_get x.issued 0
-request_of (Responder y) = y.request
+    ++ line (codes "now") (spaced_or_dash (map verb_name (possible_on None side)))
 
 -- Returns the lines of the item and the expiry date of a request.
 abbrev pub item_lines : Body → List ℕ

@@ -17,7 +17,7 @@ use Rattle.ill_core.specs.ResponderActions.{expiry_of}
 use Rattle.ill_saved.specs.declared.side.Side.{Side}
 use Rattle.ill_saved.specs.declared.side.Side.TheVariants.{Requester, Responder}
 use Rattle.ill_saved.specs.Side.{role_of, issued_of, txn_of, state_of, due_date_of}
-use Rattle.ill_saved.specs.SideVerbs.{turn_of, verbs_of}
+use Rattle.ill_saved.specs.SideVerbs.{turn_of}
 use Rattle.ill_saved.specs.Holdings.{DeskEntry}
 use Rattle.ill_tool.specs.declared.form.Form.{Form}
 use Rattle.ill_tool.specs.declared.form.Form.TheVariants.{Lines, Json}
@@ -25,7 +25,8 @@ use Rattle.ill_tool.specs.declared.list.Counts.{Counts}
 use Rattle.ill_tool.specs.Json.{Field, array, day, flag, object, optional, quoted}
 use Rattle.ill_tool.specs.Lines.{lines_of}
 use Rattle.ill_tool.specs.Status.{status_lines, role_name, marks_of}
-use Rattle.ill_tool.specs.Loan.{turn_word, request_of}
+use Rattle.ill_tool.specs.Loan.{turn_word}
+use Rattle.ill_tool.specs.Possible.{possible_on, request_of}
 use Rattle.ill_tool.specs.List.{item_asked}
 
 -- Returns an object with these fields, and a line feed.
@@ -114,9 +115,9 @@ status_of_desk form held = flat_map (held_text form) held
 
 -- ---- loans
 
--- Returns the names of the actions that the side may do now.
-abbrev pub names_of : Side → List (List ℕ)
-names_of side = map verb_name (verbs_of side)
+-- Returns the names of the actions that the side may do on the day `today`, or on some day without one.
+abbrev pub names_of : Option Date → Side → List (List ℕ)
+names_of today side = map verb_name (possible_on today side)
 
 -- Returns the fields of the library that acts next, the actions `names`, the item and the expiry date.
 abbrev pub turn_fields : Side → List (List ℕ) → List Field
@@ -157,7 +158,7 @@ came_fields apdus = messages_fields (codes "came") None apdus
 -- Returns the fields of `loan` for a side, without the messages that came.
 abbrev pub loan_fields : Side → ℕ → List Field
 loan_fields side released =
-    status_fields side released ++ turn_fields side (names_of side) ++ taken_fields side
+    status_fields side released ++ turn_fields side (names_of None side) ++ taken_fields side
     ++ sent_fields released (issued_of side)
 
 -- ---- lists
@@ -175,9 +176,9 @@ row_fields turn side names =
     ∷ (codes "transaction", quoted (txn_of side).transaction) ∷ (codes "now", array quoted names)
     ∷ (codes "item", optional quoted (item_asked (request_of side))) ∷ []
 
--- Returns the object of a listed loan of this turn.
-abbrev pub row_object : Option (List ℕ) → Turn → Side → List ℕ
-row_object file turn side = object_line (row_fields turn side (names_of side) ++ file_fields file)
+-- Returns the object of a listed loan of this turn, with the actions of the day `today`.
+abbrev pub row_object : Option (List ℕ) → Option Date → Turn → Side → List ℕ
+row_object file today turn side = object_line (row_fields turn side (names_of today side) ++ file_fields file)
 
 -- Returns the fields of the counts of a desk.
 abbrev pub counts_fields : Counts → List Field

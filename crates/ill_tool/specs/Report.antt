@@ -2,7 +2,7 @@
 -- `html_text`: the file, the item and both qualifiers. All else is a constant of this program, a name, a
 -- number or a date.
 use Rattle.std.specs.Prelude.{ℕ, ◌+◌, ◌*◌, Bool, true, false, ◌≡◌, List, [], ◌∷◌, ◌++◌, length, filter, count_by, codes, Option}
-use Rattle.std.specs.Prelude.{Some, None}
+use Rattle.std.specs.Prelude.{Some, None, map, Result, Ok, Err}
 use Rattle.std.specs.List.{flat_map, list_any}
 use Rattle.std.specs.Fmt.{decimal}
 use Rattle.ill_values.specs.Day.{Date, iso_text}
@@ -21,16 +21,18 @@ use Rattle.ill_core.specs.Verbs.{verb_name}
 use Rattle.ill_core.specs.ResponderActions.{expiry_of}
 use Rattle.ill_saved.specs.declared.side.Side.{Side}
 use Rattle.ill_saved.specs.Side.{issued_of, txn_of, state_of, due_date_of}
-use Rattle.ill_saved.specs.SideVerbs.{verbs_of}
 use Rattle.ill_tool.specs.declared.report_parts.Field.{Field}
 use Rattle.ill_tool.specs.declared.report_parts.Field.TheVariants as fields
 use Rattle.ill_tool.specs.declared.report_parts.TheConstants.{PAGE, DESKS, END, DESK, LOANS, DESK_END, WAITING, OPEN, OPENING}
-use Rattle.ill_tool.specs.declared.report_parts.TheConstants.{OVER, FOLDED, TASK, LOAN, LIFELINES, ROW, NAME, ARROW}
+use Rattle.ill_tool.specs.declared.report_parts.TheConstants.{OVER, FOLDED, TASK, LOAN, LIFELINES, ROW, NAME, ARROW, UNREAD}
+use Rattle.ill_tool.specs.declared.report_parts.TheConstants.{UNREAD_END}
+use Rattle.ill_tool.specs.declared.fault.ToolFault.{ToolFault}
 use Rattle.ill_tool.specs.Lines.{reply_word}
 use Rattle.ill_tool.specs.Html.{html_escaped, html_text}
-use Rattle.ill_tool.specs.Loan.{request_of}
+use Rattle.ill_tool.specs.Possible.{possible_on, request_of}
 use Rattle.ill_tool.specs.List.{item_asked, title_text}
 use Rattle.ill_tool.specs.Waiting.{is_turn, turn_on, most_urgent_first}
+use Rattle.ill_tool.specs.Visits.{gravest_of}
 
 -- ---- a message
 
@@ -110,7 +112,7 @@ value_text today side fields.State = state_name (state_of side)
 value_text today side fields.Due = day_text (due_date_of side)
 value_text today side fields.Expiry = day_text (expiry_of (request_of side))
 value_text today side fields.Next = actor (turn_on (Some today) side)
-value_text today side fields.Actions = flat_map action_text (verbs_of side)
+value_text today side fields.Actions = flat_map action_text (possible_on (Some today) side)
 value_text today side fields.Height = decimal (28 * length (issued_of side) + 36)
 value_text today side fields.Names = flat_map (message_text false) (issued_of side)
 value_text today side fields.Arrows = flat_map (message_text true) (issued_of side)
@@ -176,15 +178,44 @@ desk_text today (file, sides) =
     DESK.now ++ (html_text file ++ (LOANS.now
     ++ (sections_text today (most_urgent_first sides) ++ DESK_END.now)))
 
+-- Returns the part of a page about a desk that cannot be read: its file, and the text of the fault.
+unfoldable pub unread_text : List ℕ → List ℕ → List ℕ
+unread_text file words = DESK.now ++ (html_text file ++ (UNREAD.now ++ (html_text words ++ UNREAD_END.now)))
+
+-- A part of a page is about the desk in a file. It has the loans of the desk, or the fault with which it cannot
+-- be read and the text of the fault.
+abbrev pub Part : Type 0
+Part = List ℕ × Result (List Side) (ToolFault × List ℕ)
+
+-- Returns the text of a part.
+abbrev pub part_text : Date → Part → List ℕ
+part_text today (file, Ok sides) = desk_text today (file, sides)
+part_text today (file, Err (fault, words)) = unread_text file words
+
+-- Returns true if the desk of a part was read, else its fault.
+abbrev pub part_answer : Part → Result Bool ToolFault
+part_answer (file, Ok sides) = Ok true
+part_answer (file, Err (fault, words)) = Err fault
+
+-- Returns the gravest of the faults of some parts, or true if they have none.
+abbrev pub gravest_part : List Part → Result Bool ToolFault
+gravest_part parts = gravest_of (map part_answer parts)
+
 -- Returns the text before the desks of a page.
 unfoldable pub page_head : Date → List ℕ
 page_head today = PAGE.now ++ (iso_text today ++ DESKS.now)
 
--- Returns the page of `desks`, each with its file.
-abbrev pub report_page : Date → List (List ℕ × List Side) → List ℕ
-report_page today desks = page_head today ++ flat_map (desk_text today) desks ++ END.now
+-- Returns the page of these parts.
+abbrev pub report_page : Date → List Part → List ℕ
+report_page today parts = page_head today ++ flat_map (part_text today) parts ++ END.now
 
--- The page `after` is `before`, and then the parts of some desks.
-abbrev pub AddsDesks : Date → List ℕ → List ℕ → Type 0
-AddsDesks today before after =
-    (desks : List (List ℕ × List Side)) × (after ≡ before ++ flat_map (desk_text today) desks)
+-- The page `after` is `before`, and then a part about the desk in `file`. `answer` is true, or the fault in it.
+abbrev pub AddsPart : Date → List ℕ → List ℕ → List ℕ → Result Bool ToolFault → Type 0
+AddsPart today file before after answer =
+    (part : Part) × (part.0 ≡ file) × (after ≡ before ++ part_text today part) × (answer ≡ part_answer part)
+
+-- The page `after` is `before`, and then a part for each of `files`. `answer` is the gravest of their faults.
+abbrev pub AddsParts : Date → List (List ℕ) → List ℕ → List ℕ → Result Bool ToolFault → Type 0
+AddsParts today files before after answer =
+    (parts : List Part) × (map (λ part. part.0) parts ≡ files) × (after ≡ before ++ flat_map (part_text today) parts)
+    × (answer ≡ gravest_part parts)

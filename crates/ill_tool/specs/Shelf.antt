@@ -1,6 +1,6 @@
 -- A shelf: a folder of desks of one role, one for each group of transactions. The group of a transaction
 -- gives the name of its desk (this profile's own).
-use Rattle.std.specs.Prelude.{◌≡◌, ◌⊎◌, All, ℕ, ◌-◌, Bool, true, false, ◌&&◌, List, [], ◌∷◌, ◌++◌, length, take, map, fold, codes}
+use Rattle.std.specs.Prelude.{◌≡◌, ◌⊎◌, ℕ, ◌-◌, Bool, true, false, ◌&&◌, List, [], ◌++◌, length, take, codes}
 use Rattle.std.specs.Prelude.{Option, None, Some, is_some, IsSomeAnd, Result, Ok, Err, IsErrAnd}
 use Rattle.std.specs.List.{flat_map, list_all}
 use Rattle.std.specs.Path.{path_file_name}
@@ -37,6 +37,7 @@ use Rattle.ill_tool.specs.Listing.{heading}
 use Rattle.ill_tool.specs.Outbox.{IsFileFault}
 use Rattle.ill_tool.specs.Output.{WritesText}
 use Rattle.ill_tool.specs.Status.{role_name}
+use Rattle.ill_tool.specs.Visits.{Stop, VisitsEach, graver}
 
 -- ---- the names of desks
 
@@ -95,31 +96,6 @@ route_of role homes.Nothing is_request has_room = routes.Stray
 
 -- ---- one desk after another
 
--- Returns the graver of two answers. A fault is the gravest, then mails that wait, and then something that
--- wants a person.
-abbrev pub graver : Result Bool ToolFault → Result Bool ToolFault → Result Bool ToolFault
-graver (Err Left) (Err fault) = Err fault
-graver (Err fault) other = Err fault
-graver (Ok is_well) (Err fault) = Err fault
-graver (Ok is_well) (Ok other) = Ok (is_well && other)
-
--- A visit to a desk: its path, the output before and after it, and its answer.
-pub record Stop : Type 0 where
-  pub path : List ℕ
-  pub before : Option (List ℕ)
-  pub after : Option (List ℕ)
-  pub answer : Result Bool ToolFault
-
--- Each of the visits begins with the output of the one before it. The first begins with `before`, and the
--- last ends with `after`.
-unfoldable pub AreConsecutive : Option (List ℕ) → List Stop → Option (List ℕ) → Type 0
-AreConsecutive before [] after = after ≡ before
-AreConsecutive before (stop ∷ stops) after = (stop.before ≡ before) × AreConsecutive stop.after stops after
-
--- Returns the gravest answer of the visits.
-abbrev pub gravest : List Stop → Result Bool ToolFault
-gravest stops = fold graver (Ok true) (map (λ stop. stop.answer) stops)
-
 -- If the line of the path was written, the command ran at the desk. If it was not, its fault is the answer.
 abbrev pub RunsAfter : (Option (List ℕ) → Option (List ℕ) → Result Bool ToolFault → Type 0) → Result (Unit {0}) ToolFault →
     Option (List ℕ) → Option (List ℕ) → Result Bool ToolFault → Type 0
@@ -155,8 +131,7 @@ RunsVisit (visits.Exchange night) = ExchangesAtFile night.dates
 abbrev pub VisitsAll : Bool → (Option (List ℕ) → Option (List ℕ) → Result Bool ToolFault → Type 0) → List (List ℕ) →
     Option (List ℕ) → Option (List ℕ) → Result Bool ToolFault → Type 0
 VisitsAll is_headed Runs paths before after answer =
-    (stops : List Stop) × (map (λ stop. stop.path) stops ≡ paths) × AreConsecutive before stops after
-    × All (Headed is_headed Runs) stops × (answer ≡ gravest stops)
+    VisitsEach (λ is_first. Headed is_headed Runs) paths before after answer
 
 -- The result is that all is well, that mails without a desk wait, or that a file failed.
 abbrev pub IsFurther : Result Bool ToolFault → Type 0

@@ -1,5 +1,5 @@
 -- The loans that wait for this library, and their order by urgency (this profile's own).
-use Rattle.std.specs.Prelude.{Bool, true, false, ◌&&◌, nat_lt, if◌then◌else◌, List, [], ◌∷◌, length, Option, Some, None}
+use Rattle.std.specs.Prelude.{Bool, true, false, ◌&&◌, nat_lt, if◌then◌else◌, List, [], ◌∷◌, length, Option, Some, None, is_some}
 use Rattle.std.specs.Option.{option_or}
 use Rattle.ill_values.specs.Day.{Date}
 use Rattle.ill_core.specs.declared.turn.Turn.{Turn}
@@ -9,7 +9,7 @@ use Rattle.ill_core.specs.ResponderActions.{expiry_of}
 use Rattle.ill_saved.specs.declared.side.Side.{Side}
 use Rattle.ill_saved.specs.Side.{due_date_of}
 use Rattle.ill_saved.specs.SideVerbs.{turn_of, verbs_of}
-use Rattle.ill_tool.specs.Loan.{request_of}
+use Rattle.ill_tool.specs.Possible.{request_of}
 
 -- ---- turns
 
@@ -43,6 +43,11 @@ is_pressing (Some today) side =
 -- is this library's. Without a day it is the turn by the record.
 abbrev pub turn_on : Option Date → Side → Turn
 turn_on today side = if is_pressing today side then Mine else turn_of side
+
+-- Returns true if the loan waits for this library on a day after its deadline: it has one, and this library can
+-- act in it.
+abbrev pub waits_by_date : Side → Bool
+waits_by_date side = is_some (deadline_of side) && nat_lt 0 (length (verbs_of side))
 
 -- Returns true if the deadline of `side` is before that of `other`.
 abbrev pub is_more_urgent : Side → Side → Bool

@@ -1,11 +1,11 @@
 //! The commands that keep a desk in a file. Their arguments are values that were read before, except the words of an
 //! action. A command that may change the file holds its lock from before the load to its end.
 
-ghost use Rattle.std.specs.Prelude.{◌≡◌, ◌++◌, Ok, true, false, map, string_bytes, IfErr, OnOk};
+ghost use Rattle.std.specs.Prelude.{◌≡◌, ◌++◌, Ok, true, false, map, string_bytes, IfErr, IfOk};
 ghost use Rattle.ill_saved.specs.Desk.{answer_of};
 ghost use Rattle.ill_saved.specs.ManySides.{found_by, sides_held, txn_held};
-ghost use Rattle.ill_tool.specs.Report.{AddsDesks};
-ghost use Rattle.ill_tool.specs.Commands.{ActsAtFile, IsOpenFault, ListsDesk, ListsDesks, ListsPaths, LoanAtFile, NewAtFile, ReportsPaths, SendsAtFile, ShowsFile, TakesAtFile, VerifiesFile, all_well};
+ghost use Rattle.ill_tool.specs.Report.{AddsPart, AddsParts};
+ghost use Rattle.ill_tool.specs.Commands.{ActsAtFile, IsOpenFault, ListsDesk, ListsDesks, ListsPaths, LoanAtFile, NewAtFile, ReportsPaths, SendsAtFile, ShowsFile, TakesAtFile, VerifiesFile, after_writing, all_well};
 ghost use Rattle.ill_tool.specs.Listing.{between, listed_desk};
 ghost use Rattle.ill_saved.specs.ManySides.{many_sides};
 ghost use Rattle.ill_tool.specs.Kept.{RunsKeptLoan};
@@ -19,22 +19,24 @@ ghost use Rattle.ill_tool.specs.Telling.{wording};
 use crate::act::run_desk_act;
 use crate::came::{came_bytes, open_came};
 use crate::fault::ToolFault;
-use crate::folder::desk_paths;
+use crate::folder::{desk_paths, warn_of_names};
 use crate::form::Form;
 use crate::kept::run_desk_kept_loan;
-use crate::list::{Wanted, run_desk_list, run_desk_list_objects};
-use crate::listed::{Listed, heading, warning};
+use crate::list::{Wanted, count_left_out, run_desk_list, run_desk_list_objects};
+use crate::listed::{Listed, heading, left_out_line, warning};
 use crate::new::run_desk_new;
 use crate::picture::run_desk_picture;
-use crate::report::{end_page, push_desk, push_head};
+use crate::report::{end_page, push_desk, push_fault, push_head};
 use crate::send::run_desk_send;
 use crate::status::run_desk_status_as;
 use crate::take::{run_desk_kept_take, run_desk_long_take, run_desk_take};
 use crate::verify::run_desk_verify;
+use crate::visit::graver;
+use crate::warning::warn_of_fault;
 use ill_saved::{
-    Desk, DeskFault, FileLock, FileStore, LockFiles, RECORD_LIMIT, SIDES_LIMIT, Store,
+    Desk, DeskFault, FileLock, FileStore, LockFiles, RECORD_LIMIT, SIDES_LIMIT, Sides, Store,
 };
-use ill_values::{Day, Number, TxnId};
+use ill_values::{Day, Number, OutOfMemory, TxnId};
 use ill_world::Who;
 use std::alloc::Global;
 use std::io::{Read, Write};
@@ -166,7 +168,7 @@ pub fn send<T: Files, W: Write>(
     all_well(sent)
 }
 
-/// `ill list`: lists the wanted loans of the desks at `paths`.
+/// `ill list`: lists the wanted loans of the desks at `paths`. After a failure at one desk, the others are still listed.
 pub fn list<T: Files, W: Write, E: Write>(
     rt: &T,
     alloc: Global,
@@ -178,14 +180,14 @@ pub fn list<T: Files, W: Write, E: Write>(
 ) -> Result<bool, ToolFault>
     ensures { ListsPaths form wanted.now (W.contents writer.old) (W.contents writer.new) result }
 {
-    let files = match desk_paths(rt, alloc, paths) {
-        Ok(files) => files,
-        Err(fault) => return Err(fault),
+    let Ok(found) = desk_paths(rt, alloc, paths) else {
+        return Err(ToolFault::OutOfMemory);
     };
-    all_well(list_files(rt, alloc, &files, wanted, form, writer, errors))
+    let answer = list_files(rt, alloc, &found.files, wanted, form, writer, errors);
+    graver(answer, warn_of_names(alloc, &found.unnamed, errors))
 }
 
-/// Lists the desks in `files`, one after another.
+/// Lists the desks in `files`, one after another, and returns the gravest of their answers.
 fn list_files<T: Files, W: Write, E: Write>(
     rt: &T,
     alloc: Global,
@@ -194,24 +196,56 @@ fn list_files<T: Files, W: Write, E: Write>(
     form: Form,
     writer: &mut W,
     errors: &mut E,
-) -> Result<(), ToolFault>
+) -> Result<bool, ToolFault>
     ensures { ListsDesks form wanted.now (map (λ file. string_bytes file) files.now)
         (W.contents writer.old) (W.contents writer.new) result }
 {
+    let mut answer = Ok(true);
+    let mut last = Ok(true);
     for place in 0..files.len() {
         let listed = Listed {
             path: files[place].as_str(),
             is_headed: files.len() > 1,
             is_first: place == 0,
         };
-        if let Err(fault) = list_file(rt, alloc, &listed, wanted, form, writer, errors) {
-            return Err(fault);
-        }
+        last = list_told(rt, alloc, last, &listed, wanted, form, writer, errors);
+        answer = graver(answer, last);
     }
-    Ok(())
+    answer
 }
 
-/// Lists the desk in a file, and warns if it has little room left.
+/// Lists the desk in a file, and writes a line to `errors` if it cannot be read. If the writer failed at the last desk,
+/// with the answer `last`, it is not called again.
+fn list_told<T: Files, W: Write, E: Write>(
+    rt: &T,
+    alloc: Global,
+    last: Result<bool, ToolFault>,
+    listed: &Listed<'_>,
+    wanted: &Wanted,
+    form: Form,
+    writer: &mut W,
+    errors: &mut E,
+) -> Result<bool, ToolFault>
+    ensures { ListsDesk form wanted.now listed.now.is_headed listed.now.is_first (record {
+      path = listed.now.path.now;
+      before = W.contents writer.old;
+      after = W.contents writer.new;
+      answer = result;
+    }) }
+{
+    if let Err(ToolFault::Write) = last {
+        return last;
+    }
+    let answer = list_file(rt, alloc, listed, wanted, form, writer, errors);
+    if let Err(fault) = answer
+        && fault != ToolFault::Write
+    {
+        warn_of_fault(alloc, listed.path, fault, errors);
+    }
+    answer
+}
+
+/// Lists the desk in a file, and tells its room and what is left out.
 fn list_file<T: Files, W: Write, E: Write>(
     rt: &T,
     alloc: Global,
@@ -220,15 +254,20 @@ fn list_file<T: Files, W: Write, E: Write>(
     form: Form,
     writer: &mut W,
     errors: &mut E,
-) -> Result<(), ToolFault>
-    ensures { ListsDesk form wanted.now listed.now.is_first listed.now.is_headed listed.now.path.now
-        (W.contents writer.old) (W.contents writer.new) result }
+) -> Result<bool, ToolFault>
+    ensures { ListsDesk form wanted.now listed.now.is_headed listed.now.is_first (record {
+      path = listed.now.path.now;
+      before = W.contents writer.old;
+      after = W.contents writer.new;
+      answer = result;
+    }) }
 {
     let desk = open(rt, alloc, listed.path)?;
     let answer = list_desk(alloc, &desk, listed, wanted, form, writer);
     warn(alloc, listed.path, desk.sides().len(), errors);
+    tell_left_out(alloc, listed.path, desk.sides(), wanted, errors);
     drop(desk);
-    answer
+    all_well(answer)
 }
 
 /// Lists `desk` in the form `form`.
@@ -275,6 +314,23 @@ fn warn<E: Write>(alloc: Global, file: &str, loans: usize, errors: &mut E) {
         return;
     }
     if let Ok(line) = warning(alloc, file, SIDES_LIMIT.saturating_sub(loans)) {
+        let _ = errors.write_all(&line);
+    }
+}
+
+/// Writes to `errors` how many loans the list of a desk leaves out since no day is given, if any.
+fn tell_left_out<E: Write>(
+    alloc: Global,
+    file: &str,
+    sides: &Sides,
+    wanted: &Wanted,
+    errors: &mut E,
+) {
+    let count = count_left_out(alloc, sides, wanted).unwrap_or(0);
+    if count == 0 {
+        return;
+    }
+    if let Ok(line) = left_out_line(alloc, file, count) {
         let _ = errors.write_all(&line);
     }
 }
@@ -348,57 +404,83 @@ pub fn verify<T: Files, W: Write>(
     all_well(verified)
 }
 
-/// `ill report`: writes a page of the desks at paths.
-pub fn report<T: Files, W: Write>(
+/// `ill report`: writes a page of the desks at `paths`. A desk that cannot be read has a part with its fault.
+pub fn report<T: Files, W: Write, E: Write>(
     rt: &T,
     alloc: Global,
     paths: &[&str],
     today: Day,
     writer: &mut W,
+    errors: &mut E,
 ) -> Result<bool, ToolFault>
     ensures { ReportsPaths today (W.contents writer.old) (W.contents writer.new) result }
 {
-    let files = desk_paths(rt, alloc, paths)?;
+    let found = desk_paths(rt, alloc, paths)?;
     let mut page = Vec::new(alloc);
     push_head(&mut page, today)?;
-    push_files(rt, alloc, &mut page, today, &files)?;
-    all_well(end_page(page, writer))
+    let answer = push_files(rt, alloc, &mut page, today, &found.files, errors)?;
+    let answer = graver(answer, warn_of_names(alloc, &found.unnamed, errors));
+    after_writing(end_page(page, writer), answer)
 }
 
-/// Appends to `page` the part of each desk in `files`.
-fn push_files<T: Files>(
+/// Returns `answer` if the output was written, else the fault.
+fn after_writing(
+    written: Result<(), ToolFault>,
+    answer: Result<bool, ToolFault>,
+) -> Result<bool, ToolFault>
+    ensures { result ≡ after_writing written answer }
+{
+    match written {
+        Ok(()) => answer,
+        Err(fault) => Err(fault),
+    }
+}
+
+/// Appends to `page` the part of each desk in `files`, and returns the gravest of their faults.
+fn push_files<T: Files, E: Write>(
     rt: &T,
     alloc: Global,
     page: &mut Vec<u8>,
     today: Day,
     files: &[String],
-) -> Result<(), ToolFault>
-    ensures told { OnOk result (AddsDesks today page.old.items page.new.items) }
-    ensures fault { IfErr result IsOpenFault }
+    errors: &mut E,
+) -> Result<Result<bool, ToolFault>, OutOfMemory>
+    ensures told { IfOk result (λ answer.
+        AddsParts today (map (λ file. string_bytes file) files.now) page.old.items page.new.items answer) }
+    ensures fault { IfOk result (λ answer. IfErr answer IsOpenFault) }
 {
-    for file in files {
-        push_file(rt, alloc, page, today, file.as_str())?;
+    let mut answer = Ok(true);
+    for place in 0..files.len() {
+        let next = push_file(rt, alloc, page, today, files[place].as_str(), errors)?;
+        answer = graver(answer, next);
     }
-    Ok(())
+    Ok(answer)
 }
 
-/// Appends to `page` the part of the desk in `file`.
-fn push_file<T: Files>(
+/// Appends to `page` the part of the desk in `file`, and returns its fault, if it cannot be read.
+fn push_file<T: Files, E: Write>(
     rt: &T,
     alloc: Global,
     page: &mut Vec<u8>,
     today: Day,
     file: &str,
-) -> Result<(), ToolFault>
-    ensures told { OnOk result (AddsDesks today page.old.items page.new.items) }
-    ensures fault { IfErr result IsOpenFault }
+    errors: &mut E,
+) -> Result<Result<bool, ToolFault>, OutOfMemory>
+    ensures told { IfOk result (λ answer. AddsPart today file.now page.old.items page.new.items answer) }
+    ensures fault { IfOk result (λ answer. IfErr answer IsOpenFault) }
 {
-    let desk = open(rt, alloc, file)?;
-    let told = push_desk(page, today, file, desk.sides());
-    drop(desk);
-    match told {
-        Ok(()) => Ok(()),
-        Err(_) => Err(ToolFault::OutOfMemory),
+    match open(rt, alloc, file) {
+        Ok(desk) => {
+            let told = push_desk(page, today, file, desk.sides());
+            drop(desk);
+            told?;
+            Ok(Ok(true))
+        }
+        Err(fault) => {
+            warn_of_fault(alloc, file, fault, errors);
+            push_fault(page, file, fault)?;
+            Ok(Err(fault))
+        }
     }
 }
 

@@ -1,17 +1,19 @@
 //! The desks at paths: a path is that of a desk's file, or of a folder of desks.
 
-ghost use Rattle.std.specs.Prelude.{◌≡◌, IfErr, nat_eq};
+ghost use Rattle.std.specs.Prelude.{◌≡◌, ◌==◌, length, nat_eq};
 ghost use Rattle.std.specs.List.{ends_with, list_any};
 ghost use Rattle.ill_tool.specs.CommandLine.{is_beside};
-ghost use Rattle.ill_tool.specs.Commands.{IsOpenFault};
+ghost use Rattle.ill_tool.specs.Commands.{IsOpenFault, names_answer};
 
-use crate::came::CAME;
+use crate::came::{CAME, STORE_FAILED};
 use crate::fault::ToolFault;
+use crate::guard::is_named_on_shelf;
 use crate::mail_box::MAIL;
-use crate::shelf::RETIRED;
-use ill_saved::{DeskFault, StoreFault};
+use crate::shelf::{RETIRED, is_shelf};
+use crate::warning::warn;
+use ill_values::OutOfMemory;
 use std::alloc::Global;
-use std::io::{BufRead, BufReader, ErrorKind};
+use std::io::{BufRead, BufReader, ErrorKind, Write};
 use std::path::Path;
 use std::rt::Files;
 use std::{fs, io};
@@ -22,57 +24,123 @@ pub(crate) const BESIDE: [&str; 5] = [".new", ".lck", CAME, MAIL, RETIRED];
 /// The number of bytes of names that are read from a folder at once. Any name fits.
 const NAMES: usize = 4096;
 
-/// Returns the paths of the files of the desks at `paths`, in their order. A folder is replaced by its desks, in the
-/// order of their names. Its desks are its regular files, without the files beside a desk. Names that begin with a dot
-/// are left out too.
-pub fn desk_paths<T: Files>(rt: &T, alloc: Global, paths: &[&str]) -> Result<Vec<String>, ToolFault>
-    ensures { IfErr result IsOpenFault }
-{
-    let mut files = Vec::new(alloc);
-    for path in paths {
-        if let Err(error) = push_path(rt, &mut files, path) {
-            return Err(fault(&error));
-        }
-    }
-    Ok(files)
+/// The desks at some paths.
+#[derive(Drop)]
+pub struct Found {
+    /// The paths of their files.
+    pub files: Vec<String>,
+    /// The names in folders that are no text, after the path of their folder. An escape replaces each byte that is no
+    /// printable character of ASCII.
+    pub unnamed: Vec<String>,
 }
 
-/// Appends `path` to `files`, or the paths of the desks in a folder at `path`.
-fn push_path<T: Files>(rt: &T, files: &mut Vec<String>, path: &str) -> io::Result<()> {
-    match fs::metadata(rt, path) {
-        Ok(found) if found.is_dir() => push_folder(rt, files, path),
-        _ => {
-            files.push(String::from_str(*files.allocator(), path)?)?;
+/// Returns the desks at `paths`, in their order. A folder is replaced by its desks, in the order of their names. If it
+/// cannot be read, it is itself among the files, and fails there.
+///
+/// The desks of a folder are its regular files, without the files beside a desk. Names that begin with a dot are left
+/// out too. If there is a shelf in the folder, only the names of its desks are those of desks.
+pub fn desk_paths<T: Files>(rt: &T, alloc: Global, paths: &[&str]) -> Result<Found, OutOfMemory> {
+    let mut found = Found {
+        files: Vec::new(alloc),
+        unnamed: Vec::new(alloc),
+    };
+    for path in paths {
+        push_path(rt, &mut found, path)?;
+    }
+    Ok(found)
+}
+
+/// Appends to `found` the file at `path`, or the desks in a folder at `path`.
+fn push_path<T: Files>(rt: &T, found: &mut Found, path: &str) -> Result<(), OutOfMemory> {
+    let alloc = *found.files.allocator();
+    match names_at(rt, alloc, path) {
+        Ok(names) => push_names(rt, found, path.trim_end_matches('/'), &names),
+        Err(error) if error.kind() == ErrorKind::OutOfMemory => Err(OutOfMemory),
+        Err(_) => {
+            found.files.push(String::from_str(alloc, path)?)?;
             Ok(())
         }
     }
 }
 
-/// Appends to `files` the paths of the desks in `folder`.
-fn push_folder<T: Files>(rt: &T, files: &mut Vec<String>, folder: &str) -> io::Result<()> {
-    let alloc = *files.allocator();
-    let folder = folder.trim_end_matches('/');
-    let mut names = names(rt, alloc, folder)?;
+/// Returns the names in the folder at `path` that may be those of desks, in their order.
+fn names_at<T: Files>(rt: &T, alloc: Global, path: &str) -> io::Result<Vec<Vec<u8>>> {
+    if !fs::metadata(rt, path)?.is_dir() {
+        return Err(ErrorKind::NotADirectory.into());
+    }
+    let folder = path.trim_end_matches('/');
+    let is_shelf = is_shelf(rt, alloc, folder)?;
+    let mut names = Vec::new(alloc);
+    for name in raw_names(rt, alloc, folder)? {
+        if may_be_desk(&name) && (!is_shelf || is_on_shelf(alloc, &name)?) {
+            names.push(name)?;
+        }
+    }
     names.sort()?;
-    for name in &names {
-        let path = format!(in alloc; "{folder}/{name}")?;
-        if is_desk_name(name) && fs::symlink_metadata(rt, path.as_str())?.is_file() {
-            files.push(path)?;
+    Ok(names)
+}
+
+/// Returns true if a file named `name` in a folder may be a desk.
+fn may_be_desk(name: &[u8]) -> bool {
+    !name.starts_with(b".")
+        && !BESIDE
+            .iter()
+            .any(|ending| name.ends_with(ending.as_bytes()))
+}
+
+/// Returns true if `name` is that of a desk on a shelf.
+fn is_on_shelf(alloc: Global, name: &[u8]) -> Result<bool, OutOfMemory> {
+    match str::from_utf8(name) {
+        Ok(name) => is_named_on_shelf(alloc, name),
+        Err(_) => Ok(false),
+    }
+}
+
+/// Appends to `found` the desks of `folder` with these names.
+fn push_names<T: Files>(
+    rt: &T,
+    found: &mut Found,
+    folder: &str,
+    names: &[Vec<u8>],
+) -> Result<(), OutOfMemory> {
+    let alloc = *found.files.allocator();
+    for name in names {
+        match str::from_utf8(name) {
+            Ok(name) => push_file(rt, &mut found.files, format!(in alloc; "{folder}/{name}")?)?,
+            Err(_) => {
+                let shown = format!(in alloc; "{folder}/{}", name.escape_ascii())?;
+                found.unnamed.push(shown)?;
+            }
         }
     }
     Ok(())
 }
 
-/// Returns the names in `folder`. A name that is no text is a fault, since it has no path.
-fn names<T: Files>(rt: &T, alloc: Global, folder: &str) -> io::Result<Vec<String>> {
-    let mut names = Vec::new(alloc);
-    for name in raw_names(rt, alloc, folder)? {
-        match String::from_utf8(name) {
-            Ok(name) => names.push(name)?,
-            Err(_) => return Err(ErrorKind::InvalidFilename.into()),
-        }
+/// Appends `path` to `files`, unless something else than a regular file is there.
+fn push_file<T: Files>(rt: &T, files: &mut Vec<String>, path: String) -> Result<(), OutOfMemory> {
+    match fs::symlink_metadata(rt, path.as_str()) {
+        Ok(found) if !found.is_file() => {}
+        _ => files.push(path)?,
     }
-    Ok(names)
+    Ok(())
+}
+
+/// Writes a line to `errors` for each of the names `unnamed`. Returns the fault of a folder if there are any.
+pub(crate) fn warn_of_names<E: Write>(
+    alloc: Global,
+    unnamed: &[String],
+    errors: &mut E,
+) -> Result<bool, ToolFault>
+    ensures { result ≡ names_answer (length unnamed.now == 0) }
+{
+    for name in unnamed {
+        warn(alloc, name.as_bytes(), ": no UTF-8", errors);
+    }
+    if unnamed.is_empty() {
+        Ok(true)
+    } else {
+        Err(STORE_FAILED)
+    }
 }
 
 /// Returns the bytes of the names in `folder`.
@@ -84,11 +152,6 @@ pub(crate) fn raw_names<T: Files>(rt: &T, alloc: Global, folder: &str) -> io::Re
         names.push(name?)?;
     }
     Ok(names)
-}
-
-/// Returns true if a file named `name` in a folder of desks is a desk.
-fn is_desk_name(name: &str) -> bool {
-    !name.starts_with('.') && !is_beside(name)
 }
 
 /// Returns true if `path` has the ending of what lies beside the file of a desk.
@@ -122,5 +185,5 @@ pub(crate) fn fault(error: &io::Error) -> ToolFault
     if error.kind() == ErrorKind::OutOfMemory {
         return ToolFault::OutOfMemory;
     }
-    ToolFault::Desk(DeskFault::Store(StoreFault::Failed))
+    STORE_FAILED
 }

@@ -44,7 +44,7 @@ fn refuse_on_shelf<T: Files>(rt: &T, alloc: Global, file: &str) -> Result<(), To
 }
 
 /// Returns true if `name` is that of a shelf's own desk, or of the desk of a group.
-fn is_named_on_shelf(alloc: Global, name: &str) -> Result<bool, OutOfMemory>
+pub(crate) fn is_named_on_shelf(alloc: Global, name: &str) -> Result<bool, OutOfMemory>
     ensures { IfOk result (λ is_named. Decides is_named (IsNamedOnShelf name.now)) }
 {
     let is_requesters = is_desk_name(alloc, Role::Requester, name)?;

@@ -204,7 +204,8 @@ OUTCOME is one of these; after it the line says how its loan stands, as that of
 With --long the line begins with what the message is, and its further fields
 stand after it, as `ill show` has them, each on an indented line of its own:
   GROUP TRANSACTION TYPE NUMBER OUTCOME STATE DUE RELEASED/ISSUED
-A character on which a terminal may act is shown by its number, as \\u{202e}.
+A character on which a terminal or an editor may act is shown by its number, as
+\\u{202e}.
 
 With --keep each message that is taken is kept as it came, in FILE.came, before
 that it was taken is saved. `ill show < FILE.came` shows all of them, and `ill
@@ -295,8 +296,8 @@ The reasons for which a mail stays:
   no-such-transaction    a requester's desk has no such loan, or not yet
   desk-full              it would begin a loan, and the desk has 1,000
 
-A character of a name on which a terminal may act is shown by its number, as
-\\u{202e}. The last line counts the mails:
+A character of a name on which a terminal or an editor may act is shown by its
+number, as \\u{202e}. The last line counts the mails:
   taken N, repeat N, stale N, conflict N, unknown N, aside N, left N, waiting N
 `unknown` counts those of a loan that a responder's desk has not: they come
 again, with its request. `waiting` counts the mails beyond the first 10,000.
@@ -463,11 +464,15 @@ first. The columns of a line:
   group                  the group qualifier of the loan
   transaction            the transaction qualifier of the loan
   actions                with --mine: the first words of the actions that `act`
-                         takes now, with commas between them
+                         takes on the day of --today, or without it on some
+                         day, with commas between them
   title                  the item that is asked for, or `-`
 
-A character of a title on which a terminal may act is shown by its number, as
-\\u{202e}. These options say which loans are listed; all that are given hold:
+A character of a title on which a terminal or an editor may act is shown by its
+number, as \\u{202e}. So is a space of a group or transaction at an edge, or
+after another one.
+
+These options say which loans are listed; all that are given hold:
   --open                 leaves out the loans that are over
   --mine                 leaves out also those that wait for the other library
   --today DAY            on this day a loan also waits for this library if its
@@ -478,23 +483,28 @@ A character of a title on which a terminal may act is shown by its number, as
 
 The last line counts all loans of the desk, whichever are listed. It says for
 how many more there is room. From 900 loans on a line on standard error says so
-too.
+too. With --mine and no day, such a line says how many more loans may wait for
+this library by their dates.
 
 PATH is the file of a desk, or a folder of desks. A folder's desks are listed in
 the order of their names: all regular files, but for those that begin with a dot
-or that lie beside a desk, as `ill new --help` names them. If several desks are
-listed, a line `PATH:` stands before each, and an empty line between each and
-the next.
+or that lie beside a desk, as `ill new --help` names them. Of a folder with a
+shelf, only the desks of its groups are listed. If there are several desks, a
+line `PATH:` stands before each that is listed, and an empty line before each
+but the first.
+
+A desk that cannot be read is told on standard error, and the others are listed.
+So is a name in a folder that is no UTF-8, which counts as `store failed`.
 
 With --json each loan that is listed is an object of JSON on a line, in the same
 order: `next`, `state`, `due`, `group`, `transaction`, `now` (what `act` takes
 now) and `item`. After them an object has the counts: `loans`, `open`, `mine`
-and `room`. If several desks are listed, each object has its PATH in `file`.
+and `room`. If there are several desks, each object has its PATH in `file`.
 
 A desk has at most 67,108,864 bytes and is not changed. Standard input is not
 read. The exit status is 0 if the loans are listed, 1 with `no-record`, 2 for
 wrong arguments or a bad record, and 3 with `store failed`, `store too-large`,
-`write` or `memory`. The desks before a fault are listed.";
+`write` or `memory`. Of several desks it is that of the first that fails.";
 
 pub const LIST_EXAMPLE: &str = "Example:
   $ ill new here requester
@@ -510,7 +520,7 @@ pub const LIST_EXAMPLE: &str = "Example:
   $ ill take there < message
   taken IN-PROCESS - 0/0
   $ ill list there --mine
-  mine    IN-PROCESS            -         G1  T1  answer,ship,expire    Maps
+  mine    IN-PROCESS            -         G1  T1  answer,ship           Maps
   loans 1, open 1, mine 1, room for 999";
 
 pub const STATUS: &str = "\
@@ -558,7 +568,7 @@ come these:
   next                   who acts next: `mine`, this library; `theirs`, the
                          other one; or `over`, nobody
   now                    the first words of the actions that have a place now,
-                         or `-`; a date may still forbid one
+                         or `-`; each is one that some day allows
   item                   what the request asks for
   expiry                 the last day of the request, or `-`
 
@@ -585,8 +595,8 @@ With --picture the messages are drawn in place of all this, as a sequence chart
 in the language of Mermaid. The order of each side is right, and so is what
 answers a message; how both orders lay in time, nobody knows.
 
-In an item, a control character from U+0080 to U+009F is shown as an escape,
-such as `\\u{9f}`. So is a mark that turns the direction of a text.
+A character of an item on which a terminal or an editor may act is shown by its
+number, as \\u{202e}.
 
 With --json the loan is an object of JSON on one line, with these labels and
 those of `ill status --json`. Its `messages` are an array of those that it has
@@ -670,14 +680,17 @@ a dash stands for none. DAY is eight digits, as 20250315. What waits on DAY is
 what `list` lists with --mine and --today.
 
 What a person wrote, titles, groups, transactions and names of files, stands
-there as text, whatever its characters. One that may turn the direction of a
-text is shown by its number, as \\u{202e}.
+there as text, whatever its characters. One on which a terminal or an editor
+may act is shown by its number, as \\u{202e}.
+
+A desk that cannot be read has its fault on the page, and is told on standard
+error. The others are there all the same.
 
 FILE has at most 67,108,864 bytes and is not changed. Other commands may run on
-FILE at any time, as `ill --help` tells. Standard input is not read. Nothing is
-written unless all desks can be read. The exit status is 0 if the page is
-written, 1 with `no-record`, 2 for wrong arguments or a bad record, and 3 with
-`store failed`, `store too-large`, `write` or `memory`.";
+FILE at any time, as `ill --help` tells. Standard input is not read. The exit
+status is 0 if the page is written, 1 with `no-record`, 2 for wrong arguments or
+a bad record, and 3 with `store failed`, `store too-large`, `write` or `memory`.
+Of several desks it is that of the first that fails.";
 
 pub const REPORT_EXAMPLE: &str = "Example:
   $ ill new here requester

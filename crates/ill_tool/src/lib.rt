@@ -43,6 +43,7 @@ mod output;
 mod person;
 mod picture;
 mod places;
+mod possible;
 mod report;
 mod report_parts;
 mod request;
@@ -84,6 +85,10 @@ pub use new::{run_desk_new, run_new};
 pub use outbox::{run_desk_outbox, run_desk_outbox_stream};
 pub use outgoing::Outgoing;
 pub use picture::run_desk_picture;
+pub use possible::{
+    expire_is_possible_when_it_has_expired, overdue_is_possible_when_it_is_due,
+    requester_verbs_are_possible,
+};
 pub use report::run_desk_report;
 pub use retire::run_desk_retire;
 pub use send::{run_desk_send, run_send};

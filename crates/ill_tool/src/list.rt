@@ -1,16 +1,17 @@
 //! The command `list`.
 
-ghost use Rattle.std.specs.Prelude.{◌≡◌, [], ◌∷◌, ◌++◌, map, option_map, OnOk};
+ghost use Rattle.std.specs.Prelude.{◌≡◌, [], ◌∷◌, ◌++◌, map, count_by, option_map, IfOk, OnOk};
 ghost use Rattle.ill_saved.specs.ManySides.{sides_held};
 ghost use Rattle.ill_tool.specs.Output.{WritesText};
-ghost use Rattle.ill_tool.specs.List.{turns_of, has_verbs, is_due_before, is_in, is_wanted, has_turn, count_of, counts_of, counts_line};
+ghost use Rattle.ill_tool.specs.List.{turns_of, has_verbs, is_due_before, is_in, is_wanted, has_turn, lacks_day, is_left_out, left_out, count_of, counts_of, counts_line};
 ghost use Rattle.ill_tool.specs.Listing.{counts_text, list_lines, list_objects, listed, ordered_lines, row_text, rows_of};
 
 use crate::fault::ToolFault;
 use crate::list_objects::{push_counts_object, push_row_object};
 use crate::output::write_whole;
 use crate::row::{Columns, push_row};
-use crate::waiting::{is_sooner, most_urgent_first, turn_on};
+use crate::sides::all_of;
+use crate::waiting::{is_sooner, most_urgent_first, turn_on, waits_by_date};
 use ill_core::{State, Turn};
 use ill_saved::{Desk, SIDES_LIMIT, Side, Sides, Store};
 use ill_values::{Day, OutOfMemory};
@@ -130,8 +131,8 @@ fn push_ordered(lines: &mut Vec<u8>, sides: &[&Side], wanted: &Wanted) -> Result
     ensures { OnOk result (lines.new.items ≡ lines.old.items
         ++ ordered_lines wanted.now (map (λ side. side.now) sides.now)) }
 {
-    let rows = Rows::Lines(Columns::of(sides, wanted.which.has_verbs()));
-    push_listed(lines, &rows, wanted, sides)
+    let columns = Columns::of(*lines.allocator(), sides, wanted.which.has_verbs())?;
+    push_listed(lines, &Rows::Lines(columns), wanted, sides)
 }
 
 /// Appends all objects of a list of `sides`.
@@ -194,23 +195,24 @@ fn push_row_at(
         ++ rows_of (row_text rows.now) wanted.now (side.now ∷ []) turn) }
 {
     if has_turn(wanted, turn, side) && is_wanted(wanted, side) {
-        return push_row_as(text, rows, turn, side);
+        return push_row_as(text, rows, wanted.today, turn, side);
     }
     Ok(())
 }
 
-/// Appends the loan of `side`, which has the turn `turn`, as a line or as an object.
+/// Appends the loan of `side`, which has the turn `turn` on the day `today`, as a line or as an object.
 fn push_row_as(
     text: &mut Vec<u8>,
     rows: &Rows<'_>,
+    today: Option<Day>,
     turn: Turn,
     side: &Side,
 ) -> Result<(), OutOfMemory>
-    ensures { OnOk result (text.new.items ≡ text.old.items ++ row_text rows.now turn side.now) }
+    ensures { OnOk result (text.new.items ≡ text.old.items ++ row_text rows.now today turn side.now) }
 {
     match rows {
-        Rows::Lines(columns) => push_row(text, columns, turn, side),
-        Rows::Objects(file) => push_row_object(text, *file, turn, side),
+        Rows::Lines(columns) => push_row(text, columns, today, turn, side),
+        Rows::Objects(file) => push_row_object(text, *file, today, turn, side),
     }
 }
 
@@ -246,6 +248,46 @@ fn has_turn(wanted: &Wanted, turn: Turn, side: &Side) -> bool
     ensures { result ≡ has_turn wanted.now.today turn side.now }
 {
     turn_on(wanted.today, side) == turn
+}
+
+/// Returns the number of loans that a list of `sides` leaves out since no day is given.
+pub(crate) fn count_left_out(
+    alloc: Global,
+    sides: &Sides,
+    wanted: &Wanted,
+) -> Result<usize, OutOfMemory>
+    ensures { IfOk result (λ count. count ≡ left_out wanted.now sides.now.sides) }
+{
+    if !lacks_day(wanted) {
+        return Ok(0);
+    }
+    let all = all_of(alloc, sides)?;
+    Ok(count_by_date(&all, wanted))
+}
+
+/// Returns the number of loans of `sides` that are not listed, and may wait for this library by their dates.
+fn count_by_date(sides: &[&Side], wanted: &Wanted) -> usize
+    ensures { result ≡ count_by (is_left_out wanted.now) (map (λ side. side.now) sides.now) }
+{
+    sides
+        .iter()
+        .filter(|side| is_left_out(wanted, side))
+        .count()
+}
+
+/// Returns true if only the loans that wait for this library are listed, and no day is given.
+fn lacks_day(wanted: &Wanted) -> bool
+    ensures { result ≡ lacks_day wanted.now }
+{
+    wanted.which.has_verbs() && wanted.today.is_none()
+}
+
+/// Returns true if the loan of `side` is not listed as one that waits for this library, but may wait for it by its
+/// date.
+fn is_left_out(wanted: &Wanted, side: &Side) -> bool
+    ensures { result ≡ is_left_out wanted.now side.now }
+{
+    !has_turn(wanted, Turn::Mine, side) && waits_by_date(side) && is_wanted(wanted, side)
 }
 
 impl Counts {

@@ -8,22 +8,25 @@ use crate::json::{Value, push_members, push_plain};
 use crate::list::Counts;
 use crate::loan::{names, turn_word};
 use crate::objects::title;
+use crate::possible::possible_on;
 use ill_core::Turn;
 use ill_saved::Side;
-use ill_values::OutOfMemory;
+use ill_values::{Day, OutOfMemory};
 
-/// Appends the object of the loan of `side`, on a line. It has the path `file` of the desk, if it is given.
+/// Appends the object of the loan of `side` on the day `today`, on a line. It has the path `file` of the desk, if it
+/// is given.
 pub(crate) fn push_row_object(
     text: &mut Vec<u8>,
     file: Option<&str>,
+    today: Option<Day>,
     turn: Turn,
     side: &Side,
 ) -> Result<(), OutOfMemory>
     ensures { OnOk result (text.new.items ≡ text.old.items
-        ++ row_object (option_map (λ path. path.now) file.entry) turn side.now) }
+        ++ row_object (option_map (λ path. path.now) file.entry) today turn side.now) }
 {
     push_plain(text, "{")?;
-    push_row_and_file(text, file, turn, side)?;
+    push_row_and_file(text, file, today, turn, side)?;
     push_plain(text, "}\n")
 }
 
@@ -31,22 +34,29 @@ pub(crate) fn push_row_object(
 fn push_row_and_file(
     text: &mut Vec<u8>,
     file: Option<&str>,
+    today: Option<Day>,
     turn: Turn,
     side: &Side,
 ) -> Result<(), OutOfMemory>
     ensures { OnOk result (text.new.items ≡ text.old.items
-        ++ joined member [] (row_fields turn side.now (names_of side.now) ++ file_fields (option_map (λ path. path.now) file.entry))) }
+        ++ joined member [] (row_fields turn side.now (names_of today side.now) ++ file_fields (option_map (λ path. path.now) file.entry))) }
 {
-    push_row_fields(text, turn, side)?;
+    push_row_fields(text, today, turn, side)?;
     push_file(text, file)
 }
 
 /// Appends the fields of the loan of `side`.
-fn push_row_fields(text: &mut Vec<u8>, turn: Turn, side: &Side) -> Result<(), OutOfMemory>
+fn push_row_fields(
+    text: &mut Vec<u8>,
+    today: Option<Day>,
+    turn: Turn,
+    side: &Side,
+) -> Result<(), OutOfMemory>
     ensures { OnOk result (text.new.items ≡ text.old.items
-        ++ joined member [] (row_fields turn side.now (names_of side.now))) }
+        ++ joined member [] (row_fields turn side.now (names_of today side.now))) }
 {
-    let names = names(*text.allocator(), side.verbs())?;
+    let alloc = *text.allocator();
+    let names = names(alloc, &possible_on(alloc, today, side)?)?;
     push_row_with(text, turn, side, &names)
 }
 

@@ -1,7 +1,7 @@
 //! One of the desks that are listed, and the text before its loans.
 
 ghost use Rattle.std.specs.Prelude.{◌≡◌, ◌++◌, option_map, IfOk};
-ghost use Rattle.ill_tool.specs.Listing.{file_told, gap, heading, room_line};
+ghost use Rattle.ill_tool.specs.Listing.{file_told, gap, heading, left_out_line, left_out_words, room_line};
 
 use crate::escape::push_escaped;
 use ill_values::OutOfMemory;
@@ -46,6 +46,29 @@ pub(crate) fn heading(alloc: Global, listed: &Listed<'_>) -> Result<Vec<u8>, Out
         text.extend_from_slice(b":\n")?;
     }
     Ok(text)
+}
+
+/// Returns the line that tells how many loans of a desk a list leaves out since no day is given.
+pub(crate) fn left_out_line(alloc: Global, path: &str, count: usize) -> Result<Vec<u8>, OutOfMemory>
+    ensures { IfOk result (λ line. line.items ≡ left_out_line path.now count) }
+{
+    let mut line = Vec::from_slice(alloc, b"ill: ")?;
+    push_escaped(&mut line, path.as_bytes())?;
+    let told = format!(in alloc; ": {count}")?;
+    line.extend_from_slice(told.as_bytes())?;
+    line.extend_from_slice(left_out_words(count == 1).as_bytes())?;
+    Ok(line)
+}
+
+/// Returns the words of that line after the number of loans, of one loan or of several.
+fn left_out_words(is_one: bool) -> &'static str
+    ensures { result.now ≡ left_out_words is_one }
+{
+    if is_one {
+        " more loan may wait for us by its date: give --today DAY\n"
+    } else {
+        " more loans may wait for us by their dates: give --today DAY\n"
+    }
 }
 
 /// Returns the line that warns of the room left at a desk.

@@ -5,11 +5,13 @@ ghost use Rattle.std.specs.List.{flat_map};
 ghost use Rattle.ill_core.specs.Verbs.{verb_name};
 ghost use Rattle.ill_saved.specs.ManySides.{found_by, txn_held};
 ghost use Rattle.ill_tool.specs.Output.{WritesText};
-ghost use Rattle.ill_tool.specs.Loan.{RunsLoan, item_lines, loan_lines, marked_lines, message_lines, optional_number_line, request_lines, request_of, side_lines, taken_lines, turn_lines, turn_word};
+ghost use Rattle.ill_tool.specs.Possible.{request_of};
+ghost use Rattle.ill_tool.specs.Loan.{RunsLoan, item_lines, loan_lines, marked_lines, message_lines, optional_number_line, request_lines, side_lines, taken_lines, turn_lines, turn_word};
 
 use crate::fault::ToolFault;
 use crate::lines::{push_item, push_line, push_number, push_shown, push_whether};
 use crate::output::write_whole;
+use crate::possible::{possible_on, request};
 use crate::status::{push_day_or_dash, push_status, push_words};
 use ill_core::{Turn, Verb};
 use ill_saved::{Desk, Desk1, DeskFault, Side, Store};
@@ -81,12 +83,13 @@ fn push_side(lines: &mut Vec<u8>, side: &Side, released: u8) -> Result<(), OutOf
     push_taken(lines, side)
 }
 
-/// Appends the lines of the library that acts next, and of the actions that the side may do now.
+/// Appends the lines of the library that acts next, and of the actions that the side may do on some day.
 fn push_turn(lines: &mut Vec<u8>, side: &Side) -> Result<(), OutOfMemory>
     ensures { OnOk result (lines.new.items ≡ lines.old.items ++ turn_lines side.now) }
 {
     push_line(lines, "next", turn_word(side.turn()).as_bytes())?;
-    let names = names(*lines.allocator(), side.verbs())?;
+    let alloc = *lines.allocator();
+    let names = names(alloc, &possible_on(alloc, None, side)?)?;
     push_words(lines, "now", &names)
 }
 
@@ -110,16 +113,6 @@ pub(crate) fn names<'a>(alloc: Global, verbs: &[Verb]) -> Result<Vec<&'a str>, O
         names.push(verb.name())?;
     }
     Ok(names)
-}
-
-/// Returns the request of a loan, if it has begun.
-pub(crate) fn request(side: &Side) -> Option<&Apdu>
-    ensures { option_map (λ apdu. apdu.now) result ≡ request_of side.now }
-{
-    match side {
-        Side::Requester(requester) => requester.all_issued().first(),
-        Side::Responder(responder) => responder.request(),
-    }
 }
 
 /// Appends the lines of the request of a loan, if it has begun.

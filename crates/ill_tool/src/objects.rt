@@ -5,15 +5,15 @@ ghost use Rattle.ill_values.specs.declared.apdu.Body.TheVariants.{IllRequest};
 ghost use Rattle.ill_der.specs.View.{apdu_of, body_in};
 ghost use Rattle.ill_tool.specs.Json.{array, joined, member, optional, quoted, value_text};
 ghost use Rattle.ill_tool.specs.List.{item_asked};
-ghost use Rattle.ill_tool.specs.Loan.{request_of};
+ghost use Rattle.ill_tool.specs.Possible.{request_of};
 ghost use Rattle.ill_tool.specs.Objects.{apdu_fields, body_fields, came_fields, head_fields, leaves_fields, loan_fields, message_object, messages_fields, names_of, object_line, optional_date_fields, reply_fields, standing_fields, status_fields, taken_fields, turn_fields};
 
 use crate::json::{Value, push_label, push_members, push_plain};
 use crate::lines::view;
 use crate::loan::{names, turn_word};
+use crate::possible::{expiry, possible_on};
 use crate::row::item_asked;
 use crate::status::{marks, role_name};
-use crate::waiting::expiry;
 use ill_der::{ApduView, BodyView};
 use ill_saved::Side;
 use ill_values::{Apdu, Day, Number, OutOfMemory};
@@ -236,12 +236,13 @@ fn push_loan_and_came(
     push_messages(text, "came", came, None)
 }
 
-/// Appends the fields of the library that acts next, the actions that the side may do now, and the request.
+/// Appends the fields of the library that acts next, the actions that the side may do on some day, and the request.
 fn push_turn(text: &mut Vec<u8>, side: &Side) -> Result<(), OutOfMemory>
     ensures { OnOk result (text.new.items ≡ text.old.items
-        ++ joined member (codes ",") (turn_fields side.now (names_of side.now))) }
+        ++ joined member (codes ",") (turn_fields side.now (names_of None side.now))) }
 {
-    let names = names(*text.allocator(), side.verbs())?;
+    let alloc = *text.allocator();
+    let names = names(alloc, &possible_on(alloc, None, side)?)?;
     push_now(text, side, &names)
 }
 

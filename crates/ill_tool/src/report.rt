@@ -1,25 +1,26 @@
 //! The command `report`: a page of HTML of the loans of desks.
 
-ghost use Rattle.std.specs.Prelude.{◌≡◌, ◌++◌, [], ◌∷◌, map, count_by, codes, OnOk};
+ghost use Rattle.std.specs.Prelude.{◌≡◌, ◌++◌, ℕ, List, [], ◌∷◌, Some, Ok, map, count_by, codes, OnOk};
 ghost use Rattle.std.specs.List.{flat_map};
 ghost use Rattle.std.specs.Fmt.{decimal};
 ghost use Rattle.ill_values.specs.Types.{type_name};
 ghost use Rattle.ill_saved.specs.ManySides.{sides_held};
 ghost use Rattle.ill_tool.specs.Output.{WritesText};
 ghost use Rattle.ill_tool.specs.Html.{html_escaped};
-ghost use Rattle.ill_tool.specs.Loan.{request_of};
+ghost use Rattle.ill_tool.specs.Possible.{possible_on, request_of};
 ghost use Rattle.ill_tool.specs.List.{item_asked, title_text};
-ghost use Rattle.ill_tool.specs.Report.{action_text, actor, day_text, desk_text, detail_text, field_text, is_on, loan_text, loans_text, message_text, page_head, report_page, section_text, sections_text, value_text, verb_meaning};
+ghost use Rattle.ill_tool.specs.Report.{action_text, actor, day_text, desk_text, detail_text, field_text, is_on, loan_text, loans_text, message_text, page_head, report_page, section_text, sections_text, unread_text, value_text, verb_meaning};
 
 use crate::fault::ToolFault;
 use crate::html::{push_html, push_text};
 use crate::output::write_whole;
+use crate::possible::{expiry, possible_on};
 use crate::report_parts::{
     ARROW, DESK, DESK_END, DESKS, END, FOLDED, Field, LOAN, LOANS, NAME, OPEN, OPENING, OVER, PAGE,
-    ROW, Section, TASK, WAITING,
+    ROW, Section, TASK, UNREAD, UNREAD_END, WAITING,
 };
 use crate::row::push_title;
-use crate::waiting::{expiry, most_urgent_first, turn_on};
+use crate::waiting::{most_urgent_first, turn_on};
 use ill_core::{Turn, Verb};
 use ill_saved::{Desk, Side, Sides, Store};
 use ill_values::{Apdu, Body, Day, OutOfMemory};
@@ -36,7 +37,7 @@ pub fn run_desk_report<S: Store, W: Write>(
     writer: &mut W,
 ) -> Result<(), ToolFault>
     ensures { WritesText (W.contents writer.old) (W.contents writer.new)
-        (report_page today ((file.now, (sides_held desk.now.live).sides) ∷ [])) result }
+        (report_page today ((file.now, Ok (sides_held desk.now.live).sides) ∷ [])) result }
 {
     let mut page = Vec::new(alloc);
     push_head(&mut page, today)?;
@@ -79,6 +80,32 @@ pub(crate) fn push_desk(
     page.extend_from_slice(LOANS.as_bytes())?;
     push_sections(page, today, &sides)?;
     page.extend_from_slice(DESK_END.as_bytes())?;
+    Ok(())
+}
+
+/// Appends the part of the desk in `file`, which cannot be read: the text of its fault.
+pub(crate) fn push_fault(
+    page: &mut Vec<u8>,
+    file: &str,
+    fault: ToolFault,
+) -> Result<(), OutOfMemory>
+    ensures { OnOk result ((words : List ℕ) × (page.new.items ≡ page.old.items ++ unread_text file.now words)) }
+{
+    let words = format!(in *page.allocator(); "{fault}")?;
+    push_unread(page, file, words.as_str())?;
+    Ok(())
+}
+
+/// Appends the part of the desk in `file`, which cannot be read. The text of its fault is `words`.
+#[tactic(auto, unfolding(crate::specs::Report::unread_text))]
+fn push_unread(page: &mut Vec<u8>, file: &str, words: &str) -> Result<(), OutOfMemory>
+    ensures { OnOk result (page.new.items ≡ page.old.items ++ unread_text file.now words.now) }
+{
+    page.extend_from_slice(DESK.as_bytes())?;
+    push_text(page, file.as_bytes())?;
+    page.extend_from_slice(UNREAD.as_bytes())?;
+    push_text(page, words.as_bytes())?;
+    page.extend_from_slice(UNREAD_END.as_bytes())?;
     Ok(())
 }
 
@@ -214,7 +241,7 @@ fn push_value(page: &mut Vec<u8>, today: Day, side: &Side, field: Field) -> Resu
         Field::Due => push_day(page, side.due()),
         Field::Expiry => push_day(page, expiry(side)),
         Field::Next => page.extend_from_slice(actor(turn_on(Some(today), side)).as_bytes()),
-        Field::Actions => push_actions(page, side.verbs()),
+        Field::Actions => push_possible(page, today, side),
         Field::Height => push_number(page, 28 * usize::from(side.issued_count()) + 36),
         Field::Names => push_messages(page, side.all_issued(), false),
         Field::Arrows => push_messages(page, side.all_issued(), true),
@@ -259,7 +286,16 @@ fn actor(turn: Turn) -> &'static str
     }
 }
 
-/// Appends the actions that this library may take.
+/// Appends the actions that this library may take on the day `today`.
+fn push_possible(page: &mut Vec<u8>, today: Day, side: &Side) -> Result<(), OutOfMemory>
+    ensures { OnOk result (page.new.items ≡ page.old.items
+        ++ flat_map action_text (possible_on (Some today) side.now)) }
+{
+    let verbs = possible_on(*page.allocator(), Some(today), side)?;
+    push_actions(page, &verbs)
+}
+
+/// Appends the lines of the actions `verbs`.
 fn push_actions(page: &mut Vec<u8>, verbs: &[Verb]) -> Result<(), OutOfMemory>
     ensures { OnOk result (page.new.items ≡ page.old.items ++ flat_map action_text verbs.now) }
 {

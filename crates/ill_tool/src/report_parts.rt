@@ -116,9 +116,10 @@ pub(crate) const PAGE: &str = "\
 <meta http-equiv=\"Content-Security-Policy\" content=\"default-src 'none'; style-src 'unsafe-inline'\">
 <title>Loans</title>
 <style>
-:root { color-scheme: light dark; --page: #fff; --card: #f3f3f3; --text: #1a1a1a; --quiet: #505050; --mark: #0b4f9c }
+:root { color-scheme: light dark; --page: #fff; --card: #f3f3f3; --text: #1a1a1a; --quiet: #505050 }
+:root { --mark: #0b4f9c; --fault: #a3130c }
 @media (prefers-color-scheme: dark) {
-  :root { --page: #151515; --card: #232323; --text: #eee; --quiet: #bbb; --mark: #8ab8ff }
+  :root { --page: #151515; --card: #232323; --text: #eee; --quiet: #bbb; --mark: #8ab8ff; --fault: #ff9a8f }
 }
 * { box-sizing: border-box }
 body { max-width: 64rem; margin: 0 auto; padding: 1rem; font: 1rem/1.5 system-ui, sans-serif }
@@ -131,6 +132,7 @@ article { margin: 0 0 1rem; padding: 1rem; background: var(--card); border-left:
 dl { display: flex; flex-wrap: wrap; gap: .25rem 1.5rem; margin: 0 }
 dt { color: var(--quiet); font-size: .875rem }
 dd { margin: 0 }
+p { margin: 0; color: var(--fault) }
 ul { margin: .75rem 0 0; padding-left: 1.25rem }
 summary { margin: 2rem 0 .75rem; font-size: 1.17rem; font-weight: bold; cursor: pointer }
 svg { display: block; width: 100%; max-width: 28rem; height: auto; margin-top: .75rem }
@@ -155,6 +157,12 @@ pub(crate) const LOANS: &str = "</h2>\n";
 
 /// The text after the loans of a desk.
 pub(crate) const DESK_END: &str = "</details>\n</section>\n";
+
+/// The text after the file of a desk that cannot be read, before the text of its fault.
+pub(crate) const UNREAD: &str = "</h2>\n<p>This desk cannot be read: ";
+
+/// The text after the text of a fault.
+pub(crate) const UNREAD_END: &str = "</p>\n</section>\n";
 
 /// The text before the count of the loans that wait for this library.
 pub(crate) const WAITING: &str = "<h3>Waits for us today: ";

@@ -1,17 +1,19 @@
 //! The line of a loan in a list.
 
-ghost use Rattle.std.specs.Prelude.{◌≡◌, ◌++◌, map, option_map, string_bytes, IfOk, OnOk};
+ghost use Rattle.std.specs.Prelude.{◌≡◌, ◌++◌, ◌||◌, map, option_map, string_bytes, IfOk, OnOk};
 ghost use Rattle.ill_core.specs.State.{state_name};
 ghost use Rattle.ill_saved.specs.Side.{state_of, due_date_of};
 ghost use Rattle.ill_world.specs.Trace.{due_text};
-ghost use Rattle.ill_tool.specs.Loan.{turn_word, request_of};
-ghost use Rattle.ill_tool.specs.List.{item_asked, title_text, padded, cell, columns_of, verbs_text, verbs_cell, row};
+ghost use Rattle.ill_tool.specs.Loan.{turn_word};
+ghost use Rattle.ill_tool.specs.Possible.{request_of};
+ghost use Rattle.ill_tool.specs.List.{item_asked, title_text, padded, cell, column, column_byte, columns_of, is_end, verbs_text, verbs_cell, row};
 
 use crate::escape::push_escaped;
-use crate::loan::{names, request, turn_word};
+use crate::loan::{names, turn_word};
+use crate::possible::{possible_on, request};
 use ill_core::Turn;
 use ill_saved::Side;
-use ill_values::{Body, Item, OutOfMemory};
+use ill_values::{Body, Day, Item, OutOfMemory};
 use std::alloc::Global;
 
 /// The columns of a list: the widths that depend on the loans, and true if verbs have a column.
@@ -24,8 +26,8 @@ pub struct Columns {
 
 impl Columns {
     /// Returns the columns that are wide enough for all of `sides`.
-    pub fn of(sides: &[&Side], has_verbs: bool) -> Columns
-        ensures { result ≡ columns_of has_verbs (map (λ side. side.now) sides.now) }
+    pub fn of(alloc: Global, sides: &[&Side], has_verbs: bool) -> Result<Columns, OutOfMemory>
+        ensures { IfOk result (λ columns. columns ≡ columns_of has_verbs (map (λ side. side.now) sides.now)) }
     {
         let mut columns = Columns {
             group: 0,
@@ -33,10 +35,12 @@ impl Columns {
             has_verbs,
         };
         for side in sides {
-            columns.group = columns.group.max(side.txn().group().len());
-            columns.transaction = columns.transaction.max(side.txn().transaction().len());
+            let group = column(alloc, side.txn().group())?;
+            columns.group = columns.group.max(group.len());
+            let transaction = column(alloc, side.txn().transaction())?;
+            columns.transaction = columns.transaction.max(transaction.len());
         }
-        columns
+        Ok(columns)
     }
 }
 
@@ -49,20 +53,26 @@ const DUE: usize = 8;
 
 const VERBS: usize = 20;
 
-/// Appends the line of `side`, whose turn is `turn`.
+/// Appends the line of `side`, whose turn on the day `today` is `turn`.
 #[tactic(auto, unfolding(crate::specs::List::row))]
 pub fn push_row(
     lines: &mut Vec<u8>,
     columns: &Columns,
+    today: Option<Day>,
     turn: Turn,
     side: &Side,
 ) -> Result<(), OutOfMemory>
-    ensures { OnOk result (lines.new.items ≡ lines.old.items ++ row columns.now turn side.now) }
+    ensures { OnOk result (lines.new.items ≡ lines.old.items ++ row columns.now today turn side.now) }
 {
     push_standing(lines, turn, side)?;
-    push_cell(lines, columns.group, side.txn().group())?;
-    push_cell(lines, columns.transaction, side.txn().transaction())?;
-    push_verbs(lines, columns.has_verbs, side)?;
+    let alloc = *lines.allocator();
+    push_cell(lines, columns.group, &column(alloc, side.txn().group())?)?;
+    push_cell(
+        lines,
+        columns.transaction,
+        &column(alloc, side.txn().transaction())?,
+    )?;
+    push_verbs(lines, columns.has_verbs, today, side)?;
     push_title(lines, side)?;
     lines.push(b'\n')?;
     Ok(())
@@ -82,22 +92,28 @@ fn push_standing(lines: &mut Vec<u8>, turn: Turn, side: &Side) -> Result<(), Out
     }
 }
 
-/// Appends the actions that the side may do now, with a comma between two, if the list has this column.
-fn push_verbs(lines: &mut Vec<u8>, has_verbs: bool, side: &Side) -> Result<(), OutOfMemory>
-    ensures { OnOk result (lines.new.items ≡ lines.old.items ++ verbs_cell has_verbs side.now) }
+/// Appends the actions that the side may do on the day `today`, if the list has this column.
+fn push_verbs(
+    lines: &mut Vec<u8>,
+    has_verbs: bool,
+    today: Option<Day>,
+    side: &Side,
+) -> Result<(), OutOfMemory>
+    ensures { OnOk result (lines.new.items ≡ lines.old.items ++ verbs_cell has_verbs today side.now) }
 {
     if !has_verbs {
         return Ok(());
     }
-    let verbs = verbs_text(*lines.allocator(), side)?;
+    let verbs = verbs_text(*lines.allocator(), today, side)?;
     push_cell(lines, VERBS, verbs.as_bytes())
 }
 
-/// Returns the actions that the side may do now, with a comma between two.
-fn verbs_text(alloc: Global, side: &Side) -> Result<String, OutOfMemory>
-    ensures { IfOk result (λ text. string_bytes text ≡ verbs_text side.now) }
+/// Returns the actions that the side may do on the day `today`, with a comma between two.
+fn verbs_text(alloc: Global, today: Option<Day>, side: &Side) -> Result<String, OutOfMemory>
+    ensures { IfOk result (λ text. string_bytes text ≡ verbs_text today side.now) }
 {
-    Ok(names(alloc, side.verbs())?.join(alloc, ",")?)
+    let verbs = possible_on(alloc, today, side)?;
+    Ok(names(alloc, &verbs)?.join(alloc, ",")?)
 }
 
 /// Appends the item of the loan of `side`, or a dash if there is none.
@@ -112,6 +128,39 @@ pub(crate) fn push_title(lines: &mut Vec<u8>, side: &Side) -> Result<(), OutOfMe
         }
         Some(item) => push_escaped(lines, item.text()),
     }
+}
+
+/// Returns the qualifier `text` for a column. No two spaces stand side by side in it, since two spaces end a column.
+fn column(alloc: Global, text: &[u8]) -> Result<Vec<u8>, OutOfMemory>
+    ensures { IfOk result (λ shown. shown.items ≡ column text.now) }
+{
+    let mut shown = Vec::new(alloc);
+    let mut is_edge = true;
+    let mut rest = text;
+    while let Some((byte, after)) = rest.split_first() {
+        push_column_byte(&mut shown, is_at_edge(is_edge, after), *byte)?;
+        is_edge = *byte == b' ';
+        rest = after;
+    }
+    Ok(shown)
+}
+
+/// Returns true if nothing or a space is before a byte, as `is_edge` says, or if no byte is after it.
+fn is_at_edge(is_edge: bool, after: &[u8]) -> bool
+    ensures { result ≡ (is_edge || is_end after.now) }
+{
+    is_edge || after.is_empty()
+}
+
+/// Appends a byte of a column. A space is an escape if it is at an edge of the text or after another one.
+fn push_column_byte(shown: &mut Vec<u8>, is_edge: bool, byte: u8) -> Result<(), OutOfMemory>
+    ensures { OnOk result (shown.new.items ≡ shown.old.items ++ column_byte is_edge byte) }
+{
+    if is_edge && byte == b' ' {
+        return shown.extend_from_slice(b"\\u{20}");
+    }
+    shown.push(byte)?;
+    Ok(())
 }
 
 /// Appends `text`, spaces up to `width`, and two further ones.

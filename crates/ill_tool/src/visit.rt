@@ -4,7 +4,8 @@
 ghost use Rattle.std.specs.Prelude.{◌≡◌, map, string_bytes};
 ghost use Rattle.ill_tool.specs.Listing.{heading};
 ghost use Rattle.ill_tool.specs.Output.{WritesText};
-ghost use Rattle.ill_tool.specs.Shelf.{Headed, RunsVisit, VisitsAll, graver, is_headed, is_lines};
+ghost use Rattle.ill_tool.specs.Shelf.{Headed, RunsVisit, VisitsAll, is_headed, is_lines};
+ghost use Rattle.ill_tool.specs.Visits.{graver};
 
 use crate::exchange::{Night, exchange, inbox, outbox};
 use crate::fault::ToolFault;
@@ -13,7 +14,7 @@ use crate::form::Form;
 use crate::listed::{Listed, heading};
 use crate::mail::Incoming;
 use crate::output::write_whole;
-use crate::warning::warn;
+use crate::warning::warn_of_fault;
 use ill_saved::LockFiles;
 use std::alloc::Global;
 use std::io::Write;
@@ -141,9 +142,8 @@ fn visit_told<T: LockFiles, W: Write, E: Write>(
     let answer = run_visit(rt, alloc, path, visit, writer, errors);
     if let Err(fault) = answer
         && fault != ToolFault::Left
-        && let Ok(text) = format!(in alloc; ": {fault}")
     {
-        warn(alloc, path.as_bytes(), text.as_str(), errors);
+        warn_of_fault(alloc, path, fault, errors);
     }
     answer
 }

@@ -1,15 +1,13 @@
 //! The loans that wait for this library, and their order by urgency.
 
 ghost use Rattle.std.specs.Prelude.{◌≡◌, map, is_none, IfOk};
-ghost use Rattle.ill_core.specs.ResponderActions.{expiry_of};
-ghost use Rattle.ill_tool.specs.Loan.{request_of};
-ghost use Rattle.ill_tool.specs.Waiting.{deadline_of, is_pressing, turn_on, is_sooner, most_urgent_first};
+ghost use Rattle.ill_tool.specs.Waiting.{deadline_of, is_pressing, turn_on, is_sooner, most_urgent_first, waits_by_date};
 
-use crate::loan::request;
+use crate::possible::expiry;
 use crate::sides::all_of;
 use ill_core::Turn;
 use ill_saved::{Side, Sides};
-use ill_values::{Body, Day, OutOfMemory};
+use ill_values::{Day, OutOfMemory};
 use std::alloc::Global;
 
 /// Returns the deadline of a loan: its due date, or else the expiry date of its request.
@@ -19,16 +17,6 @@ pub(crate) fn deadline(side: &Side) -> Option<Day>
     match side.due() {
         None => expiry(side),
         due => due,
-    }
-}
-
-/// Returns the expiry date of the request of a loan.
-pub(crate) fn expiry(side: &Side) -> Option<Day>
-    ensures { result ≡ expiry_of (request_of side.now) }
-{
-    match &request(side)?.body {
-        Body::IllRequest { expiry, .. } => *expiry,
-        _ => None,
     }
 }
 
@@ -52,6 +40,14 @@ fn is_pressing(today: Option<Day>, side: &Side) -> bool
         Some(_) => is_sooner(deadline(side), today) && !side.verbs().is_empty(),
         None => false,
     }
+}
+
+/// Returns true if a loan waits for this library on a day after its deadline. It has one, and this library can act in
+/// it.
+pub(crate) fn waits_by_date(side: &Side) -> bool
+    ensures { result ≡ waits_by_date side.now }
+{
+    deadline(side).is_some() && !side.verbs().is_empty()
 }
 
 /// Returns true if the deadline `day` is before `other`. Any deadline is before none.

@@ -1,6 +1,7 @@
 //! Lines to a person, on standard error: each has a path, a mail or a desk, and its fault.
 
 use crate::escape::push_escaped;
+use crate::fault::ToolFault;
 use crate::long_lines::push_heading;
 use ill_der::ApduView;
 use ill_values::OutOfMemory;
@@ -12,6 +13,13 @@ pub(crate) fn warn<E: Write>(alloc: Global, name: &[u8], text: &str, errors: &mu
     let mut line = Vec::new(alloc);
     if push_warning(&mut line, name, text).is_ok() {
         let _ = errors.write_all(&line);
+    }
+}
+
+/// Writes a line of the desk at `path` and of its fault. If memory runs out, no line is written.
+pub(crate) fn warn_of_fault<E: Write>(alloc: Global, path: &str, fault: ToolFault, errors: &mut E) {
+    if let Ok(text) = format!(in alloc; ": {fault}") {
+        warn(alloc, path.as_bytes(), text.as_str(), errors);
     }
 }
 

@@ -191,7 +191,7 @@ fn run<T: LockFiles, R: Read, W: Write, E: Write>(
         } => loan(rt, alloc, file, txn, *form, *is_picture, writer),
         Request::Retire { .. } => Err(ToolFault::Arguments),
         Request::Verify { file } => verify(rt, alloc, file, writer),
-        Request::Report { paths, today } => report(rt, alloc, paths, *today, writer),
+        Request::Report { paths, today } => { report(rt, alloc, paths, *today, writer, errors) }
     }
 }
 

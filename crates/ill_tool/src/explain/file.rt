@@ -29,10 +29,16 @@ pub fn tell_desk_fault<T: LockFiles>(
 ) -> Result<(), OutOfMemory> {
     let failed = failed_path(rt, alloc, matches);
     let path = match &failed {
-        Some(path) => path.as_str(),
-        None => matches.get_str(Argument::File.id()).unwrap_or_default(),
+        Some(path) => Some(path.as_str()),
+        None => matches.get_str(Argument::File.id()),
     };
-    tell_fault_at(rt, alloc, text, path, has_mails(matches), fault)
+    match path {
+        Some(path) => tell_fault_at(rt, alloc, text, path, has_mails(matches), fault),
+        None => writeln!(
+            text,
+            "  A line before has a name that is no UTF-8: no file of that name is opened."
+        ),
+    }
 }
 
 /// Appends the cause of a fault of the desk in the file at `path`.
@@ -109,14 +115,13 @@ fn failed_path<T: LockFiles>(rt: &T, alloc: Global, matches: &ArgMatches<'_>) ->
     None
 }
 
-/// Returns the path of the first desk at `path` that cannot be opened. If its folder cannot be read, it returns `path`.
+/// Returns the path of the first desk at `path` that cannot be opened, or `path` if it is a folder that cannot be read.
 fn failed_at<T: LockFiles>(rt: &T, alloc: Global, path: &str) -> Option<String> {
-    match desk_paths(rt, alloc, &[path]) {
-        Ok(files) => files
-            .into_iter()
-            .find(|file| open(rt, alloc, file.as_str()).is_err()),
-        Err(_) => String::from_str(alloc, path).ok(),
-    }
+    let found = desk_paths(rt, alloc, &[path]).ok()?;
+    found
+        .files
+        .into_iter()
+        .find(|file| open(rt, alloc, file.as_str()).is_err())
 }
 
 /// Appends the file that has too many bytes: the file of the desk, or of the messages that came.

@@ -1,12 +1,13 @@
 -- Answers the contract of `list_files` (`src/file.rt`).
-use Rattle.std.proofs.Common.{◌≡◌, ◌<◌, ℕ, List, map, get_or, refl, ap, sym, subst, ◌∙◌}
-use Rattle.std.specs.Prelude.{string_bytes, nat_lt}
+use Rattle.std.proofs.Common.{◌≡◌, ◌+◌, ◌<◌, ℕ, Bool, List, map, take, get_or, ap, sym, subst, ◌∙◌}
+use Rattle.std.specs.Prelude.{◌==◌, string_bytes, nat_lt}
 use Rattle.std.proofs.lemmas.List.{length-map, get_or-map}
-use Rattle.ill_tool.proofs.DesksLemmas.{one_more_desk_listed}
+use Rattle.ill_tool.specs.Commands.{ListsDesk, are_several}
+use Rattle.ill_tool.specs.Visits.{Stop, VisitsEach}
+use Rattle.ill_tool.proofs.VisitsLemmas.{no_visit, one_more_visit}
 use Rattle.ill_tool.proofs.file.list_files.Goals as goal
 
--- Proves the loop invariant of `list_files` after one more desk. `one_more_desk_listed` appends the desk in the file at
--- `place`.
+-- Proves the loop invariant of `list_files` after one more desk. `one_more_visit` appends the visit at `place`.
 pub loop-place-preserved : goal.loop-place-preserved
 loop-place-preserved g c =
     let names = map (λ file. string_bytes file) c.args.files.now in
@@ -15,11 +16,22 @@ loop-place-preserved g c =
     let within = subst (λ (n : ℕ). place < n) (sym count) c.loop-place-test.true in
     let before = g.W.Write.contents c.args.writer.now in
     let between = g.W.Write.contents c.loop-place.writer in
-    let after = g.W.Write.contents c.list_file.new.writer in
+    let after = g.W.Write.contents c.list_told-last.new.writer in
+    let next = c.list_told-last.result in
     let at = ap (λ file. string_bytes file) c.index-files-place.is
     ∙ sym (get_or-map (λ file. string_bytes file) c.args.files.now place c.index-files-place.result
     (string_bytes c.index-files-place.result) c.loop-place-test.true) in
     let found = subst (λ (file : List ℕ). file ≡ get_or names place file) (sym c.as_str.ensures.value) at in
-    one_more_desk_listed c.args.form c.args.wanted.now names c.loop-place.invariant.0 place _ _ _ before between after _ within
-    found
-    (ap (λ (n : ℕ). nat_lt 1 n) (sym count)) refl c.loop-place.invariant.1 c.loop-place.invariant.2 c.in_default.ensures
+    let stop : Stop = record { path = c.as_str.result.now; before = between; after = after; answer = next } in
+    let Lists : Bool → Stop → Type 0 = ListsDesk c.args.form c.args.wanted.now (are_several names) in
+    let listed = subst (λ (n : ℕ). ListsDesk c.args.form c.args.wanted.now (nat_lt 1 n) (place == 0) stop) (sym count)
+    c.list_told-last.ensures in
+    let visited = one_more_visit Lists names place c.as_str.result.now before between after c.loop-place.answer next within found
+    c.loop-place.invariant listed in
+    subst (λ answer. VisitsEach Lists (take (place + 1) names) before after answer) (sym c.graver-answer.ensures) visited
+
+-- Proves the loop invariant of `list_files` before the first desk. By `no_visit` no path was visited.
+pub loop-place-init : goal.loop-place-init
+loop-place-init g c =
+    no_visit (ListsDesk c.args.form c.args.wanted.now (are_several (map (λ file. string_bytes file) c.args.files.now)))
+    (g.W.Write.contents c.args.writer.now)

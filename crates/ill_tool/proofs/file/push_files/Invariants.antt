@@ -1,7 +1,14 @@
 -- States the loop invariant of `push_files` (`src/file.rt`).
-use Rattle.ill_tool.specs.Report.{AddsDesks}
+use Rattle.std.proofs.Common.{map, take}
+use Rattle.std.specs.Prelude.{IfErr, string_bytes}
+use Rattle.ill_tool.specs.Commands.{IsOpenFault}
+use Rattle.ill_tool.specs.Report.{AddsParts}
 use Rattle.ill_tool.proofs.file.push_files.Given as goal
 
--- The parts of the desks so far are appended to the page.
-abbrev pub invariant-loop-file : goal.invariant-loop-file
-invariant-loop-file g l = AddsDesks l.today l.initial.page.items l.page.items
+-- A part for each of the first `place` files is appended to the page. Their gravest fault is one of opening.
+abbrev pub invariant-loop-place : goal.invariant-loop-place
+invariant-loop-place g l = record {
+  told : AddsParts l.today (take l.place (map (λ file. string_bytes file) l.files)) l.initial.page.items l.page.items
+      l.answer;
+  fault : IfErr l.answer IsOpenFault;
+}

@@ -19,7 +19,7 @@ returns c =
     let each = flat_map (λ (side : Bor Side). rows_of text wanted (side.now ∷ []) turn) in
     let all = take_all c.loop-side.side-index sides c.loop-side-test.false in
     let apart =
-    kept_apart (text turn) (is_listed wanted turn) (map (λ (side : Bor Side). side.now) sides)
+    kept_apart (text wanted.today turn) (is_listed wanted turn) (map (λ (side : Bor Side). side.now) sides)
     ∙ flat_map-map (λ (side : Side). rows_of text wanted (side ∷ []) turn) (λ (side : Bor Side). side.now) sides in
     c.loop-side.invariant.listed ∙ ap (λ (shown : _). c.args.text.now.items ++ each shown) all
     ∙ ap (λ lines. c.args.text.now.items ++ lines) (sym apart)

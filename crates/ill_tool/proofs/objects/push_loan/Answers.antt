@@ -1,5 +1,5 @@
 -- Answers the contract of `push_loan` (`src/objects.rt`).
-use Rattle.std.proofs.Common.{◌≡◌, ◌++◌, ℕ, List, [], OnOk, ap, subst, ◌∙◌}
+use Rattle.std.proofs.Common.{◌≡◌, ◌++◌, ℕ, List, [], None, OnOk, ap, subst, ◌∙◌}
 use Rattle.ill_values.specs.declared.apdu.Apdu.{Apdu}
 use Rattle.ill_tool.specs.Json.{joined, member}
 use Rattle.ill_tool.specs.Objects.{names_of, sent_fields, status_fields, taken_fields, turn_fields}
@@ -18,6 +18,6 @@ returns c =
     let all =
     joined_further member [] old c.push_taken.new.text.items _ _ _ taken
     ∙ ap (λ (apdus : List Apdu). old
-    ++ joined member [] (status_fields side released ++ turn_fields side (names_of side) ++ taken_fields side
+    ++ joined member [] (status_fields side released ++ turn_fields side (names_of None side) ++ taken_fields side
     ++ sent_fields released apdus)) c.all_issued.ensures.value in
     subst (λ (shown : List ℕ). OnOk c.push_messages.result (c.push_messages.new.text.items ≡ shown)) all c.push_messages.ensures

@@ -2,7 +2,7 @@
 use Rattle.std.proofs.Common.{ℕ, List, [], ◌∷◌, map, Bor, ap, sym, ◌∙◌}
 use Rattle.std.specs.List.{join_by}
 use Rattle.ill_core.specs.Verbs.{verb_name}
-use Rattle.ill_saved.specs.SideVerbs.{verbs_of}
+use Rattle.ill_tool.specs.Possible.{possible_on}
 use Rattle.ill_tool.proofs.ListLemmas.{joined_as_texts}
 use Rattle.ill_tool.proofs.row.verbs_text.Goals as goal
 
@@ -10,8 +10,8 @@ use Rattle.ill_tool.proofs.row.verbs_text.Goals as goal
 pub returns : goal.returns
 returns c =
     let text : Bor (List ℕ) → List ℕ = λ name. name.now in
-    let verbs = verbs_of c.args.side.now in
-    let named = c.in_ok-names.ensures ∙ ap (map verb_name) c.verbs.ensures.value in
-    c.in_ok-join.ensures.ok ∙ ap (join_by text (44 ∷ [])) c.deref.ensures.value
+    let verbs = possible_on c.args.today c.args.side.now in
+    let named = c.in_ok-names.ensures ∙ ap (map verb_name) (c.deref.ensures.value ∙ c.in_ok-verbs.ensures) in
+    c.in_ok-join.ensures.ok ∙ ap (join_by text (44 ∷ [])) c.deref-2.ensures.value
     ∙ joined_as_texts text (44 ∷ []) c.in_ok-names.field-0.items
     ∙ ap (join_by (λ (t : List ℕ). t) (44 ∷ [])) named ∙ sym (joined_as_texts verb_name (44 ∷ []) verbs)

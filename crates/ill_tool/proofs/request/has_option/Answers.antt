@@ -1,5 +1,5 @@
 -- Answers the contract of `has_option` (`src/request.rt`).
-use Rattle.std.proofs.Common.{◌≡◌, List, ℕ, Bool, Bor, ap, sym, ◌∙◌}
+use Rattle.std.proofs.Common.{List, ℕ, Bool, Bor, ap, sym, ◌∙◌}
 use Rattle.std.specs.Prelude.{◌&&◌, not}
 use Rattle.std.specs.List.{list_any}
 use Rattle.ill_tool.specs.CommandLine.{is_option}

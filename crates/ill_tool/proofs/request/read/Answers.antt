@@ -1,5 +1,5 @@
 -- Answers the contract of `read` (`src/request.rt`).
-use Rattle.std.proofs.Common.{◌≡◌, List, ℕ, Bor, map, sym, ◌∙◌}
+use Rattle.std.proofs.Common.{List, ℕ, Bor, map, sym, ◌∙◌}
 use Rattle.clap.specs.Words.{subcommand_rows_of}
 use Rattle.ill_tool.specs.Asked.{asked_in, unless_option}
 use Rattle.ill_tool.proofs.RequestLemmas.{read_whole, refused_on}

@@ -1,5 +1,5 @@
 -- Answers the contract of `is_desk_name` (`src/shelf.rt`).
-use Rattle.std.proofs.Common.{◌≡◌, List, ℕ, ap, sym, ◌∙◌}
+use Rattle.std.proofs.Common.{List, ℕ, ap, sym, ◌∙◌}
 use Rattle.std.specs.Prelude.{bytes_eq, is_ok}
 use Rattle.ill_values.specs.Text.{qualifier_check}
 use Rattle.ill_tool.specs.Shelf.{desk_name}

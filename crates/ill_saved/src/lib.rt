@@ -12,6 +12,7 @@ mod fault;
 mod file_lock;
 mod file_store;
 mod fuse_store;
+mod held;
 mod holdings;
 mod landed_record;
 pub mod laws;

@@ -14,6 +14,7 @@ ghost use Rattle.ill_saved.specs.ManySides.{DeskContents, held_of, txn_held, hel
 use crate::decoding_v2::decode_record2;
 use crate::encoding_v2::encode_record2;
 use crate::fault::DeskFault;
+use crate::held::Held;
 use crate::holdings::Holdings;
 use crate::laws;
 use crate::role::Role;
@@ -156,7 +157,7 @@ pub struct SidesRecord {
     counts: Vec<u8>,
 }
 
-impl Holdings for ManySides {
+impl Held for ManySides {
     type Key = TxnId;
 
     type First = Role;
@@ -182,10 +183,6 @@ impl Holdings for ManySides {
 
     fn read(alloc: Global, bytes: Vec<u8>) -> Result<ManySides, DeskFault> {
         read_sides(alloc, &bytes)
-    }
-
-    fn role(&self) -> Role {
-        self.sides.role()
     }
 
     fn act(&mut self, alloc: Global, txn: &TxnId, action: &Action) -> Result<(), DeskFault> {
@@ -242,6 +239,12 @@ impl Holdings for ManySides {
         *self = read_or_none(alloc, bytes, self.sides.role())?;
         Ok(())
     }
+}
+
+impl Holdings for ManySides {
+    fn role(&self) -> Role {
+        self.sides.role()
+    }
 
     fn key_of(apdu: &Apdu) -> &TxnId {
         &apdu.txn
@@ -258,7 +261,6 @@ impl Holdings for ManySides {
         }
     }
 }
-
 /// Decodes the sides that `bytes` encode. All their messages are released.
 fn read_sides(alloc: Global, bytes: &[u8]) -> Result<ManySides, DeskFault>
     ensures reads { ReadsRecord many_sides bytes.now result }

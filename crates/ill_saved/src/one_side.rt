@@ -11,6 +11,7 @@ ghost use Rattle.ill_saved.specs.LandedBytes.{HoldsReleased, IsLandedRecord};
 
 use crate::decoding::decode_record;
 use crate::fault::{DeskFault, RecordFault};
+use crate::held::Held;
 use crate::holdings::Holdings;
 use crate::landed_record::LandedRecord;
 use crate::laws;
@@ -73,7 +74,7 @@ impl OneSide {
 /// The name of the one side.
 const ONE: () = ();
 
-impl Holdings for OneSide {
+impl Held for OneSide {
     type Key = ();
 
     type First = (Role, TxnId);
@@ -106,10 +107,6 @@ impl Holdings for OneSide {
             released,
             landed_record,
         })
-    }
-
-    fn role(&self) -> Role {
-        self.side.role()
     }
 
     fn act(&mut self, alloc: Global, _key: &(), action: &Action) -> Result<(), DeskFault> {
@@ -159,6 +156,12 @@ impl Holdings for OneSide {
         *self = read_or_idle(alloc, bytes, &self.side)?;
         Ok(())
     }
+}
+
+impl Holdings for OneSide {
+    fn role(&self) -> Role {
+        self.side.role()
+    }
 
     fn key_of(_apdu: &Apdu) -> &() {
         &ONE
@@ -172,7 +175,6 @@ impl Holdings for OneSide {
         Shown::of(&self.side, self.released)
     }
 }
-
 /// Decodes the side that `bytes` encode. Without bytes, returns the idle side of `live`.
 fn read_or_idle(alloc: Global, bytes: Option<Vec<u8>>, live: &Side) -> Result<OneSide, DeskFault>
     ensures reads { ReadsOrIdle (option_map (λ b. b.items) bytes) live.now result }

@@ -15,8 +15,8 @@ use Rattle.clap.specs.Simple.{subcommand_rows, subcommand_rows_of}
 use Rattle.clap.proofs.WalkLemmas.{first_value-rows, raw_values-rows}
 use Rattle.ill_values.specs.Day.{Date, read_date}
 use Rattle.ill_values.specs.declared.fault.DayFault.{DayFault}
-use Rattle.ill_world.specs.Words.{◌>>=◌}
-use Rattle.ill_tool.specs.declared.fault.ToolFault.TheVariants.{Arguments, OutOfMemory}
+use Rattle.ill_words.specs.Words.{◌>>=◌}
+use Rattle.ill_text.specs.declared.fault.ToolFault.TheVariants.{Arguments, OutOfMemory}
 use Rattle.ill_tool.specs.declared.request.Refusal.{Refusal}
 use Rattle.ill_tool.specs.declared.request.Refusal.TheVariants.{Usage, Fault}
 use Rattle.ill_tool.specs.declared.command_line.Argument.{Argument}

@@ -8,7 +8,7 @@ use Rattle.ill_world.specs.declared.fault.SimFault.{SimFault}
 use Rattle.ill_world.specs.declared.fault.SimFault.TheVariants as simulation
 use Rattle.ill_world.specs.Play.{trace_from}
 use Rattle.ill_world.specs.Simulation.{Simulates, script}
-use Rattle.ill_tool.specs.declared.fault.ToolFault.{ToolFault}
+use Rattle.ill_text.specs.declared.fault.ToolFault.{ToolFault}
 use Rattle.ill_tool.specs.Simulate.{sim_fault, tool_answer, Performs, GivesId}
 
 -- A simulation may end with `OutOfMemory` before it reads or writes anything.

@@ -11,14 +11,14 @@ use Rattle.ill_values.specs.Text.{qualifier_check}
 use Rattle.ill_values.specs.TxnId.{Qualifiers, txn_id_of}
 use Rattle.ill_core.specs.declared.state.State.{State}
 use Rattle.ill_saved.specs.declared.role.Role.{Role as Who}
-use Rattle.ill_world.specs.Words.{◌>>=◌, who_named, day_of, number_of}
-use Rattle.ill_tool.specs.declared.fault.ToolFault.TheVariants.{Arguments, OutOfMemory}
-use Rattle.ill_tool.specs.declared.form.Form.{Form}
-use Rattle.ill_tool.specs.declared.form.Form.TheVariants as forms
-use Rattle.ill_tool.specs.declared.dates.Dates.{Dates}
-use Rattle.ill_tool.specs.declared.list.Which.{Which}
-use Rattle.ill_tool.specs.declared.list.Which.TheVariants as loans
-use Rattle.ill_tool.specs.declared.list.Wanted.{Wanted}
+use Rattle.ill_words.specs.Words.{◌>>=◌, who_named, day_of, number_of}
+use Rattle.ill_text.specs.declared.fault.ToolFault.TheVariants.{Arguments, OutOfMemory}
+use Rattle.ill_text.specs.declared.form.Form.{Form}
+use Rattle.ill_text.specs.declared.form.Form.TheVariants as forms
+use Rattle.ill_desk.specs.declared.dates.Dates.{Dates}
+use Rattle.ill_show.specs.declared.wanted.Which.{Which}
+use Rattle.ill_show.specs.declared.wanted.Which.TheVariants as loans
+use Rattle.ill_show.specs.declared.wanted.Wanted.{Wanted}
 use Rattle.ill_tool.specs.declared.request.Refusal.{Refusal}
 use Rattle.ill_tool.specs.declared.request.Refusal.TheVariants.{Usage, Fault}
 use Rattle.ill_tool.specs.declared.request.Request.{Request}
@@ -30,7 +30,8 @@ use Rattle.ill_tool.specs.declared.command_line.Argument.TheVariants.{NewFile, F
 use Rattle.ill_tool.specs.declared.command_line.Argument.TheVariants.{Words, Number, Long, Keep, Picture, Open, Mine, Json, Paths}
 use Rattle.ill_tool.specs.declared.command_line.Argument.TheVariants.{OnDay, DueBefore, InState, ReportDay, OutFolder, Stream, In}
 use Rattle.ill_tool.specs.declared.command_line.Argument.TheVariants.{Out, NightDay, Overdue, Expire, Copy, Beat, NewGroup}
-use Rattle.ill_tool.specs.CommandLine.{name_read, id_of, is_beside, is_option}
+use Rattle.ill_tool.specs.CommandLine.{name_read, id_of, is_option}
+use Rattle.ill_files.specs.Paths.{is_beside}
 use Rattle.ill_core.specs.State.{state_named}
 
 -- ---- the arguments

@@ -1,6 +1,6 @@
 -- The words of the commands, and the names of their arguments for `clap`.
-use Rattle.std.specs.Prelude.{ℕ, Bool, List, [], ◌∷◌, codes, Option, find, bytes_eq, nat_eq, ◌==◌}
-use Rattle.std.specs.List.{before_first, ends_with, list_any}
+use Rattle.std.specs.Prelude.{ℕ, Bool, List, [], ◌∷◌, codes, Option, find, bytes_eq, ◌==◌}
+use Rattle.std.specs.List.{before_first, list_any}
 use Rattle.ill_tool.specs.declared.command_line.Name.{Name}
 use Rattle.ill_tool.specs.declared.command_line.Name.TheVariants.{New, Act, Take, Inbox, Outbox, Exchange, Send, Status, Loan}
 use Rattle.ill_tool.specs.declared.command_line.Name.TheVariants.{Report, Retire, Verify, Show, Check, Simulate, SimulateDesks}
@@ -69,11 +69,6 @@ id_of Expire = codes "expire"
 id_of Copy = codes "copy"
 id_of Beat = codes "beat"
 id_of NewGroup = codes "new-group"
-
--- Returns true if `path` has the ending of what lies beside the file of a desk.
-abbrev pub is_beside : List ℕ → Bool
-is_beside path = list_any (λ ending. ends_with nat_eq path ending)
-    (codes ".new" ∷ codes ".lck" ∷ codes ".came" ∷ codes ".mail" ∷ codes ".retired" ∷ [])
 
 -- All options of the program.
 abbrev pub options : List (List ℕ)

@@ -7,8 +7,8 @@ use Rattle.ill_world.specs.declared.fault.SimFault.{SimFault}
 use Rattle.ill_world.specs.declared.fault.SimFault.TheVariants as simulation
 use Rattle.ill_world.specs.Simulation.{Simulates}
 use Rattle.ill_world.specs.DeskSimulation.{SimulatesDesks}
-use Rattle.ill_tool.specs.declared.fault.ToolFault.{ToolFault}
-use Rattle.ill_tool.specs.declared.fault.ToolFault.TheVariants.{Arguments, Script, Read, Write, OutOfMemory}
+use Rattle.ill_text.specs.declared.fault.ToolFault.{ToolFault}
+use Rattle.ill_text.specs.declared.fault.ToolFault.TheVariants.{Arguments, Script, Read, Write, OutOfMemory}
 
 -- Returns the fault of the command for a fault of its simulation.
 abbrev pub sim_fault : SimFault → ToolFault

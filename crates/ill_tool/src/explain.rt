@@ -5,6 +5,7 @@
 
 mod action;
 mod arguments;
+mod day;
 mod file;
 mod input;
 mod refused;
@@ -13,18 +14,18 @@ mod shown;
 mod verbs;
 
 use crate::command_line::{Name, SHELF, command};
-use crate::fault::ToolFault;
 use crate::request::DASHES;
 use arguments::tell_arguments;
 use clap::ArgMatches;
 use file::tell_desk_fault;
+use ill_files::machine::Machine;
 use ill_saved::LockFiles;
+use ill_text::fault::ToolFault;
 use ill_values::OutOfMemory;
 pub use input::{Passed, Watched};
 use input::{tell_bad_bytes, tell_bad_line};
 use refused::tell_refused;
 use shelf::tell_shelf_fault;
-use std::alloc::Global;
 use std::io::Write;
 
 /// The option.
@@ -39,19 +40,33 @@ pub fn is_asked(words: &[&str]) -> bool {
         .any(|word| *word == OPTION)
 }
 
+/// A command line that has failed.
+#[derive(Drop)]
+struct Failed<'a, 'b> {
+    /// Its words, from the name of the program on.
+    words: &'a [&'a str],
+    /// The name of its command.
+    name: Name,
+    /// The arguments of the command.
+    matches: &'a ArgMatches<'b>,
+    /// Its fault.
+    fault: ToolFault,
+    /// The place in the input at which the command stopped.
+    passed: Option<Passed>,
+}
+
 /// Writes the reasons for `fault` of a command line, if its words ask for them.
-pub fn explain<T: LockFiles, E: Write>(
-    rt: &T,
-    alloc: Global,
+pub fn explain<T: LockFiles, W: Write, E: Write>(
+    machine: &mut Machine<'_, T, W, E>,
     words: &[&str],
     fault: ToolFault,
     passed: Option<Passed>,
-    errors: &mut E,
 ) {
     if is_asked(words) {
+        let (rt, alloc) = (machine.rt, machine.alloc);
         let mut text = String::new(alloc);
-        let _ = tell(rt, alloc, &mut text, words, fault, passed);
-        let _ = errors.write_all(text.as_bytes());
+        let _ = tell(rt, &mut text, words, fault, passed);
+        let _ = machine.errors.write_all(text.as_bytes());
     }
 }
 
@@ -59,75 +74,71 @@ pub fn explain<T: LockFiles, E: Write>(
 /// read again.
 fn tell<T: LockFiles>(
     rt: &T,
-    alloc: Global,
     text: &mut String,
     words: &[&str],
     fault: ToolFault,
     passed: Option<Passed>,
 ) -> Option<()> {
+    let alloc = *text.allocator();
     let matches = command(alloc).ok()?.try_get_matches_from(words).ok()?;
-    match matches.subcommand()? {
-        (word, matches) if word == SHELF => {
-            let (word, matches) = matches.subcommand()?;
-            let name = Name::read(word)?;
-            tell_first(rt, alloc, text, words, name, matches, fault).ok()?;
-            tell_on_shelf(rt, alloc, text, name, matches, fault, passed).ok()
-        }
-        (word, matches) => {
-            let name = Name::read(word)?;
-            tell_first(rt, alloc, text, words, name, matches, fault).ok()?;
-            tell_fault(rt, alloc, text, name, matches, fault, passed).ok()
-        }
-    }
+    let (first, found) = matches.subcommand()?;
+    let is_on_shelf = first == SHELF;
+    let (word, matches) = if is_on_shelf {
+        found.subcommand()?
+    } else {
+        (first, found)
+    };
+    let failed = Failed {
+        words,
+        name: Name::read(word)?,
+        matches,
+        fault,
+        passed,
+    };
+    tell_first(rt, text, &failed).ok()?;
+    tell_place(rt, text, &failed, is_on_shelf).ok()
 }
 
-/// Appends to `text` the lines about words that are refused before a file is opened, if `fault` is one of arguments.
+/// Appends to `text` the lines about words that are refused before a file is opened, if the fault is one of arguments.
 fn tell_first<T: LockFiles>(
     rt: &T,
-    alloc: Global,
     text: &mut String,
-    words: &[&str],
-    name: Name,
-    matches: &ArgMatches<'_>,
-    fault: ToolFault,
+    failed: &Failed<'_, '_>,
 ) -> Result<(), OutOfMemory> {
-    match fault {
-        ToolFault::Arguments => tell_refused(rt, alloc, text, words, name, matches),
+    match failed.fault {
+        ToolFault::Arguments => tell_refused(rt, text, failed.words, failed.name, failed.matches),
         _ => Ok(()),
     }
 }
 
-/// Appends to `text` the lines about a fault of a command on a shelf with these arguments.
-fn tell_on_shelf<T: LockFiles>(
+/// Appends to `text` the lines about a fault of a command, on a shelf or on one desk.
+fn tell_place<T: LockFiles>(
     rt: &T,
-    alloc: Global,
     text: &mut String,
-    name: Name,
-    matches: &ArgMatches<'_>,
-    fault: ToolFault,
-    passed: Option<Passed>,
+    failed: &Failed<'_, '_>,
+    is_on_shelf: bool,
 ) -> Result<(), OutOfMemory> {
-    match fault {
-        ToolFault::Desk(fault) => tell_shelf_fault(rt, alloc, text, matches, fault),
-        fault => tell_fault(rt, alloc, text, name, matches, fault, passed),
+    let alloc = *text.allocator();
+    match failed.fault {
+        ToolFault::Desk(fault) if is_on_shelf => {
+            tell_shelf_fault(rt, alloc, text, failed.matches, fault)
+        }
+        _ => tell_fault(rt, text, failed),
     }
 }
 
-/// Appends to `text` the lines about a fault of a command with these arguments.
+/// Appends to `text` the lines about a fault of a command on one desk.
 fn tell_fault<T: LockFiles>(
     rt: &T,
-    alloc: Global,
     text: &mut String,
-    name: Name,
-    matches: &ArgMatches<'_>,
-    fault: ToolFault,
-    passed: Option<Passed>,
+    failed: &Failed<'_, '_>,
 ) -> Result<(), OutOfMemory> {
-    match fault {
-        ToolFault::Arguments => tell_arguments(rt, alloc, text, name, matches),
-        ToolFault::Der(fault) => tell_bad_bytes(text, fault, passed),
-        ToolFault::Script(line) => tell_bad_line(text, name, line),
-        ToolFault::Desk(fault) => tell_desk_fault(rt, alloc, text, matches, fault),
+    let alloc = *text.allocator();
+    match failed.fault {
+        ToolFault::Arguments => tell_arguments(rt, alloc, text, failed.name, failed.matches),
+        ToolFault::Der(fault) => tell_bad_bytes(text, fault, failed.passed),
+        ToolFault::Script(line) => tell_bad_line(text, failed.name, line),
+        ToolFault::Desk(fault) => tell_desk_fault(rt, alloc, text, failed.matches, fault),
         ToolFault::TooMany => writeln!(text, "  Divide the input, and give its parts one by one."),
         ToolFault::Left => writeln!(
             text,

@@ -1,17 +1,15 @@
 //! The guard of a shelf's desks: only the commands of the shelf change one, or send from it. So a loan of the shelf has
 //! one home, the desk of its group.
 
-ghost use Rattle.std.specs.Prelude.{Decides, IfErr, IfOk};
+ghost use Rattle.std.specs.Prelude.{IfErr};
 ghost use Rattle.ill_tool.specs.Asked.{asked, desk_at_stake};
-ghost use Rattle.ill_tool.specs.Commands.{IsOpenFault};
-ghost use Rattle.ill_tool.specs.Shelf.{IsGuarded, IsGuardedAt, IsNamedOnShelf};
+ghost use Rattle.ill_files.specs.AtFile.{IsOpenFault};
+ghost use Rattle.ill_tool.specs.Runs.{IsGuarded, IsGuardedAt};
 
-use crate::fault::ToolFault;
-use crate::folder::{fault, folder_of};
 use crate::request::Request;
-use crate::shelf::{OWN, is_desk_name, is_shelf};
-use ill_saved::Role;
-use ill_values::OutOfMemory;
+use ill_files::paths::{fault, folder_of};
+use ill_files::shelf::{is_named_on_shelf, is_shelf};
+use ill_text::fault::ToolFault;
 use std::alloc::Global;
 use std::path::Path;
 use std::rt::Files;
@@ -41,15 +39,6 @@ fn refuse_on_shelf<T: Files>(rt: &T, alloc: Global, file: &str) -> Result<(), To
         return Err(ToolFault::Arguments);
     }
     Ok(())
-}
-
-/// Returns true if `name` is that of a shelf's own desk, or of the desk of a group.
-pub(crate) fn is_named_on_shelf(alloc: Global, name: &str) -> Result<bool, OutOfMemory>
-    ensures { IfOk result (λ is_named. Decides is_named (IsNamedOnShelf name.now)) }
-{
-    let is_requesters = is_desk_name(alloc, Role::Requester, name)?;
-    let is_responders = is_desk_name(alloc, Role::Responder, name)?;
-    Ok(name == OWN || is_requesters || is_responders)
 }
 
 /// Returns true if there is a shelf in `folder`.

@@ -5,24 +5,24 @@ ghost use Rattle.std.specs.List.{list_any};
 ghost use Rattle.clap.specs.Words.{found_of, rows_of, subcommand_rows_of};
 ghost use Rattle.ill_tool.specs.CommandLine.{is_option};
 ghost use Rattle.ill_tool.specs.declared.request.Refusal.TheVariants.{Usage, Fault};
-ghost use Rattle.ill_tool.specs.declared.fault.ToolFault.TheVariants.{OutOfMemory};
+ghost use Rattle.ill_text.specs.declared.fault.ToolFault.TheVariants.{OutOfMemory};
 ghost use Rattle.ill_tool.specs.declared.command_line.Name.TheVariants as names;
 ghost use Rattle.ill_tool.specs.Asked.{ReadsValue, IsRefusal, asked_by, asked_in, asked_of, text_of, texts_of, role_of, loan_of, group_of, new_file_of, day_in, state_in, number_of_message, dates_of, outlet_of, is_set, which_of, form_of, wanted_of, report_day_of, asked, desk_at_stake, end_with_dashes, has_option, said_free, unless_option};
 
 use crate::command_line::{Argument, Name, SHELF, command, is_option};
-use crate::dates::Dates;
-use crate::exchange::Night;
-use crate::fault::ToolFault;
-use crate::folder::is_beside;
-use crate::form::Form;
-use crate::list::{Wanted, Which};
 use crate::simulate::id;
 use clap::error::ErrorKind;
 use clap::{ArgMatches, Command, Error};
 use ill_core::State;
+use ill_desk::dates::Dates;
+use ill_files::paths::is_beside;
+use ill_mail::night::Night;
+use ill_show::wanted::{Wanted, Which};
+use ill_text::fault::ToolFault;
+use ill_text::form::Form;
 use ill_values::{Day, Number, TxnId};
-use ill_world::Who;
-use ill_world::words::{number, who};
+use ill_words::Who;
+use ill_words::words::{number, who};
 use std::alloc::{AllocError, Global};
 
 /// The request of a command line.

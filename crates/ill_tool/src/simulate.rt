@@ -1,11 +1,12 @@
 //! The commands `simulate` and `simulate-desks`.
 
+ghost use Rattle.std.specs.Prelude.{◌≡◌};
 ghost use Rattle.ill_values.specs.TxnId.{txn_id_of};
-ghost use Rattle.ill_tool.specs.Simulate.{GivesId, Performs, PerformsDesks};
+ghost use Rattle.ill_tool.specs.Simulate.{GivesId, Performs, PerformsDesks, sim_fault};
 
-use crate::fault::ToolFault;
+use ill_text::fault::ToolFault;
 use ill_values::{TextFault, TxnId};
-use ill_world::{simulate, simulate_desks};
+use ill_world::{SimFault, simulate, simulate_desks};
 use std::alloc::Global;
 use std::io::{Read, Write};
 
@@ -29,7 +30,7 @@ pub fn run_simulate<R: Read, W: Write>(
     let txn = id(alloc, group, transaction)?;
     match simulate(alloc, &txn, reader, writer) {
         Ok(count) => Ok(count),
-        Err(fault) => Err(fault.into()),
+        Err(fault) => Err(fault_of(fault)),
     }
 }
 
@@ -45,7 +46,19 @@ pub fn run_simulate_desks<R: Read, W: Write>(
 {
     match simulate_desks(alloc, reader, writer) {
         Ok(count) => Ok(count),
-        Err(fault) => Err(fault.into()),
+        Err(fault) => Err(fault_of(fault)),
+    }
+}
+
+/// Returns the fault of the command for a fault of its simulation.
+fn fault_of(fault: SimFault) -> ToolFault
+    ensures { result ≡ sim_fault fault }
+{
+    match fault {
+        SimFault::Script(line) => ToolFault::Script(line),
+        SimFault::Read => ToolFault::Read,
+        SimFault::Write => ToolFault::Write,
+        SimFault::OutOfMemory => ToolFault::OutOfMemory,
     }
 }
 

@@ -2,28 +2,29 @@
 
 ghost use Rattle.std.specs.Prelude.{◌≡◌, ◌≤◌};
 ghost use Rattle.ill_tool.specs.Asked.{asked};
-ghost use Rattle.ill_tool.specs.Commands.{Runs};
-ghost use Rattle.ill_tool.specs.Shelf.{RunsGuarded, RunsShelf};
+ghost use Rattle.ill_tool.specs.Runs.{Runs, RunsGuarded, RunsShelf};
 ghost use Rattle.ill_tool.specs.ExitStatus.{IsFlushed, desk_status, exit_status, status_of};
 
-use crate::check::run_check;
-use crate::exchange::{exchange, inbox, outbox};
 use crate::explain::{Passed, Watched, explain, is_asked};
-use crate::fault::ToolFault;
-use crate::file::{act, all_well, list, loan, new, report, send, status, take, verify};
 use crate::guard::refuse_desk_of_shelf;
-use crate::mail::Incoming;
-use crate::on_shelf::{
+use crate::request::{Call, Refusal, Request, read_words};
+use crate::simulate::{run_simulate, run_simulate_desks};
+use clap::Error;
+use clap::error::ErrorKind;
+use ill_files::file::{act, list, loan, new, report, send, status, take, verify};
+use ill_files::machine::Machine;
+use ill_files::open::all_well;
+use ill_mail::exchange::{exchange, inbox, outbox};
+use ill_mail::mail::Incoming;
+use ill_mail::on_shelf::{
     act_on_shelf, exchange_of_shelf, inbox_of_shelf, loan_on_shelf, new_shelf, outbox_of_shelf,
     retire, send_on_shelf, status_of_shelf,
 };
-use crate::request::{Call, Refusal, Request, read_words};
-use crate::show::run_show_as;
-use crate::simulate::{run_simulate, run_simulate_desks};
-use crate::take_home::take_on_shelf;
-use clap::Error;
-use clap::error::ErrorKind;
+use ill_mail::take_home::take_on_shelf;
 use ill_saved::{DeskFault, LockFiles};
+use ill_text::check::run_check;
+use ill_text::fault::ToolFault;
+use ill_text::show::run_show_as;
 use std::alloc::Global;
 use std::io::{BufWriter, Cursor, Read, Write};
 
@@ -41,35 +42,50 @@ pub fn run_words<T: LockFiles, R: Read, W: Write, E: Write>(
 ) -> u8
     ensures { result ≤ 3 }
 {
-    match read_words(alloc, words) {
+    let mut machine = Machine {
+        rt,
+        alloc,
+        writer: &mut *writer,
+        errors: &mut *errors,
+    };
+    answer(&mut machine, words, reader)
+}
+
+/// Performs one command line on `machine`, and returns the exit status.
+fn answer<T: LockFiles, R: Read, W: Write, E: Write>(
+    machine: &mut Machine<'_, T, W, E>,
+    words: &[&str],
+    reader: &mut R,
+) -> u8
+    ensures { result ≤ 3 }
+{
+    match read_words(machine.alloc, words) {
         Ok(call) => {
-            let mut reader = Watched::new(alloc, reader, is_asked(words));
-            let done = perform(rt, alloc, &call, &mut reader, writer, errors);
-            conclude(rt, alloc, words, done, reader.passed(), errors)
+            let mut reader = Watched::new(machine.alloc, reader, is_asked(words));
+            let done = perform(machine, &call, &mut reader);
+            conclude(machine, words, done, reader.passed())
         }
-        Err(Refusal::Usage(error)) => tell(&error, writer, errors),
+        Err(Refusal::Usage(error)) => tell(&error, &mut machine.writer, &mut machine.errors),
         Err(Refusal::Fault(fault)) => {
-            let done = flush(writer, Err(fault));
-            conclude(rt, alloc, words, done, None, errors)
+            let done = flush(&mut machine.writer, Err(fault));
+            conclude(machine, words, done, None)
         }
     }
 }
 
 /// Writes the line of a fault, if there is one. The reason comes after it, if the words ask for that. It returns the
 /// exit status.
-fn conclude<T: LockFiles, E: Write>(
-    rt: &T,
-    alloc: Global,
+fn conclude<T: LockFiles, W: Write, E: Write>(
+    machine: &mut Machine<'_, T, W, E>,
     words: &[&str],
     done: Result<bool, ToolFault>,
     passed: Option<Passed>,
-    errors: &mut E,
 ) -> u8
     ensures { result ≤ 3 }
 {
-    let status = finish(done, errors);
+    let status = finish(done, &mut machine.errors);
     if let Err(fault) = done {
-        explain(rt, alloc, words, fault, passed, errors);
+        explain(machine, words, fault, passed);
     }
     status
 }
@@ -80,21 +96,24 @@ const BUFFER: usize = 65_536;
 /// Performs a command, with a buffer before the writer, and returns true if all went well. The commands themselves read
 /// in pieces.
 fn perform<T: LockFiles, R: Read, W: Write, E: Write>(
-    rt: &T,
-    alloc: Global,
+    machine: &mut Machine<'_, T, W, E>,
     call: &Call<'_>,
     reader: &mut R,
-    writer: &mut W,
-    errors: &mut E,
 ) -> Result<bool, ToolFault> {
-    let mut writer = BufWriter::with_capacity(alloc, BUFFER, writer).map_err(
+    let buffer = BufWriter::with_capacity(machine.alloc, BUFFER, &mut machine.writer).map_err(
         |_| ToolFault::OutOfMemory,
     )?;
-    let done = match call {
-        Call::Desk(request) => run_guarded(rt, alloc, request, reader, &mut writer, errors),
-        Call::Shelf(request) => run_on_shelf(rt, alloc, request, reader, &mut writer, errors),
+    let mut buffered = Machine {
+        rt: machine.rt,
+        alloc: machine.alloc,
+        writer: buffer,
+        errors: &mut machine.errors,
     };
-    finish_writing(writer, done)
+    let done = match call {
+        Call::Desk(request) => run_guarded(&mut buffered, request, reader),
+        Call::Shelf(request) => run_on_shelf(&mut buffered, request, reader),
+    };
+    finish_writing(buffered.writer, done)
 }
 
 /// Writes the rest of the buffer, and returns `done`, or the fault of the writer. A writer that has failed is not
@@ -123,75 +142,82 @@ fn flush<W: Write>(writer: &mut W, done: Result<bool, ToolFault>) -> Result<bool
 
 /// Runs the engine of a command for one desk, unless that is a desk of a shelf and is at stake.
 fn run_guarded<T: LockFiles, R: Read, W: Write, E: Write>(
-    rt: &T,
-    alloc: Global,
+    machine: &mut Machine<'_, T, W, E>,
     request: &Request<'_>,
     reader: &mut R,
-    writer: &mut W,
-    errors: &mut E,
 ) -> Result<bool, ToolFault>
     ensures { RunsGuarded (asked request.now) (R.remaining reader.old) (R.remaining reader.new)
-        (W.contents writer.old) (W.contents writer.new) result }
+        (W.contents machine.old.writer) (W.contents machine.new.writer) result }
 {
-    if let Err(fault) = refuse_desk_of_shelf(rt, alloc, request) {
+    if let Err(fault) = refuse_desk_of_shelf(machine.rt, machine.alloc, request) {
         return Err(fault);
     }
-    run(rt, alloc, request, reader, writer, errors)
+    run(machine, request, reader)
 }
 
 /// Runs the engine of a command. Lines that are not about a fault of the command go to `errors`.
 fn run<T: LockFiles, R: Read, W: Write, E: Write>(
-    rt: &T,
-    alloc: Global,
+    machine: &mut Machine<'_, T, W, E>,
     request: &Request<'_>,
     reader: &mut R,
-    writer: &mut W,
-    errors: &mut E,
 ) -> Result<bool, ToolFault>
     ensures { Runs (asked request.now) (R.remaining reader.old) (R.remaining reader.new)
-        (W.contents writer.old) (W.contents writer.new) result }
+        (W.contents machine.old.writer) (W.contents machine.new.writer) result }
 {
     match request {
-        Request::Show { form } => all_well(run_show_as(alloc, *form, reader, writer)),
-        Request::Check => all_well(run_check(alloc, reader, writer)),
+        Request::Show { form } => all_well(run_show_as(
+            machine.alloc,
+            *form,
+            reader,
+            &mut machine.writer,
+        )),
+        Request::Check => all_well(run_check(machine.alloc, reader, &mut machine.writer)),
         Request::Simulate { group, transaction } => {
-            all_well(run_simulate(alloc, group, transaction, reader, writer))
+            all_well(run_simulate(
+                machine.alloc,
+                group,
+                transaction,
+                reader,
+                &mut machine.writer,
+            ))
         }
-        Request::SimulateDesks => all_well(run_simulate_desks(alloc, reader, writer)),
-        Request::New { file, role } => new(rt, alloc, file, *role, writer),
+        Request::SimulateDesks => all_well(run_simulate_desks(
+            machine.alloc,
+            reader,
+            &mut machine.writer,
+        )),
+        Request::New { file, role } => new(machine, file, *role),
         Request::Act {
             file,
             txn,
             today,
             words,
             ..
-        } => act(rt, alloc, file, txn, *today, words, writer),
+        } => act(machine, file, txn, *today, words),
         Request::Take {
             file,
             is_long,
             is_kept,
-        } => take(rt, alloc, file, *is_long, *is_kept, reader, writer),
-        Request::Inbox { file, folder } => {
-            inbox(rt, alloc, file, unsorted(folder), writer, errors)
-        }
-        Request::Outbox { file, folder } => outbox(rt, alloc, file, *folder, writer, errors),
-        Request::Exchange { file, night } => exchange(rt, alloc, file, night, writer, errors),
-        Request::Send { file, txn, number } => send(rt, alloc, file, txn, *number, writer),
+        } => take(machine, file, *is_long, *is_kept, reader),
+        Request::Inbox { file, folder } => { inbox(machine, file, unsorted(folder)) }
+        Request::Outbox { file, folder } => outbox(machine, file, *folder),
+        Request::Exchange { file, night } => exchange(machine, file, night),
+        Request::Send { file, txn, number } => send(machine, file, txn, *number),
         Request::List {
             paths,
             wanted,
             form,
-        } => list(rt, alloc, paths, wanted, *form, writer, errors),
-        Request::Status { file, form } => status(rt, alloc, file, *form, writer),
+        } => list(machine, paths, wanted, *form),
+        Request::Status { file, form } => status(machine, file, *form),
         Request::Loan {
             file,
             txn,
             form,
             is_picture,
-        } => loan(rt, alloc, file, txn, *form, *is_picture, writer),
+        } => loan(machine, file, txn, *form, *is_picture),
         Request::Retire { .. } => Err(ToolFault::Arguments),
-        Request::Verify { file } => verify(rt, alloc, file, writer),
-        Request::Report { paths, today } => { report(rt, alloc, paths, *today, writer, errors) }
+        Request::Verify { file } => verify(machine, file),
+        Request::Report { paths, today } => { report(machine, paths, *today) }
     }
 }
 
@@ -205,48 +231,39 @@ fn unsorted(folder: &str) -> Incoming<'_> {
 
 /// Runs the engine of a command on a shelf. Any command that a shelf lacks is refused.
 fn run_on_shelf<T: LockFiles, R: Read, W: Write, E: Write>(
-    rt: &T,
-    alloc: Global,
+    machine: &mut Machine<'_, T, W, E>,
     request: &Request<'_>,
     reader: &mut R,
-    writer: &mut W,
-    errors: &mut E,
 ) -> Result<bool, ToolFault>
     ensures { RunsShelf (asked request.now) (R.remaining reader.old) (R.remaining reader.new)
-        (W.contents writer.old) (W.contents writer.new) result }
+        (W.contents machine.old.writer) (W.contents machine.new.writer) result }
 {
     match request {
-        Request::New { file, role } => new_shelf(rt, alloc, file, *role, writer),
+        Request::New { file, role } => new_shelf(machine, file, *role),
         Request::Act {
             file,
             txn,
             today,
             is_new_group,
             words,
-        } => act_on_shelf(rt, alloc, file, txn, *today, *is_new_group, words, writer),
+        } => act_on_shelf(machine, file, txn, *today, *is_new_group, words),
         Request::Take {
             file,
             is_long,
             is_kept,
-        } => take_on_shelf(rt, alloc, file, *is_long, *is_kept, reader, writer),
-        Request::Send { file, txn, number } => {
-            send_on_shelf(rt, alloc, file, txn, *number, writer)
-        }
+        } => take_on_shelf(machine, file, *is_long, *is_kept, reader),
+        Request::Send { file, txn, number } => { send_on_shelf(machine, file, txn, *number) }
         Request::Loan {
             file,
             txn,
             form,
             is_picture,
-        } => loan_on_shelf(rt, alloc, file, txn, *form, *is_picture, writer),
-        Request::Status { file, form } => status_of_shelf(rt, alloc, file, *form, writer, errors),
-        Request::Inbox { file, folder } => inbox_of_shelf(rt, alloc, file, folder, writer, errors),
-        Request::Outbox { file, folder } => {
-            outbox_of_shelf(rt, alloc, file, *folder, writer, errors)
-        }
-        Request::Exchange { file, night } => {
-            exchange_of_shelf(rt, alloc, file, night, writer, errors)
-        }
-        Request::Retire { file, group } => retire(rt, alloc, file, group, writer),
+        } => loan_on_shelf(machine, file, txn, *form, *is_picture),
+        Request::Status { file, form } => status_of_shelf(machine, file, *form),
+        Request::Inbox { file, folder } => inbox_of_shelf(machine, file, folder),
+        Request::Outbox { file, folder } => { outbox_of_shelf(machine, file, *folder) }
+        Request::Exchange { file, night } => { exchange_of_shelf(machine, file, night) }
+        Request::Retire { file, group } => retire(machine, file, group),
         _ => Err(ToolFault::Arguments),
     }
 }

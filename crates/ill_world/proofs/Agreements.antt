@@ -23,8 +23,7 @@ use Rattle.ill_world.specs.World.{Party, Parties, sent_message}
 use Rattle.ill_world.specs.Safety.{OfBoth}
 use Rattle.ill_world.specs.Agreement.{AnswersOnce, EndsOnce, Facing, AcceptedBy, IsNotLater, SaysTrue, Agrees}
 use Rattle.ill_world.specs.Invariant.{RequesterInvariant, ResponderInvariant, RequesterSideInvariant, ResponderSideInvariant}
-use Rattle.ill_world.specs.Invariant.{SendsSaved}
-use Rattle.ill_world.specs.Invariant.{Invariant}
+use Rattle.ill_world.specs.Invariant.{SendsSaved, Invariant}
 use Rattle.ill_core.proofs.GrantLemmas.{granted_not_later}
 use Rattle.ill_core.proofs.MessageLemmas.{message_says, says_message}
 use Rattle.ill_world.proofs.Sendings.{prefix_message}

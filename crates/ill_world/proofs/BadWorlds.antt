@@ -23,7 +23,7 @@ use Rattle.ill_saved.specs.Side.{issued_of, due_date_of}
 use Rattle.ill_world.specs.declared.event.Event.{Event}
 use Rattle.ill_saved.specs.declared.role.Role.TheVariants as who
 use Rattle.ill_world.specs.declared.event.Event.TheVariants.{Deliver, Restart}
-use Rattle.ill_world.specs.declared.event.Outcome.{Outcome}
+use Rattle.ill_words.specs.declared.outcome.Outcome.{Outcome}
 use Rattle.ill_world.specs.World.{Party, Parties, happens, sent_message}
 use Rattle.ill_core.proofs.GrantLemmas.{before_on, not_before_itself}
 use Rattle.ill_world.specs.Safety.{EndsAlike, WasShipped, WasGranted, OfBoth, Safe}

@@ -21,8 +21,7 @@ use Rattle.ill_saved.specs.Side.{issued_of}
 use Rattle.ill_world.specs.World.{Party, Parties}
 use Rattle.ill_world.specs.Safety.{OfBoth, EndsAlike, WasShipped, WasGranted}
 use Rattle.ill_world.specs.Invariant.{WasSent, RequesterInvariant, ResponderInvariant, RequesterSideInvariant}
-use Rattle.ill_world.specs.Invariant.{ResponderSideInvariant}
-use Rattle.ill_world.specs.Invariant.{SendsSaved, Invariant}
+use Rattle.ill_world.specs.Invariant.{ResponderSideInvariant, SendsSaved, Invariant}
 use Rattle.ill_core.proofs.MessageLemmas.{message_says}
 use Rattle.ill_world.proofs.Sendings.{prefix_message}
 

@@ -25,14 +25,13 @@ use Rattle.ill_saved.specs.Side.{issued_of, txn_of, other, idle_side, acts, take
 use Rattle.ill_saved.specs.Sides.{found_by, is_same_role, most_sides, side_with}
 use Rattle.ill_saved.specs.Holdings.{DeskEntry, whole}
 use Rattle.ill_saved.specs.ManySides.{txn_held, idle_held, found_or, with_held, held_or_begun, side_for_call, is_own}
-use Rattle.ill_saved.specs.ManySides.{acted as acted_at}
-use Rattle.ill_saved.specs.ManySides.{acts_reached, contents_after_message as took_at, takes_reached}
+use Rattle.ill_saved.specs.ManySides.{acted as acted_at, acts_reached, contents_after_message as took_at, takes_reached}
 use Rattle.ill_saved.proofs.Finding.{same_is, same_self, apart_back, found_is, keys_put, put_last}
 use Rattle.ill_world.specs.declared.event.DeskEvent.{DeskEvent}
 use Rattle.ill_world.specs.declared.event.DeskEvent.TheVariants as desk_events
-use Rattle.ill_world.specs.declared.event.DeskOutcome.{DeskOutcome}
-use Rattle.ill_world.specs.declared.event.DeskOutcome.TheVariants.{Plain, DeskFull}
-use Rattle.ill_world.specs.declared.event.Outcome.TheVariants.{NotSent}
+use Rattle.ill_words.specs.declared.outcome.DeskOutcome.{DeskOutcome}
+use Rattle.ill_words.specs.declared.outcome.DeskOutcome.TheVariants.{Plain, DeskFull}
+use Rattle.ill_words.specs.declared.outcome.Outcome.TheVariants.{NotSent}
 use Rattle.ill_world.specs.World.{sent_message, sends_by, happens_at, party, who_of}
 use Rattle.ill_world.specs.Desks.{DeskParty, DeskParties, Sending, sent_for, plain, desk_decides, desk_sends, desk_receives}
 use Rattle.ill_world.specs.Desks.{desk_happens_to, desks_happen, first_desks, project}

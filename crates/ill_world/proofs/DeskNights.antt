@@ -21,7 +21,8 @@ use Rattle.ill_world.specs.Desks.{DeskParties, desks_happen, desks_run, project}
 use Rattle.ill_world.specs.DeskCounts.{is_one_of, AreApart}
 use Rattle.ill_world.specs.DeskSafety.{DesksInvariant}
 use Rattle.ill_world.specs.Round.{sends_and_delivers}
-use Rattle.ill_world.specs.Night.{wants_sending, asks, half_if, asking_half, night_of}
+use Rattle.ill_words.specs.Sending.{wants_sending}
+use Rattle.ill_world.specs.Night.{asks, half_if, asking_half, night_of}
 use Rattle.ill_world.specs.DeskNight.{desk_half_if, is_asked_by, desk_asking_half, desk_night_of}
 use Rattle.ill_world.proofs.Runs.{run_both}
 use Rattle.ill_world.proofs.Projections.{held_txn}

@@ -9,8 +9,8 @@ use Rattle.ill_saved.specs.Desk.{DeskTakes}
 use Rattle.ill_saved.specs.ManySides.{DeskContents, desk_takes, many_sides}
 use Rattle.ill_der.specs.declared.fault.DerFault.TheVariants.{OutOfMemory}
 use Rattle.ill_der.specs.ShortForm.{Decodes}
-use Rattle.ill_world.specs.declared.event.Outcome.{Outcome}
-use Rattle.ill_world.specs.declared.event.Outcome.TheVariants.{Forged, Garbled}
+use Rattle.ill_words.specs.declared.outcome.Outcome.{Outcome}
+use Rattle.ill_words.specs.declared.outcome.Outcome.TheVariants.{Forged, Garbled}
 use Rattle.ill_world.specs.Desks.{DeskParty, desk_hears}
 use Rattle.ill_world.specs.DeskRefinement.{CanBeSeen}
 use Rattle.ill_world.proofs.Messages.{whole_reads, part_reads}

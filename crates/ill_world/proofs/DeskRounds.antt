@@ -27,9 +27,9 @@ use Rattle.ill_saved.proofs.Finding.{same_is, same_self, side_of_held}
 use Rattle.ill_world.specs.declared.event.Event.TheVariants as events
 use Rattle.ill_world.specs.declared.event.DeskEvent.{DeskEvent}
 use Rattle.ill_world.specs.declared.event.DeskEvent.TheVariants as desk_events
-use Rattle.ill_world.specs.declared.event.Outcome.{Outcome}
-use Rattle.ill_world.specs.declared.event.DeskOutcome.{DeskOutcome}
-use Rattle.ill_world.specs.declared.event.DeskOutcome.TheVariants.{Plain, NoSuchTransaction, DeskFull}
+use Rattle.ill_words.specs.declared.outcome.Outcome.{Outcome}
+use Rattle.ill_words.specs.declared.outcome.DeskOutcome.{DeskOutcome}
+use Rattle.ill_words.specs.declared.outcome.DeskOutcome.TheVariants.{Plain, NoSuchTransaction, DeskFull}
 use Rattle.ill_world.specs.World.{Party, Parties, party, with_party, sent_message, sends, receives, happens, run_by, run_of}
 use Rattle.ill_world.specs.Desks.{DeskParties, sent_for, plain, desks_happen, desks_run, party_for, project, concerns, if_reached}
 use Rattle.ill_world.specs.Desks.{IsSeenAs}

@@ -19,14 +19,13 @@ use Rattle.ill_saved.specs.Sides.{is_same_role}
 use Rattle.ill_core.specs.Bodies.{is_ill_request}
 use Rattle.ill_saved.specs.Holdings.{DeskEntry}
 use Rattle.ill_saved.specs.ManySides.{held_for, side_for_call, acted as acted_at, acts_reached, contents_after_message as took_at}
-use Rattle.ill_saved.specs.ManySides.{takes_reached, is_own}
-use Rattle.ill_saved.specs.ManySides.{found_by, txn_held}
+use Rattle.ill_saved.specs.ManySides.{takes_reached, is_own, found_by, txn_held}
 use Rattle.ill_saved.proofs.Finding.{same_is}
 use Rattle.ill_world.specs.declared.event.Event.{Event}
 use Rattle.ill_world.specs.declared.event.DeskEvent.{DeskEvent}
 use Rattle.ill_world.specs.declared.event.DeskEvent.TheVariants as events
-use Rattle.ill_world.specs.declared.event.Outcome.{Outcome}
-use Rattle.ill_world.specs.declared.event.DeskOutcome.{DeskOutcome}
+use Rattle.ill_words.specs.declared.outcome.Outcome.{Outcome}
+use Rattle.ill_words.specs.declared.outcome.DeskOutcome.{DeskOutcome}
 use Rattle.ill_world.specs.World.{Parties, sent_message, sends_by, happens_to, happens_at, happens, party, with_party, who_of}
 use Rattle.ill_world.specs.World.{run_by, run_of, first_world}
 use Rattle.ill_world.specs.Desks.{DeskParty, DeskParties, Sending, sent_for, plain, desk_decides, desk_sends, desk_receives}
@@ -36,7 +35,7 @@ use Rattle.ill_world.specs.Agreement.{KeepsDates}
 use Rattle.ill_world.specs.Invariant.{RequesterSideInvariant, ResponderSideInvariant, Invariant}
 use Rattle.ill_world.specs.Changes.{MayChange, OnlyLandedChanges, KeepsSent}
 use Rattle.ill_world.specs.DeskChanges.{DeskMayChange}
-use Rattle.ill_world.specs.declared.event.DeskOutcome.TheVariants.{Plain, NoSuchTransaction, DeskFull}
+use Rattle.ill_words.specs.declared.outcome.DeskOutcome.TheVariants.{Plain, NoSuchTransaction, DeskFull}
 use Rattle.ill_world.specs.DeskCounts.{DesksCount}
 use Rattle.ill_world.specs.DeskSafety.{IsDeskOf, DesksInvariant}
 use Rattle.ill_world.proofs.Parties.{RowsGrow}

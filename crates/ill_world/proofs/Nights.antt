@@ -1,7 +1,7 @@
 -- After a night both sides are in step, or at rest.
-use Rattle.std.proofs.Common.{rules, ◌≡◌, ◌⊎◌, inl, inr, Bool, true, false, not, ◌&&◌, ◌||◌, List, [], ◌∷◌, ◌++◌, length, Option}
-use Rattle.std.proofs.Common.{refl, sym, ap, ◌∙◌, subst}
-use Rattle.std.proofs.lemmas.Bool.{and_from, or_left, or_right}
+use Rattle.std.proofs.Common.{rules, ◌≡◌, ◌⊎◌, inl, inr, Bool, true, false, not, ◌&&◌, List, [], ◌∷◌, ◌++◌, length, Option, refl}
+use Rattle.std.proofs.Common.{sym, ap, ◌∙◌, subst}
+use Rattle.std.proofs.lemmas.Bool.{and_from, or_right}
 use Rattle.ill_values.specs.TxnId.{Qualifiers}
 use Rattle.ill_values.specs.declared.apdu.Apdu.{Apdu}
 use Rattle.ill_core.specs.declared.state.State.{State}
@@ -23,12 +23,13 @@ use Rattle.ill_world.specs.Agreement.{Facing}
 use Rattle.ill_world.specs.Invariant.{RequesterInvariant, ResponderInvariant, RequesterSideInvariant, ResponderSideInvariant}
 use Rattle.ill_world.specs.Invariant.{Invariant}
 use Rattle.ill_world.specs.Round.{sends_and_delivers, half_of, round_of, faced_in, AreInStep}
-use Rattle.ill_world.specs.Night.{is_nobodys, is_over, wants_sending, asks, half_if, night_of, AtRest, AreAtRest}
-use Rattle.ill_world.specs.Night.{AreInStepOrAtRest}
+use Rattle.ill_words.specs.Sending.{is_nobodys, is_over, wants_sending}
+use Rattle.ill_world.specs.Night.{asks, half_if, night_of, AtRest, AreAtRest, AreInStepOrAtRest}
 use Rattle.ill_world.proofs.Claims.{AreIssued, live_issues, cancelled_faces, not_supplied_faces}
 use Rattle.ill_world.proofs.Agreements.{says_true}
 use Rattle.ill_world.proofs.DeskArrivals.{idle_issued}
 use Rattle.ill_world.proofs.Runs.{run_stands}
+use Rattle.ill_words.proofs.SendingLemmas.{open_wants, over_is_silent}
 
 -- ---- a loan that is over for the requester
 
@@ -96,16 +97,6 @@ rests_responder (sides.Responder x) y rest = absurd rest
 rests_responder (sides.Requester x) (sides.Requester y) rest = absurd rest
 
 -- ---- the sides that send
-
--- A side sends its messages if its loan is not over.
-pub open_wants : (was_asked : Bool) (side : Side) → is_over side ≡ false → wants_sending was_asked side ≡ true
-open_wants was_asked (sides.Requester x) is_open = ap not is_open
-open_wants was_asked (sides.Responder y) is_open = or_left (not (is_over (sides.Responder y))) was_asked (ap not is_open)
-
--- A side that was not asked sends nothing if its loan is over.
-pub over_is_silent : (side : Side) → is_over side ≡ true → wants_sending false side ≡ false
-over_is_silent (sides.Requester x) over = ap not over
-over_is_silent (sides.Responder y) over = ap (λ b. not b || false) over
 
 -- A responder that was asked sends its messages.
 asked_wants : (txn : Qualifiers) (side : Side) (requester_sent : List (Option Apdu))

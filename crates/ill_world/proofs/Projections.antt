@@ -18,8 +18,8 @@ use Rattle.ill_saved.specs.declared.side.Side.{Side}
 use Rattle.ill_saved.specs.declared.side.Side.TheVariants as sides
 use Rattle.ill_saved.specs.declared.side.Action.{Action}
 use Rattle.ill_saved.specs.declared.side.Action.TheVariants as actions
-use Rattle.ill_saved.specs.Side.{issued_of, txn_of, role_of, idle_side, acts, takes, acted, took}
-use Rattle.ill_saved.specs.Side.{IsSideTransition, role_for, begins}
+use Rattle.ill_saved.specs.Side.{issued_of, txn_of, role_of, idle_side, acts, takes, acted, took, IsSideTransition, role_for}
+use Rattle.ill_saved.specs.Side.{begins}
 use Rattle.ill_saved.specs.Sides.{SidesOf, is_same_role, most_sides, side_with}
 use Rattle.ill_saved.specs.Holdings.{DeskEntry, whole}
 use Rattle.ill_saved.specs.ManySides.{DeskContents, found_by, txn_held, idle_held, found_or, held_for, with_held, side_for}
@@ -28,10 +28,10 @@ use Rattle.ill_saved.specs.ManySides.{desk_acts, contents_after_message as took_
 use Rattle.ill_saved.proofs.Finding.{same_is, same_self, found_is, found_put, found_mapped, side_of_held}
 use Rattle.ill_world.specs.declared.event.DeskEvent.{DeskEvent}
 use Rattle.ill_world.specs.declared.event.DeskEvent.TheVariants as events
-use Rattle.ill_world.specs.declared.event.Outcome.{Outcome}
-use Rattle.ill_world.specs.declared.event.Outcome.TheVariants.{Done, Sent, Refused, Answered, NotSent, NoSuchMessage, NotSaved}
-use Rattle.ill_world.specs.declared.event.DeskOutcome.{DeskOutcome}
-use Rattle.ill_world.specs.declared.event.DeskOutcome.TheVariants.{Plain}
+use Rattle.ill_words.specs.declared.outcome.Outcome.{Outcome}
+use Rattle.ill_words.specs.declared.outcome.Outcome.TheVariants.{Done, Sent, Refused, Answered, NotSent, NoSuchMessage, NotSaved}
+use Rattle.ill_words.specs.declared.outcome.DeskOutcome.{DeskOutcome}
+use Rattle.ill_words.specs.declared.outcome.DeskOutcome.TheVariants.{Plain}
 use Rattle.ill_world.specs.World.{Party, nothing_sent, sent_message, with_sent, sends, sends_by, answer_to, receives, decides}
 use Rattle.ill_world.specs.World.{saves, restarts, fails_to_save, happens_to, who_of, first_world}
 use Rattle.ill_world.specs.Desks.{Sending, DeskParty, txn_sent, sent_for, with_sent_for, plain, fault_seen, desk_decides}

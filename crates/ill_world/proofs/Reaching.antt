@@ -17,11 +17,11 @@ use Rattle.ill_saved.specs.Side.{other, acts, takes, role_for, begins}
 use Rattle.ill_saved.specs.Sides.{is_same_role, most_sides}
 use Rattle.ill_saved.specs.Holdings.{DeskEntry}
 use Rattle.ill_saved.specs.ManySides.{DeskContents, found_by, txn_held, idle_held, held_or_begun, side_for_call}
-use Rattle.ill_saved.specs.ManySides.{acted as acted_at}
-use Rattle.ill_saved.specs.ManySides.{acts_reached, desk_acts, contents_after_message as took_at, takes_reached, is_own}
+use Rattle.ill_saved.specs.ManySides.{acted as acted_at, acts_reached, desk_acts, contents_after_message as took_at}
+use Rattle.ill_saved.specs.ManySides.{takes_reached, is_own}
 use Rattle.ill_world.specs.declared.event.DeskEvent.{DeskEvent}
 use Rattle.ill_world.specs.declared.event.DeskEvent.TheVariants as events
-use Rattle.ill_world.specs.declared.event.DeskOutcome.{DeskOutcome}
+use Rattle.ill_words.specs.declared.outcome.DeskOutcome.{DeskOutcome}
 use Rattle.ill_world.specs.World.{party, sent_message}
 use Rattle.ill_world.specs.Desks.{DeskParty, DeskParties, sent_for, fault_seen, desk_decides, desk_sends, taking_seen}
 use Rattle.ill_world.specs.Desks.{desk_receives}

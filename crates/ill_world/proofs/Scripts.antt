@@ -6,8 +6,7 @@ use Rattle.std.proofs.lemmas.Bool.{le-leb, lt-leb}
 use Rattle.ill_world.specs.declared.script.ScriptLine.{ScriptLine}
 use Rattle.ill_world.specs.declared.script.ScriptLine.TheVariants as lines
 use Rattle.ill_world.specs.Play.{Play, Said, empty_reading, is_within, line_at, then_says, end_reading, broken_reading, says_from}
-use Rattle.ill_world.specs.Play.{lines_in}
-use Rattle.ill_world.specs.Play.{reading_from}
+use Rattle.ill_world.specs.Play.{lines_in, reading_from}
 use Rattle.ill_world.specs.Simulating.{has_lf}
 use Rattle.ill_world.proofs.Texts.{line_first, line_alone, some_line, line_begins}
 

@@ -22,7 +22,7 @@ use Rattle.ill_world.specs.DeskCounts.{is_one_of}
 use Rattle.ill_world.specs.DeskSafety.{DesksInvariant}
 use Rattle.ill_world.specs.Round.{sends_and_delivers}
 use Rattle.ill_world.specs.DeskRound.{passes_side}
-use Rattle.ill_world.specs.Night.{wants_sending}
+use Rattle.ill_words.specs.Sending.{wants_sending}
 use Rattle.ill_world.specs.DeskNight.{desk_half_if, is_asked_by, desk_asking_half, desk_night_of}
 use Rattle.ill_world.specs.Shelves.{ShelfEvent, group_of, said_in, events_at}
 use Rattle.ill_world.proofs.Parties.{RowsGrow}

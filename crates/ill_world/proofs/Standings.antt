@@ -34,8 +34,7 @@ use Rattle.ill_saved.specs.declared.role.Role.{Role as Who}
 use Rattle.ill_saved.specs.declared.role.Role.TheVariants as who
 use Rattle.ill_world.specs.declared.event.Event.{Event}
 use Rattle.ill_world.specs.Invariant.{WasSent, RequesterInvariant, ResponderInvariant, RequesterSideInvariant}
-use Rattle.ill_world.specs.Invariant.{ResponderSideInvariant}
-use Rattle.ill_world.specs.Invariant.{PartyInvariant, Invariant}
+use Rattle.ill_world.specs.Invariant.{ResponderSideInvariant, PartyInvariant, Invariant}
 use Rattle.ill_world.proofs.DueDates.{TransitionsKeepDue, due_after}
 use Rattle.ill_world.proofs.Sendings.{prefix_of_itself}
 use Rattle.ill_world.proofs.Kept.{RowsGrow, Keeps, party_kept, more_sent, was_sent_still}

@@ -12,8 +12,7 @@ use Rattle.ill_world.specs.declared.script.ScriptLine.TheVariants as lines
 use Rattle.ill_world.specs.declared.fault.SimFault.{SimFault}
 use Rattle.ill_world.specs.declared.fault.SimFault.TheVariants.{Script, Read, Write, OutOfMemory}
 use Rattle.ill_world.specs.Play.{Play, Said, empty_reading, line_at, then_says, end_reading, broken_reading, says_from}
-use Rattle.ill_world.specs.Play.{reading_from, trace_from}
-use Rattle.ill_world.specs.Play.{OfAll, Answers, Plays}
+use Rattle.ill_world.specs.Play.{reading_from, trace_from, OfAll, Answers, Plays}
 use Rattle.ill_world.specs.Simulating.{IsLine, ReadsLine, PerformsLine, StepsLine, IsBeforeEnd, FindsEnd, IsUsedUp}
 use Rattle.ill_world.proofs.Scripts.{within, line_within, says_line, says_rest, ends_line, breaks_nothing, says_too_long}
 use Rattle.ill_world.proofs.Scripts.{says_too_many, only_bad}

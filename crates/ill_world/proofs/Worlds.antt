@@ -6,7 +6,7 @@ use Rattle.ill_saved.specs.declared.role.Role.{Role as Who}
 use Rattle.ill_saved.specs.declared.role.Role.TheVariants as who
 use Rattle.ill_world.specs.declared.event.Event.{Event}
 use Rattle.ill_world.specs.declared.event.Event.TheVariants as events
-use Rattle.ill_world.specs.declared.event.Outcome.{Outcome}
+use Rattle.ill_words.specs.declared.outcome.Outcome.{Outcome}
 use Rattle.ill_world.specs.World.{Party, Parties, TwoOf, happens_at, first_party, first_world, party, with_party, who_of}
 use Rattle.ill_world.specs.World.{happens_to, happens}
 use Rattle.ill_saved.specs.Side.{idle_side, other}

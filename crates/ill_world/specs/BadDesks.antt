@@ -17,8 +17,8 @@ use Rattle.ill_saved.specs.Holdings.{DeskEntry}
 use Rattle.ill_saved.specs.ManySides.{found_by, txn_held, held_for}
 use Rattle.ill_world.specs.declared.event.DeskEvent.{DeskEvent}
 use Rattle.ill_world.specs.declared.event.DeskEvent.TheVariants.{Wish, Deed, Send, Deliver}
-use Rattle.ill_world.specs.declared.event.DeskOutcome.{DeskOutcome}
-use Rattle.ill_world.specs.declared.event.DeskOutcome.TheVariants.{Plain, NoSuchTransaction, DeskFull}
+use Rattle.ill_words.specs.declared.outcome.DeskOutcome.{DeskOutcome}
+use Rattle.ill_words.specs.declared.outcome.DeskOutcome.TheVariants.{Plain, NoSuchTransaction, DeskFull}
 use Rattle.ill_world.specs.World.{Parties, party, who_of, sent_message}
 use Rattle.ill_world.specs.Desks.{DeskParties, plain, sent_for, desks_happen}
 use Rattle.ill_world.specs.BadWorlds.{IsUnheeded}

@@ -22,8 +22,8 @@ use Rattle.ill_saved.specs.Side.{state_of, due_date_of, issued_of}
 use Rattle.ill_saved.specs.declared.role.Role.TheVariants.{Requester, Responder}
 use Rattle.ill_world.specs.declared.event.Event.{Event}
 use Rattle.ill_world.specs.declared.event.Event.TheVariants.{Deliver, Restart}
-use Rattle.ill_world.specs.declared.event.Outcome.{Outcome}
-use Rattle.ill_world.specs.declared.event.Outcome.TheVariants.{Answered}
+use Rattle.ill_words.specs.declared.outcome.Outcome.{Outcome}
+use Rattle.ill_words.specs.declared.outcome.Outcome.TheVariants.{Answered}
 use Rattle.ill_world.specs.World.{Party, Parties, happens, sent_message}
 
 -- `side` is the live or the landed side of `p`.

@@ -11,8 +11,8 @@ use Rattle.ill_saved.specs.Holdings.{DeskEntry}
 use Rattle.ill_saved.specs.ManySides.{found_by, txn_held}
 use Rattle.ill_world.specs.declared.event.DeskEvent.{DeskEvent}
 use Rattle.ill_world.specs.declared.event.DeskEvent.TheVariants.{Wish, Deed, Send, Deliver}
-use Rattle.ill_world.specs.declared.event.DeskOutcome.{DeskOutcome}
-use Rattle.ill_world.specs.declared.event.DeskOutcome.TheVariants.{Plain, NoSuchTransaction, DeskFull}
+use Rattle.ill_words.specs.declared.outcome.DeskOutcome.{DeskOutcome}
+use Rattle.ill_words.specs.declared.outcome.DeskOutcome.TheVariants.{Plain, NoSuchTransaction, DeskFull}
 use Rattle.ill_world.specs.World.{Party, Parties, party, sent_message}
 use Rattle.ill_world.specs.Changes.{MayChange, OnlyLandedChanges}
 use Rattle.ill_world.specs.Desks.{Sending, DeskParty, DeskParties, txn_sent, sent_for, desks_happen}

@@ -9,7 +9,8 @@ use Rattle.ill_world.specs.declared.event.DeskEvent.{DeskEvent}
 use Rattle.ill_world.specs.World.{party}
 use Rattle.ill_world.specs.Desks.{DeskParties, desks_run}
 use Rattle.ill_world.specs.DeskRound.{saves_and_passes}
-use Rattle.ill_world.specs.Night.{wants_sending, asks}
+use Rattle.ill_words.specs.Sending.{wants_sending}
+use Rattle.ill_world.specs.Night.{asks}
 
 -- Returns the save of desk `who`, and then events that pass on all messages of those sides that `wants` selects.
 abbrev pub desk_half_if : (Side → Bool) → Who → DeskParties → List DeskEvent

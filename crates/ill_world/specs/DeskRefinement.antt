@@ -12,7 +12,7 @@ use Rattle.ill_saved.specs.Store.{MemoryStoreState}
 use Rattle.ill_saved.specs.Holdings.{is_refusal, landed_live}
 use Rattle.ill_saved.specs.Desk.{DeskOf}
 use Rattle.ill_saved.specs.ManySides.{DeskContents, many_sides, sides_held, whole_of}
-use Rattle.ill_world.specs.declared.event.DeskOutcome.{DeskOutcome}
+use Rattle.ill_words.specs.declared.outcome.DeskOutcome.{DeskOutcome}
 use Rattle.ill_world.specs.PartyRefinement.{read_or}
 use Rattle.ill_world.specs.Desks.{Sending, DeskParty, fault_seen}
 

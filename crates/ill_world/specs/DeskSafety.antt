@@ -11,8 +11,8 @@ use Rattle.ill_saved.specs.declared.side.Side.{Side}
 use Rattle.ill_saved.specs.ManySides.{held_for}
 use Rattle.ill_world.specs.declared.event.DeskEvent.{DeskEvent}
 use Rattle.ill_world.specs.declared.event.DeskEvent.TheVariants.{Deliver}
-use Rattle.ill_world.specs.declared.event.DeskOutcome.{DeskOutcome}
-use Rattle.ill_world.specs.declared.event.DeskOutcome.TheVariants.{Plain}
+use Rattle.ill_words.specs.declared.outcome.DeskOutcome.{DeskOutcome}
+use Rattle.ill_words.specs.declared.outcome.DeskOutcome.TheVariants.{Plain}
 use Rattle.ill_world.specs.World.{sent_message, first_world, run_of}
 use Rattle.ill_world.specs.Desks.{DeskParty, DeskParties, first_desks, sent_for, desks_happen, desks_run, project, events_for}
 use Rattle.ill_world.specs.DeskCounts.{DesksCount}

@@ -1,19 +1,13 @@
 -- The trace of a script of desks (this profile's own).
-use Rattle.std.specs.Prelude.{ℕ, List, codes}
+use Rattle.std.specs.Prelude.{ℕ, List}
 use Rattle.ill_values.specs.TxnId.{Qualifiers}
 use Rattle.ill_saved.specs.declared.shown.Shown.{Shown}
 use Rattle.ill_saved.specs.Side.{shown_of}
 use Rattle.ill_saved.specs.ManySides.{held_for}
-use Rattle.ill_world.specs.declared.event.DeskOutcome.{DeskOutcome}
-use Rattle.ill_world.specs.declared.event.DeskOutcome.TheVariants.{Plain, NoSuchTransaction, DeskFull}
+use Rattle.ill_words.specs.declared.outcome.DeskOutcome.{DeskOutcome}
 use Rattle.ill_world.specs.Desks.{DeskParty, DeskParties}
-use Rattle.ill_world.specs.Trace.{outcome_word, line_of}
-
--- Returns the word that a trace shows for an outcome at a desk.
-abbrev pub desk_outcome_word : DeskOutcome → List ℕ
-desk_outcome_word (Plain outcome) = outcome_word outcome
-desk_outcome_word NoSuchTransaction = codes "no-such-transaction"
-desk_outcome_word DeskFull = codes "desk-full"
+use Rattle.ill_world.specs.Trace.{line_of}
+use Rattle.ill_words.specs.Outcome.{desk_outcome_word}
 
 -- Returns the parts of the side of `txn` that a trace shows. A side that is not held is idle.
 abbrev pub desk_shown : Qualifiers → DeskParty → Shown

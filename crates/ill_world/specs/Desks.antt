@@ -22,11 +22,11 @@ use Rattle.ill_world.specs.declared.event.Event.{Event}
 use Rattle.ill_world.specs.declared.event.Event.TheVariants as events
 use Rattle.ill_world.specs.declared.event.DeskEvent.{DeskEvent}
 use Rattle.ill_world.specs.declared.event.DeskEvent.TheVariants.{Wish, Deed, Save, SaveFault, Send, Deliver, Noise, Restart}
-use Rattle.ill_world.specs.declared.event.Outcome.{Outcome}
-use Rattle.ill_world.specs.declared.event.Outcome.TheVariants.{Done, Saved, Faulted, Answered, Refused, NotSent, Garbled, Forged}
-use Rattle.ill_world.specs.declared.event.Outcome.TheVariants.{Restarted}
-use Rattle.ill_world.specs.declared.event.DeskOutcome.{DeskOutcome}
-use Rattle.ill_world.specs.declared.event.DeskOutcome.TheVariants.{Plain, NoSuchTransaction, DeskFull}
+use Rattle.ill_words.specs.declared.outcome.Outcome.{Outcome}
+use Rattle.ill_words.specs.declared.outcome.Outcome.TheVariants.{Done, Saved, Faulted, Answered, Refused, NotSent, Garbled}
+use Rattle.ill_words.specs.declared.outcome.Outcome.TheVariants.{Forged, Restarted}
+use Rattle.ill_words.specs.declared.outcome.DeskOutcome.{DeskOutcome}
+use Rattle.ill_words.specs.declared.outcome.DeskOutcome.TheVariants.{Plain, NoSuchTransaction, DeskFull}
 use Rattle.ill_world.specs.World.{Party, TwoOf, Parties, nothing_sent, sent_message, with_sent, sends_by, who_of, happens}
 use Rattle.ill_world.specs.World.{happens_at, run_by}
 

@@ -1,8 +1,6 @@
 -- A night is a round in which a side is silent if its loan is over. A responder is not silent if it was asked in this
 -- night. The night is this profile's own.
-use Rattle.std.specs.Prelude.{◌≡◌, ◌⊎◌, Bool, true, false, not, ◌&&◌, ◌||◌, List, [], ◌∷◌, ◌++◌}
-use Rattle.ill_core.specs.declared.turn.Turn.{Turn}
-use Rattle.ill_core.specs.declared.turn.Turn.TheVariants.{Over, Mine, Theirs}
+use Rattle.std.specs.Prelude.{◌≡◌, ◌⊎◌, Bool, true, false, not, ◌&&◌, List, [], ◌∷◌, ◌++◌}
 use Rattle.ill_core.specs.State.{is_among}
 use Rattle.ill_core.specs.Issued.{is_none}
 use Rattle.ill_core.specs.Requester.{RequesterRecord}
@@ -10,7 +8,6 @@ use Rattle.ill_core.specs.Responder.{ResponderRecord}
 use Rattle.ill_saved.specs.declared.side.Side.{Side}
 use Rattle.ill_saved.specs.declared.side.Side.TheVariants as sides
 use Rattle.ill_saved.specs.Side.{issued_of}
-use Rattle.ill_saved.specs.SideVerbs.{turn_of}
 use Rattle.ill_saved.specs.declared.role.Role.{Role as Who}
 use Rattle.ill_saved.specs.declared.role.Role.TheVariants.{Requester, Responder}
 use Rattle.ill_world.specs.declared.event.Event.{Event}
@@ -18,24 +15,9 @@ use Rattle.ill_world.specs.declared.event.Event.TheVariants.{Save}
 use Rattle.ill_world.specs.World.{Parties, run_of}
 use Rattle.ill_world.specs.Agreement.{Facing}
 use Rattle.ill_world.specs.Round.{half_of, faced_in, AreInStep}
+use Rattle.ill_words.specs.Sending.{is_over, wants_sending}
 
 -- ---- the sides that send
-
--- Returns true if nobody acts next.
-abbrev pub is_nobodys : Turn → Bool
-is_nobodys Over = true
-is_nobodys Mine = false
-is_nobodys Theirs = false
-
--- Returns true if the loan is over for `side`: nobody acts next, as far as its record tells.
-abbrev pub is_over : Side → Bool
-is_over side = is_nobodys (turn_of side)
-
--- Returns true if `side` sends its messages in this night. It does if its loan is not over. A responder does so too if
--- it was asked: a message of the loan came in this night.
-abbrev pub wants_sending : Bool → Side → Bool
-wants_sending was_asked (sides.Requester x) = not (is_over (sides.Requester x))
-wants_sending was_asked (sides.Responder y) = not (is_over (sides.Responder y)) || was_asked
 
 -- Returns true if the requester sends its messages in this night, and has issued one.
 abbrev pub asks : Side → Bool

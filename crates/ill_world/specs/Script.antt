@@ -7,7 +7,7 @@ use Rattle.ill_world.specs.declared.event.Event.{Event}
 use Rattle.ill_world.specs.declared.event.Event.TheVariants.{Wish, Deed, Save, SaveFault, Send, Deliver, Noise, Restart}
 use Rattle.ill_world.specs.declared.script.ScriptLine.{ScriptLine}
 use Rattle.ill_world.specs.declared.script.ScriptLine.TheVariants as lines
-use Rattle.ill_world.specs.Words.{◌>>=◌, named, who_named, landed_named, day_of, number_of, bytes_of, wish_of, deed_of}
+use Rattle.ill_words.specs.Words.{◌>>=◌, named, who_named, landed_named, day_of, number_of, bytes_of, wish_of, deed_of}
 
 -- Returns the words of a line: its nonempty parts between spaces.
 unfoldable pub words_of : List ℕ → List (List ℕ)

@@ -5,18 +5,18 @@ ghost use Rattle.ill_der.specs.ShortForm.{apdu_at};
 ghost use Rattle.ill_saved.specs.ManySides.{desk_acts, found_by, held_for, sides_held, txn_held};
 ghost use Rattle.ill_world.specs.World as model;
 ghost use Rattle.ill_world.specs.Desks as desks;
-ghost use Rattle.ill_world.specs.declared.event.DeskOutcome.TheVariants as desk_outcomes;
-ghost use Rattle.ill_world.specs.declared.event.Outcome.TheVariants as outcomes;
+ghost use Rattle.ill_words.specs.declared.outcome.DeskOutcome.TheVariants as desk_outcomes;
+ghost use Rattle.ill_words.specs.declared.outcome.Outcome.TheVariants as outcomes;
 ghost use Rattle.ill_world.specs.PartyRefinement.{GivesOutcome};
 ghost use Rattle.ill_world.specs.DeskTrace.{desk_shown};
 ghost use Rattle.ill_world.specs.DeskRefinement.{desk_party_of, CanBeSeen, FaultSeen, IsReadyDesk};
 
 use crate::desk_sent::DeskSent;
-use crate::event::{DeskOutcome, Outcome, Who};
 use crate::message::Message;
 use ill_der::{DerFault, decode};
 use ill_saved::{Action, Desk, DeskFault, MemoryStore, NextCall, Shown, Sides, StoreFault};
 use ill_values::{Number, OutOfMemory, TxnId};
+use ill_words::{DeskOutcome, Outcome, Who};
 use std::alloc::Global;
 use std::marker::Model;
 

@@ -5,8 +5,8 @@ ghost use Rattle.ill_world.specs.DeskScript.{desk_meaning, desk_line_of, use_lin
 
 use crate::event::Event;
 use crate::script::{ScriptLine, read_words, split_words};
-use crate::words::is;
 use ill_values::{OutOfMemory, TextFault, TxnId};
+use ill_words::words::is;
 use std::alloc::Global;
 
 /// A line of a script of two desks has one of these meanings.

@@ -3,7 +3,7 @@
 ghost use Rattle.std.specs.Prelude.{◌≡◌, ◌++◌, ℕ, take, IfOk, OnOk};
 ghost use Rattle.ill_values.specs.TxnId.{Qualifiers};
 ghost use Rattle.ill_saved.specs.ManySides.{held_for, sides_held};
-ghost use Rattle.ill_world.specs.World.{party, who_of};
+ghost use Rattle.ill_world.specs.World.{party};
 ghost use Rattle.ill_world.specs.Desks as model;
 ghost use Rattle.ill_world.specs.Desks.{plain, project, Projects};
 ghost use Rattle.ill_world.specs.Agreement.{KeepsDates};
@@ -15,11 +15,12 @@ ghost use Rattle.ill_world.specs.DeskRound.{passes_side, saves_and_passes, desk_
 
 use crate::desk_laws;
 use crate::desk_party::{DeskParty, heard};
-use crate::event::{DeskEvent, DeskOutcome, Outcome, Who};
+use crate::event::DeskEvent;
 use crate::trace::push_line;
 use crate::world::{copy, sends_and_delivers};
 use ill_saved::{Action, Side, Sides};
 use ill_values::{OutOfMemory, TxnId};
+use ill_words::{DeskOutcome, Outcome, Who};
 use std::alloc::Global;
 use std::marker::Model;
 

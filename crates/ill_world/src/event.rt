@@ -4,16 +4,11 @@ ghost use Rattle.std.specs.Prelude.{◌≡◌, IfOk};
 ghost use Rattle.ill_world.specs.World.{who_of};
 ghost use Rattle.ill_world.specs.Desks.{plain};
 ghost use Rattle.ill_world.specs.DeskScript.{in_txn};
-ghost use Rattle.ill_world.specs.Trace.{outcome_word, taking_word, refusal_word};
-ghost use Rattle.ill_world.specs.DeskTrace.{desk_outcome_word};
 
-use crate::bytes::Bytes;
-use ill_core::{Deed, Refusal, Taking, Wish};
+use ill_core::{Deed, Wish};
 use ill_values::{Day, Number, OutOfMemory, TxnId};
+use ill_words::{Bytes, Who};
 use std::alloc::Global;
-
-/// The role of the side to which an event happens.
-pub use ill_saved::Role as Who;
 
 /// An event may happen to one of the two sides.
 #[derive(Debug, PartialEq, Eq, Drop)]
@@ -117,108 +112,5 @@ impl DeskEvent {
             | DeskEvent::Noise(who, _)
             | DeskEvent::Restart(who) => *who,
         }
-    }
-}
-
-/// An event has one of these outcomes. Those from `Refused` on to `Forged` change nothing. `Answered` changes nothing
-/// unless the message was `Taken`.
-#[derive(Clone, Copy, Debug, PartialEq, Eq, Hash)]
-pub enum Outcome {
-    /// The action was done, and its message is issued.
-    Done,
-    /// The side was saved, and all its messages are released.
-    Saved,
-    /// The save failed, and releases no message.
-    Faulted,
-    /// The message was sent.
-    Sent,
-    /// The message was delivered, and has this answer.
-    Answered(Taking),
-    /// The action or the message was refused.
-    Refused(Refusal),
-    /// The side has issued no message with this number.
-    NoSuchMessage,
-    /// The message is not released, so it may not be sent.
-    NotSaved,
-    /// The other side has sent no message with this number.
-    NotSent,
-    /// The bytes are not exactly one APDU.
-    Garbled,
-    /// The bytes are an APDU of this transaction that neither side has sent.
-    Forged,
-    /// The side in memory was replaced by the one that has landed.
-    Restarted,
-}
-
-impl Outcome {
-    /// Returns the word of the outcome, as `done` or `not-now`.
-    pub fn word(self) -> &'static str
-        ensures { result.now ≡ outcome_word self }
-    {
-        match self {
-            Outcome::Done => "done",
-            Outcome::Saved => "saved",
-            Outcome::Faulted => "faulted",
-            Outcome::Sent => "sent",
-            Outcome::Answered(taking) => word_of_taking(taking),
-            Outcome::Refused(refusal) => word_of_refusal(refusal),
-            Outcome::NoSuchMessage => "no-such-message",
-            Outcome::NotSaved => "not-saved",
-            Outcome::NotSent => "not-sent",
-            Outcome::Garbled => "garbled",
-            Outcome::Forged => "forged",
-            Outcome::Restarted => "restarted",
-        }
-    }
-}
-
-/// An event at a desk of many transactions has one of these outcomes. The last two change nothing.
-#[derive(Clone, Copy, Debug, PartialEq, Eq, Hash)]
-pub enum DeskOutcome {
-    /// The event has this outcome in its transaction.
-    Plain(Outcome),
-    /// The desk holds no side of the transaction, and the event begins none.
-    NoSuchTransaction,
-    /// The desk holds as many sides as it may, and the event would begin one more.
-    DeskFull,
-}
-
-impl DeskOutcome {
-    /// Returns the word of the outcome.
-    pub fn word(self) -> &'static str
-        ensures { result.now ≡ desk_outcome_word self }
-    {
-        match self {
-            DeskOutcome::Plain(outcome) => outcome.word(),
-            DeskOutcome::NoSuchTransaction => "no-such-transaction",
-            DeskOutcome::DeskFull => "desk-full",
-        }
-    }
-}
-
-fn word_of_taking(taking: Taking) -> &'static str
-    ensures { result.now ≡ taking_word taking }
-{
-    match taking {
-        Taking::Taken => "taken",
-        Taking::Repeat => "repeat",
-        Taking::Stale => "stale",
-        Taking::Conflict(_) => "conflict",
-    }
-}
-
-fn word_of_refusal(refusal: Refusal) -> &'static str
-    ensures { result.now ≡ refusal_word refusal }
-{
-    match refusal {
-        Refusal::OtherTransaction => "other-transaction",
-        Refusal::WrongRole => "wrong-role",
-        Refusal::NotNow(_) => "not-now",
-        Refusal::DateEarlier => "date-earlier",
-        Refusal::DateNotLater => "date-not-later",
-        Refusal::NotDue => "not-due",
-        Refusal::NotExpired => "not-expired",
-        Refusal::NumbersUsed => "numbers-used",
-        Refusal::OutOfMemory => "memory",
     }
 }

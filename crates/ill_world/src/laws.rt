@@ -31,8 +31,10 @@ ghost use Rattle.ill_world.specs.BadTraces.{Leaves, IsOfNoPrefix};
 ghost use Rattle.ill_world.specs.BadRounds.{cut_round, last_unheard};
 ghost use Rattle.ill_world.specs.Changes.{MayChange, OnlyLandedChanges, KeepsSent, can_be_seen};
 ghost use Rattle.ill_world.specs.Round.{round_of, CanAnswer, AreInStep, InStep, OutOfStep};
-ghost use Rattle.ill_world.specs.Night.{is_over, wants_sending, asks, night_of, AreAtRest, AreInStepOrAtRest, AtRest};
-ghost use Rattle.ill_world.specs.BadNights.{MisjudgesEnd, MisjudgesSending, MisjudgesAsking, Restless};
+ghost use Rattle.ill_words.specs.Sending.{is_over, wants_sending};
+ghost use Rattle.ill_world.specs.Night.{asks, night_of, AreAtRest, AreInStepOrAtRest, AtRest};
+ghost use Rattle.ill_words.specs.BadSending.{MisjudgesEnd, MisjudgesSending};
+ghost use Rattle.ill_world.specs.BadNights.{MisjudgesAsking, Restless};
 ghost use Rattle.ill_world.specs.Invariant.{WasSent, RequesterInvariant, ResponderInvariant, Invariant};
 
 /// Every wish of a requester keeps `RequesterInvariant`, and so does every delivery of a message that the responder has

@@ -3,7 +3,6 @@
 #![tactic(auto)]
 
 mod ahead;
-mod bytes;
 pub mod desk_laws;
 mod desk_party;
 mod desk_script;
@@ -15,7 +14,6 @@ mod fault;
 pub mod laws;
 mod lines;
 mod message;
-mod night;
 mod party;
 mod performer;
 mod script;
@@ -23,15 +21,14 @@ mod sent;
 pub mod shelf_laws;
 mod simulation;
 mod trace;
-pub mod words;
 mod world;
 
-pub use bytes::Bytes;
 pub use desk_simulation::simulate_desks;
 pub use desk_world::{DeskWorld, run_desks};
-pub use event::{DeskEvent, DeskOutcome, Event, Outcome, Who};
+pub use event::{DeskEvent, Event};
 pub use fault::SimFault;
-pub use night::{is_over, wants_sending};
+pub use ill_words::{
+    Bytes, DeskOutcome, Outcome, Who, is_over, push_shown, push_side, wants_sending, words,
+};
 pub use simulation::simulate;
-pub use trace::{push_shown, push_side};
 pub use world::{World, run};

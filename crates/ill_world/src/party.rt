@@ -5,16 +5,16 @@ ghost use Rattle.ill_der.specs.ShortForm.{apdu_at};
 ghost use Rattle.ill_core.specs.Issued.{message};
 ghost use Rattle.ill_saved.specs.Side.{acts, issued_of, idle_of, txn_of};
 ghost use Rattle.ill_world.specs.World as model;
-ghost use Rattle.ill_world.specs.declared.event.Outcome.TheVariants as outcomes;
+ghost use Rattle.ill_words.specs.declared.outcome.Outcome.TheVariants as outcomes;
 ghost use Rattle.ill_world.specs.Trace.{party_shown};
 ghost use Rattle.ill_world.specs.PartyRefinement.{party_of, IsReady, GivesOutcome, is_of};
 
-use crate::event::Outcome;
 use crate::message::Message;
 use crate::sent::Sent;
 use ill_der::{DerFault, decode};
 use ill_saved::{Action, Desk1, DeskFault, MemoryStore, NextCall, Shown, Side, StoreFault};
 use ill_values::{Number, OutOfMemory};
+use ill_words::Outcome;
 use std::alloc::Global;
 use std::marker::Model;
 

@@ -12,8 +12,7 @@ ghost use Rattle.ill_world.specs.Agreement.{Agrees};
 ghost use Rattle.ill_world.specs.Round.{CanAnswer};
 ghost use Rattle.ill_world.specs.Night.{AreInStepOrAtRest};
 ghost use Rattle.ill_world.specs.DeskNight.{desk_night_of};
-ghost use Rattle.ill_world.specs.Shelves.{Shelves, ShelfEvent, first_shelves, home, shelves_happen, shelves_run};
-ghost use Rattle.ill_world.specs.Shelves.{said_in, events_at, IsSafeShelfRun, IsAgreeingShelfRun};
+ghost use Rattle.ill_world.specs.Shelves.{Shelves, ShelfEvent, first_shelves, home, shelves_happen, shelves_run, said_in, events_at, IsSafeShelfRun, IsAgreeingShelfRun};
 
 use crate::desk_laws;
 

@@ -12,13 +12,14 @@ ghost use Rattle.ill_world.specs.PartyRefinement.{GivesOutcome};
 ghost use Rattle.ill_world.specs.Round.{sends_and_delivers, half_of, round_of, Performs, CanAnswer, AreInStep};
 ghost use Rattle.ill_world.specs.declared.event.Event.TheVariants.{Save};
 
-use crate::event::{Event, Outcome, Who};
+use crate::event::Event;
 use crate::laws;
 use crate::party::Party;
 use crate::trace::push_line;
 use ill_core::{Requester, Responder, Wish};
 use ill_saved::{Action, Side};
 use ill_values::{Number, OutOfMemory, TxnId};
+use ill_words::{Outcome, Who};
 use std::alloc::Global;
 use std::marker::Model;
 

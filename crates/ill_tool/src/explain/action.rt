@@ -1,13 +1,13 @@
 //! The lines about an action whose words are wrong.
 
 use crate::command_line::Argument;
-use crate::explain::arguments::tell_no_day;
+use crate::explain::day::tell_no_day;
 use crate::explain::shown::Shown;
 use crate::explain::verbs::{Form, Parts, form_of, names_of, nearest};
-use crate::status::role_name;
 use clap::ArgMatches;
 use ill_saved::{Desk, FileStore, RECORD_LIMIT, Role};
 use ill_values::{Day, Item, OutOfMemory, TextFault};
+use ill_words::names::role_name;
 use std::alloc::Global;
 use std::rt::Files;
 

@@ -2,14 +2,15 @@
 
 use crate::command_line::{Argument, Name};
 use crate::explain::action::tell_action;
+use crate::explain::day::tell_day;
 use crate::explain::file::tell_reserved;
 use crate::explain::shown::Shown;
 use crate::explain::verbs::nearest;
 use clap::ArgMatches;
 use ill_core::{STATES, State};
 use ill_saved::LockFiles;
-use ill_values::{Day, DayFault, OutOfMemory, TextFault, TxnId};
-use ill_world::words::{number, who};
+use ill_values::{OutOfMemory, TextFault, TxnId};
+use ill_words::words::{number, who};
 use std::alloc::Global;
 
 /// Appends a line about each wrong argument of a command. If each is right alone, it appends the lines about all
@@ -128,27 +129,6 @@ fn tell_bad_byte(text: &mut String, name: &str, word: &str) -> Result<(), OutOfM
         }
     }
     Ok(())
-}
-
-/// Appends a line about a day, if it is none.
-fn tell_day(text: &mut String, word: &str) -> Result<(), OutOfMemory> {
-    match Day::read(word.as_bytes()) {
-        Ok(_) => Ok(()),
-        Err(fault) => tell_no_day(text, word, fault),
-    }
-}
-
-/// Appends a line about a word that is no day.
-pub fn tell_no_day(text: &mut String, word: &str, fault: DayFault) -> Result<(), OutOfMemory> {
-    let shown = Shown::of(word);
-    match fault {
-        DayFault::NotDigits => writeln!(
-            text,
-            "  {shown} is no day: a day has eight digits, as 20250301."
-        ),
-        DayFault::OutOfRange => writeln!(text, "  {shown} is no day: the years are 1900 to 9999."),
-        DayFault::NotADate => writeln!(text, "  {shown} is no day: the calendar has no such day."),
-    }
 }
 
 /// Appends a line about a state, if it is none.

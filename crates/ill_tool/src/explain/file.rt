@@ -1,11 +1,11 @@
 //! The lines about a fault of a desk's file.
 
-use crate::came::CAME;
 use crate::command_line::Argument;
 use crate::explain::shown::Shown;
-use crate::file::open;
-use crate::folder::{BESIDE, desk_paths, folder_of};
 use clap::ArgMatches;
+use ill_files::folder::desk_paths;
+use ill_files::open::open;
+use ill_files::paths::{BESIDE, CAME, folder_of};
 use ill_saved::{DeskFault, LockFiles, RECORD_LIMIT, RecordFault, StoreFault};
 use ill_values::OutOfMemory;
 use std::alloc::Global;
@@ -33,7 +33,7 @@ pub fn tell_desk_fault<T: LockFiles>(
         None => matches.get_str(Argument::File.id()),
     };
     match path {
-        Some(path) => tell_fault_at(rt, alloc, text, path, has_mails(matches), fault),
+        Some(path) => tell_fault_at(rt, text, path, has_mails(matches), fault),
         None => writeln!(
             text,
             "  A line before has a name that is no UTF-8: no file of that name is opened."
@@ -44,12 +44,12 @@ pub fn tell_desk_fault<T: LockFiles>(
 /// Appends the cause of a fault of the desk in the file at `path`.
 pub fn tell_fault_at<T: LockFiles>(
     rt: &T,
-    alloc: Global,
     text: &mut String,
     path: &str,
     has_mails: bool,
     fault: DeskFault,
 ) -> Result<(), OutOfMemory> {
+    let alloc = *text.allocator();
     let shown = Shown::of(path);
     match fault {
         DeskFault::Exists => writeln!(

@@ -13,12 +13,12 @@ use std::rt::Files;
 /// Appends the lines about an option among the words of an action, or about a desk of a shelf.
 pub fn tell_refused<T: Files>(
     rt: &T,
-    alloc: Global,
     text: &mut String,
     words: &[&str],
     name: Name,
     matches: &ArgMatches<'_>,
 ) -> Result<(), OutOfMemory> {
+    let alloc = *text.allocator();
     let action = matches.get_strs(Argument::Words.id()).unwrap_or_default();
     if has_option(words, action) {
         return tell_options(text, action);

@@ -3,9 +3,9 @@
 use crate::command_line::Argument;
 use crate::explain::file::tell_fault_at;
 use crate::explain::shown::Shown;
-use crate::shelf::Shelf;
-use crate::sorting::{Home, home_at};
 use clap::ArgMatches;
+use ill_files::shelf::Shelf;
+use ill_mail::sorting::{Home, home_at};
 use ill_saved::{DeskFault, LockFiles};
 use ill_values::OutOfMemory;
 use std::alloc::Global;
@@ -57,6 +57,6 @@ fn tell_of_group<T: LockFiles>(
             text,
             "  {shown} is not there: `request` begins the group, with --new-group before it."
         ),
-        _ => tell_fault_at(rt, alloc, text, desk, false, fault),
+        _ => tell_fault_at(rt, text, desk, false, fault),
     }
 }

@@ -3,9 +3,10 @@
 ghost use Rattle.std.specs.Prelude.{◌≡◌, map, IfOk};
 ghost use Rattle.ill_world.specs.Script.{event_of, deed_event, side_event, bare_event, event_with};
 
-use crate::event::{Event, Who};
-use crate::words::{bytes, day, deed, is, landed, number, who, wish};
+use crate::event::Event;
 use ill_values::OutOfMemory;
+use ill_words::Who;
+use ill_words::words::{bytes, day, deed, is, landed, number, who, wish};
 use std::alloc::Global;
 
 /// Returns the event that the words say, if they say one.

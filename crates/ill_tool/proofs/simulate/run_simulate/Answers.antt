@@ -15,5 +15,5 @@ returns-in-Ok g c = simulation_performed _ _ _ _ _ _ (Ok c.in-Ok.count) c.in_ok-
 
 -- Proves the contract of `run_simulate` if the simulation fails. By `performed_until` that fault is the answer.
 pub returns : goal.returns
-returns g c = performed_until _ _ _ _ _ _ c.in-Err.fault c.into.result c.in_ok-txn.ensures c.in-Err.ensures.simulates
-    c.into.ensures
+returns g c = performed_until _ _ _ _ _ _ c.in-Err.fault c.fault_of.result c.in_ok-txn.ensures c.in-Err.ensures.simulates
+    c.fault_of.ensures

@@ -2,21 +2,21 @@
 use Rattle.std.proofs.Common.{refl, sym, subst}
 use Rattle.ill_tool.specs.declared.request.Request.{Request}
 use Rattle.ill_tool.specs.Asked.{asked}
-use Rattle.ill_tool.specs.Commands.{Runs}
+use Rattle.ill_tool.specs.Runs.{Runs}
 use Rattle.ill_tool.proofs.words.run.Goals as goal
 
 -- Proves the contract of `run` for the request `Send`. It is the contract of `send`, which reads no input.
 pub returns-in-Send : goal.returns-in-Send
 returns-in-Send g c =
     let left = g.R.Read.remaining c.args.reader.now in
-    subst (λ (request : Request). Runs (asked request) left left (g.W.Write.contents c.args.writer.now)
-    (g.W.Write.contents c.send.new.writer) c.send.result)
+    subst (λ (request : Request). Runs (asked request) left left (g.W.Write.contents c.args.machine.now.writer)
+    (g.W.Write.contents c.send.new.machine.writer) c.send.result)
     (sym c.in-Send.is) (refl, c.send.ensures)
 
 -- Proves the contract of `run` for the request `Loan`. It is the contract of `loan`, which reads no input.
 pub returns-in-Loan : goal.returns-in-Loan
 returns-in-Loan g c =
     let left = g.R.Read.remaining c.args.reader.now in
-    subst (λ (request : Request). Runs (asked request) left left (g.W.Write.contents c.args.writer.now)
-    (g.W.Write.contents c.loan.new.writer) c.loan.result)
+    subst (λ (request : Request). Runs (asked request) left left (g.W.Write.contents c.args.machine.now.writer)
+    (g.W.Write.contents c.loan.new.machine.writer) c.loan.result)
     (sym c.in-Loan.is) (refl, c.loan.ensures)

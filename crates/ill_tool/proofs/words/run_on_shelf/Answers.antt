@@ -3,8 +3,9 @@ use Rattle.std.proofs.Common.{◌≡◌, Bool, Option, Some, None, refl, sym, su
 use Rattle.std.specs.Prelude.{is_some, option_map}
 use Rattle.ill_tool.specs.declared.request.Request.{Request}
 use Rattle.ill_tool.specs.Asked.{asked}
-use Rattle.ill_tool.specs.Commands.{OutboxAtFile}
-use Rattle.ill_tool.specs.Shelf.{RunsShelf, VisitsShelf}
+use Rattle.ill_mail.specs.Nights.{OutboxAtFile}
+use Rattle.ill_tool.specs.Runs.{RunsShelf}
+use Rattle.ill_mail.specs.Shelf.{VisitsShelf}
 use Rattle.ill_tool.proofs.words.run_on_shelf.Goals as goal
 
 -- An option and its image under `text` are both `Some` or both `None`.
@@ -17,8 +18,8 @@ is_there text None = refl
 pub returns-in-Send : goal.returns-in-Send
 returns-in-Send g c =
     let left = g.R.Read.remaining c.args.reader.now in
-    subst (λ (request : Request). RunsShelf (asked request) left left (g.W.Write.contents c.args.writer.now)
-    (g.W.Write.contents c.send_on_shelf.new.writer) c.send_on_shelf.result)
+    subst (λ (request : Request). RunsShelf (asked request) left left (g.W.Write.contents c.args.machine.now.writer)
+    (g.W.Write.contents c.send_on_shelf.new.machine.writer) c.send_on_shelf.result)
     (sym c.in-Send.is) (refl, c.send_on_shelf.ensures)
 
 -- Proves the contract of `run_on_shelf` for the request `Status`. It is the contract of `status_of_shelf`, which reads
@@ -26,8 +27,8 @@ returns-in-Send g c =
 pub returns-in-Status : goal.returns-in-Status
 returns-in-Status g c =
     let left = g.R.Read.remaining c.args.reader.now in
-    subst (λ (request : Request). RunsShelf (asked request) left left (g.W.Write.contents c.args.writer.now)
-    (g.W.Write.contents c.status_of_shelf.new.writer) c.status_of_shelf.result)
+    subst (λ (request : Request). RunsShelf (asked request) left left (g.W.Write.contents c.args.machine.now.writer)
+    (g.W.Write.contents c.status_of_shelf.new.machine.writer) c.status_of_shelf.result)
     (sym c.in-Status.is) (refl, c.status_of_shelf.ensures)
 
 -- Proves the contract of `run_on_shelf` for the request `Outbox`. It is the contract of `outbox_of_shelf`, which reads
@@ -35,8 +36,8 @@ returns-in-Status g c =
 pub returns-in-Outbox : goal.returns-in-Outbox
 returns-in-Outbox g c =
     let left = g.R.Read.remaining c.args.reader.now in
-    let before = g.W.Write.contents c.args.writer.now in
-    let after = g.W.Write.contents c.outbox_of_shelf.new.writer in
+    let before = g.W.Write.contents c.args.machine.now.writer in
+    let after = g.W.Write.contents c.outbox_of_shelf.new.machine.writer in
     let result = c.outbox_of_shelf.result in
     let sent = subst (λ (has_folder : Bool). VisitsShelf has_folder (OutboxAtFile has_folder) before after result)
     (is_there (λ text. text.now) c.in-Outbox.folder) c.outbox_of_shelf.ensures in
@@ -47,6 +48,6 @@ returns-in-Outbox g c =
 pub returns-in-Exchange : goal.returns-in-Exchange
 returns-in-Exchange g c =
     let left = g.R.Read.remaining c.args.reader.now in
-    subst (λ (request : Request). RunsShelf (asked request) left left (g.W.Write.contents c.args.writer.now)
-    (g.W.Write.contents c.exchange_of_shelf.new.writer) c.exchange_of_shelf.result)
+    subst (λ (request : Request). RunsShelf (asked request) left left (g.W.Write.contents c.args.machine.now.writer)
+    (g.W.Write.contents c.exchange_of_shelf.new.machine.writer) c.exchange_of_shelf.result)
     (sym c.in-Exchange.is) (refl, c.exchange_of_shelf.ensures)

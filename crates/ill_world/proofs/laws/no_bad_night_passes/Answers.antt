@@ -1,8 +1,10 @@
 -- Proves the clauses of `no_bad_night_passes` (`src/laws.rt`). Each case of a wrong answer contradicts its definition,
--- by the lemmas of `BadNights`.
+-- by the lemmas of `BadSendings` and `BadNights`.
 use Rattle.std.proofs.Common.{refl}
-use Rattle.ill_world.specs.Night.{is_over, wants_sending, asks}
-use Rattle.ill_world.proofs.BadNights.{not_misjudged, not_missent, not_misasked, not_at_rest}
+use Rattle.ill_words.specs.Sending.{is_over, wants_sending}
+use Rattle.ill_world.specs.Night.{asks}
+use Rattle.ill_words.proofs.BadSendings.{not_misjudged, not_missent}
+use Rattle.ill_world.proofs.BadNights.{not_misasked, not_at_rest}
 use Rattle.ill_world.proofs.laws.no_bad_night_passes.Goals as goal
 
 pub returns-clause-over : goal.returns-clause-over

@@ -9,7 +9,7 @@ use Rattle.ill_saved.proofs.desk.AnyDesk.restart.Goals as goal
 -- If the store is honest, going back to the bytes that it loads is a restart.
 pub returns-clause-restarts : goal.returns-clause-restarts
 returns-clause-restarts g c =
-    let held = g.H.Holdings in
+    let held = g.H.Held in
     subst (λ desk. (g.S.Store.state desk.store).is_honest ≡ true
     → Restarts (landed_live held.effects (g.S.Store.state desk.store).landed desk.live) (g.S.Store.state desk.store).plan
     c.go_back.result c.go_back.new.self) c.self.view_is

@@ -1,0 +1,27 @@
+-- Answers the contract of `take_on` (`src/take.rt`).
+use Rattle.std.proofs.Common.{rules, ◌≡◌, subst, not, eqb}
+use Rattle.ill_desk.specs.Performing.{view_of}
+use Rattle.ill_desk.specs.Take.{RunsTaking}
+use Rattle.ill_desk.specs.Telling.{wording}
+use Rattle.ill_desk.proofs.take.take_on.Goals as goal
+
+module _ {T V D B : Type 0} (view : T → V) (kept : D → B) (P : V → V → B → B → Type 0) where
+  -- If `P` holds of the views of some values, it holds of the views of equal values.
+  at_same : (a x b y : T) (p q r s : D) → a ≡ x → b ≡ y → p ≡ q → r ≡ s → P (view a) (view b) (kept p) (kept r)
+      → P (view x) (view y) (kept q) (kept s)
+  at_same a x b y p q r s e f g h is =
+      subst (λ w. P (view x) (view y) (kept q) (kept w)) h
+      (subst (λ w. P (view x) (view y) (kept w) (kept r)) g
+      (subst (λ w. P (view x) (view w) (kept p) (kept r)) f (subst (λ w. P (view w) (view b) (kept p) (kept r)) e is)))
+
+-- Proves the clause `runs` of `take_on`. The handler of `take_input` begins and ends with the desk and file of
+-- `take_on`.
+pub returns-clause-runs : goal.returns-clause-runs
+returns-clause-runs g c =
+    let start : c.new-taken.result.handler.desk.now ≡ c.args.desk.now = search rules in
+    let empty : c.new-taken.result.handler.came.now ≡ c.args.came.now = search rules in
+    at_same (view_of g.S.Store.state) g.F.Write.contents
+    (λ from to before after. RunsTaking (not (eqb g.row.KEEP 0)) (wording (not (eqb g.row.LONG 0))) g.H.Held.effects
+    (g.R.Read.remaining c.args.reader.now) (g.R.Read.remaining c.take_input.new.reader) before after
+    (g.W.Write.contents c.args.writer.now) (g.W.Write.contents c.take_input.new.writer) from c.take_input.result to)
+    _ c.args.desk.now _ _ _ c.args.came.now _ _ start (search rules) empty (search rules) c.take_input.ensures.runs

@@ -1,0 +1,85 @@
+-- The command `new`: it begins a desk of one side, or a desk that holds none yet.
+use Rattle.std.specs.Prelude.{◌≡◌, ◌⊎◌, ℕ, true, List, [], take, Option, None, Some, option_map, codes, Result, Ok, Err}
+use Rattle.std.specs.Io.KnownBytes.{Appends}
+use Rattle.ill_saved.specs.declared.fault.DeskFault.TheVariants.{Exists, Store}
+use Rattle.ill_saved.specs.declared.store.StoreFault.TheVariants.{Failed}
+use Rattle.ill_saved.specs.declared.store.NextCall.{NextCall}
+use Rattle.ill_saved.specs.Holdings.{DeskEntry, Effects}
+use Rattle.ill_text.specs.Fault.{CountsToolFailure}
+use Rattle.ill_desk.specs.Telling.{done_line}
+use Rattle.ill_saved.specs.Store.{Allows, LandsAtFailure, StoreState, plan_after_call}
+use Rattle.ill_text.specs.declared.fault.ToolFault.{ToolFault}
+use Rattle.ill_text.specs.declared.fault.ToolFault.TheVariants.{Desk, Write, OutOfMemory}
+
+-- Returns the line of a desk that was begun and saved. It is the line of the first side, or `done` alone
+-- without one.
+abbrev pub line_of_first : Option DeskEntry → List ℕ
+line_of_first (Some held) = done_line held
+line_of_first None = codes "done\n"
+
+-- Returns the line of a desk that was begun with the sides `live`.
+abbrev pub first_line : {L K : Type 0} → Effects L K → L → List ℕ
+first_line effects live = line_of_first (option_map (λ key. effects.side_for key live) effects.first_key)
+
+-- The output grew from `before` to `after` by `line`, once the record was saved. After the fault `Write` it
+-- grew by a prefix of `line`. If the store has a record, or the store failed, or memory ran out, it did not
+-- grow.
+abbrev pub RunsNew : List ℕ → Option (List ℕ) → Option (List ℕ) → Result (Unit {0}) ToolFault → Type 0
+RunsNew line before after (Ok done) = Appends before after line
+RunsNew line before after (Err Write) = (size : ℕ) × Appends before after (take size line)
+RunsNew line before after (Err (Desk Exists)) = Appends before after []
+RunsNew line before after (Err (Desk (Store fault))) = Appends before after []
+RunsNew line before after (Err OutOfMemory) = Appends before after []
+RunsNew line before after (Err other) = ⊥
+
+-- The first save of `bytes` leads an honest store with this plan from the content `old` to `new`. The new
+-- content is `bytes`, unless the store failed or memory ran out before the save.
+abbrev pub LandsFirst : Option NextCall → List ℕ → Result (Unit {0}) ToolFault → Option (List ℕ) →
+    Option (List ℕ) → Type 0
+LandsFirst plan bytes (Ok done) old new = new ≡ Some bytes
+LandsFirst plan bytes (Err Write) old new = new ≡ Some bytes
+LandsFirst plan bytes (Err (Desk (Store Failed))) old new =
+    LandsAtFailure plan bytes old new × Allows {X = Unit {0}} plan (Err Failed)
+LandsFirst plan bytes (Err OutOfMemory) old new = (new ≡ old) ⊎ (new ≡ Some bytes)
+LandsFirst plan bytes (Err other) old new = ⊥
+
+-- The store has no content, or the first record `bytes`.
+abbrev pub MayHaveLanded : List ℕ → Option (List ℕ) → Type 0
+MayHaveLanded bytes landed = (landed ≡ None) ⊎ (landed ≡ Some bytes)
+
+-- The beginning of a desk leads an honest store with this plan from its content to `new`, with this answer.
+-- If the store has a record, that stays, and the answer is `Exists` or another fault. If it has none, `bytes`
+-- have landed; after a fault they may have landed.
+abbrev pub BeginsOver : List ℕ → Option NextCall → Option (List ℕ) → Result (Unit {0}) ToolFault →
+    Option (List ℕ) → Type 0
+BeginsOver bytes plan None (Ok done) new = (new ≡ Some bytes) × Allows {X = Unit {0}} plan (Ok tt)
+BeginsOver bytes plan None (Err Write) new = (new ≡ Some bytes) × Allows {X = Unit {0}} plan (Ok tt)
+BeginsOver bytes plan None (Err (Desk (Store Failed))) new =
+    MayHaveLanded bytes new × Allows {X = Unit {0}} plan (Err Failed)
+BeginsOver bytes plan None (Err OutOfMemory) new = MayHaveLanded bytes new
+BeginsOver bytes plan (Some there) (Err (Desk Exists)) new =
+    (new ≡ Some there) × Allows {X = Unit {0}} plan (Ok tt)
+BeginsOver bytes plan (Some there) (Err OutOfMemory) new = new ≡ Some there
+BeginsOver bytes plan landed (Err (Desk (Store fault))) new =
+    (new ≡ landed) × Allows {X = Unit {0}} plan (Err fault)
+BeginsOver bytes plan landed answer new = ⊥
+
+-- ---- the store of a beginning
+
+-- The save of the first record `bytes` leads from the store `old` to `new`, with this answer. Memory may run
+-- out before the store is called.
+pub record SavesFirst (bytes : List ℕ) (old : StoreState) (answer : Result (Unit {0}) ToolFault) (new : StoreState)
+    : Type 0 where
+  pub landed : old.is_honest ≡ true → LandsFirst old.plan bytes answer old.landed new.landed
+  pub counted : CountsToolFailure answer old.failures new.failures
+  pub honest : new.is_honest ≡ old.is_honest
+  pub plan : (new.plan ≡ old.plan) ⊎ (new.plan ≡ plan_after_call old.plan)
+
+-- The beginning of a desk with the first record `bytes` leads from the store `old` to `new`, with this
+-- answer.
+pub record BeginsIn (bytes : List ℕ) (old : StoreState) (answer : Result (Unit {0}) ToolFault) (new : StoreState)
+    : Type 0 where
+  pub landed : old.is_honest ≡ true → BeginsOver bytes old.plan old.landed answer new.landed
+  pub counted : CountsToolFailure answer old.failures new.failures
+  pub honest : new.is_honest ≡ old.is_honest
+  pub plan : new.plan ≡ plan_after_call old.plan

@@ -1,0 +1,141 @@
+-- The effect of actions and messages on any desk: the outcome and the saved record (this profile's own).
+use Rattle.std.specs.Prelude.{◌≡◌, ◌⊎◌, ℕ, nat_lt, Bool, true, false, if◌then◌else◌, List, length, take, Option, None, Some}
+use Rattle.std.specs.Prelude.{option_map, Result, Ok, Err}
+use Rattle.std.specs.Io.KnownBytes.{Appends}
+use Rattle.ill_values.specs.declared.apdu.Apdu.{Apdu}
+use Rattle.ill_core.specs.declared.taking.Taking.{Taking}
+use Rattle.ill_core.specs.declared.taking.Taking.TheVariants.{Taken}
+use Rattle.ill_saved.specs.declared.fault.DeskFault.{DeskFault}
+use Rattle.ill_saved.specs.declared.fault.DeskFault.TheVariants as desks
+use Rattle.ill_saved.specs.declared.store.StoreFault.TheVariants.{Failed}
+use Rattle.ill_saved.specs.Store.{StoreState}
+use Rattle.ill_saved.specs.Desk.{DeskOf}
+use Rattle.ill_words.specs.declared.outcome.Outcome.TheVariants as outcomes
+use Rattle.ill_words.specs.declared.outcome.DeskOutcome.{DeskOutcome}
+use Rattle.ill_words.specs.declared.outcome.DeskOutcome.TheVariants.{Plain}
+use Rattle.ill_text.specs.declared.fault.ToolFault.{ToolFault}
+use Rattle.ill_text.specs.declared.fault.ToolFault.TheVariants.{Desk, Write, OutOfMemory}
+use Rattle.ill_saved.specs.Holdings.{Effects}
+use Rattle.ill_text.specs.Fault.{refused}
+
+-- ---- the known state
+
+-- The sides that a desk holds, and the content of its store, if it is known.
+pub record HeldAndLanded (L : Type 0) : Type 0 where
+  pub live : L
+  pub landed : Option (Option (List ℕ))
+
+-- Returns `landed` if the Bool is true: the content is known of an honest store alone.
+abbrev pub known_if : Bool → Option (List ℕ) → Option (Option (List ℕ))
+known_if true landed = Some landed
+known_if false landed = None
+
+-- Returns the content of a store, if it is known.
+abbrev pub known : StoreState → Option (Option (List ℕ))
+known store = known_if store.is_honest store.landed
+
+-- Returns the sides that `desk` holds, and the content of its store, if it is known.
+abbrev pub view_of : {L S : Type 0} → (S → StoreState) → DeskOf L S → HeldAndLanded L
+view_of state desk = record { live = desk.live; landed = known (state desk.store) }
+
+-- Returns the state in which the desk holds `live`, which is not saved yet.
+abbrev pub with_sides : {L : Type 0} → HeldAndLanded L → L → HeldAndLanded L
+with_sides old live = record old { live = live }
+
+-- Returns the state after a save of the sides that the desk holds.
+abbrev pub saved : {L K : Type 0} → Effects L K → HeldAndLanded L → HeldAndLanded L
+saved effects old = record {
+  live = effects.saves old.live;
+  landed = option_map (λ _. Some (effects.spelling old.live)) old.landed;
+}
+
+-- A failed save leads from `old` to `new`. The desk holds its sides, and its store has the old record or the
+-- new one.
+abbrev pub IsFaulted : {L K : Type 0} → Effects L K → HeldAndLanded L → HeldAndLanded L → Type 0
+IsFaulted effects old new = (new ≡ old) ⊎ (new ≡ record old { landed = (saved effects old).landed })
+
+-- ---- the visible outcome
+
+-- Returns the outcome of an action, and the sides after it. After a refusal these are the old ones.
+abbrev pub acted : {L : Type 0} → L → Result L DeskFault → Result DeskOutcome ToolFault × L
+acted old (Ok new) = (Ok (Plain outcomes.Done), new)
+acted old (Err fault) = (refused fault, old)
+
+-- Returns the outcome of a message, by the answer of its side.
+abbrev pub answered : Result Taking DeskFault → Result DeskOutcome ToolFault
+answered (Ok taking) = Ok (Plain (outcomes.Answered taking))
+answered (Err fault) = refused fault
+
+-- Returns the outcome of a message that was handed to its side, and the sides after it.
+abbrev pub handed : {L K : Type 0} → Effects L K → L → Apdu → Result DeskOutcome ToolFault × L
+handed effects live a = (answered (effects.takes live a).0, (effects.takes live a).1)
+
+-- ---- the change
+
+-- Returns true for a change, which must be saved: an action was done, or a message was taken.
+abbrev pub is_change : DeskOutcome → Bool
+is_change (Plain outcomes.Done) = true
+is_change (Plain (outcomes.Answered Taken)) = true
+is_change outcome = false
+
+-- The result is the outcome of a change.
+abbrev pub IsChange : Result DeskOutcome ToolFault → Type 0
+IsChange (Ok outcome) = is_change outcome ≡ true
+IsChange (Err fault) = ⊥
+
+-- An event with this outcome and these sides leads from `old` to `new`, with this result. It happened, and
+-- was saved if it is a change. Or it is a change, and the save failed. Or memory ran out for the event, if it
+-- needs memory, or for the save.
+abbrev pub Performs : {L K : Type 0} → Effects L K → Type 0 → HeldAndLanded L → Result DeskOutcome ToolFault × L →
+    Result DeskOutcome ToolFault → HeldAndLanded L → Type 0
+Performs effects WantsMemory old event (Ok outcome) new =
+    (event.0 ≡ Ok outcome)
+    × (new ≡ (if is_change outcome then saved effects (with_sides old event.1) else with_sides old event.1))
+Performs effects WantsMemory old event (Err (Desk (desks.Store Failed))) new =
+    IsChange event.0 × IsFaulted effects (with_sides old event.1) new
+Performs effects WantsMemory old event (Err OutOfMemory) new =
+    (WantsMemory × (new ≡ old)) ⊎ (IsChange event.0 × (new ≡ with_sides old event.1))
+Performs effects WantsMemory old event (Err other) new = ⊥
+
+-- ---- many changes, and one save
+
+-- Returns true if the list is not empty.
+abbrev pub has_any : {X : Type 0} → List X → Bool
+has_any items = nat_lt 0 (length items)
+
+-- One save of all changes leads from `old` to `new`. Without a change nothing is saved. If the save failed,
+-- the store has the old record or the new one. If memory ran out, nothing changed.
+abbrev pub SavesOnce : {L K X : Type 0} → Effects L K → List X → HeldAndLanded L → Result (Unit {0}) ToolFault
+    → HeldAndLanded L → Type 0
+SavesOnce effects changes old (Ok done) new = new ≡ (if has_any changes then saved effects old else old)
+SavesOnce effects changes old (Err (Desk (desks.Store Failed))) new =
+    (has_any changes ≡ true) × IsFaulted effects old new
+SavesOnce effects changes old (Err OutOfMemory) new = new ≡ old
+SavesOnce effects changes old (Err other) new = ⊥
+
+-- The effect of many events: the sides after them, true if any is a change, their lines, and the answer.
+pub record Run (L A : Type 0) : Type 0 where
+  pub live : L
+  pub has_changed : Bool
+  pub told : List ℕ
+  pub answer : A
+
+-- Returns the state after a run and its one save. Without a change nothing is saved.
+abbrev pub after_run : {L K A : Type 0} → Effects L K → HeldAndLanded L → Run L A → HeldAndLanded L
+after_run effects old run =
+    if run.has_changed then saved effects (with_sides old run.live) else with_sides old run.live
+
+-- The end of a run leads from `old` to `new`, with this answer. Without a fault all changes are saved and the
+-- lines written. After the fault `Write` all is saved, and a prefix of the lines written. If the save failed,
+-- the store has the old record or the new one, and nothing is written. If memory ran out, the store has the
+-- old record, and nothing is written.
+abbrev pub EndsRun : {L K A : Type 0} → Effects L K → Run L A → Option (List ℕ) → Option (List ℕ) → HeldAndLanded L →
+    Result A ToolFault → HeldAndLanded L → Type 0
+EndsRun effects run before after old (Ok answer) new =
+    (answer ≡ run.answer) × Appends before after run.told × (new ≡ after_run effects old run)
+EndsRun effects run before after old (Err Write) new =
+    ((size : ℕ) × Appends before after (take size run.told)) × (new ≡ after_run effects old run)
+EndsRun effects run before after old (Err (Desk (desks.Store Failed))) new =
+    (after ≡ before) × (run.has_changed ≡ true) × IsFaulted effects (with_sides old run.live) new
+EndsRun effects run before after old (Err OutOfMemory) new = (after ≡ before) × (new.landed ≡ old.landed)
+EndsRun effects run before after old (Err other) new = ⊥

@@ -1,0 +1,135 @@
+-- The command `take`: it hands each APDU of an input to its side, and saves if the APDU was taken.
+use Rattle.std.specs.Prelude.{◌≡◌, ◌⊎◌, ℕ, ◌≤◌, Bool, true, false, ◌&&◌, List, [], take, Option, None, Result, Ok, Err}
+use Rattle.std.specs.Io.KnownBytes.{Appends}
+use Rattle.ill_values.specs.declared.apdu.Apdu.{Apdu}
+use Rattle.ill_words.specs.declared.outcome.DeskOutcome.{DeskOutcome}
+use Rattle.ill_text.specs.declared.fault.ToolFault.{ToolFault}
+use Rattle.ill_text.specs.declared.fault.ToolFault.TheVariants.{Desk, OutOfMemory}
+use Rattle.ill_saved.specs.declared.fault.DeskFault.TheVariants as desks
+use Rattle.ill_saved.specs.declared.store.StoreFault.TheVariants.{Failed}
+use Rattle.ill_der.specs.ShortForm.{spelling}
+use Rattle.ill_der.specs.Handling.{Handles}
+use Rattle.ill_text.specs.Input.{ReadsInput}
+use Rattle.ill_saved.specs.Holdings.{Effects, WantsMemory}
+use Rattle.ill_desk.specs.Performing.{HeldAndLanded, handed, is_change, saved, IsFaulted, Performs}
+use Rattle.ill_text.specs.Fault.{ToolFailsCounted}
+use Rattle.ill_desk.specs.Telling.{is_fine, Wording, Reports}
+
+-- ---- one message
+
+-- The message `a` leads from `old` to `new`, with this result. It was handed to its side, and saved if it was
+-- taken. Or it was taken, and the save failed. Or memory ran out for the message, if it takes memory, or for
+-- the save.
+abbrev pub TakesAndSaves : {L K : Type 0} → Effects L K → HeldAndLanded L → Apdu → Result DeskOutcome ToolFault →
+    HeldAndLanded L → Type 0
+TakesAndSaves effects old a result new =
+    Performs effects (WantsMemory effects old.live a) old (handed effects old.live a) result new
+
+-- ---- the bytes that are kept
+
+-- Returns the bytes to keep of a message: its encoding if messages are kept, else nothing.
+abbrev pub kept_text : Bool → Apdu → List ℕ
+kept_text true a = spelling a
+kept_text false a = []
+
+-- The kept bytes grew from `before` to `after` by `text`. If a write failed, which counts as a failure of the
+-- store, they grew by a prefix of `text`. If memory ran out, they did not grow.
+abbrev pub KeepsPrefix : List ℕ → Option (List ℕ) → Option (List ℕ) → Result (Unit {0}) ToolFault → Type 0
+KeepsPrefix text before after (Ok done) = Appends before after text
+KeepsPrefix text before after (Err (Desk (desks.Store Failed))) = (size : ℕ) × Appends before after (take size text)
+KeepsPrefix text before after (Err OutOfMemory) = Appends before after []
+KeepsPrefix text before after (Err other) = ⊥
+
+-- `text` is kept before the store changes. If it was kept only in part, the content of the store is
+-- unchanged.
+abbrev pub KeepsBefore : {L X : Type 0} → List ℕ → Result X ToolFault → Option (List ℕ) → Option (List ℕ) →
+    HeldAndLanded L → HeldAndLanded L → Type 0
+KeepsBefore text (Ok done) before after old new = Appends before after text
+KeepsBefore text (Err fault) before after old new =
+    Appends before after text
+    ⊎ ((size : ℕ) × Appends before after (take size text) × (new.landed ≡ old.landed))
+
+-- The message `a` is kept if it was taken and `is_kept` is true. After a fault it is kept before the store
+-- changes.
+abbrev pub KeepsTaken : {L : Type 0} → Bool → Apdu → Result DeskOutcome ToolFault → Option (List ℕ) →
+    Option (List ℕ) → HeldAndLanded L → HeldAndLanded L → Type 0
+KeepsTaken is_kept a (Ok outcome) before after old new =
+    Appends before after (kept_text (is_change outcome && is_kept) a)
+KeepsTaken is_kept a (Err fault) before after old new =
+    KeepsBefore {X = Unit {0}} (kept_text is_kept a) (Err fault) before after old new
+
+-- The save of a taken message leads from `old` to `new`. It succeeded, or it failed, or memory ran out and
+-- nothing changed.
+abbrev pub SavesTaken : {L K : Type 0} → Effects L K → HeldAndLanded L → Result (Unit {0}) ToolFault → HeldAndLanded L → Type 0
+SavesTaken effects old (Ok done) new = new ≡ saved effects old
+SavesTaken effects old (Err (Desk (desks.Store Failed))) new = IsFaulted effects old new
+SavesTaken effects old (Err OutOfMemory) new = new ≡ old
+SavesTaken effects old (Err other) new = ⊥
+
+-- The count of the store's failures never falls. If the answer is a failure and nothing is kept, the count
+-- has risen, or is at its maximum.
+abbrev pub CountsTaking : {X : Type 0} → Bool → Result X ToolFault → ℕ → ℕ → Type 0
+CountsTaking is_kept answer old new = (old ≤ new) × (is_kept ≡ false → ToolFailsCounted answer old new)
+
+-- ---- the command
+
+-- The state of the command: the desk, the kept bytes, the output, and true if all went well so far.
+pub record Progress (L : Type 0) : Type 0 where
+  pub view : HeldAndLanded L
+  pub came : Option (List ℕ)
+  pub written : Option (List ℕ)
+  pub fine : Bool
+
+-- Returns the state with these four parts.
+abbrev pub progress : {L : Type 0} → HeldAndLanded L → Option (List ℕ) → Option (List ℕ) → Bool → Progress L
+progress view came written fine = record { view = view; came = came; written = written; fine = fine }
+
+-- The message `a` was handed to its side, kept and saved if it was taken, and its outcome written. If memory
+-- ran out to read it, nothing changed. After any other fault this was done up to the fault.
+abbrev pub TakesMessage : {L K : Type 0} → Bool → Wording → Effects L K → Handles (Progress L) ToolFault
+TakesMessage is_kept told effects old a (Ok done) new =
+    (outcome : DeskOutcome) × TakesAndSaves effects old.view a (Ok outcome) new.view
+    × KeepsTaken is_kept a (Ok outcome) old.came new.came old.view new.view
+    × Appends old.written new.written (told a outcome (effects.side_for (effects.key_of a) new.view.live))
+    × (new.fine ≡ old.fine && is_fine outcome)
+TakesMessage is_kept told effects old a (Err fault) new =
+    ((fault ≡ OutOfMemory) × (new ≡ old))
+    ⊎ ((performed : Result DeskOutcome ToolFault) × (text : List ℕ)
+    × TakesAndSaves effects old.view a performed new.view
+    × KeepsTaken is_kept a performed old.came new.came old.view new.view
+    × Appends old.written new.written text
+    × Reports (told a) performed (effects.side_for (effects.key_of a) new.view.live) text (Err fault))
+
+-- Returns the answer of the command: its fault, or the flag `fine`.
+abbrev pub answer_of : Result ℕ ToolFault → Bool → Result Bool ToolFault
+answer_of (Ok count) fine = Ok fine
+answer_of (Err fault) fine = Err fault
+
+-- The command `take`, which writes texts by `told`. The input went from `old` to `new`, and the desk from
+-- `from` to `to`. The kept bytes went from `kept_before` to `kept_after`, and the output from `before` to
+-- `after`. If the input was read to its end, the answer is true if all went well.
+abbrev pub RunsTaking : {L K : Type 0} → Bool → Wording → Effects L K → Option (List ℕ) → Option (List ℕ) →
+    Option (List ℕ) → Option (List ℕ) → Option (List ℕ) → Option (List ℕ) → HeldAndLanded L → Result Bool ToolFault →
+    HeldAndLanded L → Type 0
+RunsTaking is_kept told effects old new kept_before kept_after before after from result to =
+    (ended : Result ℕ ToolFault) × (fine : Bool) × (result ≡ answer_of ended fine)
+    × ReadsInput (TakesMessage is_kept told effects) old new (progress from kept_before before true) ended
+    (progress to kept_after after fine)
+
+-- The command `take`, which keeps no message.
+abbrev pub RunsTake : {L K : Type 0} → Wording → Effects L K → Option (List ℕ) → Option (List ℕ) →
+    Option (List ℕ) → Option (List ℕ) → HeldAndLanded L → Result Bool ToolFault → HeldAndLanded L → Type 0
+RunsTake told effects old new before after from result to =
+    RunsTaking false told effects old new None None before after from result to
+
+-- The command `take --keep`, which keeps each taken message.
+abbrev pub RunsKeptTake : {L K : Type 0} → Wording → Effects L K → Option (List ℕ) → Option (List ℕ) →
+    Option (List ℕ) → Option (List ℕ) → Option (List ℕ) → Option (List ℕ) → HeldAndLanded L → Result Bool ToolFault →
+    HeldAndLanded L → Type 0
+RunsKeptTake told effects old new kept_before kept_after before after from result to =
+    RunsTaking true told effects old new kept_before kept_after before after from result to
+
+-- The lent desk and file are unchanged, and the failures of the store are counted.
+abbrev pub KeepsDesk : {X N M : Type 0} → Bool → Result X ToolFault → N → N → M → M → ℕ → ℕ → Type 0
+KeepsDesk is_kept result old new old_came new_came before after =
+    ((new ≡ old) × (new_came ≡ old_came)) × CountsTaking is_kept result before after

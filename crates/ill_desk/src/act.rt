@@ -1,0 +1,112 @@
+//! The command `act`.
+
+ghost use Rattle.std.specs.Prelude.{map};
+ghost use Rattle.ill_saved.specs.Side.{role_of};
+ghost use Rattle.ill_desk.specs.Actions.{action_named};
+ghost use Rattle.ill_saved.specs.OneSide.{one_side};
+ghost use Rattle.ill_saved.specs.ManySides.{many_sides};
+ghost use Rattle.ill_desk.specs.Performing.{view_of};
+ghost use Rattle.ill_text.specs.Fault.{CountsToolFailure};
+ghost use Rattle.ill_desk.specs.Act.{ActsAndSaves, RunsAct};
+
+use crate::action::action;
+use crate::side_line::report;
+use ill_saved::{Action, AnyDesk, Desk, Desk1, Holdings, Store};
+use ill_text::fault::{ToolFault, refused};
+use ill_values::{Day, TxnId};
+use ill_words::{DeskOutcome, Outcome};
+use std::alloc::Global;
+use std::io::Write;
+
+/// Performs the action that `words` name and saves it. Then it writes a line of the outcome and of the side after it.
+/// Returns true if the action was done. A refused action changes and saves nothing.
+///
+/// A responder acts on the day `today`; a requester needs none. If `words` name no action, the fault is `Arguments`. If
+/// the save fails, the action is done in memory, and its message may not be sent. If the writer fails, or memory runs
+/// out for the line, the saved record remains.
+pub fn run_act<S: Store, W: Write>(
+    alloc: Global,
+    desk: &mut Desk1<S>,
+    today: Option<Day>,
+    words: &[&str],
+    writer: &mut W,
+) -> Result<bool, ToolFault>
+    ensures runs { RunsAct one_side tt
+        (action_named (role_of desk.old.live.side) today (map (λ word. word.now) words.now))
+        (view_of S.state desk.old)
+        (W.contents writer.old) (W.contents writer.new) result
+        (view_of S.state desk.new) }
+    ensures counted { CountsToolFailure result (S.state desk.old.store).failures (S.state desk.new.store).failures }
+{
+    act_on(alloc, desk, &(), today, words, writer)
+}
+
+/// Performs the action that `words` name on the side of `txn` at `desk`, as `run_act` does. If the desk lacks the
+/// transaction and the action does not begin it, the outcome is `no-such-transaction`. If the desk has no room for it,
+/// the outcome is `desk-full`. Both are refusals. `words` are read before the transaction is looked for.
+pub fn run_desk_act<S: Store, W: Write>(
+    alloc: Global,
+    desk: &mut Desk<S>,
+    txn: &TxnId,
+    today: Option<Day>,
+    words: &[&str],
+    writer: &mut W,
+) -> Result<bool, ToolFault>
+    ensures runs { RunsAct many_sides txn.now
+        (action_named desk.old.live.role today (map (λ word. word.now) words.now))
+        (view_of S.state desk.old)
+        (W.contents writer.old) (W.contents writer.new) result
+        (view_of S.state desk.new) }
+    ensures counted { CountsToolFailure result (S.state desk.old.store).failures (S.state desk.new.store).failures }
+{
+    act_on(alloc, desk, txn, today, words, writer)
+}
+
+/// Performs the action that `words` name on the side `key` of `desk`, saves it, and writes its line.
+fn act_on<H: Holdings, S: Store, W: Write>(
+    alloc: Global,
+    desk: &mut AnyDesk<H, S>,
+    key: &H::Key,
+    today: Option<Day>,
+    words: &[&str],
+    writer: &mut W,
+) -> Result<bool, ToolFault>
+    ensures runs { RunsAct H.effects key.now
+        (action_named (H.effects.role desk.old.live) today (map (λ word. word.now) words.now))
+        (view_of S.state desk.old)
+        (W.contents writer.old) (W.contents writer.new) result
+        (view_of S.state desk.new) }
+    ensures counted { CountsToolFailure result (S.state desk.old.store).failures
+        (S.state desk.new.store).failures }
+{
+    let Some(action) = action(alloc, desk.role(), today, words)? else {
+        return Err(ToolFault::Arguments);
+    };
+    match act_and_save(alloc, desk, key, &action) {
+        Ok(outcome) => report(alloc, writer, outcome, desk, key),
+        Err(fault) => Err(fault),
+    }
+}
+
+/// Performs `action` on the side `key`, and saves it if it was done.
+fn act_and_save<H: Holdings, S: Store>(
+    alloc: Global,
+    desk: &mut AnyDesk<H, S>,
+    key: &H::Key,
+    action: &Action,
+) -> Result<DeskOutcome, ToolFault>
+    ensures acts { ActsAndSaves H.effects key.now
+        (view_of S.state desk.old)
+        action.now result
+        (view_of S.state desk.new) }
+    ensures counted { CountsToolFailure result (S.state desk.old.store).failures
+        (S.state desk.new.store).failures }
+{
+    match desk.act_on(alloc, key, action) {
+        Ok(()) => match desk.save(alloc) {
+            Ok(()) => Ok(DeskOutcome::Plain(Outcome::Done)),
+            Err(fault) => Err(fault.into()),
+        },
+        Err(fault) => refused(fault),
+    }
+}

@@ -1,0 +1,3 @@
+pub mod AtFile
+pub mod Paths
+pub mod ShelfNames

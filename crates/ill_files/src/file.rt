@@ -1,0 +1,493 @@
+//! The commands that keep a desk in a file. Their arguments are values that were read before, except the words of an
+//! action. A command that may change the file holds its lock from before the load to its end.
+
+ghost use Rattle.std.specs.Prelude.{◌≡◌, ◌++◌, Ok, true, map, string_bytes, IfErr, IfOk};
+ghost use Rattle.ill_saved.specs.ManySides.{found_by, sides_held, txn_held, many_sides};
+ghost use Rattle.ill_show.specs.Report.{AddsPart, AddsParts};
+ghost use Rattle.ill_files.specs.AtFile.{ActsAtFile, IsOpenFault, ListsDesk, ListsDesks, ListsPaths, LoanAtFile, NewAtFile, ReportsPaths, SendsAtFile, ShowsFile, TakesAtFile, VerifiesFile, after_writing, all_well};
+ghost use Rattle.ill_show.specs.Listing.{between, listed_desk};
+ghost use Rattle.ill_show.specs.Kept.{RunsKeptLoan};
+ghost use Rattle.ill_show.specs.Picture.{drawn_or_shown};
+ghost use Rattle.ill_text.specs.declared.form.Form.TheVariants.{Lines};
+ghost use Rattle.ill_text.specs.Output.{WritesText};
+ghost use Rattle.ill_desk.specs.Performing.{view_of};
+ghost use Rattle.ill_desk.specs.Take.{RunsTake};
+ghost use Rattle.ill_desk.specs.Telling.{wording};
+
+use crate::came::{came_bytes, open_came};
+use crate::folder::{desk_paths, warn_of_names};
+use crate::machine::Machine;
+use crate::open::{all_well, end, lock, open, open_locked, release};
+use ill_desk::act::run_desk_act;
+use ill_desk::new::run_desk_new;
+use ill_desk::send::run_desk_send;
+use ill_desk::take::{run_desk_kept_take, run_desk_long_take, run_desk_take};
+use ill_saved::{Desk, FileStore, LockFiles, RECORD_LIMIT, SIDES_LIMIT, Sides, Store};
+use ill_show::kept::run_desk_kept_loan;
+use ill_show::list::{count_left_out, run_desk_list, run_desk_list_objects};
+use ill_show::listed::{Listed, heading, left_out_line, warning};
+use ill_show::picture::run_desk_picture;
+use ill_show::report::{end_page, push_desk, push_fault, push_head};
+use ill_show::status::run_desk_status_as;
+use ill_show::verify::run_desk_verify;
+use ill_show::wanted::Wanted;
+use ill_text::fault::{ToolFault, graver};
+use ill_text::form::Form;
+use ill_values::{Day, Number, OutOfMemory, TxnId};
+use ill_words::Who;
+use std::alloc::Global;
+use std::io::{Read, Write};
+use std::rt::Files;
+
+/// The number of loans from which on `list` warns of the room left.
+const MANY: usize = 900;
+
+/// `ill new`: begins a desk.
+pub fn new<T: LockFiles, W: Write, E: Write>(
+    machine: &mut Machine<'_, T, W, E>,
+    file: &str,
+    role: Who,
+) -> Result<bool, ToolFault>
+    ensures { NewAtFile (W.contents machine.old.writer) (W.contents machine.new.writer) result }
+{
+    let lock = lock(machine.rt, machine.alloc, file)?;
+    let store = FileStore::at(machine.rt, machine.alloc, file, RECORD_LIMIT)?;
+    let begun = run_desk_new(machine.alloc, store, role, &mut machine.writer);
+    drop(lock);
+    end(begun)
+}
+
+/// `ill act`: performs one action in a transaction.
+pub fn act<T: LockFiles, W: Write, E: Write>(
+    machine: &mut Machine<'_, T, W, E>,
+    file: &str,
+    txn: &TxnId,
+    today: Option<Day>,
+    words: &[&str],
+) -> Result<bool, ToolFault>
+    ensures { ActsAtFile txn.now today (map (λ word. word.now) words.now)
+        (W.contents machine.old.writer) (W.contents machine.new.writer) result }
+{
+    let (lock, mut desk) = open_locked(machine.rt, machine.alloc, file)?;
+    let acted = run_desk_act(
+        machine.alloc,
+        &mut desk,
+        txn,
+        today,
+        words,
+        &mut machine.writer,
+    );
+    release(acted, desk, lock)
+}
+
+/// `ill take`: takes the APDUs of the input. It holds the lock of the file until the input ends.
+pub fn take<T: LockFiles, R: Read, W: Write, E: Write>(
+    machine: &mut Machine<'_, T, W, E>,
+    file: &str,
+    is_long: bool,
+    is_kept: bool,
+    reader: &mut R,
+) -> Result<bool, ToolFault>
+    ensures { TakesAtFile is_kept is_long (R.remaining reader.old) (R.remaining reader.new)
+        (W.contents machine.old.writer) (W.contents machine.new.writer) result }
+{
+    if is_kept {
+        return take_kept(machine, file, is_long, reader);
+    }
+    let (lock, mut desk) = open_locked(machine.rt, machine.alloc, file)?;
+    let taken = take_told(
+        machine.alloc,
+        &mut desk,
+        is_long,
+        reader,
+        &mut machine.writer,
+    );
+    release(taken, desk, lock)
+}
+
+/// `ill take --keep`: takes the APDUs of the input. It keeps each taken one in a file beside the desk's file.
+fn take_kept<T: LockFiles, R: Read, W: Write, E: Write>(
+    machine: &mut Machine<'_, T, W, E>,
+    file: &str,
+    is_long: bool,
+    reader: &mut R,
+) -> Result<bool, ToolFault>
+    ensures { TakesAtFile true is_long (R.remaining reader.old) (R.remaining reader.new)
+        (W.contents machine.old.writer) (W.contents machine.new.writer) result }
+{
+    let (lock, mut desk) = open_locked(machine.rt, machine.alloc, file)?;
+    let taken = take_and_keep(machine, file, &mut desk, is_long, reader);
+    release(taken, desk, lock)
+}
+
+/// Takes the APDUs of the input at `desk`. It keeps each taken one in the file beside `file`, if that can be opened.
+fn take_and_keep<T: Files, S: Store, R: Read, W: Write, E: Write>(
+    machine: &mut Machine<'_, T, W, E>,
+    file: &str,
+    desk: &mut Desk<S>,
+    is_long: bool,
+    reader: &mut R,
+) -> Result<bool, ToolFault>
+    ensures { TakesAtFile true is_long (R.remaining reader.old) (R.remaining reader.new)
+        (W.contents machine.old.writer) (W.contents machine.new.writer) result }
+{
+    let mut came = open_came(machine.rt, machine.alloc, file)?;
+    run_desk_kept_take(
+        machine.alloc,
+        desk,
+        is_long,
+        &mut came,
+        reader,
+        &mut machine.writer,
+    )
+}
+
+/// Takes the APDUs of the input at `desk`, and writes a line for each, with its fields or without.
+fn take_told<S: Store, R: Read, W: Write>(
+    alloc: Global,
+    desk: &mut Desk<S>,
+    is_long: bool,
+    reader: &mut R,
+    writer: &mut W,
+) -> Result<bool, ToolFault>
+    ensures { RunsTake (wording is_long) many_sides (R.remaining reader.old) (R.remaining reader.new)
+        (W.contents writer.old) (W.contents writer.new)
+        (view_of S.state desk.old) result (view_of S.state desk.new) }
+{
+    if is_long {
+        run_desk_long_take(alloc, desk, reader, writer)
+    } else {
+        run_desk_take(alloc, desk, reader, writer)
+    }
+}
+
+/// `ill send`: writes the bytes of a message of a transaction.
+pub fn send<T: Files, W: Write, E: Write>(
+    machine: &mut Machine<'_, T, W, E>,
+    file: &str,
+    txn: &TxnId,
+    number: Number,
+) -> Result<bool, ToolFault>
+    ensures { SendsAtFile txn.now number (W.contents machine.old.writer) (W.contents machine.new.writer) result }
+{
+    let desk = open(machine.rt, machine.alloc, file)?;
+    let sent = run_desk_send(machine.alloc, &desk, txn, number, &mut machine.writer);
+    drop(desk);
+    all_well(sent)
+}
+
+/// `ill list`: lists the wanted loans of the desks at `paths`. After a failure at one desk, the others are still listed.
+pub fn list<T: Files, W: Write, E: Write>(
+    machine: &mut Machine<'_, T, W, E>,
+    paths: &[&str],
+    wanted: &Wanted,
+    form: Form,
+) -> Result<bool, ToolFault>
+    ensures { ListsPaths form wanted.now (W.contents machine.old.writer) (W.contents machine.new.writer) result }
+{
+    let Ok(found) = desk_paths(machine.rt, machine.alloc, paths) else {
+        return Err(ToolFault::OutOfMemory);
+    };
+    let answer = list_files(machine, &found.files, wanted, form);
+    graver(
+        answer,
+        warn_of_names(machine.alloc, &found.unnamed, &mut machine.errors),
+    )
+}
+
+/// Lists the desks in `files`, one after another, and returns the gravest of their answers.
+fn list_files<T: Files, W: Write, E: Write>(
+    machine: &mut Machine<'_, T, W, E>,
+    files: &[String],
+    wanted: &Wanted,
+    form: Form,
+) -> Result<bool, ToolFault>
+    ensures { ListsDesks form wanted.now (map (λ file. string_bytes file) files.now)
+        (W.contents machine.old.writer) (W.contents machine.new.writer) result }
+{
+    let mut answer = Ok(true);
+    let mut last = Ok(true);
+    for place in 0..files.len() {
+        let listed = Listed {
+            path: files[place].as_str(),
+            is_headed: files.len() > 1,
+            is_first: place == 0,
+        };
+        last = list_told(machine, last, &listed, wanted, form);
+        answer = graver(answer, last);
+    }
+    answer
+}
+
+/// Lists the desk in a file, and writes a line to `errors` if it cannot be read. If the writer failed at the last desk,
+/// with the answer `last`, it is not called again.
+fn list_told<T: Files, W: Write, E: Write>(
+    machine: &mut Machine<'_, T, W, E>,
+    last: Result<bool, ToolFault>,
+    listed: &Listed<'_>,
+    wanted: &Wanted,
+    form: Form,
+) -> Result<bool, ToolFault>
+    ensures { ListsDesk form wanted.now listed.now.is_headed listed.now.is_first (record {
+      path = listed.now.path.now;
+      before = W.contents machine.old.writer;
+      after = W.contents machine.new.writer;
+      answer = result;
+    }) }
+{
+    if let Err(ToolFault::Write) = last {
+        return last;
+    }
+    let answer = list_file(machine, listed, wanted, form);
+    if let Err(fault) = answer
+        && fault != ToolFault::Write
+    {
+        machine.warn_of_fault(listed.path, fault);
+    }
+    answer
+}
+
+/// Lists the desk in a file, and tells its room and what is left out.
+fn list_file<T: Files, W: Write, E: Write>(
+    machine: &mut Machine<'_, T, W, E>,
+    listed: &Listed<'_>,
+    wanted: &Wanted,
+    form: Form,
+) -> Result<bool, ToolFault>
+    ensures { ListsDesk form wanted.now listed.now.is_headed listed.now.is_first (record {
+      path = listed.now.path.now;
+      before = W.contents machine.old.writer;
+      after = W.contents machine.new.writer;
+      answer = result;
+    }) }
+{
+    let desk = open(machine.rt, machine.alloc, listed.path)?;
+    let answer = list_desk(machine, &desk, listed, wanted, form);
+    warn(
+        machine.alloc,
+        listed.path,
+        desk.sides().len(),
+        &mut machine.errors,
+    );
+    tell_left_out(
+        machine.alloc,
+        listed.path,
+        desk.sides(),
+        wanted,
+        &mut machine.errors,
+    );
+    drop(desk);
+    all_well(answer)
+}
+
+/// Lists `desk` in the form `form`.
+fn list_desk<T: Files, S: Store, W: Write, E: Write>(
+    machine: &mut Machine<'_, T, W, E>,
+    desk: &Desk<S>,
+    listed: &Listed<'_>,
+    wanted: &Wanted,
+    form: Form,
+) -> Result<(), ToolFault>
+    ensures { WritesText (W.contents machine.old.writer) (W.contents machine.new.writer)
+        (between form listed.now.is_first ++ listed_desk form listed.now.is_headed wanted.now listed.now.path.now
+        (sides_held desk.now.live).sides) result }
+{
+    match form {
+        Form::Lines => list_lines(machine, desk, listed, wanted),
+        Form::Json => run_desk_list_objects(
+            machine.alloc,
+            desk,
+            listed.told(),
+            wanted,
+            &mut machine.writer,
+        ),
+    }
+}
+
+/// Lists `desk` in lines, after a heading.
+fn list_lines<T: Files, S: Store, W: Write, E: Write>(
+    machine: &mut Machine<'_, T, W, E>,
+    desk: &Desk<S>,
+    listed: &Listed<'_>,
+    wanted: &Wanted,
+) -> Result<(), ToolFault>
+    ensures { WritesText (W.contents machine.old.writer) (W.contents machine.new.writer)
+        (between Lines listed.now.is_first ++ listed_desk Lines listed.now.is_headed wanted.now listed.now.path.now
+        (sides_held desk.now.live).sides) result }
+{
+    let heading = heading(machine.alloc, listed)?;
+    run_desk_list(machine.alloc, desk, &heading, wanted, &mut machine.writer)
+}
+
+/// Writes a warning of the room left at a desk to `errors`, if the desk has many loans.
+fn warn<E: Write>(alloc: Global, file: &str, loans: usize, errors: &mut E) {
+    if loans < MANY {
+        return;
+    }
+    if let Ok(line) = warning(alloc, file, SIDES_LIMIT.saturating_sub(loans)) {
+        let _ = errors.write_all(&line);
+    }
+}
+
+/// Writes to `errors` how many loans the list of a desk leaves out since no day is given, if any.
+fn tell_left_out<E: Write>(
+    alloc: Global,
+    file: &str,
+    sides: &Sides,
+    wanted: &Wanted,
+    errors: &mut E,
+) {
+    let count = count_left_out(alloc, sides, wanted).unwrap_or(0);
+    if count == 0 {
+        return;
+    }
+    if let Ok(line) = left_out_line(alloc, file, count) {
+        let _ = errors.write_all(&line);
+    }
+}
+
+/// `ill status`: shows the sides.
+pub fn status<T: Files, W: Write, E: Write>(
+    machine: &mut Machine<'_, T, W, E>,
+    file: &str,
+    form: Form,
+) -> Result<bool, ToolFault>
+    ensures { ShowsFile form (W.contents machine.old.writer) (W.contents machine.new.writer) result }
+{
+    let desk = open(machine.rt, machine.alloc, file)?;
+    let shown = run_desk_status_as(machine.alloc, &desk, form, &mut machine.writer);
+    drop(desk);
+    all_well(shown)
+}
+
+/// `ill loan`: shows all that is known of a transaction.
+pub fn loan<T: Files, W: Write, E: Write>(
+    machine: &mut Machine<'_, T, W, E>,
+    file: &str,
+    txn: &TxnId,
+    form: Form,
+    is_picture: bool,
+) -> Result<bool, ToolFault>
+    ensures { LoanAtFile form is_picture txn.now (W.contents machine.old.writer) (W.contents machine.new.writer) result }
+{
+    let desk = open(machine.rt, machine.alloc, file)?;
+    let came = came_bytes(machine.rt, machine.alloc, file)?;
+    let shown = shown_loan(machine, &desk, txn, form, is_picture, &came);
+    drop(desk);
+    all_well(shown)
+}
+
+/// Shows all that is known of a transaction, or draws it. `came` has the bytes of the messages that came.
+fn shown_loan<T: Files, S: Store, W: Write, E: Write>(
+    machine: &mut Machine<'_, T, W, E>,
+    desk: &Desk<S>,
+    txn: &TxnId,
+    form: Form,
+    is_picture: bool,
+    came: &[u8],
+) -> Result<(), ToolFault>
+    ensures { RunsKeptLoan (drawn_or_shown form is_picture) (found_by txn_held txn.now desk.now.live.held) came.now
+        (W.contents machine.old.writer) (W.contents machine.new.writer) result }
+{
+    match (form, is_picture) {
+        (Form::Lines, true) => run_desk_picture(
+            machine.alloc,
+            desk,
+            txn,
+            came,
+            &mut machine.writer,
+        ),
+        (form, _) => run_desk_kept_loan(machine.alloc, desk, txn, came, form, &mut machine.writer),
+    }
+}
+
+/// `ill verify`: checks the record in a file.
+pub fn verify<T: Files, W: Write, E: Write>(
+    machine: &mut Machine<'_, T, W, E>,
+    file: &str,
+) -> Result<bool, ToolFault>
+    ensures { VerifiesFile (W.contents machine.old.writer) (W.contents machine.new.writer) result }
+{
+    let mut store = FileStore::at(machine.rt, machine.alloc, file, RECORD_LIMIT)?;
+    let verified = run_desk_verify(machine.alloc, &mut store, &mut machine.writer);
+    drop(store);
+    all_well(verified)
+}
+
+/// `ill report`: writes a page of the desks at `paths`. A desk that cannot be read has a part with its fault.
+pub fn report<T: Files, W: Write, E: Write>(
+    machine: &mut Machine<'_, T, W, E>,
+    paths: &[&str],
+    today: Day,
+) -> Result<bool, ToolFault>
+    ensures { ReportsPaths today (W.contents machine.old.writer) (W.contents machine.new.writer) result }
+{
+    let found = desk_paths(machine.rt, machine.alloc, paths)?;
+    let mut page = Vec::new(machine.alloc);
+    push_head(&mut page, today)?;
+    let answer = push_files(machine, &mut page, today, &found.files)?;
+    let answer = graver(
+        answer,
+        warn_of_names(machine.alloc, &found.unnamed, &mut machine.errors),
+    );
+    after_writing(end_page(page, &mut machine.writer), answer)
+}
+
+/// Returns `answer` if the output was written, else the fault.
+fn after_writing(
+    written: Result<(), ToolFault>,
+    answer: Result<bool, ToolFault>,
+) -> Result<bool, ToolFault>
+    ensures { result ≡ after_writing written answer }
+{
+    match written {
+        Ok(()) => answer,
+        Err(fault) => Err(fault),
+    }
+}
+
+/// Appends to `page` the part of each desk in `files`, and returns the gravest of their faults.
+fn push_files<T: Files, W: Write, E: Write>(
+    machine: &mut Machine<'_, T, W, E>,
+    page: &mut Vec<u8>,
+    today: Day,
+    files: &[String],
+) -> Result<Result<bool, ToolFault>, OutOfMemory>
+    ensures told { IfOk result (λ answer.
+        AddsParts today (map (λ file. string_bytes file) files.now) page.old.items page.new.items answer) }
+    ensures fault { IfOk result (λ answer. IfErr answer IsOpenFault) }
+    ensures silent { machine.new.writer ≡ machine.old.writer }
+{
+    let mut answer = Ok(true);
+    for place in 0..files.len() {
+        let next = push_file(machine, page, today, files[place].as_str())?;
+        answer = graver(answer, next);
+    }
+    Ok(answer)
+}
+
+/// Appends to `page` the part of the desk in `file`, and returns its fault, if it cannot be read.
+fn push_file<T: Files, W: Write, E: Write>(
+    machine: &mut Machine<'_, T, W, E>,
+    page: &mut Vec<u8>,
+    today: Day,
+    file: &str,
+) -> Result<Result<bool, ToolFault>, OutOfMemory>
+    ensures told { IfOk result (λ answer. AddsPart today file.now page.old.items page.new.items answer) }
+    ensures fault { IfOk result (λ answer. IfErr answer IsOpenFault) }
+    ensures silent { machine.new.writer ≡ machine.old.writer }
+{
+    match open(machine.rt, machine.alloc, file) {
+        Ok(desk) => {
+            let told = push_desk(page, today, file, desk.sides());
+            drop(desk);
+            told?;
+            Ok(Ok(true))
+        }
+        Err(fault) => {
+            machine.warn_of_fault(file, fault);
+            push_fault(page, file, fault)?;
+            Ok(Err(fault))
+        }
+    }
+}

@@ -1,0 +1,82 @@
+//! A desk in a file is opened, with its lock or without.
+
+ghost use Rattle.std.specs.Prelude.{◌≡◌, Ok, true, IfErr};
+ghost use Rattle.ill_saved.specs.Desk.{answer_of};
+ghost use Rattle.ill_files.specs.AtFile.{IsOpenFault, all_well};
+
+use ill_saved::{Desk, DeskFault, FileLock, FileStore, LockFiles, RECORD_LIMIT};
+use ill_text::fault::ToolFault;
+use std::alloc::Global;
+use std::rt::Files;
+
+/// Returns true in place of the answer, or the fault.
+pub fn all_well<A: Drop>(answer: Result<A, ToolFault>) -> Result<bool, ToolFault>
+    ensures { result ≡ all_well answer }
+{
+    match answer {
+        Ok(_) => Ok(true),
+        Err(fault) => Err(fault),
+    }
+}
+
+/// Drops the desk or the store of `begun`, and returns true, or its fault.
+pub(crate) fn end<D: Drop, S: Drop>(begun: Result<D, (ToolFault, S)>) -> Result<bool, ToolFault>
+    ensures { result ≡ all_well (answer_of begun) }
+{
+    match begun {
+        Ok(_) => Ok(true),
+        Err((fault, _)) => Err(fault),
+    }
+}
+
+/// Takes the lock of `file`.
+pub fn lock<'a, T: LockFiles>(
+    rt: &'a T,
+    alloc: Global,
+    file: &str,
+) -> Result<FileLock<'a, T>, ToolFault>
+    ensures { IfErr result IsOpenFault }
+{
+    match FileLock::take(rt, alloc, file) {
+        Ok(lock) => Ok(lock),
+        Err(fault) => Err(DeskFault::from(fault).into()),
+    }
+}
+
+/// Loads the desk in `file` under the lock of the file.
+pub fn open_locked<'a, T: LockFiles>(
+    rt: &'a T,
+    alloc: Global,
+    file: &str,
+) -> Result<(FileLock<'a, T>, Desk<FileStore<'a, T>>), ToolFault>
+    ensures { IfErr result IsOpenFault }
+{
+    let held = lock(rt, alloc, file)?;
+    let opened = open(rt, alloc, file)?;
+    Ok((held, opened))
+}
+
+/// Drops the desk and then its lock, and returns `answer`.
+pub fn release<D: Drop, L: Drop>(
+    answer: Result<bool, ToolFault>,
+    desk: D,
+    lock: L,
+) -> Result<bool, ToolFault>
+    ensures { result ≡ answer }
+{
+    drop(desk);
+    drop(lock);
+    answer
+}
+
+/// Loads the desk in `file`.
+pub fn open<'a, T: Files>(
+    rt: &'a T,
+    alloc: Global,
+    file: &str,
+) -> Result<Desk<FileStore<'a, T>>, ToolFault>
+    ensures { IfErr result IsOpenFault }
+{
+    let store = FileStore::at(rt, alloc, file, RECORD_LIMIT)?;
+    Ok(Desk::start(alloc, store)?)
+}

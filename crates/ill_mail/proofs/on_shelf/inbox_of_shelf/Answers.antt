@@ -1,0 +1,18 @@
+-- Answers the contract of `inbox_of_shelf` (`src/on_shelf.rt`).
+use Rattle.std.proofs.Common.{ℕ, List, Option, inr, map, true, ap, subst}
+use Rattle.std.specs.Prelude.{string_bytes}
+use Rattle.ill_mail.specs.Nights.{InboxAtFile}
+use Rattle.ill_mail.specs.Shelf.{VisitsAll}
+use Rattle.ill_mail.proofs.on_shelf.inbox_of_shelf.Goals as goal
+
+-- Proves the contract of `inbox_of_shelf`. `sort_mails` writes nothing, and `visit_all` visits the desks. `graver`
+-- combines its answer with that of `waiting`.
+pub returns : goal.returns
+returns g c =
+    let paths = map (λ path. string_bytes path) c.deref.result.now in
+    let answer = c.visit_all-answer.result in
+    let quiet = ap (λ writer. g.W.Write.contents writer) c.in_ok-is_waiting.ensures.silent in
+    let visited = subst (λ (start : Option (List ℕ)).
+    VisitsAll true InboxAtFile paths start (g.W.Write.contents c.visit_all-answer.new.machine.writer) answer) quiet
+    c.visit_all-answer.ensures in
+    inr (paths, answer, c.waiting.result, visited, c.waiting.ensures, c.graver.ensures)

@@ -1,0 +1,49 @@
+-- Answers the contract of `take_on_shelf` (`src/take_home.rt`).
+use Rattle.std.proofs.Common.{◌≡◌, inr, Ok, Err, refl, ap, subst}
+use Rattle.ill_text.specs.Input.{ReadsInput}
+use Rattle.ill_files.specs.declared.machine.Machine.{Machine}
+use Rattle.ill_mail.specs.declared.take_home.TakesHome.{TakesHome}
+use Rattle.ill_mail.specs.Shelf.{ShelfTaking, shelf_taking, TakesAtHome}
+use Rattle.ill_mail.proofs.ShelfLemmas.{taken_home}
+use Rattle.ill_mail.proofs.take_home.take_on_shelf.Goals as goal
+
+-- Proves the contract of `take_on_shelf` if the input ends well. By `taken_home` the views of the states show the
+-- effect.
+pub returns-in-Ok : goal.returns-in-Ok
+returns-in-Ok g c =
+    let view : TakesHome × Machine _ _ _ → ShelfTaking = λ s.
+    record { is_kept = s.0.is_kept; is_long = s.0.is_long; all_fine = s.0.all_fine; written = g.W.Write.contents s.1.writer } in
+    let begun : TakesHome × _ = (c.new-taken.result.handler, c.args.machine.now) in
+    let ended : TakesHome × _ = (c.handle_input.new.counted.handler, c.handle_input.new.context) in
+    let left = g.R.Read.remaining c.args.reader.now in
+    let rest = g.R.Read.remaining c.handle_input.new.reader in
+    let taken = taken_home view left rest begun ended (Ok c.in-Ok.field-0) c.in-Ok.ensures in
+    let start : view begun ≡ shelf_taking c.args.is_kept c.args.is_long (g.W.Write.contents c.args.machine.now.writer) =
+    ap (λ (taking : TakesHome). view (taking, c.args.machine.now)) c.new-taken.ensures.handler in
+    inr (
+      Ok c.in-Ok.field-0,
+      view ended,
+      subst (λ (first : ShelfTaking). ReadsInput TakesAtHome left rest first (Ok c.in-Ok.field-0) (view ended)) start taken,
+      refl,
+      refl,
+    )
+
+-- Proves the contract of `take_on_shelf` if the input ends with a fault. By `taken_home` the views show the effect.
+pub returns-in-Err : goal.returns-in-Err
+returns-in-Err g c =
+    let view : TakesHome × Machine _ _ _ → ShelfTaking = λ s.
+    record { is_kept = s.0.is_kept; is_long = s.0.is_long; all_fine = s.0.all_fine; written = g.W.Write.contents s.1.writer } in
+    let begun : TakesHome × _ = (c.new-taken.result.handler, c.args.machine.now) in
+    let ended : TakesHome × _ = (c.handle_input.new.counted.handler, c.handle_input.new.context) in
+    let left = g.R.Read.remaining c.args.reader.now in
+    let rest = g.R.Read.remaining c.handle_input.new.reader in
+    let taken = taken_home view left rest begun ended (Err c.in-Err.fault) c.in-Err.ensures in
+    let start : view begun ≡ shelf_taking c.args.is_kept c.args.is_long (g.W.Write.contents c.args.machine.now.writer) =
+    ap (λ (taking : TakesHome). view (taking, c.args.machine.now)) c.new-taken.ensures.handler in
+    inr (
+      Err c.in-Err.fault,
+      view ended,
+      subst (λ (first : ShelfTaking). ReadsInput TakesAtHome left rest first (Err c.in-Err.fault) (view ended)) start taken,
+      refl,
+      refl,
+    )

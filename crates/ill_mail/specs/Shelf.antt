@@ -1,0 +1,147 @@
+-- A shelf: a folder of desks of one role, one for each group of transactions. The group of a transaction
+-- gives the name of its desk (this profile's own).
+use Rattle.std.specs.Prelude.{◌≡◌, ◌⊎◌, ℕ, ◌-◌, Bool, true, false, ◌&&◌, List, codes, Option, Some, is_some, Result, Ok}
+use Rattle.std.specs.Prelude.{Err}
+use Rattle.ill_saved.specs.declared.role.Role.{Role}
+use Rattle.ill_saved.specs.declared.role.Role.TheVariants.{Responder}
+use Rattle.ill_text.specs.declared.fault.ToolFault.{ToolFault}
+use Rattle.ill_text.specs.declared.fault.ToolFault.TheVariants.{Left}
+use Rattle.ill_text.specs.declared.form.Form.{Form}
+use Rattle.ill_text.specs.declared.form.Form.TheVariants.{Lines}
+use Rattle.ill_mail.specs.declared.sorting.Home.{Home}
+use Rattle.ill_mail.specs.declared.sorting.Home.TheVariants as homes
+use Rattle.ill_mail.specs.declared.sorting.Route.{Route}
+use Rattle.ill_mail.specs.declared.sorting.Route.TheVariants as routes
+use Rattle.ill_mail.specs.declared.visit.Visit.{Visit}
+use Rattle.ill_mail.specs.declared.visit.Visit.TheVariants as visits
+use Rattle.ill_der.specs.Handling.{Handles}
+use Rattle.ill_der.specs.ShortForm.{spelling}
+use Rattle.ill_files.specs.AtFile.{FailsToOpen, ShowsFile, TakesAtFile}
+use Rattle.ill_mail.specs.Nights.{ExchangesAtFile, InboxAtFile, OutboxAtFile}
+use Rattle.ill_text.specs.Input.{ReadsInput}
+use Rattle.ill_desk.specs.Take.{answer_of}
+use Rattle.ill_show.specs.Listing.{heading}
+use Rattle.ill_desk.specs.Outbox.{IsFileFault}
+use Rattle.ill_text.specs.Output.{WritesText}
+use Rattle.ill_text.specs.Visits.{Stop, VisitsEach, graver}
+
+-- ---- mail
+
+-- Returns the way of a mail's message, by the role of the shelf and the home of the message's group.
+-- `has_room` is true if this run may make further desks. A mail makes a desk only if it is an ILL-Request to
+-- a responder's shelf, and its group is new. No mail makes the desk of a retired group, or of a group whose
+-- desk is lost.
+abbrev pub route_of : Role → Home → (is_request has_room : Bool) → Route
+route_of role homes.Desk is_request has_room = routes.Home
+route_of role homes.Retired is_request has_room = routes.Gone
+route_of role homes.Lost is_request has_room = routes.Back
+route_of Responder homes.Nothing true true = routes.New
+route_of Responder homes.Nothing true false = routes.Back
+route_of role homes.Nothing is_request has_room = routes.Stray
+
+-- ---- one desk after another
+
+-- If the line of the path was written, the command ran at the desk. If it was not, its fault is the answer.
+abbrev pub RunsAfter : (Option (List ℕ) → Option (List ℕ) → Result Bool ToolFault → Type 0) → Result (Unit {0}) ToolFault →
+    Option (List ℕ) → Option (List ℕ) → Result Bool ToolFault → Type 0
+RunsAfter Runs (Ok done) between after answer = Runs between after answer
+RunsAfter Runs (Err fault) between after answer = (answer ≡ Err fault) × (after ≡ between)
+
+-- If `is_headed`, the line of the path was written first. Then the command ran at the desk.
+abbrev pub Headed : Bool → (Option (List ℕ) → Option (List ℕ) → Result Bool ToolFault → Type 0) → Stop → Type 0
+Headed is_headed Runs stop =
+    (between : Option (List ℕ)) × (told : Result (Unit {0}) ToolFault)
+    × WritesText stop.before between (heading is_headed stop.path) told × RunsAfter Runs told between stop.after stop.answer
+
+-- Returns true if the form is that of lines.
+abbrev pub is_lines : Form → Bool
+is_lines Lines = true
+is_lines form = false
+
+-- Returns true if the line of its path is written before each desk. It is not if messages or objects of JSON
+-- go to the output.
+abbrev pub is_headed : Visit → Bool
+is_headed (visits.Status form) = is_lines form
+is_headed (visits.Outbox folder) = is_some folder
+is_headed visit = true
+
+-- A visit has the effect of its command at one desk.
+abbrev pub RunsVisit : Visit → Option (List ℕ) → Option (List ℕ) → Result Bool ToolFault → Type 0
+RunsVisit (visits.Status form) = ShowsFile form
+RunsVisit (visits.Inbox folder) = InboxAtFile
+RunsVisit (visits.Outbox folder) = OutboxAtFile (is_some folder)
+RunsVisit (visits.Exchange night) = ExchangesAtFile night.dates
+
+-- The desks at `paths` were visited one after another, and `answer` is the gravest of their answers.
+abbrev pub VisitsAll : Bool → (Option (List ℕ) → Option (List ℕ) → Result Bool ToolFault → Type 0) → List (List ℕ) →
+    Option (List ℕ) → Option (List ℕ) → Result Bool ToolFault → Type 0
+VisitsAll is_headed Runs paths before after answer =
+    VisitsEach (λ is_first. Headed is_headed Runs) paths before after answer
+
+-- The result is that all is well, that mails without a desk wait, or that a file failed.
+abbrev pub IsFurther : Result Bool ToolFault → Type 0
+IsFurther (Ok is_well) = is_well ≡ true
+IsFurther (Err Left) = Unit {0}
+IsFurther (Err fault) = IsFileFault fault
+
+-- The desks of a shelf were visited. The result is graver than their answers if mails wait that have no desk,
+-- or a file failed. Or the shelf could not be opened.
+abbrev pub VisitsShelf : Bool → (Option (List ℕ) → Option (List ℕ) → Result Bool ToolFault → Type 0) → Option (List ℕ) →
+    Option (List ℕ) → Result Bool ToolFault → Type 0
+VisitsShelf is_headed Runs before after result =
+    FailsToOpen before after result
+    ⊎ ((paths : List (List ℕ)) × (answer further : Result Bool ToolFault) × VisitsAll is_headed Runs paths before after answer
+    × IsFurther further × (result ≡ graver answer further))
+
+-- ---- retired groups
+
+-- Returns the line of the command: `done` if the group is retired, `not-now` if a loan is not over.
+abbrev pub retired_line : Bool → List ℕ
+retired_line true = codes "done\n"
+retired_line false = codes "not-now\n"
+
+-- Returns the answer of a command that has written its line, or the fault if it could not.
+abbrev pub told_with : Bool → Result (Unit {0}) ToolFault → Result Bool ToolFault
+told_with is_well (Ok done) = Ok is_well
+told_with is_well (Err fault) = Err fault
+
+-- The group of the desk in a file is retired, or is not, and the command wrote its line. Or a file could not
+-- be opened.
+abbrev pub RetiresAtFile : Option (List ℕ) → Option (List ℕ) → Result Bool ToolFault → Type 0
+RetiresAtFile before after result =
+    FailsToOpen before after result
+    ⊎ ((is_retired : Bool) × (told : Result (Unit {0}) ToolFault) × WritesText before after (retired_line is_retired) told
+    × (result ≡ told_with is_retired told))
+
+-- ---- an input
+
+-- The state of `take` on a shelf, with its flags and its output. `is_kept` is true if taken messages are
+-- kept, and `is_long` if their lines are long. `all_fine` is true if all went well so far.
+pub record ShelfTaking : Type 0 where
+  pub is_kept : Bool
+  pub is_long : Bool
+  pub all_fine : Bool
+  pub written : Option (List ℕ)
+
+-- The APDU `a` was taken as by `take` at one desk, with `a` alone as the input.
+abbrev pub TakesAtHome : Handles ShelfTaking ToolFault
+TakesAtHome old a (Ok done) new =
+    (is_well : Bool) × (rest : Option (List ℕ))
+    × TakesAtFile old.is_kept old.is_long (Some (spelling a)) rest old.written new.written (Ok is_well)
+    × (new ≡ record old { all_fine = old.all_fine && is_well; written = new.written })
+TakesAtHome old a (Err fault) new =
+    (rest : Option (List ℕ))
+    × TakesAtFile old.is_kept old.is_long (Some (spelling a)) rest old.written new.written (Err fault)
+
+-- Returns the state before the first APDU.
+abbrev pub shelf_taking : (is_kept is_long : Bool) → Option (List ℕ) → ShelfTaking
+shelf_taking is_kept is_long before = record { is_kept = is_kept; is_long = is_long; all_fine = true; written = before }
+
+-- The APDUs of the input were taken, each at a desk. Or the shelf could not be opened.
+abbrev pub TakesAtShelf : (is_kept is_long : Bool) → Option (List ℕ) → Option (List ℕ) → Option (List ℕ) →
+    Option (List ℕ) → Result Bool ToolFault → Type 0
+TakesAtShelf is_kept is_long left rest before after result =
+    (FailsToOpen before after result × (rest ≡ left))
+    ⊎ ((count : Result ℕ ToolFault) × (end : ShelfTaking)
+    × ReadsInput TakesAtHome left rest (shelf_taking is_kept is_long before) count end
+    × (after ≡ end.written) × (result ≡ answer_of count end.all_fine))

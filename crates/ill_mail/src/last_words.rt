@@ -1,0 +1,124 @@
+//! The last words of retired groups. A partner who missed how a loan ended asks for it each night. A run gives the answer
+//! from the mark of the group.
+
+ghost use Rattle.std.specs.Prelude.{◌≡◌, IfErr};
+ghost use Rattle.ill_desk.specs.Outbox.{IsFileFault};
+ghost use Rattle.ill_mail.specs.Shelf.{IsFurther};
+
+use crate::blame::blame_mail;
+use crate::mail_box::asked_bytes;
+use crate::mail_folder::MailFolder;
+use ill_der::{ApduView, encode};
+use ill_desk::outbox::mail_name;
+use ill_desk::outgoing::Outgoing;
+use ill_desk::retire::words_in;
+use ill_files::durable::error_of_store;
+use ill_files::machine::Machine;
+use ill_files::shelf::{Shelf, retired_path};
+use ill_saved::{FileStore, RECORD_LIMIT, Role, Store};
+use ill_text::fault::{STORE_FAILED, ToolFault};
+use ill_text::input::apdus_in;
+use ill_values::Apdu;
+use std::alloc::Global;
+use std::io::{self, ErrorKind, Write};
+use std::rt::Files;
+
+/// Returns the bytes of the mark of the group of `desk`, if the group is retired.
+pub(crate) fn load_mark<T: Files>(
+    rt: &T,
+    alloc: Global,
+    desk: &str,
+) -> io::Result<Option<Vec<u8>>> {
+    let path = retired_path(alloc, desk)?;
+    let mut store = FileStore::at(rt, alloc, path.as_str(), RECORD_LIMIT)?;
+    match store.load(alloc) {
+        Ok(mark) => Ok(mark),
+        Err(fault) => Err(error_of_store(fault)),
+    }
+}
+
+/// The last words in the mark of a retired group.
+#[derive(Drop)]
+pub(crate) struct LastWords {
+    /// The path of the desk that the mark has replaced.
+    desk: String,
+    words: Vec<Apdu>,
+}
+
+impl LastWords {
+    /// Reads the mark of the group of `desk`. There are no last words if it is not retired.
+    pub(crate) fn read<T: Files>(rt: &T, alloc: Global, desk: &str) -> io::Result<LastWords> {
+        let words = match load_mark(rt, alloc, desk)? {
+            Some(mark) => apdus_in(alloc, words_in(&mark))?,
+            None => Vec::new(alloc),
+        };
+        let desk = String::from_str(alloc, desk)?;
+        Ok(LastWords { desk, words })
+    }
+
+    /// Returns true if these are the last words of the group of `desk`.
+    pub(crate) fn is_of(&self, desk: &str) -> bool {
+        self.desk.as_str() == desk
+    }
+
+    /// Returns the last word of the loan of `message`, if there is one.
+    pub(crate) fn find(&self, alloc: Global, message: &ApduView<'_>) -> io::Result<Option<Apdu>> {
+        for word in &self.words {
+            let txn = &word.txn;
+            if txn.group() == message.group() && txn.transaction() == message.transaction() {
+                return Ok(Some(word.copy(alloc)?));
+            }
+        }
+        Ok(None)
+    }
+}
+
+/// Puts the last words that were asked for at `shelf` into the folder `out`.
+pub(crate) fn send_last_words<T: Files, W: Write, E: Write>(
+    machine: &mut Machine<'_, T, W, E>,
+    shelf: &Shelf<'_>,
+    out: &str,
+) -> Result<bool, ToolFault>
+    ensures further { IsFurther result }
+    ensures silent { machine.new.writer ≡ machine.old.writer }
+{
+    let words = match words_asked(machine.rt, machine.alloc, shelf) {
+        Ok(words) => words,
+        Err(error) if error.kind() == ErrorKind::OutOfMemory => return Err(ToolFault::OutOfMemory),
+        Err(_) => return Err(STORE_FAILED),
+    };
+    let mut folder = MailFolder::at(machine.rt, machine.alloc, out);
+    let sent = put_words(machine.alloc, &words, &mut folder);
+    match blame_mail(machine, sent, &folder) {
+        Ok(_) => Ok(true),
+        Err(fault) => Err(fault),
+    }
+}
+
+/// Returns the last words that were asked for at `shelf`.
+fn words_asked<T: Files>(rt: &T, alloc: Global, shelf: &Shelf<'_>) -> io::Result<Vec<Apdu>> {
+    let unsorted = shelf.unsorted(alloc)?;
+    let bytes = asked_bytes(rt, alloc, unsorted.as_str())?;
+    Ok(apdus_in(alloc, &bytes)?)
+}
+
+/// Puts `words`, which responders have issued, into `out`, and returns their number.
+fn put_words<O: Outgoing>(alloc: Global, words: &[Apdu], out: &mut O) -> Result<usize, ToolFault>
+    ensures { IfErr result IsFileFault }
+{
+    for word in words {
+        if let Err(fault) = put_word(alloc, word, out) {
+            return Err(fault);
+        }
+    }
+    Ok(words.len())
+}
+
+/// Puts the message `word`, which a responder has issued, into `out`.
+fn put_word<O: Outgoing>(alloc: Global, word: &Apdu, out: &mut O) -> Result<(), ToolFault>
+    ensures { IfErr result IsFileFault }
+{
+    let name = mail_name(alloc, Role::Responder, &word.txn, word.number)?;
+    let bytes = encode(alloc, word)?;
+    out.put(&name, &bytes)
+}

@@ -1,0 +1,500 @@
+//! The mails of a run: it claims some from a folder, and earlier runs have left others. Whoever brings mails may put
+//! anything into the folder at any moment.
+//!
+//! A run claims a mail by a rename into the folder of the desk's mail, where nobody else may write. It looks at the
+//! mail only there, and reads it once. It gives back anything that is no regular file. If the folder of mails may have
+//! folders in it, the run looks at each entry before the claim. So it moves no folder, except one that was put there at
+//! that moment.
+
+ghost use Rattle.std.specs.Prelude.{◌≡◌, IfErr};
+ghost use Rattle.ill_files.specs.AtFile.{IsOpenFault};
+ghost use Rattle.ill_desk.specs.Inbox.{is_line_end, without_line_end};
+
+use crate::mail_box::{MailBox, MailPaths, give_back};
+use ill_der::{APDU_LIMIT, view};
+use ill_desk::inbox::message_in;
+use ill_desk::verdict::Mail;
+use ill_files::paths::{fault, joined, path_of, raw_names};
+use ill_files::shelf::is_for_desk;
+use ill_saved::Role;
+use ill_text::fault::ToolFault;
+use ill_values::OutOfMemory;
+use std::alloc::Global;
+use std::fs::Metadata;
+use std::io::{ErrorKind, Read};
+use std::os::unix::fs::MetadataExt;
+use std::rt::Files;
+use std::{fs, io};
+
+/// The greatest number of mails in one run. Further ones wait for the next run.
+const MAILS: usize = 10_000;
+
+/// The number of names that are tried for the folder of a run, if other runs take them.
+const TRIES: u32 = 100;
+
+/// The greatest number of bytes in a line end.
+const LINE_END: usize = 2;
+
+/// The greatest number of bytes read from a mail: one more than a message and a line end have.
+const MOST: usize = APDU_LIMIT + LINE_END + 1;
+
+/// The mails of a run.
+#[derive(Drop)]
+pub struct Mails {
+    /// The mails that were read. Those without a message come first, and then the others in the order of their loans. The
+    /// mails of a loan have the order of their numbers.
+    pub mails: Vec<Mail>,
+    /// The path of the file of each, or none if it could not be claimed.
+    pub files: Vec<Option<String>>,
+    /// The number of further mails.
+    pub waiting: usize,
+    /// The folders of the runs that have claimed mails. The folder of this run is the last.
+    pub runs: Vec<String>,
+}
+
+impl Mails {
+    /// Returns true if a run has no room for a further mail.
+    fn is_full(&self) -> bool {
+        self.mails.len() >= MAILS
+    }
+
+    /// Adds a mail of this name, with its bytes and the path of its file.
+    fn add(
+        &mut self,
+        name: Vec<u8>,
+        bytes: Option<Vec<u8>>,
+        file: Option<String>,
+    ) -> io::Result<()> {
+        self.mails.push(Mail { name, bytes })?;
+        self.files.push(file)?;
+        Ok(())
+    }
+
+    /// Puts the mails into the order of their loans and numbers. Mails without a message come first.
+    fn by_loan(self) -> io::Result<Mails> {
+        let Mails {
+            mails,
+            files,
+            waiting,
+            runs,
+        } = self;
+        let alloc = *mails.allocator();
+        let mut placed = Vec::new(alloc);
+        for (mail, file) in mails.into_iter().zip(files) {
+            let place = place_of(alloc, &mail)?;
+            placed.push(Placed { place, mail, file })?;
+        }
+        placed.sort_by(|one, other| one.place.cmp(&other.place))?;
+        let mut ordered = Mails {
+            mails: Vec::new(alloc),
+            files: Vec::new(alloc),
+            waiting,
+            runs,
+        };
+        for placed in placed {
+            ordered.mails.push(placed.mail)?;
+            ordered.files.push(placed.file)?;
+        }
+        Ok(ordered)
+    }
+
+    /// Adds a mail that cannot be read, or counts it if the run is full.
+    fn add_or_count(&mut self, name: Vec<u8>) -> io::Result<()> {
+        if self.is_full() {
+            self.waiting = self.waiting.saturating_add(1);
+            return Ok(());
+        }
+        self.add(name, None, None)
+    }
+
+    /// Adds the claimed mail in `file`, or gives it back to `folder` if it is no regular file.
+    fn add_claimed<T: Files>(
+        &mut self,
+        rt: &T,
+        folder: &str,
+        name: Vec<u8>,
+        file: String,
+    ) -> io::Result<()> {
+        let alloc = *name.allocator();
+        let read = match lookup(rt, file.as_str()) {
+            Ok(None) => return no_failure(give_back(rt, alloc, folder, file.as_str(), &name)),
+            Ok(Some(found)) => first_bytes(rt, alloc, file.as_str(), found.len()),
+            Err(error) => Err(error),
+        };
+        self.add(name, bytes_if_read(read)?, Some(file))
+    }
+}
+
+/// A mail, the path of its file, and its place in the order of the mails of a run.
+#[derive(Drop)]
+struct Placed {
+    place: Vec<u8>,
+    mail: Mail,
+    file: Option<String>,
+}
+
+/// Returns the place of a mail in the order of the mails of a run: the group, the transaction and the number of its
+/// message, with a zero after each qualifier. It is empty for a mail without a message.
+fn place_of(alloc: Global, mail: &Mail) -> Result<Vec<u8>, OutOfMemory> {
+    let mut place = Vec::new(alloc);
+    let Some(bytes) = &mail.bytes else {
+        return Ok(place);
+    };
+    if let Ok(message) = message_in(bytes) {
+        place.extend_from_slice(message.group())?;
+        place.push(0)?;
+        place.extend_from_slice(message.transaction())?;
+        place.push(0)?;
+        place.push(message.number().get())?;
+    }
+    Ok(place)
+}
+
+/// The folder from which the mails of a desk come.
+#[derive(Clone, Copy)]
+pub struct Incoming<'a> {
+    /// Its path.
+    pub folder: &'a str,
+    /// Set if a shelf sorts the folder. The mails of the desk were then claimed for it before.
+    pub is_sorted: bool,
+}
+
+/// Makes the folder of a run.
+pub fn begin_run<T: Files>(rt: &T, alloc: Global, mail_box: &MailBox) -> Result<String, ToolFault>
+    ensures { IfErr result IsOpenFault }
+{
+    match new_run(rt, alloc, mail_box) {
+        Ok(run) => Ok(run),
+        Err(error) => Err(fault(&error)),
+    }
+}
+
+/// Reads the mails that earlier runs have claimed. Then it claims the mails of `folder` into the folder `run`, and
+/// reads these.
+pub fn claim_mails<T: Files>(
+    rt: &T,
+    alloc: Global,
+    mail_box: &MailBox,
+    folder: &str,
+    run: &str,
+) -> Result<Mails, ToolFault>
+    ensures { IfErr result IsOpenFault }
+{
+    match all_mails(rt, alloc, mail_box, folder, Some(run)) {
+        Ok(mails) => Ok(mails),
+        Err(error) => Err(fault(&error)),
+    }
+}
+
+/// Reads the mails that a shelf has sorted from the folder of `place` to the desk there. A carrier that opened a mail before the
+/// claim may still write to it. If its message is then for another desk, its bytes are hidden.
+pub fn sorted_mails<T: Files>(
+    rt: &T,
+    alloc: Global,
+    place: &MailPaths<'_>,
+    role: Role,
+) -> Result<Mails, ToolFault>
+    ensures { IfErr result IsOpenFault }
+{
+    match all_mails(rt, alloc, place.mail_box, place.folder, None) {
+        Ok(mut mails) => match hide_others(alloc, place.file, role, &mut mails) {
+            Ok(()) => Ok(mails),
+            Err(_) => Err(ToolFault::OutOfMemory),
+        },
+        Err(error) => Err(fault(&error)),
+    }
+}
+
+/// Hides the bytes of the mails whose message is not for the desk in `file`.
+fn hide_others(
+    alloc: Global,
+    file: &str,
+    role: Role,
+    mails: &mut Mails,
+) -> Result<(), OutOfMemory> {
+    for mail in &mut mails.mails {
+        let is_own = match &mail.bytes {
+            Some(bytes) => is_for_desk(alloc, file, role, bytes)?,
+            None => true,
+        };
+        if !is_own {
+            mail.bytes = None;
+        }
+    }
+    Ok(())
+}
+
+/// Reads the mails of a desk, as many as one run takes. First come the mails that earlier runs have claimed. Then it
+/// claims mails from `folder` into the folder `run`, if there is one.
+fn all_mails<T: Files>(
+    rt: &T,
+    alloc: Global,
+    mail_box: &MailBox,
+    folder: &str,
+    run: Option<&str>,
+) -> io::Result<Mails> {
+    let mut mails = Mails {
+        mails: Vec::new(alloc),
+        files: Vec::new(alloc),
+        waiting: 0,
+        runs: Vec::new(alloc),
+    };
+    for earlier in names_in(rt, alloc, mail_box.claimed())? {
+        add_run(rt, mail_box.claimed(), &earlier, folder, &mut mails)?;
+    }
+    if let Some(run) = run {
+        claim_from(rt, mail_box, folder, run, &mut mails)?;
+    }
+    mails.by_loan()
+}
+
+/// Claims the mails of `folder` into the folder `run`, up to the room of a run, and reads them.
+fn claim_from<T: Files>(
+    rt: &T,
+    mail_box: &MailBox,
+    folder: &str,
+    run: &str,
+    mails: &mut Mails,
+) -> io::Result<()> {
+    let alloc = *mails.mails.allocator();
+    if mail_box.is_at(rt, alloc, folder)? {
+        return Err(ErrorKind::InvalidInput.into());
+    }
+    let claiming = Claiming {
+        folder,
+        run,
+        looks_first: may_have_folders(rt, folder)?,
+    };
+    for name in names_in(rt, alloc, folder)? {
+        add_mail(rt, &claiming, name, mails)?;
+    }
+    Ok(())
+}
+
+/// A folder of mails, and the folder of the run that claims them.
+#[derive(Clone, Copy)]
+struct Claiming<'a> {
+    folder: &'a str,
+    run: &'a str,
+    /// Set if each entry of `folder` is looked at before it is claimed.
+    looks_first: bool,
+}
+
+/// Returns true if `folder` may have folders in it. If a system counts the links of a folder, one without folders has
+/// two.
+fn may_have_folders<T: Files>(rt: &T, folder: &str) -> io::Result<bool> {
+    Ok(fs::metadata(rt, folder)?.nlink() != 2)
+}
+
+/// Makes the folder of a run among the claimed mails, and returns its path. Its number is greater than the number of
+/// each folder there. The folder is new, so no other run has it.
+pub(crate) fn new_run<T: Files>(rt: &T, alloc: Global, mail_box: &MailBox) -> io::Result<String> {
+    let mut last = 0;
+    for run in names_in(rt, alloc, mail_box.claimed())? {
+        last = number_of(&run).unwrap_or_default().max(last);
+    }
+    for number in last.saturating_add(1)..=last.saturating_add(TRIES) {
+        let run = format!(in alloc; "{}/{number:010}", mail_box.claimed())?;
+        match mail_box.make_run(rt, run.as_str()) {
+            Ok(()) => return Ok(run),
+            Err(error) if error.kind() == ErrorKind::AlreadyExists => {}
+            Err(error) => return Err(error),
+        }
+    }
+    Err(ErrorKind::AlreadyExists.into())
+}
+
+/// Returns the names in `folder` that do not begin with a dot, in the order of their bytes.
+pub(crate) fn names_in<T: Files>(rt: &T, alloc: Global, folder: &str) -> io::Result<Vec<Vec<u8>>> {
+    let mut names = raw_names(rt, alloc, folder)?;
+    names.retain(|name| !name.starts_with(b"."));
+    names.sort()?;
+    Ok(names)
+}
+
+/// Adds the mails that an earlier run has claimed into its folder `run`. If `run` is no folder, it adds none.
+fn add_run<T: Files>(
+    rt: &T,
+    claimed: &str,
+    run: &[u8],
+    folder: &str,
+    mails: &mut Mails,
+) -> io::Result<()> {
+    let alloc = *mails.mails.allocator();
+    let Some(number) = number_of(run) else {
+        return Ok(());
+    };
+    let run = format!(in alloc; "{claimed}/{number:010}")?;
+    if !is_folder(rt, run.as_str()) {
+        return Ok(());
+    }
+    for name in names_in(rt, alloc, run.as_str())? {
+        add_again(rt, folder, run.as_str(), name, mails)?;
+    }
+    mails.runs.push(run)?;
+    Ok(())
+}
+
+/// Returns true if there is a folder at `path`.
+fn is_folder<T: Files>(rt: &T, path: &str) -> bool {
+    match fs::symlink_metadata(rt, path) {
+        Ok(found) => found.is_dir(),
+        Err(_) => false,
+    }
+}
+
+/// Returns the number of a run, which is the name of its folder.
+fn number_of(run: &[u8]) -> Option<u32> {
+    str::from_utf8(run).ok()?.parse::<u32>().ok()
+}
+
+/// Adds a mail in the folder `run` of an earlier run, or counts it if this run is full.
+fn add_again<T: Files>(
+    rt: &T,
+    folder: &str,
+    run: &str,
+    name: Vec<u8>,
+    mails: &mut Mails,
+) -> io::Result<()> {
+    if mails.is_full() {
+        mails.waiting = mails.waiting.saturating_add(1);
+        return Ok(());
+    }
+    match path_of(*name.allocator(), run, &name)? {
+        Some(file) => mails.add_claimed(rt, folder, name, file),
+        None => Ok(()),
+    }
+}
+
+/// Claims the mail `name` and adds it, if it is a mail, or counts it if the run is full.
+fn add_mail<T: Files>(
+    rt: &T,
+    claiming: &Claiming<'_>,
+    name: Vec<u8>,
+    mails: &mut Mails,
+) -> io::Result<()> {
+    let alloc = *name.allocator();
+    let Some(path) = path_of(alloc, claiming.folder, &name)? else {
+        return mails.add_or_count(as_text(alloc, &name)?);
+    };
+    if !claiming.looks_first && !mails.is_full() {
+        return add_claimed(rt, path.as_str(), claiming, name, mails);
+    }
+    match lookup(rt, path.as_str()) {
+        Ok(None) => Ok(()),
+        Ok(Some(_)) if !mails.is_full() => add_claimed(rt, path.as_str(), claiming, name, mails),
+        Err(error) if error.kind() == ErrorKind::OutOfMemory => Err(error),
+        _ => mails.add_or_count(name),
+    }
+}
+
+/// Claims the mail at `path`, and adds it. A mail that cannot be claimed is not read.
+fn add_claimed<T: Files>(
+    rt: &T,
+    path: &str,
+    claiming: &Claiming<'_>,
+    name: Vec<u8>,
+    mails: &mut Mails,
+) -> io::Result<()> {
+    match claim(rt, *name.allocator(), path, claiming.run, &name) {
+        Ok(file) => mails.add_claimed(rt, claiming.folder, name, file),
+        Err(error) if error.kind() == ErrorKind::OutOfMemory => Err(error),
+        Err(_) => match lookup(rt, path) {
+            Ok(None) => Ok(()),
+            _ => mails.add_or_count(name),
+        },
+    }
+}
+
+/// Returns the text for a name that is not UTF-8. An escape such as `\x9b` replaces each byte beyond ASCII.
+fn as_text(alloc: Global, name: &[u8]) -> io::Result<Vec<u8>> {
+    let mut text = String::new(alloc);
+    for byte in name {
+        if byte.is_ascii() {
+            text.push(char::from(*byte))?;
+        } else {
+            write!(text, "\\x{byte:02x}")?;
+        }
+    }
+    Ok(text.into_bytes())
+}
+
+/// Renames the file at `path` into the folder `run`, and returns its path there. It replaces no file, since names in
+/// one folder differ.
+fn claim<T: Files>(
+    rt: &T,
+    alloc: Global,
+    path: &str,
+    run: &str,
+    name: &[u8],
+) -> io::Result<String> {
+    let file = joined(alloc, run, str::from_utf8(name).unwrap_or_default())?;
+    fs::rename(rt, path, file.as_str())?;
+    Ok(file)
+}
+
+/// Finds the regular file at `path`. Anything else is no mail, and neither is a file that was removed.
+fn lookup<T: Files>(rt: &T, path: &str) -> io::Result<Option<Metadata>> {
+    match fs::symlink_metadata(rt, path) {
+        Ok(found) if found.is_file() => Ok(Some(found)),
+        Ok(_) => Ok(None),
+        Err(error) if error.kind() == ErrorKind::NotFound => Ok(None),
+        Err(error) => Err(error),
+    }
+}
+
+/// Returns the bytes of a claimed mail, or none if it could not be read. Only a lack of memory is a failure.
+fn bytes_if_read(read: io::Result<Vec<u8>>) -> io::Result<Option<Vec<u8>>> {
+    match read {
+        Ok(bytes) => Ok(Some(bytes)),
+        Err(error) if error.kind() == ErrorKind::OutOfMemory => Err(error),
+        Err(_) => Ok(None),
+    }
+}
+
+/// Returns the failure of `done` if it is a lack of memory. After another failure the file remains among the claimed
+/// mails, for the next run.
+fn no_failure(done: io::Result<()>) -> io::Result<()> {
+    match done {
+        Err(error) if error.kind() == ErrorKind::OutOfMemory => Err(error),
+        _ => Ok(()),
+    }
+}
+
+/// Returns the first bytes of the file at `path`, whose size was `size`, without a line end after a message. If that is
+/// still its size, one call reads them.
+fn first_bytes<T: Files>(rt: &T, alloc: Global, path: &str, size: u64) -> io::Result<Vec<u8>> {
+    let mut file = fs::open(rt, path)?;
+    let mut first = [0; MOST];
+    let count = file.read(&mut first)?;
+    let mut bytes = Vec::from_slice(alloc, &first[..count])?;
+    if count as u64 != size {
+        file.take(MOST.saturating_sub(count) as u64)
+            .read_to_end(&mut bytes)?;
+    }
+    bytes.truncate(without_line_end(&bytes).len());
+    Ok(bytes)
+}
+
+/// Returns the message at the start of `bytes`, if only a line end follows it. Else it returns `bytes`.
+fn without_line_end(bytes: &[u8]) -> &[u8]
+    ensures { result.now ≡ without_line_end bytes.now }
+{
+    match view(bytes) {
+        Ok((_, size)) => {
+            if is_line_end(&bytes[size..]) {
+                &bytes[..size]
+            } else {
+                bytes
+            }
+        }
+        Err(_) => bytes,
+    }
+}
+
+/// Returns true if `bytes` are a line end: a line feed, perhaps after a carriage return.
+fn is_line_end(bytes: &[u8]) -> bool
+    ensures { result ≡ is_line_end bytes.now }
+{
+    bytes == b"\n".as_slice() || bytes == b"\r\n".as_slice()
+}

@@ -1,0 +1,22 @@
+//! The arguments of a night.
+
+use ill_desk::dates::Dates;
+use ill_values::Day;
+
+/// The arguments of a run of `ill exchange`.
+#[derive(Clone, Copy)]
+pub struct Night<'a> {
+    /// The folder of the mails that have come.
+    pub incoming: &'a str,
+    /// The folder of the mails to send.
+    pub outgoing: &'a str,
+    /// The day of the run, and the deeds that it makes a responder do.
+    pub dates: Option<(Day, Dates)>,
+    /// The path of the file of the copy. On a shelf it is the path of a folder, in which each copy has the name of its
+    /// desk.
+    pub copy: Option<&'a str>,
+    /// The path of the file that is written anew at the end, as a sign of life.
+    pub beat: Option<&'a str>,
+    /// Set if the desk is on a shelf, which has sorted the mails.
+    pub is_on_shelf: bool,
+}

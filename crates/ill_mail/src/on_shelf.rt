@@ -1,0 +1,469 @@
+//! The commands on a shelf. In a transaction each does at the desk of its group as the command for one desk does.
+
+ghost use Rattle.std.specs.Prelude.{◌≡◌, true, map, is_some, IfErr};
+ghost use Rattle.ill_files.specs.AtFile.{ActsAtFile, IsOpenFault, LoanAtFile, NewAtFile, SendsAtFile, ShowsFile};
+ghost use Rattle.ill_mail.specs.Nights.{ExchangesAtFile, InboxAtFile, OutboxAtFile};
+ghost use Rattle.ill_mail.specs.Shelf.{IsFurther, RetiresAtFile, VisitsShelf, is_lines, retired_line, told_with};
+ghost use Rattle.ill_desk.specs.Outbox.{IsFileFault};
+
+use crate::backup::beat;
+use crate::last_words::{load_mark, send_last_words};
+use crate::mail::names_in;
+use crate::mail_box::remove_if_there;
+use crate::night::Night;
+use crate::places::{Places, look_at_places};
+use crate::sorting::{refuse_lost, sort_mails};
+use crate::visit::{Visit, visit_all};
+use ill_desk::act::run_desk_act;
+use ill_desk::retire::run_desk_retire;
+use ill_files::durable::error_of_store;
+use ill_files::file::{loan, new, send};
+use ill_files::machine::Machine;
+use ill_files::open::{lock, open, release};
+use ill_files::paths::{CAME, MAIL, RETIRED, fault, is_there, path_of};
+use ill_files::shelf::{Shelf, is_retired, names_of_desks, own_path, refuse_retired, retired_path};
+use ill_saved::{Desk, DeskFault, FileLock, FileStore, LockFiles, RECORD_LIMIT, Role, Store};
+use ill_text::fault::{STORE_FAILED, ToolFault, graver};
+use ill_text::form::Form;
+use ill_text::output::write_whole;
+use ill_values::{Day, Number, TxnId};
+use ill_words::Who;
+use std::alloc::Global;
+use std::fs::DirBuilder;
+use std::io::{ErrorKind, Write};
+use std::rt::Files;
+use std::{fs, io};
+
+/// `ill shelf new`: begins a shelf in a folder. The folder is made if it is not there.
+pub fn new_shelf<T: LockFiles, W: Write, E: Write>(
+    machine: &mut Machine<'_, T, W, E>,
+    folder: &str,
+    role: Who,
+) -> Result<bool, ToolFault>
+    ensures { NewAtFile (W.contents machine.old.writer) (W.contents machine.new.writer) result }
+{
+    make_shelf_folder(machine.rt, folder)?;
+    let own = own_path(machine.alloc, folder)?;
+    new(machine, own.as_str(), role)
+}
+
+/// Makes the folder of a shelf, if it is not there.
+fn make_shelf_folder<T: Files>(rt: &T, folder: &str) -> Result<(), ToolFault>
+    ensures { IfErr result IsOpenFault }
+{
+    if folder.is_empty() {
+        return Err(STORE_FAILED);
+    }
+    match DirBuilder::new().create(rt, folder) {
+        Err(error) if error.kind() != ErrorKind::AlreadyExists => Err(fault(&error)),
+        _ => Ok(()),
+    }
+}
+
+/// `ill shelf act`: performs one action in a transaction, at the desk of its group. A new group is begun only if
+/// `is_new_group` is set.
+pub fn act_on_shelf<T: LockFiles, W: Write, E: Write>(
+    machine: &mut Machine<'_, T, W, E>,
+    folder: &str,
+    txn: &TxnId,
+    today: Option<Day>,
+    is_new_group: bool,
+    words: &[&str],
+) -> Result<bool, ToolFault>
+    ensures { ActsAtFile txn.now today (map (λ word. word.now) words.now)
+        (W.contents machine.old.writer) (W.contents machine.new.writer) result }
+{
+    let shelf = Shelf::open(machine.rt, machine.alloc, folder)?;
+    let file = shelf.desk_of(machine.alloc, txn.group())?;
+    let role = if is_new_group { Some(shelf.role) } else { None };
+    let (lock, mut desk) = open_or_begin(machine.rt, machine.alloc, file.as_str(), role)?;
+    let acted = run_desk_act(
+        machine.alloc,
+        &mut desk,
+        txn,
+        today,
+        words,
+        &mut machine.writer,
+    );
+    release(acted, desk, lock)
+}
+
+/// Opens the desk in `file` under the lock of the file. If the file is not there and `role` is one, it begins a desk of
+/// that role. Nothing of that desk is saved yet.
+fn open_or_begin<'a, T: LockFiles>(
+    rt: &'a T,
+    alloc: Global,
+    file: &str,
+    role: Option<Role>,
+) -> Result<(FileLock<'a, T>, Desk<FileStore<'a, T>>), ToolFault>
+    ensures { IfErr result IsOpenFault }
+{
+    let held = lock(rt, alloc, file)?;
+    refuse_retired(rt, alloc, file)?;
+    refuse_lost(rt, alloc, file)?;
+    let store = FileStore::at(rt, alloc, file, RECORD_LIMIT)?;
+    let opened = start_or_begin(alloc, store, role)?;
+    Ok((held, opened))
+}
+
+/// Starts a desk over `store`. If the store has no record and `role` is one, it begins a desk of that role.
+fn start_or_begin<S: Store + Drop>(
+    alloc: Global,
+    store: S,
+    role: Option<Role>,
+) -> Result<Desk<S>, ToolFault>
+    ensures { IfErr result IsOpenFault }
+{
+    match (Desk::start(alloc, store), role) {
+        (Err((DeskFault::NoRecord, store)), Some(role)) => Ok(Desk::create(alloc, store, role)?),
+        (started, _) => Ok(started?),
+    }
+}
+
+/// `ill shelf send`: writes the bytes of a message of a transaction.
+pub fn send_on_shelf<T: Files, W: Write, E: Write>(
+    machine: &mut Machine<'_, T, W, E>,
+    folder: &str,
+    txn: &TxnId,
+    number: Number,
+) -> Result<bool, ToolFault>
+    ensures { SendsAtFile txn.now number (W.contents machine.old.writer) (W.contents machine.new.writer) result }
+{
+    let file = home_of(machine.rt, machine.alloc, folder, txn)?;
+    send(machine, file.as_str(), txn, number)
+}
+
+/// `ill shelf loan`: shows all that is known of a transaction, or draws it.
+pub fn loan_on_shelf<T: Files, W: Write, E: Write>(
+    machine: &mut Machine<'_, T, W, E>,
+    folder: &str,
+    txn: &TxnId,
+    form: Form,
+    is_picture: bool,
+) -> Result<bool, ToolFault>
+    ensures { LoanAtFile form is_picture txn.now (W.contents machine.old.writer) (W.contents machine.new.writer) result }
+{
+    let file = home_of(machine.rt, machine.alloc, folder, txn)?;
+    loan(machine, file.as_str(), txn, form, is_picture)
+}
+
+/// Returns the path of the desk of the group of `txn`, unless the group is retired.
+fn home_of<T: Files>(rt: &T, alloc: Global, folder: &str, txn: &TxnId) -> Result<String, ToolFault>
+    ensures { IfErr result IsOpenFault }
+{
+    let shelf = Shelf::open(rt, alloc, folder)?;
+    let file = shelf.desk_of(alloc, txn.group())?;
+    refuse_retired(rt, alloc, file.as_str())?;
+    Ok(file)
+}
+
+/// `ill shelf status`: shows the sides of each desk.
+pub fn status_of_shelf<T: LockFiles, W: Write, E: Write>(
+    machine: &mut Machine<'_, T, W, E>,
+    folder: &str,
+    form: Form,
+) -> Result<bool, ToolFault>
+    ensures { VisitsShelf (is_lines form) (ShowsFile form) (W.contents machine.old.writer) (W.contents machine.new.writer) result }
+{
+    let shelf = Shelf::open(machine.rt, machine.alloc, folder)?;
+    let desks = shelf.desks(machine.rt, machine.alloc)?;
+    visit_all(machine, &desks, &Visit::Status(form))
+}
+
+/// `ill shelf outbox`: puts the messages of the loans that want sending into a folder, or writes them one after
+/// another.
+pub fn outbox_of_shelf<T: LockFiles, W: Write, E: Write>(
+    machine: &mut Machine<'_, T, W, E>,
+    folder: &str,
+    outgoing: Option<&str>,
+) -> Result<bool, ToolFault>
+    ensures { VisitsShelf (is_some outgoing.entry) (OutboxAtFile (is_some outgoing.entry)) (W.contents machine.old.writer)
+        (W.contents machine.new.writer) result }
+{
+    let shelf = Shelf::open(machine.rt, machine.alloc, folder)?;
+    let desks = shelf.desks(machine.rt, machine.alloc)?;
+    let answer = visit_all(machine, &desks, &Visit::Outbox(outgoing));
+    graver(answer, send_words_to(machine, &shelf, outgoing))
+}
+
+/// Sends the last words of retired groups into a folder, if there is one.
+fn send_words_to<T: Files, W: Write, E: Write>(
+    machine: &mut Machine<'_, T, W, E>,
+    shelf: &Shelf<'_>,
+    outgoing: Option<&str>,
+) -> Result<bool, ToolFault>
+    ensures further { IsFurther result }
+    ensures silent { machine.new.writer ≡ machine.old.writer }
+{
+    match outgoing {
+        Some(out) => send_last_words(machine, shelf, out),
+        None => Ok(true),
+    }
+}
+
+/// `ill shelf inbox`: takes the mails of a folder, each at the desk of its group.
+pub fn inbox_of_shelf<T: LockFiles, W: Write, E: Write>(
+    machine: &mut Machine<'_, T, W, E>,
+    folder: &str,
+    incoming: &str,
+) -> Result<bool, ToolFault>
+    ensures { VisitsShelf true InboxAtFile (W.contents machine.old.writer) (W.contents machine.new.writer) result }
+{
+    let shelf = Shelf::open(machine.rt, machine.alloc, folder)?;
+    let is_waiting = sort_mails(machine, &shelf, incoming, None)?;
+    let desks = desks_and_own(machine.rt, machine.alloc, &shelf)?;
+    let answer = visit_all(machine, &desks, &Visit::Inbox(incoming));
+    graver(answer, waiting(is_waiting))
+}
+
+/// Returns the paths of the desks of `shelf`, and then the path of the shelf's own desk.
+fn desks_and_own<T: Files>(
+    rt: &T,
+    alloc: Global,
+    shelf: &Shelf<'_>,
+) -> Result<Vec<String>, ToolFault>
+    ensures { IfErr result IsOpenFault }
+{
+    let mut desks = shelf.desks(rt, alloc)?;
+    desks.push(shelf.own_desk(alloc)?)?;
+    Ok(desks)
+}
+
+/// Returns the fault `Left` if mails wait, else true.
+fn waiting(is_waiting: bool) -> Result<bool, ToolFault>
+    ensures { IsFurther result }
+{
+    if is_waiting {
+        Err(ToolFault::Left)
+    } else {
+        Ok(true)
+    }
+}
+
+/// `ill shelf exchange`: sorts the mail that has come, and exchanges the mail of each desk.
+pub fn exchange_of_shelf<T: LockFiles, W: Write, E: Write>(
+    machine: &mut Machine<'_, T, W, E>,
+    folder: &str,
+    night: &Night<'_>,
+) -> Result<bool, ToolFault>
+    ensures { VisitsShelf true (ExchangesAtFile night.now.dates) (W.contents machine.old.writer) (W.contents machine.new.writer) result }
+{
+    let shelf = Shelf::open(machine.rt, machine.alloc, folder)?;
+    let own = shelf.own_desk(machine.alloc)?;
+    let places = Places {
+        file: own.as_str(),
+        original: shelf.folder,
+        copies: night.copy,
+    };
+    look_at_places(machine, &places, night)?;
+    let is_waiting = sort_mails(machine, &shelf, night.incoming, night.copy)?;
+    let desks = desks_and_own(machine.rt, machine.alloc, &shelf)?;
+    let visit = Visit::Exchange(at_each(night));
+    let answer = visit_all(machine, &desks, &visit);
+    let further = end_night(machine, &shelf, night, answer, is_waiting);
+    graver(answer, further)
+}
+
+/// Returns the night of each desk of a shelf. It has no sign of life, which is given once, at the end.
+fn at_each<'a>(night: &Night<'a>) -> Night<'a>
+    ensures { result.dates ≡ night.now.dates }
+{
+    Night {
+        incoming: night.incoming,
+        outgoing: night.outgoing,
+        dates: night.dates,
+        copy: night.copy,
+        beat: None,
+        is_on_shelf: true,
+    }
+}
+
+/// Sends the last words of retired groups, and copies the marks of these groups to the folder of copies. Then it gives the
+/// sign of life of the night, unless a desk has failed. It returns the fault `Left` if mails wait.
+fn end_night<T: Files, W: Write, E: Write>(
+    machine: &mut Machine<'_, T, W, E>,
+    shelf: &Shelf<'_>,
+    night: &Night<'_>,
+    answer: Result<bool, ToolFault>,
+    is_waiting: bool,
+) -> Result<bool, ToolFault>
+    ensures further { IsFurther result }
+    ensures silent { machine.new.writer ≡ machine.old.writer }
+{
+    if let Err(fault) = send_last_words(machine, shelf, night.outgoing) {
+        return Err(fault);
+    }
+    if let Some(folder) = night.copy
+        && let Err(error) = copy_marks(machine.rt, machine.alloc, shelf, folder)
+    {
+        return machine.blame(Err(file_fault(&error)), folder, NO_MARKS);
+    }
+    if let Ok(_) | Err(ToolFault::Left) = answer {
+        let own = shelf.own_desk(machine.alloc)?;
+        if let Err(fault) = beat(machine, night.beat, own.as_str()) {
+            return Err(fault);
+        }
+    }
+    waiting(is_waiting)
+}
+
+/// The text that follows the path of a folder of copies.
+const NO_MARKS: &str = " does not have the marks of all retired groups";
+
+/// Writes the mark of each retired group into `folder`, the folder of copies. It removes the copy of its desk there.
+fn copy_marks<T: Files>(rt: &T, alloc: Global, shelf: &Shelf<'_>, folder: &str) -> io::Result<()> {
+    for name in names_of_desks(rt, alloc, shelf.folder, shelf.role, RETIRED)? {
+        let desk = format!(in alloc; "{}/{name}", shelf.folder)?;
+        let copy = format!(in alloc; "{folder}/{name}")?;
+        let mark = load_mark(rt, alloc, desk.as_str())?;
+        if mark != load_mark(rt, alloc, copy.as_str())? {
+            save_mark(rt, alloc, copy.as_str(), mark)?;
+        }
+        remove_if_there(rt, copy.as_str())?;
+    }
+    Ok(())
+}
+
+/// Saves `mark`, the mark that the group of `desk` is retired, and makes it durable with its folder.
+fn save_mark<T: Files>(rt: &T, alloc: Global, desk: &str, mark: Option<Vec<u8>>) -> io::Result<()> {
+    let path = retired_path(alloc, desk)?;
+    match mark {
+        Some(mark) => save_file(rt, alloc, path.as_str(), &mark),
+        None => Ok(()),
+    }
+}
+
+/// Saves `bytes` in the file at `path`, and makes it durable with its folder.
+fn save_file<T: Files>(rt: &T, alloc: Global, path: &str, bytes: &[u8]) -> io::Result<()> {
+    let mut store = FileStore::at(rt, alloc, path, RECORD_LIMIT)?;
+    match store.save(alloc, bytes) {
+        Ok(()) => Ok(()),
+        Err(fault) => Err(error_of_store(fault)),
+    }
+}
+
+/// Returns the fault of a file that cannot be written.
+fn file_fault(error: &io::Error) -> ToolFault
+    ensures { IsFileFault result }
+{
+    match error.kind() {
+        ErrorKind::OutOfMemory => ToolFault::OutOfMemory,
+        _ => STORE_FAILED,
+    }
+}
+
+/// `ill shelf retire`: replaces a desk by the mark of its group, if all its loans are over. No mail is sorted in that
+/// time.
+pub fn retire<T: LockFiles, W: Write, E: Write>(
+    machine: &mut Machine<'_, T, W, E>,
+    folder: &str,
+    group: &str,
+) -> Result<bool, ToolFault>
+    ensures { RetiresAtFile (W.contents machine.old.writer) (W.contents machine.new.writer) result }
+{
+    let shelf = Shelf::open(machine.rt, machine.alloc, folder)?;
+    let own = shelf.own_desk(machine.alloc)?;
+    let sorting = lock(machine.rt, machine.alloc, own.as_str())?;
+    let file = shelf.desk_of(machine.alloc, group.as_bytes())?;
+    let held = lock(machine.rt, machine.alloc, file.as_str())?;
+    let is_marked = mark_and_clear(machine.rt, machine.alloc, file.as_str())?;
+    let told = write_whole(&mut machine.writer, retired_line(is_marked));
+    drop(held);
+    drop(sorting);
+    tell_with(is_marked, told)
+}
+
+/// Returns the line of the command: `done` if the group is retired, `not-now` if a loan is not over.
+fn retired_line(is_retired: bool) -> &'static [u8]
+    ensures { result.now ≡ retired_line is_retired }
+{
+    if is_retired { b"done\n" } else { b"not-now\n" }
+}
+
+/// Returns the answer of a command that has written its line, or the fault if it could not.
+fn tell_with(is_well: bool, told: Result<(), ToolFault>) -> Result<bool, ToolFault>
+    ensures { result ≡ told_with is_well told }
+{
+    match told {
+        Ok(()) => Ok(is_well),
+        Err(fault) => Err(fault),
+    }
+}
+
+/// If all loans of the desk in `file` are over, marks its group as retired, and then removes the desk. It returns true
+/// if the group is marked.
+fn mark_and_clear<T: Files>(rt: &T, alloc: Global, file: &str) -> Result<bool, ToolFault>
+    ensures { IfErr result IsOpenFault }
+{
+    let is_marked = mark_retired(rt, alloc, file)?;
+    if is_marked && let Err(error) = clear(rt, alloc, file) {
+        return Err(fault(&error));
+    }
+    Ok(is_marked)
+}
+
+/// Marks the group of the desk in `file` as retired, if all loans of the desk are over. It may be marked already.
+fn mark_retired<T: Files>(rt: &T, alloc: Global, file: &str) -> Result<bool, ToolFault>
+    ensures { IfErr result IsOpenFault }
+{
+    match is_retired(rt, alloc, file) {
+        Ok(false) => {}
+        Ok(true) => return Ok(true),
+        Err(error) => return Err(fault(&error)),
+    }
+    let desk = open(rt, alloc, file)?;
+    let path = retired_path(alloc, file)?;
+    let mut mark = FileStore::at(rt, alloc, path.as_str(), RECORD_LIMIT)?;
+    run_desk_retire(alloc, &desk, &mut mark)
+}
+
+/// Removes the file of a desk and the files beside it, and makes that durable. Mails that were put aside stay in their
+/// folder.
+fn clear<T: Files>(rt: &T, alloc: Global, file: &str) -> io::Result<()> {
+    let came = format!(in alloc; "{file}{CAME}")?;
+    let mail = format!(in alloc; "{file}{MAIL}")?;
+    remove_if_there(rt, came.as_str())?;
+    clear_mail(rt, alloc, mail.as_str())?;
+    remove_if_there(rt, file)?;
+    save_mark(rt, alloc, file, load_mark(rt, alloc, file)?)
+}
+
+/// Removes the mails that were claimed for a desk, the messages that ask, and their folder. If mails were put aside,
+/// the folder stays, and an empty file of the messages that ask is made durable.
+fn clear_mail<T: Files>(rt: &T, alloc: Global, mail: &str) -> io::Result<()> {
+    let claimed = format!(in alloc; "{mail}/in")?;
+    let asked = format!(in alloc; "{mail}/asked")?;
+    let aside = format!(in alloc; "{mail}/aside")?;
+    if is_there(rt, claimed.as_str())? {
+        clear_claimed(rt, alloc, claimed.as_str())?;
+        let _ = fs::remove_dir(rt, claimed.as_str());
+    }
+    if is_there(rt, aside.as_str())? {
+        return save_file(rt, alloc, asked.as_str(), b"");
+    }
+    remove_if_there(rt, asked.as_str())?;
+    let _ = fs::remove_dir(rt, mail);
+    Ok(())
+}
+
+/// Removes the mails that were claimed for a desk.
+fn clear_claimed<T: Files>(rt: &T, alloc: Global, claimed: &str) -> io::Result<()> {
+    for run in names_in(rt, alloc, claimed)? {
+        let Some(run) = path_of(alloc, claimed, &run)? else {
+            continue;
+        };
+        clear_run(rt, alloc, run.as_str())?;
+        let _ = fs::remove_dir(rt, run.as_str());
+    }
+    Ok(())
+}
+
+/// Removes the mails that a run has claimed.
+fn clear_run<T: Files>(rt: &T, alloc: Global, run: &str) -> io::Result<()> {
+    for name in names_in(rt, alloc, run)? {
+        if let Some(path) = path_of(alloc, run, &name)? {
+            remove_if_there(rt, path.as_str())?;
+        }
+    }
+    Ok(())
+}

@@ -1,0 +1,591 @@
+//! The sorting of the mails that have come to a shelf: each goes to the desk of its message's group.
+//!
+//! A mail is claimed into a folder of the shelf, and renamed from there into the mail of a desk. So the next run sorts
+//! a mail that a killed run has claimed. A message whose group has no desk goes to the shelf's own desk. That desk
+//! answers as a desk without the loan. It gets no message that would begin a loan.
+
+ghost use Rattle.std.specs.Prelude.{◌≡◌, IfErr};
+ghost use Rattle.ill_files.specs.AtFile.{IsOpenFault};
+ghost use Rattle.ill_mail.specs.Shelf.{route_of};
+
+use crate::blame::{NO_BOX, NO_RUN, NOT_READ};
+use crate::last_words::LastWords;
+use crate::mail::{Mails, begin_run, claim_mails, new_run};
+use crate::mail_box::{MailBox, give_back, open_box, remove_if_there};
+use crate::reserved::is_within;
+use crate::settle::remove_runs;
+use ill_der::{ApduView, BodyView, encode};
+use ill_desk::inbox::message_in;
+use ill_desk::new::run_desk_new;
+use ill_desk::verdict::Mail;
+use ill_files::machine::Machine;
+use ill_files::open::lock;
+use ill_files::paths::{CAME, MAIL, RETIRED, fault, is_there, path_of};
+use ill_files::shelf::{Shelf, is_retired, names_of_desks, refuse_retired};
+use ill_saved::{DeskFault, FileStore, LockFiles, RECORD_LIMIT, Role};
+use ill_text::fault::{STORE_FAILED, ToolFault};
+use ill_text::warning::{warn, warn_of_message};
+use ill_values::Apdu;
+use std::alloc::Global;
+use std::io::{ErrorKind, Write, sink};
+use std::path::Path;
+use std::rt::Files;
+use std::{fs, io};
+
+/// The greatest number of desks that the mails of one run make, so that strangers cannot fill a disk.
+const NEW_DESKS: usize = 16;
+
+/// The home of a group on a shelf.
+#[derive(Clone, Copy)]
+pub enum Home {
+    /// The desk of the group.
+    Desk,
+    /// The mark of a retired group.
+    Retired,
+    /// No desk, but files that lie beside one: the file of the desk was lost.
+    Lost,
+    /// Nothing.
+    Nothing,
+}
+
+/// The way of a mail.
+#[derive(Clone, Copy)]
+pub(crate) enum Route {
+    /// To the desk of its group.
+    Home,
+    /// To the desk of its group, which is made for it.
+    New,
+    /// Back to its folder, where it waits for the next run.
+    Back,
+    /// Nowhere: its file is removed.
+    Gone,
+    /// To the shelf's own desk.
+    Stray,
+}
+
+/// Returns the way of a mail.
+pub(crate) fn route_of(role: Role, home: Home, is_request: bool, has_room: bool) -> Route
+    ensures { result ≡ route_of role home is_request has_room }
+{
+    match (home, role) {
+        (Home::Desk, _) => Route::Home,
+        (Home::Retired, _) => Route::Gone,
+        (Home::Lost, _) => Route::Back,
+        (Home::Nothing, Role::Responder) if is_request => {
+            if has_room { Route::New } else { Route::Back }
+        }
+        (Home::Nothing, _) => Route::Stray,
+    }
+}
+
+/// Sorts the mails of `folder` to the desks of `shelf`. Returns true if a mail waits for the next run, or a desk is
+/// lost. It writes lines to `errors` about these, new desks, and mails of retired groups. `copies` is the folder that has
+/// copies of the desks, if the run makes any.
+pub(crate) fn sort_mails<T: LockFiles, W: Write, E: Write>(
+    machine: &mut Machine<'_, T, W, E>,
+    shelf: &Shelf<'_>,
+    folder: &str,
+    copies: Option<&str>,
+) -> Result<bool, ToolFault>
+    ensures faults { IfErr result IsOpenFault }
+    ensures silent { machine.new.writer ≡ machine.old.writer }
+{
+    let own = shelf.own_desk(machine.alloc)?;
+    let held = lock(machine.rt, machine.alloc, own.as_str())?;
+    let sorted = sort_under_lock(machine, shelf, folder, copies);
+    drop(held);
+    sorted
+}
+
+/// Sorts the mails of `folder`, under a lock against other commands.
+fn sort_under_lock<T: LockFiles, W: Write, E: Write>(
+    machine: &mut Machine<'_, T, W, E>,
+    shelf: &Shelf<'_>,
+    folder: &str,
+    copies: Option<&str>,
+) -> Result<bool, ToolFault>
+    ensures faults { IfErr result IsOpenFault }
+    ensures silent { machine.new.writer ≡ machine.old.writer }
+{
+    let unsorted = shelf.unsorted(machine.alloc)?;
+    let own = shelf.own_desk(machine.alloc)?;
+    let mail_box = open_box(machine.rt, machine.alloc, unsorted.as_str(), own.as_str());
+    let mail_box = machine.blame(mail_box, unsorted.as_str(), NO_BOX)?;
+    let run = begin_run(machine.rt, machine.alloc, &mail_box);
+    let run = machine.blame(run, unsorted.as_str(), NO_RUN)?;
+    let sources = Sources {
+        folder,
+        copies,
+        mail_box: &mail_box,
+        run: run.as_str(),
+    };
+    let found = claim_from_outside(machine.rt, machine.alloc, shelf, sources);
+    let found = machine.blame(found, folder, NOT_READ)?;
+    match sort_found(machine, shelf, sources, &found) {
+        Ok(is_waiting) => Ok(is_waiting),
+        Err(error) => Err(fault(&error)),
+    }
+}
+
+/// The places from which a shelf learns what it sorts.
+#[derive(Clone, Copy)]
+struct Sources<'a> {
+    /// The folder from which the mails come.
+    folder: &'a str,
+    /// The folder that has copies of the desks, if the run makes any.
+    copies: Option<&'a str>,
+    /// The folder of the mails that are not sorted yet.
+    mail_box: &'a MailBox,
+    /// The folder of this run in it.
+    run: &'a str,
+}
+
+/// Claims the mails of the folder of `sources`, which may not lie within the shelf, since files there belong to a desk.
+fn claim_from_outside<T: Files>(
+    rt: &T,
+    alloc: Global,
+    shelf: &Shelf<'_>,
+    sources: Sources<'_>,
+) -> Result<Mails, ToolFault>
+    ensures { IfErr result IsOpenFault }
+{
+    let Sources {
+        mail_box,
+        folder,
+        run,
+        ..
+    } = sources;
+    match is_within(rt, alloc, folder, shelf.folder) {
+        Ok(false) => claim_mails(rt, alloc, mail_box, folder, run),
+        Ok(true) => Err(STORE_FAILED),
+        Err(error) => Err(fault(&error)),
+    }
+}
+
+/// Sorts the claimed mails `found`, and writes a line about each lost desk. Returns true if a desk is lost, or a mail
+/// waits for the next run.
+fn sort_found<T: LockFiles, W: Write, E: Write>(
+    machine: &mut Machine<'_, T, W, E>,
+    shelf: &Shelf<'_>,
+    sources: Sources<'_>,
+    found: &Mails,
+) -> io::Result<bool>
+    ensures silent { machine.new.writer ≡ machine.old.writer }
+{
+    let mut sorting = Sorting {
+        rt: machine.rt,
+        alloc: machine.alloc,
+        shelf: *shelf,
+        sources,
+        boxes: Vec::new(machine.alloc),
+        made: 0,
+        lost: Vec::new(machine.alloc),
+        mark: None,
+        words: Vec::new(machine.alloc),
+        is_waiting: found.waiting > 0,
+    };
+    sorting.tell_lost_desks(&mut machine.errors)?;
+    sorting.sort_all(found, &mut machine.errors)?;
+    sorting.keep_words()?;
+    remove_runs(machine.rt, found);
+    Ok(sorting.is_waiting)
+}
+
+/// The texts about a mail, or a desk.
+const NOT_READ_NOW: &str = " left not-read";
+
+const NOT_SORTED: &str = " is not sorted, and stays among the mails that were claimed";
+
+const NO_ROOM: &str = " left: mail has made 16 desks in this run, and makes no more";
+
+const LOST: &str = " is lost: mail for it is left, until it is there again";
+
+const RETIRED_GROUP: &str = "removed: its group is retired";
+
+const NEW_GROUP: &str = " is made: mail begins its group";
+
+/// The mails that one run of the shelf sorts to a desk from one folder.
+#[derive(Drop)]
+struct SortedBox {
+    /// The path of the desk's file.
+    desk: String,
+    /// The folder in which they were claimed, where their names differ.
+    from: String,
+    /// The folder into which they are renamed.
+    run: String,
+}
+
+/// The state of the sorting of mails.
+#[derive(Drop)]
+struct Sorting<'a, T: LockFiles> {
+    rt: &'a T,
+    alloc: Global,
+    shelf: Shelf<'a>,
+    sources: Sources<'a>,
+    boxes: Vec<SortedBox>,
+    /// The number of desks that were made.
+    made: usize,
+    /// The paths of the lost desks about which a line was written.
+    lost: Vec<String>,
+    /// The mark that was read last.
+    mark: Option<LastWords>,
+    /// The last words of retired groups that mails ask for.
+    words: Vec<Apdu>,
+    /// Set if a mail waits for the next run, or a desk is lost.
+    is_waiting: bool,
+}
+
+impl<T: LockFiles> Sorting<'_, T> {
+    /// Writes a line about each lost desk: a file that lies beside a desk, or its copy, is there without it.
+    fn tell_lost_desks<E: Write>(&mut self, errors: &mut E) -> io::Result<()> {
+        for ending in [CAME, MAIL] {
+            self.tell_lost_in(self.shelf.folder, ending, errors)?;
+        }
+        let Some(copies) = self.sources.copies else {
+            return Ok(());
+        };
+        for ending in ["", RETIRED] {
+            self.tell_lost_in(copies, ending, errors)?;
+        }
+        Ok(())
+    }
+
+    /// Writes a line about each lost desk of which a file is in `folder`. The name of the file is that of the desk, and
+    /// then `ending`.
+    fn tell_lost_in<E: Write>(
+        &mut self,
+        folder: &str,
+        ending: &str,
+        errors: &mut E,
+    ) -> io::Result<()> {
+        let shelf = self.shelf;
+        for name in names_of_desks(self.rt, self.alloc, folder, shelf.role, ending)? {
+            let desk = format!(in self.alloc; "{}/{name}", shelf.folder)?;
+            if let Home::Lost = self.home_of(desk.as_str())? {
+                self.tell_lost(desk, errors)?;
+            }
+        }
+        Ok(())
+    }
+
+    /// Returns the home of the group of `desk`. If only a copy of the desk or of its mark is there, it is lost.
+    fn home_of(&self, desk: &str) -> io::Result<Home> {
+        let home = home_at(self.rt, self.alloc, desk)?;
+        let (Home::Nothing, Some(copies)) = (home, self.sources.copies) else {
+            return Ok(home);
+        };
+        let name = Path::new(desk).file_name().unwrap_or(desk);
+        let copy = format!(in self.alloc; "{copies}/{name}")?;
+        match home_at(self.rt, self.alloc, copy.as_str())? {
+            Home::Nothing => Ok(Home::Nothing),
+            _ => Ok(Home::Lost),
+        }
+    }
+
+    /// Writes a line about the lost desk `desk`, once in a run.
+    fn tell_lost<E: Write>(&mut self, desk: String, errors: &mut E) -> io::Result<()> {
+        if !self.lost.contains(&desk) {
+            self.leave(desk.as_bytes(), LOST, errors);
+            self.lost.push(desk)?;
+        }
+        Ok(())
+    }
+
+    /// Sorts the mails `found`. A mail that cannot be sorted waits for the next run.
+    fn sort_all<E: Write>(&mut self, found: &Mails, errors: &mut E) -> io::Result<()> {
+        for (mail, file) in found.mails.iter().zip(&found.files) {
+            match self.sort_mail(mail, file.as_ref(), errors) {
+                Ok(()) => {}
+                Err(error) if error.kind() == ErrorKind::OutOfMemory => return Err(error),
+                Err(_) => self.leave(&mail.name, NOT_SORTED, errors),
+            }
+        }
+        Ok(())
+    }
+
+    /// Sorts a mail, if it could be claimed and read.
+    fn sort_mail<E: Write>(
+        &mut self,
+        mail: &Mail,
+        file: Option<&String>,
+        errors: &mut E,
+    ) -> io::Result<()> {
+        let Some(file) = file else {
+            self.leave(&mail.name, NOT_READ_NOW, errors);
+            return Ok(());
+        };
+        match &mail.bytes {
+            Some(bytes) => self.sort_bytes(mail, bytes, file.as_str(), errors),
+            None => {
+                self.leave(&mail.name, NOT_READ_NOW, errors);
+                give_back(
+                    self.rt,
+                    self.alloc,
+                    self.sources.folder,
+                    file.as_str(),
+                    &mail.name,
+                )
+            }
+        }
+    }
+
+    /// Sorts a mail with these bytes. Bytes that are no message are for the shelf's own desk.
+    fn sort_bytes<E: Write>(
+        &mut self,
+        mail: &Mail,
+        bytes: &[u8],
+        file: &str,
+        errors: &mut E,
+    ) -> io::Result<()> {
+        match message_in(bytes) {
+            Ok(message) => self.sort_message(mail, &message, file, errors),
+            Err(_) => self.set_aside(mail, file),
+        }
+    }
+
+    /// Sorts a mail with the message `message`.
+    fn sort_message<E: Write>(
+        &mut self,
+        mail: &Mail,
+        message: &ApduView<'_>,
+        file: &str,
+        errors: &mut E,
+    ) -> io::Result<()> {
+        let shelf = self.shelf;
+        let desk = shelf.desk_of(self.alloc, message.group())?;
+        let is_request = matches!(message.body(), BodyView::IllRequest { .. });
+        let home = self.home_of(desk.as_str())?;
+        match route_of(shelf.role, home, is_request, self.made < NEW_DESKS) {
+            Route::Home => self.hand_over(mail, file, desk),
+            Route::New => {
+                make_desk(self.rt, self.alloc, shelf.role, desk.as_str()).map_err(error_of)?;
+                self.made = self.made.saturating_add(1);
+                warn(self.alloc, desk.as_bytes(), NEW_GROUP, errors);
+                self.hand_over(mail, file, desk)
+            }
+            Route::Back => {
+                self.tell_back(mail, home, desk, errors)?;
+                give_back(self.rt, self.alloc, self.sources.folder, file, &mail.name)
+            }
+            Route::Gone => {
+                self.answer(mail, message, desk.as_str(), errors)?;
+                remove_if_there(self.rt, file)
+            }
+            Route::Stray => self.set_aside(mail, file),
+        }
+    }
+
+    /// Adds the last word of the loan of a mail, whose group is retired. If there is none, it writes a line about the
+    /// mail, once a month for each group.
+    fn answer<E: Write>(
+        &mut self,
+        mail: &Mail,
+        message: &ApduView<'_>,
+        desk: &str,
+        errors: &mut E,
+    ) -> io::Result<()> {
+        if let Some(word) = self.last_word(desk, message)? {
+            return self.add_word(word);
+        }
+        let Sources { mail_box, run, .. } = self.sources;
+        let name = Path::new(desk).file_name().unwrap_or(desk);
+        if mail_box.is_to_tell(self.rt, self.alloc, name, run)? {
+            warn_of_message(self.alloc, &mail.name, message, RETIRED_GROUP, errors);
+        }
+        Ok(())
+    }
+
+    /// Returns the last word of the loan of `message`, if the mark of the group of `desk` has one. Mails come in the order
+    /// of their groups, so a mark is read once.
+    fn last_word(&mut self, desk: &str, message: &ApduView<'_>) -> io::Result<Option<Apdu>> {
+        let is_read = match &self.mark {
+            Some(mark) => mark.is_of(desk),
+            None => false,
+        };
+        if !is_read {
+            self.mark = Some(LastWords::read(self.rt, self.alloc, desk)?);
+        }
+        match &self.mark {
+            Some(mark) => mark.find(self.alloc, message),
+            None => Ok(None),
+        }
+    }
+
+    /// Adds a last word that a mail asks for, if it was not asked for before in this run.
+    fn add_word(&mut self, word: Apdu) -> io::Result<()> {
+        if !self.words.contains(&word) {
+            self.words.push(word)?;
+        }
+        Ok(())
+    }
+
+    /// Keeps the last words that mails ask for. They replace the ones of the run before.
+    fn keep_words(&self) -> io::Result<()> {
+        let mut bytes = Vec::new(self.alloc);
+        for word in &self.words {
+            bytes.extend_from_slice(&encode(self.alloc, word)?)?;
+        }
+        self.sources
+            .mail_box
+            .keep_asked(self.rt, self.alloc, &bytes)
+    }
+
+    /// Renames the file of a mail into the mails of the shelf's own desk.
+    fn set_aside(&mut self, mail: &Mail, file: &str) -> io::Result<()> {
+        let shelf = self.shelf;
+        let own = shelf.own_desk(self.alloc)?;
+        self.hand_over(mail, file, own)
+    }
+
+    /// Renames the file of a mail into the mails of `desk`. If another run has removed their folder, it makes it again.
+    fn hand_over(&mut self, mail: &Mail, file: &str, desk: String) -> io::Result<()> {
+        let place = self.place_of(file, desk)?;
+        match self.rename_into(place, mail, file) {
+            Err(error) if error.kind() == ErrorKind::NotFound => {
+                self.renew(place)?;
+                self.rename_into(place, mail, file)
+            }
+            renamed => renamed,
+        }
+    }
+
+    /// Renames the file of a mail into the folder at `place`.
+    fn rename_into(&self, place: usize, mail: &Mail, file: &str) -> io::Result<()> {
+        let Some(sorted) = self.boxes.get(place) else {
+            return Ok(());
+        };
+        match path_of(self.alloc, sorted.run.as_str(), &mail.name)? {
+            Some(path) => fs::rename(self.rt, file, path.as_str()),
+            None => Ok(()),
+        }
+    }
+
+    /// Returns the place of the folder into which `file` is renamed for `desk`. Files of different folders get
+    /// different ones, and each is made for its first file.
+    fn place_of(&mut self, file: &str, desk: String) -> io::Result<usize> {
+        let from = Path::new(file)
+            .parent()
+            .map(|folder| folder.as_str())
+            .unwrap_or_default();
+        let known = self.boxes.iter().position(|sorted| sorted.desk == desk
+            && sorted.from.as_str() == from);
+        if let Some(place) = known {
+            return Ok(place);
+        }
+        let run = self.run_at(desk.as_str())?;
+        let from = String::from_str(self.alloc, from)?;
+        self.boxes.push(SortedBox { desk, from, run })?;
+        Ok(self.boxes.len().saturating_sub(1))
+    }
+
+    /// Makes the folder at `place` again.
+    fn renew(&mut self, place: usize) -> io::Result<()> {
+        let run = match self.boxes.get(place) {
+            Some(sorted) => self.run_at(sorted.desk.as_str())?,
+            None => return Ok(()),
+        };
+        if let Some(sorted) = self.boxes.get_mut(place) {
+            sorted.run = run;
+        }
+        Ok(())
+    }
+
+    /// Makes a folder for the mails of `desk`.
+    fn run_at(&self, desk: &str) -> io::Result<String> {
+        let mail_box = MailBox::open(self.rt, self.alloc, desk, desk)?;
+        new_run(self.rt, self.alloc, &mail_box)
+    }
+
+    /// Writes the line with the reason why a mail for `desk` is given back.
+    fn tell_back<E: Write>(
+        &mut self,
+        mail: &Mail,
+        home: Home,
+        desk: String,
+        errors: &mut E,
+    ) -> io::Result<()> {
+        self.is_waiting = true;
+        match home {
+            Home::Lost => self.tell_lost(desk, errors),
+            _ => {
+                self.leave(&mail.name, NO_ROOM, errors);
+                Ok(())
+            }
+        }
+    }
+
+    /// Writes a line about a mail that waits for the next run.
+    fn leave<E: Write>(&mut self, name: &[u8], text: &str, errors: &mut E) {
+        self.is_waiting = true;
+        warn(self.alloc, name, text, errors);
+    }
+}
+
+/// Returns the home of the group of `desk`.
+pub fn home_at<T: Files>(rt: &T, alloc: Global, desk: &str) -> io::Result<Home> {
+    if is_retired(rt, alloc, desk)? {
+        return Ok(Home::Retired);
+    }
+    if is_there(rt, desk)? {
+        return Ok(Home::Desk);
+    }
+    if is_lost(rt, alloc, desk)? {
+        Ok(Home::Lost)
+    } else {
+        Ok(Home::Nothing)
+    }
+}
+
+/// Returns true if a file that may outlive `desk` lies beside it, so that its group was begun before.
+fn is_lost<T: Files>(rt: &T, alloc: Global, desk: &str) -> io::Result<bool> {
+    let came = format!(in alloc; "{desk}{CAME}")?;
+    let mail = format!(in alloc; "{desk}{MAIL}")?;
+    Ok(is_there(rt, came.as_str())? || is_there(rt, mail.as_str())?)
+}
+
+/// Returns the refusal of a group whose desk is lost: it has no record.
+pub(crate) fn refuse_lost<T: Files>(rt: &T, alloc: Global, desk: &str) -> Result<(), ToolFault>
+    ensures { IfErr result IsOpenFault }
+{
+    match home_at(rt, alloc, desk) {
+        Ok(Home::Lost) => Err(ToolFault::Desk(DeskFault::NoRecord)),
+        Ok(_) => Ok(()),
+        Err(error) => Err(fault(&error)),
+    }
+}
+
+/// Makes the desk of a group at the path `desk`, unless the group is retired or the desk exists.
+pub(crate) fn make_desk<T: LockFiles>(
+    rt: &T,
+    alloc: Global,
+    role: Role,
+    desk: &str,
+) -> Result<(), ToolFault>
+    ensures { IfErr result IsOpenFault }
+{
+    let held = lock(rt, alloc, desk)?;
+    let made = make_under_lock(rt, alloc, role, desk);
+    drop(held);
+    made
+}
+
+/// Makes the desk of a group at the path `desk`, under a lock against other commands.
+fn make_under_lock<T: Files>(rt: &T, alloc: Global, role: Role, desk: &str) -> Result<(), ToolFault>
+    ensures { IfErr result IsOpenFault }
+{
+    refuse_retired(rt, alloc, desk)?;
+    let store = FileStore::at(rt, alloc, desk, RECORD_LIMIT)?;
+    match run_desk_new(alloc, store, role, &mut sink()) {
+        Ok(_) | Err((ToolFault::Desk(DeskFault::Exists), _)) => Ok(()),
+        Err((ToolFault::OutOfMemory, _)) => Err(ToolFault::OutOfMemory),
+        Err(_) => Err(STORE_FAILED),
+    }
+}
+
+/// Returns the error of a desk that could not be made.
+fn error_of(fault: ToolFault) -> io::Error {
+    match fault {
+        ToolFault::OutOfMemory => ErrorKind::OutOfMemory.into(),
+        _ => ErrorKind::Other.into(),
+    }
+}

@@ -1,0 +1,129 @@
+//! The command `take` on a shelf: each APDU of the input is taken at the desk of its group.
+
+ghost use Rattle.std.specs.Prelude.{◌≡◌, IfErr, IfOk};
+ghost use Rattle.ill_der.specs.ShortForm.{spelling};
+ghost use Rattle.ill_files.specs.AtFile.{IsOpenFault};
+ghost use Rattle.ill_mail.specs.Shelf.{TakesAtShelf, TakesAtHome};
+
+use crate::sorting::{Route, home_at, make_desk, route_of};
+use ill_der::{ApduView, BodyView, Handler, encode};
+use ill_files::file::take;
+use ill_files::machine::Machine;
+use ill_files::paths::fault;
+use ill_files::shelf::Shelf;
+use ill_saved::{DeskFault, LockFiles};
+use ill_text::fault::ToolFault;
+use ill_text::input::{Counted, handle_input};
+use ill_values::OutOfMemory;
+use std::alloc::Global;
+use std::io::{Read, Write};
+
+/// `ill shelf take`: takes the APDUs of the input, each at the desk of its group.
+pub fn take_on_shelf<T: LockFiles, R: Read, W: Write, E: Write>(
+    machine: &mut Machine<'_, T, W, E>,
+    folder: &str,
+    is_long: bool,
+    is_kept: bool,
+    reader: &mut R,
+) -> Result<bool, ToolFault>
+    ensures { TakesAtShelf is_kept is_long (R.remaining reader.old) (R.remaining reader.new)
+        (W.contents machine.old.writer) (W.contents machine.new.writer) result }
+{
+    let shelf = Shelf::open(machine.rt, machine.alloc, folder)?;
+    let mut taken = Counted::new(TakesHome {
+        shelf,
+        is_long,
+        is_kept,
+        all_fine: true,
+    });
+    match handle_input(machine.alloc, reader, machine, &mut taken) {
+        Ok(_) => Ok(taken.handler.all_fine),
+        Err(fault) => Err(fault),
+    }
+}
+
+/// A handler that takes each APDU at the desk of its group, and records if all went well.
+#[derive(Drop)]
+struct TakesHome<'a> {
+    shelf: Shelf<'a>,
+    is_long: bool,
+    is_kept: bool,
+    all_fine: bool,
+}
+
+impl<T: LockFiles, W: Write, E: Write> Handler<Machine<'_, T, W, E>> for TakesHome<'_> {
+    type Fault = ToolFault;
+
+    ghost handles = { λ old apdu result new. TakesAtHome
+        (record { is_kept = old.0.is_kept; is_long = old.0.is_long; all_fine = old.0.all_fine; written = W.contents old.1.writer })
+        apdu result
+        (record { is_kept = new.0.is_kept; is_long = new.0.is_long; all_fine = new.0.all_fine; written = W.contents new.1.writer }) };
+
+    fn handle(
+        &mut self,
+        alloc: Global,
+        machine: &mut Machine<'_, T, W, E>,
+        apdu: &ApduView<'_>,
+    ) -> Result<(), ToolFault> {
+        let file = match desk_for(machine.rt, alloc, &self.shelf, apdu) {
+            Ok(file) => file,
+            Err(fault) => return Err(fault),
+        };
+        let bytes = match spelled(alloc, apdu) {
+            Ok(bytes) => bytes,
+            Err(_) => return Err(ToolFault::OutOfMemory),
+        };
+        let mut input = bytes.as_slice();
+        let taken = take(
+            machine,
+            file.as_str(),
+            self.is_long,
+            self.is_kept,
+            &mut input,
+        );
+        match taken {
+            Ok(is_well) => {
+                self.all_fine = self.all_fine && is_well;
+                Ok(())
+            }
+            Err(fault) => Err(fault),
+        }
+    }
+}
+
+/// Returns the bytes of `apdu`.
+fn spelled(alloc: Global, apdu: &ApduView<'_>) -> Result<Vec<u8>, OutOfMemory>
+    ensures { IfOk result (λ bytes. bytes.items ≡ spelling apdu.now) }
+{
+    let apdu = apdu.to_apdu(alloc)?;
+    encode(alloc, &apdu)
+}
+
+/// Returns the path of the desk for `apdu`. An ILL-Request to a responder's shelf makes the desk of a new group. A
+/// retired group has no desk, and neither has one whose desk is lost. The APDUs of any other group go to the shelf's
+/// own desk.
+fn desk_for<T: LockFiles>(
+    rt: &T,
+    alloc: Global,
+    shelf: &Shelf<'_>,
+    apdu: &ApduView<'_>,
+) -> Result<String, ToolFault>
+    ensures { IfErr result IsOpenFault }
+{
+    let desk = shelf.desk_of(alloc, apdu.group())?;
+    let home = match home_at(rt, alloc, desk.as_str()) {
+        Ok(home) => home,
+        Err(error) => return Err(fault(&error)),
+    };
+    let is_request = matches!(apdu.body(), BodyView::IllRequest { .. });
+    match route_of(shelf.role, home, is_request, true) {
+        Route::Home => Ok(desk),
+        Route::New => match make_desk(rt, alloc, shelf.role, desk.as_str()) {
+            Ok(()) => Ok(desk),
+            Err(fault) => Err(fault),
+        },
+        Route::Gone => Err(ToolFault::Desk(DeskFault::NoSuchTransaction)),
+        Route::Back => Err(ToolFault::Desk(DeskFault::NoRecord)),
+        Route::Stray => Ok(shelf.own_desk(alloc)?),
+    }
+}

@@ -1,0 +1,149 @@
+//! The visits of a command to the desks of a shelf, one after another. After a failure at one desk, the others are
+//! still visited.
+
+ghost use Rattle.std.specs.Prelude.{◌≡◌, map, string_bytes};
+ghost use Rattle.ill_show.specs.Listing.{heading};
+ghost use Rattle.ill_text.specs.Output.{WritesText};
+ghost use Rattle.ill_mail.specs.Shelf.{Headed, RunsVisit, VisitsAll, is_headed, is_lines};
+ghost use Rattle.ill_text.specs.Visits.{graver};
+
+use crate::exchange::{exchange, inbox, outbox};
+use crate::mail::Incoming;
+use crate::night::Night;
+use ill_files::file::status;
+use ill_files::machine::Machine;
+use ill_saved::LockFiles;
+use ill_show::listed::{Listed, heading};
+use ill_text::fault::{ToolFault, graver};
+use ill_text::form::Form;
+use ill_text::output::write_whole;
+use std::io::Write;
+use std::rt::Files;
+
+/// A visit of a command to a desk of a shelf.
+#[derive(Clone, Copy)]
+pub(crate) enum Visit<'a> {
+    /// Its loans are shown.
+    Status(Form),
+    /// The mails that were sorted to it are taken. Mails that wait are given back to this folder.
+    Inbox(&'a str),
+    /// Its messages are put into this folder, or written to the output.
+    Outbox(Option<&'a str>),
+    /// It exchanges its mail.
+    Exchange(Night<'a>),
+}
+
+/// Visits the desks at `paths`, and returns the gravest of their answers.
+pub(crate) fn visit_all<T: LockFiles, W: Write, E: Write>(
+    machine: &mut Machine<'_, T, W, E>,
+    paths: &[String],
+    visit: &Visit<'_>,
+) -> Result<bool, ToolFault>
+    ensures { VisitsAll (is_headed visit.now) (RunsVisit visit.now) (map (λ path. string_bytes path) paths.now)
+        (W.contents machine.old.writer) (W.contents machine.new.writer) result }
+{
+    let mut answer = Ok(true);
+    for place in 0..paths.len() {
+        let next = visit_desk(machine, paths[place].as_str(), visit);
+        answer = graver(answer, next);
+    }
+    answer
+}
+
+/// Visits a desk, after the line of its path if `visit` writes one.
+fn visit_desk<T: LockFiles, W: Write, E: Write>(
+    machine: &mut Machine<'_, T, W, E>,
+    path: &str,
+    visit: &Visit<'_>,
+) -> Result<bool, ToolFault>
+    ensures { Headed (is_headed visit.now) (RunsVisit visit.now) (record {
+      path = path.now;
+      before = W.contents machine.old.writer;
+      after = W.contents machine.new.writer;
+      answer = result;
+    }) }
+{
+    match head(machine, path, is_headed(visit)) {
+        Ok(()) => visit_told(machine, path, visit),
+        Err(fault) => Err(fault),
+    }
+}
+
+/// Writes the line of the path of a desk, if there is one.
+fn head<T: Files, W: Write, E: Write>(
+    machine: &mut Machine<'_, T, W, E>,
+    path: &str,
+    is_headed: bool,
+) -> Result<(), ToolFault>
+    ensures { WritesText (W.contents machine.old.writer) (W.contents machine.new.writer) (heading is_headed path.now) result }
+{
+    let listed = Listed {
+        path,
+        is_headed,
+        is_first: true,
+    };
+    let line = heading(machine.alloc, &listed)?;
+    write_whole(&mut machine.writer, &line)
+}
+
+/// Returns true if the line of its path is written before each desk.
+fn is_headed(visit: &Visit<'_>) -> bool
+    ensures { result ≡ is_headed visit.now }
+{
+    match visit {
+        Visit::Status(form) => is_lines(*form),
+        Visit::Outbox(folder) => folder.is_some(),
+        Visit::Inbox(_) | Visit::Exchange(_) => true,
+    }
+}
+
+/// Returns true if `form` is that of lines.
+fn is_lines(form: Form) -> bool
+    ensures { result ≡ is_lines form }
+{
+    match form {
+        Form::Lines => true,
+        Form::Json => false,
+    }
+}
+
+/// Visits a desk, and writes a line to `errors` if the visit fails.
+fn visit_told<T: LockFiles, W: Write, E: Write>(
+    machine: &mut Machine<'_, T, W, E>,
+    path: &str,
+    visit: &Visit<'_>,
+) -> Result<bool, ToolFault>
+    ensures { RunsVisit visit.now (W.contents machine.old.writer) (W.contents machine.new.writer) result }
+{
+    let answer = run_visit(machine, path, visit);
+    if let Err(fault) = answer
+        && fault != ToolFault::Left
+    {
+        machine.warn_of_fault(path, fault);
+    }
+    answer
+}
+
+/// Runs the command of `visit` at a desk.
+fn run_visit<T: LockFiles, W: Write, E: Write>(
+    machine: &mut Machine<'_, T, W, E>,
+    path: &str,
+    visit: &Visit<'_>,
+) -> Result<bool, ToolFault>
+    ensures { RunsVisit visit.now (W.contents machine.old.writer) (W.contents machine.new.writer) result }
+{
+    match visit {
+        Visit::Status(form) => status(machine, path, *form),
+        Visit::Inbox(folder) => inbox(machine, path, sorted_from(folder)),
+        Visit::Outbox(folder) => outbox(machine, path, *folder),
+        Visit::Exchange(night) => exchange(machine, path, night),
+    }
+}
+
+/// Returns `folder` as a folder that a shelf has sorted.
+fn sorted_from(folder: &str) -> Incoming<'_> {
+    Incoming {
+        folder,
+        is_sorted: true,
+    }
+}

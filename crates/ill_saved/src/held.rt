@@ -1,0 +1,93 @@
+//! The calls by which a desk changes what it holds. No other crate can name them, so a message leaves a desk alone.
+
+ghost use Rattle.std.specs.Prelude.{◌≡◌, List, ℕ, option_map, IfOk, IfErr, OnOk};
+ghost use Rattle.ill_saved.specs.Holdings.{Effects, DeskActs, DeskTakesApdu, SendsHeld, StaysBacked, IsBacked, IsRecordOf, IsReadFault, ReadsRecord, GoesBackToLanded};
+ghost use Rattle.ill_saved.specs.Desk.{AreAllReleased};
+
+use crate::fault::DeskFault;
+use crate::side::Action;
+use ill_core::Taking;
+use ill_values::{Apdu, Number, OutOfMemory};
+use std::alloc::Global;
+
+/// The calls by which a desk changes the sides that it holds in memory, and their released messages. Only a desk makes
+/// them. It releases messages only after their record has landed.
+pub trait Held: Drop {
+    /// The name of a side.
+    type Key;
+
+    /// The argument of `begin`.
+    type First;
+
+    /// A record of all sides, ready to be saved.
+    type Record: Drop;
+
+    /// The effects of a desk's calls on the sides.
+    ghost effects: { Effects Self Self.Key };
+
+    /// The landed sides back the live ones. Transitions lead from each landed side to its live side, and the landed
+    /// side has each released message.
+    ghost backs: { Self → Self → Type 0 };
+
+    /// The sides are consistent, and each fits into a record.
+    ghost in_range: { Self → Type 0 };
+
+    /// Returns the sides of a new desk.
+    ghost begun: { Self.First → Self };
+
+    /// Returns the bytes of a record.
+    ghost encoded: { Self.Record → List ℕ };
+
+    /// The record is the record of these sides.
+    ghost fits: { Self.Record → Self → Type 0 };
+
+    /// Returns the sides of a new desk, with no message released. Allocates nothing.
+    fn begin(alloc: Global, first: Self::First) -> Self
+        ensures begins { result ≡ begun first }
+        ensures backed { backs (effects.unsaved result) result };
+
+    /// Decodes the sides that `bytes` encode. All their messages may be sent.
+    fn read(alloc: Global, bytes: Vec<u8>) -> Result<Self, DeskFault>
+        ensures reads { ReadsRecord effects bytes.items result }
+        ensures whole { IfOk result (λ held. AreAllReleased effects held) }
+        ensures backed { IfOk result (λ held. backs held held) }
+        ensures faults { IfErr result (IsReadFault effects.has_digest) };
+
+    /// Performs `action` on the side `key`.
+    fn act(&mut self, alloc: Global, key: &Self::Key, action: &Action) -> Result<(), DeskFault>
+        ensures acts { DeskActs effects self.old key.now action.now result self.new }
+        ensures backed { StaysBacked effects backs self.old self.new };
+
+    /// Hands `apdu` to the side that it is for.
+    fn take(&mut self, alloc: Global, apdu: &Apdu) -> Result<Taking, DeskFault>
+        ensures takes { DeskTakesApdu effects self.old apdu.now result self.new }
+        ensures backed { StaysBacked effects backs self.old self.new };
+
+    /// Returns the bytes of the message `number` of the side `key`, to send it.
+    fn message(&self, alloc: Global, key: &Self::Key, number: Number) -> Result<Vec<u8>, DeskFault>
+        ensures { SendsHeld (λ bytes. bytes.items) (effects.found key.now self.now) number result };
+
+    /// Encodes all sides as a record.
+    fn record(&self, alloc: Global) -> Result<Self::Record, OutOfMemory>
+        ensures fits { IfOk result (λ made. fits made self.now) }
+        ensures record { IfOk result (λ made. IsRecordOf effects backs (encoded made) self.now) }
+        ensures range { IfOk result (λ _. in_range self.now) };
+
+    /// Returns the bytes of the record `made`.
+    fn bytes(made: &Self::Record) -> &[u8]
+        ensures { result.now ≡ encoded made.now };
+
+    /// Releases all messages. Their record `landed` has landed.
+    fn release(&mut self, landed: Self::Record)
+        requires fits { fits landed self.old }
+        ensures { self.new ≡ effects.saves self.old };
+
+    /// Goes back to the sides that the landed `bytes` encode, or to those of a new desk if there are no bytes. All
+    /// their messages may be sent. A fault changes nothing.
+    fn go_back(&mut self, alloc: Global, bytes: Option<Vec<u8>>) -> Result<(), DeskFault>
+        ensures goes { GoesBackToLanded effects (option_map (λ b. b.items) bytes) self.old result
+            self.new }
+        ensures whole { OnOk result (AreAllReleased effects self.new) }
+        ensures backed { OnOk result (IsBacked effects backs (option_map (λ b. b.items) bytes) self.new) }
+        ensures faults { IfErr result (IsReadFault effects.has_digest) };
+}

@@ -1,0 +1,51 @@
+-- Proves how the command `list` fills a column with spaces, joins words and selects loans.
+use Rattle.std.proofs.Common.{◌≡◌, ℕ, suc, ◌+◌, ◌-◌, ◌<◌, ◌++◌, Bool, true, false, cond, List, [], ◌∷◌, map, replicate, refl, ap}
+use Rattle.std.proofs.Common.{sym, subst, ◌∙◌, arith, append_assoc, ◌||◌, ◌==◌}
+use Rattle.std.specs.Prelude.{filter}
+use Rattle.std.specs.List.{flat_map, join_by}
+use Rattle.std.proofs.lemmas.List.{append-nil}
+use Rattle.std.proofs.lemmas.List.Folds.{flat_map-map}
+use Rattle.ill_show.specs.List.{column_byte, column_rest, is_end}
+
+-- If `place` is less than `width`, one more space is left at `place` than at `place + 1`.
+pub one_space : (width place : ℕ) → place < width
+    → replicate {A = ℕ} (width - place) 32 ≡ 32 ∷ replicate {A = ℕ} (width - (place + 1)) 32
+one_space width place within = let e : width - place ≡ suc (width - (place + 1)) = omega arith in
+    ap (λ n. replicate {A = ℕ} n 32) e
+
+-- Joining `items` by `text` equals joining their texts.
+pub joined_as_texts : {X : Type 0} (text : X → List ℕ) (between : List ℕ) (items : List X)
+    → join_by text between items ≡ join_by (λ (t : List ℕ). t) between (map text items)
+joined_as_texts text between [] = refl
+joined_as_texts text between (item ∷ items) = ap (λ more. text item ++ more) (sym (flat_map-map (λ t. between ++ t) text items))
+
+-- The texts of the kept items begin with that of `item`, if it is kept.
+kept_first : {X : Type 0} (text : X → List ℕ) (is_kept : Bool) (item : X) (items : List X)
+    → flat_map text (cond is_kept (item ∷ items) items) ≡ flat_map text (cond is_kept (item ∷ []) []) ++ flat_map text items
+kept_first text true item items = ap (λ first. first ++ flat_map text items) (sym (append-nil (text item)))
+kept_first text false item items = refl
+
+-- Filtering all items and writing their texts equals filtering and writing each item by itself.
+pub kept_apart : {X : Type 0} (text : X → List ℕ) (keeps : X → Bool) (items : List X)
+    → flat_map text (filter keeps items) ≡ flat_map (λ (item : X). flat_map text (filter keeps (item ∷ []))) items
+kept_apart text keeps [] = refl
+kept_apart text keeps (item ∷ items) =
+    kept_first text (keeps item) item (filter keeps items)
+    ∙ ap (λ more. flat_map text (filter keeps (item ∷ [])) ++ more) (kept_apart text keeps items)
+
+-- If `rest` begins with `byte`, the column goes on with this byte as it is shown, and then with the bytes after it.
+pub column_goes_on : (shown more all : List ℕ) (is_edge : Bool) (byte : ℕ) (after rest : List ℕ) → rest ≡ byte ∷ after
+    → shown ++ column_rest is_edge rest ≡ all → more ≡ shown ++ column_byte (is_edge || is_end after) byte
+    → more ++ column_rest (byte == 0x20) after ≡ all
+unfolding column_rest
+column_goes_on shown more all is_edge byte after rest begins left pushed =
+    ap (λ (text : List ℕ). text ++ column_rest (byte == 0x20) after) pushed
+    ∙ append_assoc shown (column_byte (is_edge || is_end after) byte) (column_rest (byte == 0x20) after)
+    ∙ subst (λ (rest : List ℕ). shown ++ column_rest is_edge rest ≡ all) begins left
+
+-- If `rest`, the bytes left to show, is empty, the text `shown` so far is `all`.
+pub column_ends : (shown all : List ℕ) (is_edge : Bool) (rest : List ℕ) → shown ++ column_rest is_edge rest ≡ all → rest ≡ []
+    → shown ≡ all
+unfolding column_rest
+column_ends shown all is_edge rest left none =
+    sym (append-nil shown) ∙ subst (λ (rest : List ℕ). shown ++ column_rest is_edge rest ≡ all) none left

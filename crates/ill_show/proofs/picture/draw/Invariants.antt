@@ -1,0 +1,12 @@
+-- States the loop invariant of `draw` (`src/picture.rt`).
+use Rattle.std.proofs.Common.{◌≡◌, take}
+use Rattle.std.specs.Prelude.{fold}
+use Rattle.ill_show.specs.Picture.{opening, with_own}
+use Rattle.ill_show.proofs.picture.draw.Given as goal
+
+-- The own messages so far are drawn, with the partner's messages between them.
+abbrev pub invariant-loop-apdu : goal.invariant-loop-apdu
+invariant-loop-apdu l = record {
+  drawn : record { lines = l.lines.items; left = l.left }
+      ≡ fold with_own (record { lines = opening; left = l.theirs }) (take l.apdu-index l.own);
+}

@@ -1,0 +1,25 @@
+-- Answers the contract of `run_desk_verify` (`src/verify.rt`).
+use Rattle.std.proofs.Common.{rules, Ok, Err, Some, None, refl}
+use Rattle.std.proofs.KnownBytes.{Appends-nil}
+use Rattle.ill_show.proofs.verify.run_desk_verify.Goals as goal
+
+-- Proves the clause `verifies` of `run_desk_verify` if the store has a record. `verify_bytes` writes its lines.
+pub returns-in-Ok-Some-clause-verifies : goal.returns-in-Ok-Some-clause-verifies
+returns-in-Ok-Some-clause-verifies g c = (
+  Ok (Some c.in-Ok-Some.bytes.items),
+  (λ honest. let is = c.in-Ok-Some.ensures.loaded honest in search (rules, is)),
+  search rules,
+)
+
+-- Proves the clause `verifies` of `run_desk_verify` if the store has no record. Nothing is written.
+pub returns-in-Ok-None-clause-verifies : goal.returns-in-Ok-None-clause-verifies
+returns-in-Ok-None-clause-verifies g c = (
+  Ok None,
+  (λ honest. let is = c.in-Ok-None.ensures.loaded honest in search (rules, is)),
+  (refl, Appends-nil (g.W.Write.contents c.args.writer.now)),
+)
+
+-- Proves the clause `verifies` of `run_desk_verify` if the load fails. Nothing is written.
+pub returns-in-Err-clause-verifies : goal.returns-in-Err-clause-verifies
+returns-in-Err-clause-verifies g c =
+    (Err c.in-Err.fault, (λ honest. tt), (search rules, Appends-nil (g.W.Write.contents c.args.writer.now)))

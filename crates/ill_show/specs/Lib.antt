@@ -1,0 +1,9 @@
+pub mod Kept
+pub mod List
+pub mod Listing
+pub mod Loan
+pub mod Objects
+pub mod Picture
+pub mod Report
+pub mod Status
+pub mod Verify

@@ -1,0 +1,19 @@
+//! The texts of loans, over a desk that is read: in lines, in JSON, as a picture and as a page. No file and no lock is
+//! known here.
+#![tactic(auto)]
+
+mod counts;
+pub mod kept;
+pub mod list;
+mod list_objects;
+pub mod listed;
+pub mod loan;
+mod marks;
+mod objects;
+pub mod picture;
+pub mod report;
+mod report_parts;
+mod row;
+pub mod status;
+pub mod verify;
+pub mod wanted;

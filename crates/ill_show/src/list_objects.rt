@@ -1,0 +1,144 @@
+//! The objects that `list` writes with `--json`.
+
+ghost use Rattle.std.specs.Prelude.{◌≡◌, [], ◌++◌, map, option_map, codes, OnOk};
+ghost use Rattle.ill_text.specs.Json.{joined, member};
+ghost use Rattle.ill_show.specs.Objects.{counts_fields, counts_object, file_fields, names_of, row_fields, row_object};
+
+use crate::counts::Counts;
+use crate::objects::title;
+use ill_core::Turn;
+use ill_saved::Side;
+use ill_text::json::{Value, push_members, push_plain};
+use ill_values::{Day, OutOfMemory};
+use ill_words::names::{names, turn_word};
+use ill_words::possible::possible_on;
+
+/// Appends the object of the loan of `side` on the day `today`, on a line. It has the path `file` of the desk, if it
+/// is given.
+pub(crate) fn push_row_object(
+    text: &mut Vec<u8>,
+    file: Option<&str>,
+    today: Option<Day>,
+    turn: Turn,
+    side: &Side,
+) -> Result<(), OutOfMemory>
+    ensures { OnOk result (text.new.items ≡ text.old.items
+        ++ row_object (option_map (λ path. path.now) file.entry) today turn side.now) }
+{
+    push_plain(text, "{")?;
+    push_row_and_file(text, file, today, turn, side)?;
+    push_plain(text, "}\n")
+}
+
+/// Appends the fields of the loan of `side`, and the path of the desk.
+fn push_row_and_file(
+    text: &mut Vec<u8>,
+    file: Option<&str>,
+    today: Option<Day>,
+    turn: Turn,
+    side: &Side,
+) -> Result<(), OutOfMemory>
+    ensures { OnOk result (text.new.items ≡ text.old.items
+        ++ joined member [] (row_fields turn side.now (names_of today side.now) ++ file_fields (option_map (λ path. path.now) file.entry))) }
+{
+    push_row_fields(text, today, turn, side)?;
+    push_file(text, file)
+}
+
+/// Appends the fields of the loan of `side`.
+fn push_row_fields(
+    text: &mut Vec<u8>,
+    today: Option<Day>,
+    turn: Turn,
+    side: &Side,
+) -> Result<(), OutOfMemory>
+    ensures { OnOk result (text.new.items ≡ text.old.items
+        ++ joined member [] (row_fields turn side.now (names_of today side.now))) }
+{
+    let alloc = *text.allocator();
+    let names = names(alloc, &possible_on(alloc, today, side)?)?;
+    push_row_with(text, turn, side, &names)
+}
+
+/// Appends the fields of the loan of `side`, with the actions `names`.
+#[tactic(auto, unfolding(ill_text::specs::Json::joined))]
+fn push_row_with<'a>(
+    text: &mut Vec<u8>,
+    turn: Turn,
+    side: &'a Side,
+    names: &'a [&'a str],
+) -> Result<(), OutOfMemory>
+    ensures { OnOk result (text.new.items ≡ text.old.items
+        ++ joined member [] (row_fields turn side.now (map (λ name. name.now) names.now))) }
+{
+    push_members(
+        text,
+        b"",
+        &[
+            ("next", Value::Text(turn_word(turn).as_bytes())),
+            ("state", Value::Text(side.state().name().as_bytes())),
+            ("due", Value::day(side.due())),
+            ("group", Value::Text(side.txn().group())),
+            ("transaction", Value::Text(side.txn().transaction())),
+            ("now", Value::Words(names)),
+            ("item", title(side)),
+        ],
+    )
+}
+
+/// Appends the path of a desk, if it is given.
+#[tactic(auto, unfolding(ill_text::specs::Json::joined))]
+fn push_file(text: &mut Vec<u8>, file: Option<&str>) -> Result<(), OutOfMemory>
+    ensures { OnOk result (text.new.items ≡ text.old.items
+        ++ joined member (codes ",") (file_fields (option_map (λ path. path.now) file.entry))) }
+{
+    match file {
+        None => Ok(()),
+        Some(path) => push_members(text, b",", &[("file", Value::Text(path.as_bytes()))]),
+    }
+}
+
+/// Appends the object of `counts`, on a line. It has the path `file` of the desk, if it is given.
+pub(crate) fn push_counts_object(
+    text: &mut Vec<u8>,
+    file: Option<&str>,
+    counts: &Counts,
+) -> Result<(), OutOfMemory>
+    ensures { OnOk result (text.new.items ≡ text.old.items
+        ++ counts_object (option_map (λ path. path.now) file.entry) counts.now) }
+{
+    push_plain(text, "{")?;
+    push_counts_and_file(text, file, counts)?;
+    push_plain(text, "}\n")
+}
+
+/// Appends the fields of `counts`, and the path of the desk.
+fn push_counts_and_file(
+    text: &mut Vec<u8>,
+    file: Option<&str>,
+    counts: &Counts,
+) -> Result<(), OutOfMemory>
+    ensures { OnOk result (text.new.items ≡ text.old.items
+        ++ joined member [] (counts_fields counts.now ++ file_fields (option_map (λ path. path.now) file.entry))) }
+{
+    push_counts_fields(text, counts)?;
+    push_file(text, file)
+}
+
+/// Appends the fields of `counts`.
+#[tactic(auto, unfolding(ill_text::specs::Json::joined))]
+fn push_counts_fields(text: &mut Vec<u8>, counts: &Counts) -> Result<(), OutOfMemory>
+    ensures { OnOk result (text.new.items ≡ text.old.items
+        ++ joined member [] (counts_fields counts.now)) }
+{
+    push_members(
+        text,
+        b"",
+        &[
+            ("loans", Value::Count(counts.loans)),
+            ("open", Value::Count(counts.open_loans)),
+            ("mine", Value::Count(counts.mine)),
+            ("room", Value::Count(counts.room)),
+        ],
+    )
+}

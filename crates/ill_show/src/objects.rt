@@ -1,0 +1,233 @@
+//! The objects that the commands write with `--json`.
+
+ghost use Rattle.std.specs.Prelude.{◌≡◌, [], ◌++◌, map, codes, OnOk};
+ghost use Rattle.ill_text.specs.Json.{array, joined, member, optional, quoted, value_text};
+ghost use Rattle.ill_words.specs.Possible.{item_asked, request_of};
+ghost use Rattle.ill_text.specs.ApduObject.{apdu_fields, object_line};
+ghost use Rattle.ill_show.specs.Objects.{came_fields, leaves_fields, loan_fields, message_object, messages_fields, names_of, standing_fields, status_fields, taken_fields, turn_fields};
+
+use crate::marks::marks;
+use ill_saved::Side;
+use ill_text::apdu_object::push_apdu;
+use ill_text::json::{Value, push_label, push_members, push_plain};
+use ill_text::lines::view;
+use ill_values::{Apdu, OutOfMemory};
+use ill_words::names::{names, role_name, turn_word};
+use ill_words::possible::{expiry, item_asked, possible_on};
+
+/// Appends the object of `status` for `side`, on a line.
+pub(crate) fn push_status_object(
+    text: &mut Vec<u8>,
+    side: &Side,
+    released: u8,
+) -> Result<(), OutOfMemory>
+    ensures { OnOk result (text.new.items ≡ text.old.items
+        ++ object_line (status_fields side.now released)) }
+{
+    push_plain(text, "{")?;
+    push_status(text, side, released)?;
+    push_plain(text, "}\n")
+}
+
+/// Appends the fields of `status` for `side`.
+fn push_status(text: &mut Vec<u8>, side: &Side, released: u8) -> Result<(), OutOfMemory>
+    ensures { OnOk result (text.new.items ≡ text.old.items
+        ++ joined member [] (status_fields side.now released)) }
+{
+    let marks = marks(*text.allocator(), side)?;
+    push_standing(text, side, released, &marks)
+}
+
+/// Appends the fields of `status` for `side`, with the marks `marks`.
+#[tactic(auto, unfolding(ill_text::specs::Json::joined))]
+fn push_standing<'a>(
+    text: &mut Vec<u8>,
+    side: &'a Side,
+    released: u8,
+    marks: &'a [&'a str],
+) -> Result<(), OutOfMemory>
+    ensures { OnOk result (text.new.items ≡ text.old.items
+        ++ joined member [] (standing_fields side.now released (map (λ mark. mark.now) marks.now))) }
+{
+    push_members(
+        text,
+        b"",
+        &[
+            ("role", Value::Text(role_name(side.role()).as_bytes())),
+            ("group", Value::Text(side.txn().group())),
+            ("transaction", Value::Text(side.txn().transaction())),
+            ("state", Value::Text(side.state().name().as_bytes())),
+            ("due", Value::day(side.due())),
+            ("released", Value::Count(released.into())),
+            ("issued", Value::Count(side.issued_count().into())),
+            ("marks", Value::Words(marks)),
+        ],
+    )
+}
+
+/// Appends the fields of `loan` for `side`, without the messages that came.
+fn push_loan(text: &mut Vec<u8>, side: &Side, released: u8) -> Result<(), OutOfMemory>
+    ensures { OnOk result (text.new.items ≡ text.old.items
+        ++ joined member [] (loan_fields side.now released)) }
+{
+    push_status(text, side, released)?;
+    push_turn(text, side)?;
+    push_taken(text, side)?;
+    push_messages(text, "messages", side.all_issued(), Some(released))
+}
+
+/// Appends the object of `loan` for `side` and the messages `came`, on a line.
+pub(crate) fn push_kept_object(
+    text: &mut Vec<u8>,
+    side: &Side,
+    released: u8,
+    came: &[Apdu],
+) -> Result<(), OutOfMemory>
+    ensures { OnOk result (text.new.items ≡ text.old.items
+        ++ object_line (loan_fields side.now released ++ came_fields came.now)) }
+{
+    push_plain(text, "{")?;
+    push_loan_and_came(text, side, released, came)?;
+    push_plain(text, "}\n")
+}
+
+/// Appends the fields of `loan` for `side`, and the messages `came`.
+fn push_loan_and_came(
+    text: &mut Vec<u8>,
+    side: &Side,
+    released: u8,
+    came: &[Apdu],
+) -> Result<(), OutOfMemory>
+    ensures { OnOk result (text.new.items ≡ text.old.items
+        ++ joined member [] (loan_fields side.now released ++ came_fields came.now)) }
+{
+    push_loan(text, side, released)?;
+    push_messages(text, "came", came, None)
+}
+
+/// Appends the fields of the library that acts next, the actions that the side may do on some day, and the request.
+fn push_turn(text: &mut Vec<u8>, side: &Side) -> Result<(), OutOfMemory>
+    ensures { OnOk result (text.new.items ≡ text.old.items
+        ++ joined member (codes ",") (turn_fields side.now (names_of None side.now))) }
+{
+    let alloc = *text.allocator();
+    let names = names(alloc, &possible_on(alloc, None, side)?)?;
+    push_now(text, side, &names)
+}
+
+/// Appends the fields of the library that acts next, the actions `names`, and the request.
+#[tactic(auto, unfolding(ill_text::specs::Json::joined))]
+fn push_now<'a>(text: &mut Vec<u8>, side: &'a Side, names: &'a [&'a str]) -> Result<(), OutOfMemory>
+    ensures { OnOk result (text.new.items ≡ text.old.items
+        ++ joined member (codes ",") (turn_fields side.now (map (λ name. name.now) names.now))) }
+{
+    push_members(
+        text,
+        b",",
+        &[
+            ("next", Value::Text(turn_word(side.turn()).as_bytes())),
+            ("now", Value::Words(names)),
+            ("item", title(side)),
+            ("expiry", Value::day(expiry(side))),
+        ],
+    )
+}
+
+/// Appends the fields of the message numbers that the record keeps of the other side.
+#[tactic(auto, unfolding(ill_text::specs::Json::joined))]
+fn push_taken(text: &mut Vec<u8>, side: &Side) -> Result<(), OutOfMemory>
+    ensures { OnOk result (text.new.items ≡ text.old.items
+        ++ joined member (codes ",") (taken_fields side.now)) }
+{
+    match side {
+        Side::Requester(requester) => {
+            push_members(text, b",", &[("held", Value::number(requester.held()))])
+        }
+        Side::Responder(responder) => push_members(
+            text,
+            b",",
+            &[
+                ("accepted", Value::number(responder.accepted())),
+                ("last-cancel", Value::number(responder.last_cancel())),
+                ("last-renew", Value::number(responder.last_renew())),
+            ],
+        ),
+    }
+}
+
+/// Appends the field `label` of the messages `apdus`. With a number `released`, each has a field that is true if it may
+/// be sent.
+#[tactic(auto, unfolding(ill_text::specs::Json::joined))]
+fn push_messages(
+    text: &mut Vec<u8>,
+    label: &str,
+    apdus: &[Apdu],
+    released: Option<u8>,
+) -> Result<(), OutOfMemory>
+    ensures { OnOk result (text.new.items ≡ text.old.items
+        ++ joined member (codes ",") (messages_fields label.now released apdus.now)) }
+{
+    push_plain(text, ",")?;
+    push_label(text, label)?;
+    push_array(text, apdus, released)
+}
+
+/// Appends the array of the messages `apdus`.
+fn push_array(text: &mut Vec<u8>, apdus: &[Apdu], released: Option<u8>) -> Result<(), OutOfMemory>
+    ensures { OnOk result (text.new.items ≡ text.old.items
+        ++ array (message_object released) apdus.now) }
+{
+    text.push(b'[')?;
+    let mut before: &[u8] = b"";
+    for apdu in apdus {
+        text.extend_from_slice(before)?;
+        push_message(text, apdu, released)?;
+        before = b",";
+    }
+    text.push(b']')?;
+    Ok(())
+}
+
+/// Appends the object of the message `apdu`.
+fn push_message(text: &mut Vec<u8>, apdu: &Apdu, released: Option<u8>) -> Result<(), OutOfMemory>
+    ensures { OnOk result (text.new.items ≡ text.old.items ++ message_object released apdu.now) }
+{
+    push_plain(text, "{")?;
+    push_issued(text, apdu)?;
+    push_leaves(text, apdu, released)?;
+    push_plain(text, "}")
+}
+
+/// Appends the fields of the message `apdu`.
+fn push_issued(text: &mut Vec<u8>, apdu: &Apdu) -> Result<(), OutOfMemory>
+    ensures { OnOk result (text.new.items ≡ text.old.items
+        ++ joined member [] (apdu_fields apdu.now)) }
+{
+    let (group, transaction) = (apdu.txn.group(), apdu.txn.transaction());
+    push_apdu(text, &view(&apdu.body), group, transaction, apdu.number)
+}
+
+/// Appends the field that is true if `apdu` may be sent, if there is a number `released`.
+#[tactic(auto, unfolding(ill_text::specs::Json::joined))]
+fn push_leaves(text: &mut Vec<u8>, apdu: &Apdu, released: Option<u8>) -> Result<(), OutOfMemory>
+    ensures { OnOk result (text.new.items ≡ text.old.items
+        ++ joined member (codes ",") (leaves_fields released apdu.now)) }
+{
+    match released {
+        None => Ok(()),
+        Some(released) => {
+            let leaves = apdu.number.get() <= released;
+            push_members(text, b",", &[("leaves", Value::Flag(leaves))])
+        }
+    }
+}
+
+/// Returns the item of `side`, if it has a request.
+pub(crate) fn title<'a>(side: &'a Side) -> Value<'a>
+    ensures { value_text result ≡ optional quoted (item_asked (request_of side.now)) }
+{
+    match item_asked(side) {
+        Some(item) => Value::Text(item.text()),
+        None => Value::Missing,
+    }
+}

@@ -1,0 +1,256 @@
+//! The picture of a loan, as `loan --picture` draws it.
+
+ghost use Rattle.std.specs.Prelude.{◌≡◌, ◌≤◌, ◌++◌, length, IfOk, OnOk};
+ghost use Rattle.ill_saved.specs.Side.{txn_of, issued_of};
+ghost use Rattle.ill_saved.specs.ManySides.{found_by, txn_held};
+ghost use Rattle.ill_show.specs.Kept.{RunsKeptLoan, WritesKept};
+ghost use Rattle.ill_show.specs.Picture.{answers, arrow, arrows, comes_before, drawn, drawn_byte, is_linked, is_plain, label_of, picture, picture_of, theirs_of, through, arrow_of, with_own, with_request};
+
+use crate::kept::{is_among, kept_of};
+use ill_core::is_requesters;
+use ill_saved::{Desk, DeskFault, Side, Store};
+use ill_text::fault::ToolFault;
+use ill_text::input::apdus_in;
+use ill_text::lines::{push_shown_fields, view};
+use ill_text::output::write_whole;
+use ill_values::{Apdu, Body, Number, OutOfMemory, TxnId};
+use itoa::Buffer;
+use std::alloc::Global;
+use std::io::Write;
+
+/// Writes a sequence chart of the messages of `txn`, in the language of Mermaid. The messages are the issued ones of
+/// its side, the request in a responder's record, and the ones in `came`.
+///
+/// Nobody knows the order of one side's messages and the other's in time. The picture keeps the order of each side. It
+/// draws a message of the other side as late as possible, but before a message that needs it. If it answers a message
+/// by its number, it is drawn directly after that one.
+pub fn run_desk_picture<S: Store, W: Write>(
+    alloc: Global,
+    desk: &Desk<S>,
+    txn: &TxnId,
+    came: &[u8],
+    writer: &mut W,
+) -> Result<(), ToolFault>
+    ensures { RunsKeptLoan picture (found_by txn_held txn.now desk.now.live.held) came.now
+        (W.contents writer.old) (W.contents writer.new) result }
+{
+    match desk.sides().get(txn) {
+        Some(side) => write_picture(alloc, side, came, writer),
+        None => Err(ToolFault::Desk(DeskFault::NoSuchTransaction)),
+    }
+}
+
+/// The first lines of a picture.
+const OPENING: &str = "sequenceDiagram\n  participant requester\n  participant responder\n";
+
+/// Writes the picture of `side`, with the messages in `came`.
+fn write_picture<W: Write>(
+    alloc: Global,
+    side: &Side,
+    came: &[u8],
+    writer: &mut W,
+) -> Result<(), ToolFault>
+    ensures { WritesKept (λ kept. picture_of (issued_of side.now) (theirs_of side.now kept)) (txn_of side.now) came.now
+        (W.contents writer.old) (W.contents writer.new) result }
+{
+    let came = apdus_in(alloc, came)?;
+    let kept = kept_of(alloc, side.txn(), &came)?;
+    let theirs = theirs_of(alloc, side, kept)?;
+    let lines = draw(alloc, side.all_issued(), &theirs)?;
+    write_whole(writer, &lines)
+}
+
+/// Returns the messages `kept` that came. If they lack the request in a responder's record, it comes first.
+fn theirs_of(alloc: Global, side: &Side, kept: Vec<Apdu>) -> Result<Vec<Apdu>, OutOfMemory>
+    ensures { IfOk result (λ theirs. theirs.items ≡ theirs_of side.now kept.items) }
+{
+    match side {
+        Side::Requester(_) => Ok(kept),
+        Side::Responder(responder) => match responder.request() {
+            Some(request) => with_request(alloc, request, kept),
+            None => Ok(kept),
+        },
+    }
+}
+
+/// Returns the messages `kept` that came. If they lack `request`, it comes first.
+fn with_request(alloc: Global, request: &Apdu, kept: Vec<Apdu>) -> Result<Vec<Apdu>, OutOfMemory>
+    ensures { IfOk result (λ theirs. theirs.items ≡ with_request (Some request.now) kept.items) }
+{
+    let mut kept = kept;
+    if !is_among(alloc, &kept, request)? {
+        kept.insert(0, request.copy(alloc)?)?;
+    }
+    Ok(kept)
+}
+
+/// Returns the lines of the picture of the messages `own` and `theirs`.
+fn draw(alloc: Global, own: &[Apdu], theirs: &[Apdu]) -> Result<Vec<u8>, OutOfMemory>
+    ensures { IfOk result (λ lines. lines.items ≡ picture_of own.now theirs.now) }
+{
+    let mut lines = Vec::from_slice(alloc, OPENING.as_bytes())?;
+    let mut left = theirs;
+    for apdu in own {
+        left = push_own(&mut lines, apdu, left)?;
+    }
+    push_arrows(&mut lines, left)?;
+    Ok(lines)
+}
+
+/// Appends the messages of `theirs` up to the last that `own` needs or answers. Then it appends `own`, and the messages
+/// up to the last answer to it. It returns the other messages.
+fn push_own<'a>(
+    lines: &mut Vec<u8>,
+    own: &Apdu,
+    theirs: &'a [Apdu],
+) -> Result<&'a [Apdu], OutOfMemory>
+    ensures { IfOk result (λ left. record { lines = lines.new.items; left = left.now }
+        ≡ with_own (record { lines = lines.old.items; left = theirs.now }) own.now) }
+{
+    let (before, left) = theirs.split_at(through(Link::Before, own, theirs));
+    push_arrows(lines, before)?;
+    push_arrow(lines, own)?;
+    let (answers, left) = left.split_at(through(Link::After, own, left));
+    push_arrows(lines, answers)?;
+    Ok(left)
+}
+
+/// The relation of a message of the other side to one of this side.
+#[derive(Clone, Copy)]
+enum Link {
+    /// This side's message needs it or answers it.
+    Before,
+    /// It answers this side's message.
+    After,
+}
+
+/// Returns the number of messages in `theirs` up to the last that has the relation `link` to `own`. If none has it, the
+/// number is 0.
+fn through(link: Link, own: &Apdu, theirs: &[Apdu]) -> usize
+    ensures reached { result ≡ through link own.now theirs.now }
+    ensures within { result ≤ length theirs.now }
+{
+    let mut last = 0;
+    for place in 0..theirs.len() {
+        if is_linked(link, own, &theirs[place]) {
+            last = place + 1;
+        }
+    }
+    last
+}
+
+/// Returns true if the message `their` has the relation `link` to `own`.
+fn is_linked(link: Link, own: &Apdu, their: &Apdu) -> bool
+    ensures { result ≡ is_linked link own.now their.now }
+{
+    match link {
+        Link::Before => comes_before(&their.body, &own.body) || answers(&own.body, their.number),
+        Link::After => answers(&their.body, own.number),
+    }
+}
+
+/// Returns true if a message with the body `own` needs `their`: it is issued only after `their` has come.
+fn comes_before(their: &Body, own: &Body) -> bool
+    ensures { result ≡ comes_before their.now own.now }
+{
+    match their {
+        Body::IllRequest { .. } => true,
+        Body::Shipped { .. } => matches!(own, Body::Received | Body::Renew { .. } | Body::Returned),
+        Body::Returned => matches!(own, Body::CheckedIn),
+        _ => false,
+    }
+}
+
+/// Returns true if a message with this body answers the message `asked` of the other side.
+fn answers(body: &Body, asked: Number) -> bool
+    ensures { result ≡ answers body.now asked }
+{
+    match body {
+        Body::ConditionalReply { answers, .. }
+        | Body::CancelReply { answers, .. }
+        | Body::RenewAnswer { answers, .. } => *answers == asked,
+        _ => false,
+    }
+}
+
+/// Appends an arrow for each of `apdus`.
+fn push_arrows(lines: &mut Vec<u8>, apdus: &[Apdu]) -> Result<(), OutOfMemory>
+    ensures { OnOk result (lines.new.items ≡ lines.old.items ++ arrows apdus.now) }
+{
+    for apdu in apdus {
+        push_arrow(lines, apdu)?;
+    }
+    Ok(())
+}
+
+/// Appends the arrow of `apdu`.
+#[tactic(auto, unfolding(crate::specs::Picture::arrow))]
+fn push_arrow(lines: &mut Vec<u8>, apdu: &Apdu) -> Result<(), OutOfMemory>
+    ensures { OnOk result (lines.new.items ≡ lines.old.items ++ arrow apdu.now) }
+{
+    let mut label = Vec::new(*lines.allocator());
+    push_label(&mut label, apdu)?;
+    let _ = label.pop();
+    lines.extend_from_slice(way(&apdu.body).as_bytes())?;
+    push_drawn(lines, &label)?;
+    lines.push(b'\n')?;
+    Ok(())
+}
+
+/// Returns the text with the sender and the receiver of a message.
+fn way(body: &Body) -> &'static str
+    ensures { result.now ≡ arrow_of body.now }
+{
+    if is_requesters(body) {
+        "  requester->>responder: "
+    } else {
+        "  responder->>requester: "
+    }
+}
+
+/// Appends the number and the type of a message, and the lines of its further fields.
+fn push_label(label: &mut Vec<u8>, apdu: &Apdu) -> Result<(), OutOfMemory>
+    ensures { OnOk result (label.new.items ≡ label.old.items ++ label_of apdu.now) }
+{
+    let body = view(&apdu.body);
+    label.extend_from_slice(Buffer::new().format(apdu.number.get()).as_bytes())?;
+    label.push(b' ')?;
+    label.extend_from_slice(body.type_name().as_bytes())?;
+    label.push(b'\n')?;
+    push_shown_fields(label, &body)
+}
+
+/// Appends `text` with escapes, so that Mermaid takes no byte of it for syntax.
+fn push_drawn(lines: &mut Vec<u8>, text: &[u8]) -> Result<(), OutOfMemory>
+    ensures { OnOk result (lines.new.items ≡ lines.old.items ++ drawn text.now) }
+{
+    for byte in text {
+        push_byte(lines, *byte)?;
+    }
+    Ok(())
+}
+
+/// Appends `byte` as it is, as a line break, or as an escape with its number.
+fn push_byte(lines: &mut Vec<u8>, byte: u8) -> Result<(), OutOfMemory>
+    ensures { OnOk result (lines.new.items ≡ lines.old.items ++ drawn_byte byte) }
+{
+    if byte == b'\n' {
+        lines.extend_from_slice(b"<br/>")?;
+        return Ok(());
+    }
+    if is_plain(byte) {
+        lines.push(byte)?;
+        return Ok(());
+    }
+    lines.push(b'#')?;
+    lines.extend_from_slice(Buffer::new().format(byte).as_bytes())?;
+    lines.push(b';')?;
+    Ok(())
+}
+
+/// Returns true if a chart may have `byte` unescaped.
+fn is_plain(byte: u8) -> bool
+    ensures { result ≡ is_plain byte }
+{
+    matches!(byte, b'a'..=b'z' | b'A'..=b'Z' | b'0'..=b'9' | b' ' | b','..=b'.' | 128..)
+}

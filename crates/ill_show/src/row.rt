@@ -1,0 +1,184 @@
+//! The line of a loan in a list.
+
+ghost use Rattle.std.specs.Prelude.{◌≡◌, ◌++◌, ◌||◌, map, string_bytes, IfOk, OnOk};
+ghost use Rattle.ill_core.specs.State.{state_name};
+ghost use Rattle.ill_saved.specs.Side.{state_of, due_date_of};
+ghost use Rattle.ill_words.specs.Shown.{due_text};
+ghost use Rattle.ill_words.specs.Names.{turn_word};
+ghost use Rattle.ill_words.specs.Possible.{request_of, item_asked};
+ghost use Rattle.ill_show.specs.List.{title_text, padded, cell, column, column_byte, columns_of, is_end, verbs_text, verbs_cell, row};
+
+use ill_core::Turn;
+use ill_saved::Side;
+use ill_text::escape::push_escaped;
+use ill_values::{Day, OutOfMemory};
+use ill_words::names::{names, turn_word};
+use ill_words::possible::{item_asked, possible_on};
+use std::alloc::Global;
+
+/// The widths of the columns of a turn, a state, a day and the verbs.
+const TURN: usize = 6;
+
+const STATE: usize = 20;
+
+const DUE: usize = 8;
+
+const VERBS: usize = 20;
+
+/// The columns of a list: the widths that depend on the loans, and true if verbs have a column.
+#[derive(Clone, Copy)]
+pub struct Columns {
+    pub group: usize,
+    pub transaction: usize,
+    pub has_verbs: bool,
+}
+
+impl Columns {
+    /// Returns the columns that are wide enough for all of `sides`.
+    pub fn of(alloc: Global, sides: &[&Side], has_verbs: bool) -> Result<Columns, OutOfMemory>
+        ensures { IfOk result (λ columns. columns ≡ columns_of has_verbs (map (λ side. side.now) sides.now)) }
+    {
+        let mut columns = Columns {
+            group: 0,
+            transaction: 0,
+            has_verbs,
+        };
+        for side in sides {
+            let group = column(alloc, side.txn().group())?;
+            columns.group = columns.group.max(group.len());
+            let transaction = column(alloc, side.txn().transaction())?;
+            columns.transaction = columns.transaction.max(transaction.len());
+        }
+        Ok(columns)
+    }
+}
+
+/// Appends the line of `side`, whose turn on the day `today` is `turn`.
+#[tactic(auto, unfolding(crate::specs::List::row))]
+pub fn push_row(
+    lines: &mut Vec<u8>,
+    columns: &Columns,
+    today: Option<Day>,
+    turn: Turn,
+    side: &Side,
+) -> Result<(), OutOfMemory>
+    ensures { OnOk result (lines.new.items ≡ lines.old.items ++ row columns.now today turn side.now) }
+{
+    push_standing(lines, turn, side)?;
+    let alloc = *lines.allocator();
+    push_cell(lines, columns.group, &column(alloc, side.txn().group())?)?;
+    push_cell(
+        lines,
+        columns.transaction,
+        &column(alloc, side.txn().transaction())?,
+    )?;
+    push_verbs(lines, columns.has_verbs, today, side)?;
+    push_title(lines, side)?;
+    lines.push(b'\n')?;
+    Ok(())
+}
+
+/// Appends the turn, the state, and the due date, or a dash for it.
+fn push_standing(lines: &mut Vec<u8>, turn: Turn, side: &Side) -> Result<(), OutOfMemory>
+    ensures { OnOk result (lines.new.items ≡ lines.old.items
+        ++ (cell 6 (turn_word turn) ++ cell 20 (state_name (state_of side.now))
+        ++ cell 8 (due_text (due_date_of side.now)))) }
+{
+    push_cell(lines, TURN, turn_word(turn).as_bytes())?;
+    push_cell(lines, STATE, side.state().name().as_bytes())?;
+    match side.due() {
+        None => push_cell(lines, DUE, b"-"),
+        Some(day) => push_cell(lines, DUE, &day.digits()),
+    }
+}
+
+/// Appends the actions that the side may do on the day `today`, if the list has this column.
+fn push_verbs(
+    lines: &mut Vec<u8>,
+    has_verbs: bool,
+    today: Option<Day>,
+    side: &Side,
+) -> Result<(), OutOfMemory>
+    ensures { OnOk result (lines.new.items ≡ lines.old.items ++ verbs_cell has_verbs today side.now) }
+{
+    if !has_verbs {
+        return Ok(());
+    }
+    let verbs = verbs_text(*lines.allocator(), today, side)?;
+    push_cell(lines, VERBS, verbs.as_bytes())
+}
+
+/// Returns the actions that the side may do on the day `today`, with a comma between two.
+fn verbs_text(alloc: Global, today: Option<Day>, side: &Side) -> Result<String, OutOfMemory>
+    ensures { IfOk result (λ text. string_bytes text ≡ verbs_text today side.now) }
+{
+    let verbs = possible_on(alloc, today, side)?;
+    Ok(names(alloc, &verbs)?.join(alloc, ",")?)
+}
+
+/// Appends the item of the loan of `side`, or a dash if there is none.
+pub(crate) fn push_title(lines: &mut Vec<u8>, side: &Side) -> Result<(), OutOfMemory>
+    ensures { OnOk result (lines.new.items ≡ lines.old.items
+        ++ title_text (item_asked (request_of side.now))) }
+{
+    match item_asked(side) {
+        None => {
+            lines.push(b'-')?;
+            Ok(())
+        }
+        Some(item) => push_escaped(lines, item.text()),
+    }
+}
+
+/// Returns the qualifier `text` for a column. No two spaces stand side by side in it, since two spaces end a column.
+fn column(alloc: Global, text: &[u8]) -> Result<Vec<u8>, OutOfMemory>
+    ensures { IfOk result (λ shown. shown.items ≡ column text.now) }
+{
+    let mut shown = Vec::new(alloc);
+    let mut is_edge = true;
+    let mut rest = text;
+    while let Some((byte, after)) = rest.split_first() {
+        push_column_byte(&mut shown, is_at_edge(is_edge, after), *byte)?;
+        is_edge = *byte == b' ';
+        rest = after;
+    }
+    Ok(shown)
+}
+
+/// Returns true if nothing or a space is before a byte, as `is_edge` says, or if no byte is after it.
+fn is_at_edge(is_edge: bool, after: &[u8]) -> bool
+    ensures { result ≡ (is_edge || is_end after.now) }
+{
+    is_edge || after.is_empty()
+}
+
+/// Appends a byte of a column. A space is an escape if it is at an edge of the text or after another one.
+fn push_column_byte(shown: &mut Vec<u8>, is_edge: bool, byte: u8) -> Result<(), OutOfMemory>
+    ensures { OnOk result (shown.new.items ≡ shown.old.items ++ column_byte is_edge byte) }
+{
+    if is_edge && byte == b' ' {
+        return shown.extend_from_slice(b"\\u{20}");
+    }
+    shown.push(byte)?;
+    Ok(())
+}
+
+/// Appends `text`, spaces up to `width`, and two further ones.
+fn push_cell(lines: &mut Vec<u8>, width: usize, text: &[u8]) -> Result<(), OutOfMemory>
+    ensures { OnOk result (lines.new.items ≡ lines.old.items ++ cell width text.now) }
+{
+    push_padded(lines, width, text)?;
+    lines.extend_from_slice(b"  ")?;
+    Ok(())
+}
+
+/// Appends `text`, and spaces up to `width`.
+fn push_padded(lines: &mut Vec<u8>, width: usize, text: &[u8]) -> Result<(), OutOfMemory>
+    ensures { OnOk result (lines.new.items ≡ lines.old.items ++ padded width text.now) }
+{
+    lines.extend_from_slice(text)?;
+    for _ in text.len()..width {
+        lines.push(b' ')?;
+    }
+    Ok(())
+}

@@ -1,0 +1,92 @@
+-- Proves how desks are visited one after another.
+use Rattle.std.proofs.Common.{◌≡◌, ◌-◌, Bool, true, false, Result, Ok, Err, refl, arith, ℕ, zero, suc, ◌+◌, ◌<◌, ◌++◌, List, []}
+use Rattle.std.proofs.Common.{◌∷◌, length, map, fold, take, get_or, Option, ap, sym, subst, ◌∙◌, add-one}
+use Rattle.ill_text.specs.declared.fault.ToolFault.{ToolFault}
+use Rattle.ill_text.specs.declared.fault.ToolFault.TheVariants.{Arguments, Der, TooMany, Script, Desk, Left, Read, Write}
+use Rattle.ill_text.specs.declared.fault.ToolFault.TheVariants.{OutOfMemory}
+use Rattle.ill_text.specs.Visits.{graver, AreConsecutive, RunAtEach, Stop, VisitsEach, gravest}
+use Rattle.std.specs.Prelude.{◌==◌}
+use Rattle.std.proofs.Math.Seq.{take-suc}
+use Rattle.std.proofs.lemmas.List.{map-append}
+use Rattle.std.proofs.lemmas.List.Elements.{All-nil, All-push}
+use Rattle.std.proofs.lemmas.List.Sums.{fold-append}
+
+-- `graver answer (Ok true)` is `answer`.
+pub graver_well : (answer : Result Bool ToolFault) → answer ≡ graver answer (Ok true)
+graver_well (Ok true) = refl
+graver_well (Ok false) = refl
+graver_well (Err Arguments) = refl
+graver_well (Err (Der fault)) = refl
+graver_well (Err TooMany) = refl
+graver_well (Err (Script line)) = refl
+graver_well (Err (Desk fault)) = refl
+graver_well (Err Left) = refl
+graver_well (Err Read) = refl
+graver_well (Err Write) = refl
+graver_well (Err OutOfMemory) = refl
+
+-- Returns true if a list is empty.
+abbrev is_nothing : {X : Type 0} → List X → Bool
+is_nothing [] = true
+is_nothing (item ∷ items) = false
+
+-- `suc place` is not 0.
+not_first : (place : ℕ) → (suc place == 0) ≡ false
+not_first place = grind arith
+
+-- If the paths of `stops` are the first `place` of `paths`, `stops` is empty exactly if `place` is 0.
+first_visited : (paths : List (List ℕ)) (stops : List Stop) (place : ℕ) → place < length paths
+    → map (λ (stop : Stop). stop.path) stops ≡ take place paths → is_nothing stops ≡ (place == 0)
+first_visited [] stops place within is = absurd (omega (arith, within))
+first_visited (path ∷ paths) [] zero within is = refl
+first_visited (path ∷ paths) [] (suc place) within is = absurd cc
+first_visited (path ∷ paths) (stop ∷ stops) zero within is = absurd cc
+first_visited (path ∷ paths) (stop ∷ stops) (suc place) within is = sym (not_first place)
+
+-- If visits lead from `before` to `between`, and `stop` begins there, `stop` may follow them.
+follow_more : (before between : Option (List ℕ)) (stops : List Stop) (stop : Stop)
+    → AreConsecutive before stops between → stop.before ≡ between → AreConsecutive before (stops ++ stop ∷ []) stop.after
+unfolding AreConsecutive
+follow_more before between [] stop is begins = (begins ∙ is, refl)
+follow_more before between (first ∷ stops) stop follows begins =
+    (follows.0, follow_more first.after between stops stop follows.1 begins)
+
+-- If `Runs` holds of `stops`, and then of `stop`, it holds of all of them.
+run_more : (Runs : Bool → Stop → Type 0) (stops : List Stop) (stop : Stop) → RunAtEach Runs stops
+    → Runs (is_nothing stops) stop → RunAtEach Runs (stops ++ stop ∷ [])
+run_more Runs [] stop each run = (run, All-nil (Runs false))
+run_more Runs (first ∷ stops) stop each run = (each.0, All-push (Runs false) stops stop each.1 run)
+
+-- Appending `stop` makes the gravest answer the graver of the old one and the answer of `stop`.
+gravest_more : (stops : List Stop) (stop : Stop) → gravest (stops ++ stop ∷ []) ≡ graver (gravest stops) stop.answer
+gravest_more stops stop =
+    let answer : Stop → Result Bool ToolFault = λ stop. stop.answer in
+    ap (λ answers. fold graver (Ok true) answers) (map-append answer stops (stop ∷ []))
+    ∙ fold-append graver (Ok true) (map answer stops) (stop.answer ∷ [])
+
+-- If the desks at the first `place` of `paths` were visited, and then the next, the first `place + 1` were visited.
+pub one_more_visit : (Runs : Bool → Stop → Type 0) (paths : List (List ℕ)) (place : ℕ) (path : List ℕ)
+    (before between after : Option (List ℕ)) (answer next : Result Bool ToolFault)
+    → place < length paths → path ≡ get_or paths place path → VisitsEach Runs (take place paths) before between answer
+    → Runs (place == 0) (record { path = path; before = between; after = after; answer = next })
+    → VisitsEach Runs (take (place + 1) paths) before after (graver answer next)
+one_more_visit Runs paths place path before between after answer next within at so_far run =
+    let stops = so_far.0 in
+    let stop : Stop = record { path = path; before = between; after = after; answer = next } in
+    let path_of : Stop → List ℕ = λ stop. stop.path in
+    let visited : map path_of (stops ++ stop ∷ []) ≡ take (place + 1) paths =
+    map-append path_of stops (stop ∷ []) ∙ ap (λ done. done ++ path ∷ []) so_far.1 ∙ ap (λ path. take place paths ++ path ∷ []) at
+    ∙ sym (take-suc paths place path within) ∙ ap (λ count. take count paths) (sym (add-one place)) in
+    let is_first = first_visited paths stops place within so_far.1 in
+    let graver_is = ap (λ answer. graver answer next) so_far.4 ∙ sym (gravest_more stops stop) in (
+      stops ++ stop ∷ [],
+      visited,
+      follow_more before between stops stop so_far.2 refl,
+      run_more Runs stops stop so_far.3 (subst (λ (is_first : Bool). Runs is_first stop) (sym is_first) run),
+      graver_is,
+    )
+
+-- Before the first visit, `VisitsEach` holds of no paths with the answer true.
+pub no_visit : (Runs : Bool → Stop → Type 0) (before : Option (List ℕ)) → VisitsEach Runs [] before before (Ok true)
+unfolding AreConsecutive
+no_visit Runs before = ([], refl, refl, tt, refl)

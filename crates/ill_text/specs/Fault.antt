@@ -1,0 +1,33 @@
+-- The faults that commands make of those of a desk and its store.
+use Rattle.std.specs.Prelude.{ℕ, ◌≤◌, Result, Ok, Err}
+use Rattle.ill_saved.specs.declared.fault.DeskFault.{DeskFault}
+use Rattle.ill_saved.specs.declared.fault.DeskFault.TheVariants as desks
+use Rattle.ill_saved.specs.declared.store.StoreFault.TheVariants.{Failed}
+use Rattle.ill_saved.specs.Store.{HasRisen}
+use Rattle.ill_words.specs.declared.outcome.Outcome.TheVariants as outcomes
+use Rattle.ill_words.specs.declared.outcome.DeskOutcome.{DeskOutcome}
+use Rattle.ill_words.specs.declared.outcome.DeskOutcome.TheVariants.{Plain, NoSuchTransaction, DeskFull}
+use Rattle.ill_text.specs.declared.fault.ToolFault.{ToolFault}
+use Rattle.ill_text.specs.declared.fault.ToolFault.TheVariants.{Desk, OutOfMemory}
+
+-- Returns the fault of a command whose desk had `fault`.
+abbrev pub desk_fault : DeskFault → ToolFault
+desk_fault desks.OutOfMemory = OutOfMemory
+desk_fault other = Desk other
+
+-- Returns the visible outcome of a refusal. Any other fault of a desk is a fault of the command.
+abbrev pub refused : DeskFault → Result DeskOutcome ToolFault
+refused (desks.Core refusal) = Ok (Plain (outcomes.Refused refusal))
+refused desks.NoSuchTransaction = Ok NoSuchTransaction
+refused desks.DeskFull = Ok DeskFull
+refused fault = Err (desk_fault fault)
+
+-- If the answer is a failure of the store, their count has risen, or is at its maximum.
+abbrev pub ToolFailsCounted : {X : Type 0} → Result X ToolFault → ℕ → ℕ → Type 0
+ToolFailsCounted (Err (Desk (desks.Store Failed))) old new = HasRisen old new
+ToolFailsCounted answer old new = Unit {0}
+
+-- The count of the store's failures never falls. If the answer is a failure of the store, the count has
+-- risen, or is at its maximum.
+abbrev pub CountsToolFailure : {X : Type 0} → Result X ToolFault → ℕ → ℕ → Type 0
+CountsToolFailure answer old new = (old ≤ new) × ToolFailsCounted answer old new

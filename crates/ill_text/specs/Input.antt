@@ -1,0 +1,87 @@
+-- The reading of an input: its APDUs are decoded and handled one after another.
+use Rattle.std.specs.Prelude.{◌≡◌, ◌⊎◌, ℕ, ◌+◌, ◌<◌, ◌≤◌, List, [], ◌++◌, length, Option, Result, Ok, Err}
+use Rattle.std.specs.List.{flat_map, AllByRecursion}
+use Rattle.std.specs.Io.KnownBytes.{Consumes, IsAtEnd}
+use Rattle.ill_values.specs.declared.apdu.Apdu.{Apdu}
+use Rattle.ill_values.specs.Apdu.{IsApdu}
+use Rattle.ill_der.specs.declared.fault.DerFault.{DerFault}
+use Rattle.ill_der.specs.ShortForm.{spelling, apdu_at}
+use Rattle.ill_der.specs.Stream.{IsUnfinished, SpellsOne, IfShort}
+use Rattle.ill_der.specs.Handling.{Handles, Handled}
+use Rattle.ill_text.specs.declared.fault.ToolFault.{ToolFault}
+use Rattle.ill_text.specs.declared.fault.ToolFault.TheVariants.{Der, TooMany, Read}
+use Rattle.ill_der.specs.Feed as feeds
+
+-- Returns the encodings of `apdus`, one after another.
+abbrev pub spellings : List Apdu → List ℕ
+spellings apdus = flat_map spelling apdus
+
+-- The input is at its end, and no bytes of it are left unread or undecoded.
+abbrev pub IsOver : List ℕ → Option (List ℕ) → Type 0
+IsOver ahead left = (ahead ≡ []) × IsAtEnd left
+
+-- The fault is a reason to stop reading after `count` APDUs. `bytes` come after these, `ahead` was read but
+-- not decoded, and `left` is unread. The bytes are faulty, or one APDU too many, or the reader failed before
+-- their end.
+abbrev pub StopsReading : ToolFault → ℕ → List ℕ → List ℕ → Option (List ℕ) → Type 0
+StopsReading (Der fault) count bytes ahead left =
+    (apdu_at bytes ≡ Err fault) × IfShort fault (IsOver ahead left)
+StopsReading TooMany count bytes ahead left = (count ≡ 100000) × SpellsOne bytes
+StopsReading Read count bytes ahead left = IsUnfinished bytes × (ahead ≡ [])
+StopsReading other count bytes ahead left = ⊥
+
+-- `bytes` are an APDU, within the most that an input may have, and its handling failed.
+abbrev pub FailsInHand : {S : Type 0} → Handles S ToolFault → ToolFault → ℕ → List ℕ → S → S → Type 0
+FailsInHand handles fault count bytes before after =
+    (apdu : Apdu) × IsApdu apdu × (bytes ≡ spelling apdu) × (count < 100000)
+    × handles before apdu (Err fault) after
+
+-- An input ended with this result. All `count` APDUs were handled, and this number is the answer. Or the
+-- reading stopped. Or the handling of an APDU failed.
+abbrev pub Ends : {S : Type 0} → Handles S ToolFault → Result ℕ ToolFault → ℕ → List ℕ → List ℕ →
+    Option (List ℕ) → S → S → Type 0
+Ends handles (Ok n) count bytes ahead left before after =
+    (n ≡ count) × (bytes ≡ []) × IsOver ahead left × (after ≡ before)
+Ends handles (Err fault) count bytes ahead left before after =
+    (StopsReading fault count bytes ahead left × (after ≡ before))
+    ⊎ FailsInHand handles fault count bytes before after
+
+-- The command read the encodings of `apdus`, then `bytes`, and then `ahead`. It handled `apdus` one after
+-- another, up to the state `last`. Its end is about `bytes`; it did not decode `ahead`. Both together are
+-- less than an APDU and a piece of 4,096 bytes.
+pub record ReadsApdus {S : Type 0} (handles : Handles S ToolFault) (old new : Option (List ℕ)) (before : S)
+    (result : Result ℕ ToolFault) (after : S) (apdus : List Apdu) (bytes ahead : List ℕ) (last : S) : Type 0 where
+  pub spelled : AllByRecursion IsApdu apdus
+  pub most : length apdus ≤ 100000
+  pub few : length bytes + length ahead < 359 + 4096
+  pub read : Consumes old new (spellings apdus ++ (bytes ++ ahead))
+  pub handled : Handled handles before apdus last
+  pub ended : Ends handles result (length apdus) bytes ahead new last after
+
+-- The input was read from `old` to `new`, with this result. Its APDUs were handled from the state `before` to
+-- `after`.
+abbrev pub ReadsInput : {S : Type 0} → Handles S ToolFault → Option (List ℕ) → Option (List ℕ) → S →
+    Result ℕ ToolFault → S → Type 0
+ReadsInput {S = S} handles old new before result after =
+    (apdus : List Apdu) × (bytes : List ℕ) × (ahead : List ℕ) × (last : S)
+    × ReadsApdus handles old new before result after apdus bytes ahead last
+
+-- Returns the answer at the end of the input after `count` APDUs, by the answer of the decoder.
+abbrev pub answer_at_end : Result (Unit {0}) DerFault → ℕ → Result ℕ ToolFault
+answer_at_end (Ok done) count = Ok count
+answer_at_end (Err fault) count = Err (Der fault)
+
+-- ---- at most the APDUs that an input may have
+
+-- An APDU was handled and counted. Or it was one too many, and was not handled. Or its handling failed. The
+-- state is the number of APDUs so far, and the state of the handler.
+abbrev pub CountsOn : {S : Type 0} → Handles S ToolFault → Handles (ℕ × S) ToolFault
+CountsOn handles old apdu (Ok done) new =
+    (old.0 < 100000) × (new.0 ≡ old.0 + 1) × handles old.1 apdu (Ok done) new.1
+CountsOn handles old apdu (Err fault) new =
+    ((100000 ≤ old.0) × (fault ≡ TooMany) × (new.1 ≡ old.1))
+    ⊎ ((old.0 < 100000) × handles old.1 apdu (Err fault) new.1)
+
+-- The messages `came` begin `bytes`, one after another. The rest of `bytes` begins with no message.
+abbrev pub AreIn : List ℕ → List Apdu → Type 0
+AreIn bytes came = (left : feeds.FeedState) × feeds.Feeds (Ok []) bytes came left

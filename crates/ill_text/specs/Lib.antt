@@ -1,0 +1,12 @@
+pub mod ApduObject
+pub mod Check
+pub mod Escape
+pub mod Fault
+pub mod Html
+pub mod Input
+pub mod Json
+pub mod Lines
+pub mod LongLines
+pub mod Output
+pub mod Show
+pub mod Visits

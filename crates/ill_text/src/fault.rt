@@ -1,0 +1,123 @@
+//! The faults that stop a command.
+
+ghost use Rattle.std.specs.Prelude.{◌≡◌, true, is_ok};
+ghost use Rattle.ill_saved.specs.Holdings.{is_refusal};
+ghost use Rattle.ill_text.specs.Fault.{desk_fault, refused};
+ghost use Rattle.ill_text.specs.declared.fault.ToolFault.TheVariants.{OutOfMemory};
+ghost use Rattle.ill_text.specs.Visits.{graver};
+
+use ill_der::DerFault;
+use ill_saved::{DeskFault, StoreFault};
+use ill_words::{DeskOutcome, Outcome};
+use std::alloc::{AllocError, AllocFailed};
+use thiserror::Error;
+
+/// The fault of a file that cannot be read or written.
+pub const STORE_FAILED: ToolFault = ToolFault::Desk(DeskFault::Store(StoreFault::Failed));
+
+/// The fault that stopped a command. Lines that were written before it remain.
+#[derive(Clone, Copy, Debug, PartialEq, Eq, Hash, Error)]
+pub enum ToolFault {
+    /// An argument is invalid: a role, a number, a day, a group or a transaction. Or the words of an action name no
+    /// action of this side. One of them may be empty or have a space, or a due day `+N` may be beyond the calendar. Or
+    /// a responder's action has no day.
+    #[error("arguments")]
+    Arguments,
+    /// The input has bytes that are no APDU. This is never `DerFault::OutOfMemory`.
+    #[error("{0}")]
+    Der(DerFault),
+    /// The input has more than 100,000 APDUs.
+    #[error("too-many")]
+    TooMany,
+    /// The line of the script with this number, from 1 on, is bad.
+    #[error("script at line {0}")]
+    Script(u32),
+    /// The side refused, its store failed, or its record is invalid. This is never `DeskFault::OutOfMemory`.
+    #[error("{0}")]
+    Desk(DeskFault),
+    /// Mails of a folder wait for the next run. All else was done.
+    #[error("left")]
+    Left,
+    /// The reader failed.
+    #[error("read")]
+    Read,
+    /// The writer failed.
+    #[error("write")]
+    Write,
+    /// Memory ran out.
+    #[error("memory")]
+    OutOfMemory,
+}
+
+impl From<DeskFault> for ToolFault {
+    ghost from_gives = { λ fault tool. tool ≡ desk_fault fault };
+
+    fn from(fault: DeskFault) -> ToolFault {
+        match fault {
+            DeskFault::OutOfMemory => ToolFault::OutOfMemory,
+            other => ToolFault::Desk(other),
+        }
+    }
+}
+
+impl From<AllocError> for ToolFault {
+    ghost from_gives = { λ _ tool. tool ≡ OutOfMemory };
+
+    fn from(_error: AllocError) -> ToolFault {
+        ToolFault::OutOfMemory
+    }
+}
+
+impl<T: Drop> From<AllocFailed<T>> for ToolFault {
+    ghost from_gives = { λ _ tool. tool ≡ OutOfMemory };
+
+    fn from(_error: AllocFailed<T>) -> ToolFault {
+        ToolFault::OutOfMemory
+    }
+}
+
+/// Returns the fault of a desk that did not start, and drops the store.
+impl<S: Drop> From<(DeskFault, S)> for ToolFault {
+    ghost from_gives = { λ refused tool. tool ≡ desk_fault refused.0 };
+
+    fn from((fault, _): (DeskFault, S)) -> ToolFault {
+        fault.into()
+    }
+}
+
+/// Returns the fault of a desk that did not begin, and drops the store.
+impl<S: Drop> From<(ToolFault, S)> for ToolFault {
+    ghost from_gives = { λ refused tool. tool ≡ refused.0 };
+
+    fn from((fault, _): (ToolFault, S)) -> ToolFault {
+        fault
+    }
+}
+
+/// Returns the outcome of a desk's refusal. Any other fault of a desk ends the command.
+pub fn refused(fault: DeskFault) -> Result<DeskOutcome, ToolFault>
+    ensures value { result ≡ refused fault }
+    ensures outcome { is_refusal fault ≡ true → is_ok result ≡ true }
+{
+    match fault {
+        DeskFault::Core(refusal) => Ok(DeskOutcome::Plain(Outcome::Refused(refusal))),
+        DeskFault::NoSuchTransaction => Ok(DeskOutcome::NoSuchTransaction),
+        DeskFault::DeskFull => Ok(DeskOutcome::DeskFull),
+        fault => Err(fault.into()),
+    }
+}
+
+/// Returns the graver of two answers. A fault is the gravest, then mails that wait, then something that wants a person.
+pub fn graver(
+    one: Result<bool, ToolFault>,
+    other: Result<bool, ToolFault>,
+) -> Result<bool, ToolFault>
+    ensures { result ≡ graver one other }
+{
+    match (one, other) {
+        (Ok(one), Ok(other)) => Ok(one && other),
+        (Ok(_), Err(fault)) => Err(fault),
+        (Err(fault), Ok(_)) => Err(fault),
+        (Err(one), Err(other)) => Err(if one == ToolFault::Left { other } else { one }),
+    }
+}

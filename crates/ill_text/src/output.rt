@@ -1,0 +1,28 @@
+//! Writes the output of all commands.
+
+ghost use Rattle.ill_text.specs.Output.{WritesPrefix};
+
+use crate::fault::ToolFault;
+use ill_der::write_bytes;
+use std::io::Write;
+
+/// Writes all of `bytes`, or a prefix of them if the writer fails.
+pub fn write_whole<W: Write>(writer: &mut W, bytes: &[u8]) -> Result<(), ToolFault>
+    ensures { WritesPrefix (W.contents writer.old) (W.contents writer.new) bytes.now result }
+{
+    match write_bytes(writer, bytes) {
+        Ok(()) => Ok(()),
+        Err(_) => Err(ToolFault::Write),
+    }
+}
+
+/// Writes all of `bytes` and flushes the writer, so that none of them wait in it.
+pub fn write_and_flush<W: Write>(writer: &mut W, bytes: &[u8]) -> Result<(), ToolFault>
+    ensures { WritesPrefix (W.contents writer.old) (W.contents writer.new) bytes.now result }
+{
+    write_whole(writer, bytes)?;
+    let Ok(()) = writer.flush() else {
+        return Err(ToolFault::Write);
+    };
+    Ok(())
+}

@@ -1,6 +1,0 @@
--- Answers the law `overdue_is_possible_when_it_is_due` (`src/possible.rt`).
-use Rattle.ill_tool.proofs.PossibleLemmas.{overdue_possible}
-use Rattle.ill_tool.proofs.possible.overdue_is_possible_when_it_is_due.Goals as goal
-
-pub returns : goal.returns
-returns c = overdue_possible

@@ -1,0 +1,88 @@
+-- The contract of each command line: the command that it asks for is run.
+use Rattle.std.specs.Prelude.{◌≡◌, ℕ, Bool, List, Option, is_some, Result, Err, ◌⊎◌, true, IsSomeAnd, IsErrAnd}
+use Rattle.ill_values.specs.TxnId.{txn_id_of}
+use Rattle.ill_text.specs.declared.fault.ToolFault.{ToolFault}
+use Rattle.ill_text.specs.declared.fault.ToolFault.TheVariants.{Arguments}
+use Rattle.ill_text.specs.Show.{RunsShow}
+use Rattle.ill_text.specs.Check.{Checks}
+use Rattle.ill_tool.specs.Simulate.{Performs, PerformsDesks}
+use Rattle.ill_tool.specs.Asked.{Asked, desk_at_stake}
+use Rattle.ill_tool.specs.Asked as asks
+use Rattle.ill_files.specs.AtFile.{GoesWell, NewAtFile, ActsAtFile, TakesAtFile, SendsAtFile, ShowsFile, ListsPaths, LoanAtFile}
+use Rattle.ill_files.specs.AtFile.{VerifiesFile, ReportsPaths, IsOpenFault}
+use Rattle.ill_mail.specs.Nights.{InboxAtFile, OutboxAtFile, ExchangesAtFile}
+use Rattle.std.specs.Path.{path_file_name}
+use Rattle.ill_files.specs.ShelfNames.{IsNamedOnShelf}
+use Rattle.ill_mail.specs.Shelf.{is_lines, VisitsShelf, RetiresAtFile, TakesAtShelf}
+
+-- A command has this result. The input went from `left` to `rest`, and the output from `before` to `after`.
+-- Only a shelf retires a group.
+abbrev pub Runs : Asked → Option (List ℕ) → Option (List ℕ) → Option (List ℕ) → Option (List ℕ) →
+    Result Bool ToolFault → Type 0
+Runs (asks.Show form) left rest before after result = GoesWell (RunsShow form left rest before after) result
+Runs asks.Check left rest before after result = GoesWell (Checks left rest before after) result
+Runs (asks.Simulate group transaction) left rest before after result =
+    GoesWell (Performs (txn_id_of group transaction) left rest before after) result
+Runs asks.SimulateDesks left rest before after result = GoesWell (PerformsDesks left rest before after) result
+Runs (asks.New file role) left rest before after result = (rest ≡ left) × NewAtFile before after result
+Runs (asks.Act file txn today is_new_group words) left rest before after result =
+    (rest ≡ left) × ActsAtFile txn today words before after result
+Runs (asks.Take file is_long is_kept) left rest before after result =
+    TakesAtFile is_kept is_long left rest before after result
+Runs (asks.Inbox file folder) left rest before after result = (rest ≡ left) × InboxAtFile before after result
+Runs (asks.Outbox file folder) left rest before after result =
+    (rest ≡ left) × OutboxAtFile (is_some folder) before after result
+Runs (asks.Exchange file incoming outgoing dates copy beat) left rest before after result =
+    (rest ≡ left) × ExchangesAtFile dates before after result
+Runs (asks.Send file txn number) left rest before after result =
+    (rest ≡ left) × SendsAtFile txn number before after result
+Runs (asks.Listing paths wanted form) left rest before after result =
+    (rest ≡ left) × ListsPaths form wanted before after result
+Runs (asks.Status file form) left rest before after result = (rest ≡ left) × ShowsFile form before after result
+Runs (asks.Loan file txn form is_picture) left rest before after result =
+    (rest ≡ left) × LoanAtFile form is_picture txn before after result
+Runs (asks.Report paths today) left rest before after result = (rest ≡ left) × ReportsPaths today before after result
+Runs (asks.Verify file) left rest before after result = (rest ≡ left) × VerifiesFile before after result
+Runs (asks.Retire file group) left rest before after result =
+    (rest ≡ left) × (after ≡ before) × (result ≡ Err Arguments)
+
+-- The guard may answer a request for the desk in `file` with the fault. It refuses only a file with the name of a
+-- desk on a shelf. Else its folder could not be looked at, or memory ran out.
+abbrev pub IsGuardedAt : List ℕ → ToolFault → Type 0
+IsGuardedAt file Arguments = IsSomeAnd (path_file_name file) IsNamedOnShelf
+IsGuardedAt file fault = IsOpenFault fault
+
+-- The guard may answer a request with the fault. It lets each request through that changes no desk, and sends from
+-- none.
+abbrev pub IsGuarded : Asked → ToolFault → Type 0
+IsGuarded asked fault = IsSomeAnd (desk_at_stake asked) (λ file. IsGuardedAt file fault)
+
+-- The guard refused a request for one desk, and nothing was read or written. Or its command has this result.
+abbrev pub RunsGuarded : Asked → Option (List ℕ) → Option (List ℕ) → Option (List ℕ) → Option (List ℕ) →
+    Result Bool ToolFault → Type 0
+RunsGuarded asked left rest before after result =
+    (IsErrAnd result (IsGuarded asked) × (rest ≡ left) × (after ≡ before)) ⊎ Runs asked left rest before after result
+
+-- A command on a shelf. In a transaction it has the effect of the command for one desk, whichever desk that is. The
+-- input goes from `left` to `rest`, and the output from `before` to `after`.
+abbrev pub RunsShelf : Asked → Option (List ℕ) → Option (List ℕ) → Option (List ℕ) → Option (List ℕ) →
+    Result Bool ToolFault → Type 0
+RunsShelf (asks.New folder role) left rest before after result = (rest ≡ left) × NewAtFile before after result
+RunsShelf (asks.Act folder txn today is_new_group words) left rest before after result =
+    (rest ≡ left) × ActsAtFile txn today words before after result
+RunsShelf (asks.Take folder is_long is_kept) left rest before after result =
+    TakesAtShelf is_kept is_long left rest before after result
+RunsShelf (asks.Send folder txn number) left rest before after result =
+    (rest ≡ left) × SendsAtFile txn number before after result
+RunsShelf (asks.Loan folder txn form is_picture) left rest before after result =
+    (rest ≡ left) × LoanAtFile form is_picture txn before after result
+RunsShelf (asks.Status folder form) left rest before after result =
+    (rest ≡ left) × VisitsShelf (is_lines form) (ShowsFile form) before after result
+RunsShelf (asks.Inbox folder incoming) left rest before after result =
+    (rest ≡ left) × VisitsShelf true InboxAtFile before after result
+RunsShelf (asks.Outbox folder outgoing) left rest before after result =
+    (rest ≡ left) × VisitsShelf (is_some outgoing) (OutboxAtFile (is_some outgoing)) before after result
+RunsShelf (asks.Exchange folder incoming outgoing dates copy beat) left rest before after result =
+    (rest ≡ left) × VisitsShelf true (ExchangesAtFile dates) before after result
+RunsShelf (asks.Retire folder group) left rest before after result = (rest ≡ left) × RetiresAtFile before after result
+RunsShelf other left rest before after result = (rest ≡ left) × (after ≡ before) × (result ≡ Err Arguments)

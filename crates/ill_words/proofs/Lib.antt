@@ -1,0 +1,8 @@
+pub mod BadSendings
+pub mod HeldLemmas
+pub mod LoanLemmas
+pub mod OrderLemmas
+pub mod PossibleLemmas
+pub mod SendingLemmas
+pub mod SidesLemmas
+pub mod WaitingLemmas

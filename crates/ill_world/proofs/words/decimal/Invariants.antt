@@ -1,9 +1,0 @@
--- The loop of `decimal` (`src/words.rt`) keeps this invariant.
-use Rattle.std.proofs.Common.{◌≡◌, ◌<◌, ◌^◌, take}
-use Rattle.ill_world.specs.Words.{decimal_value}
-use Rattle.ill_world.proofs.words.decimal.Given as goal
-
--- The value is that of the digits so far. It has at most as many digits.
-abbrev pub invariant-loop-digit : goal.invariant-loop-digit
-invariant-loop-digit l =
-    record { below : l.value < 10 ^ l.digit-index; value : l.value ≡ decimal_value (take l.digit-index l.digits) }

@@ -1,8 +1,7 @@
-#!/usr/bin/env python3
 """Looks at the pages of `ill report`, as a parser of HTML and a browser see them.
 
-check-report PROGRAM: begins two desks with a loan in each state, some with titles that are no good HTML, and has
-PROGRAM write pages of them. A page must have only the elements and attributes that are named below, each closed; no
+It begins two desks with a loan in each state, some with titles that are no good HTML, and has
+the program write pages of them. A page must have only the elements and attributes that are named below, each closed; no
 reference to elsewhere; each title, group, transaction and name of a file as text; in its parts the loans that `list`
 says, in its order; and a chart with the messages that `loan` says. Of a desk that cannot be read it has the fault. Each
 pair of colours of a text and what is behind it must have a contrast of 4.5 at least (WCAG 2.2, 1.4.3).
@@ -17,10 +16,12 @@ import os
 import re
 import shutil
 import subprocess
-import sys
 import tempfile
 
-PROGRAM = os.path.realpath(sys.argv[1])
+from ill import harness
+
+PROGRAM = None  # as main has it
+REPORT = harness.Report()
 DAY = "20250320"
 
 # What leads to each state of the two sides: who acts, the words, and whether the message is delivered.
@@ -60,13 +61,10 @@ EMPTY = {"meta", "path"}
 ATTRIBUTES = set("lang charset name content http-equiv dir role viewbox transform x y d".split())
 ACTING = re.compile("[\u0080-\u009F\u061C\u200E\u200F\u202A-\u202E\u2066-\u2069]")
 
-failed = False
-
 
 def tell(name, faults):
-    global failed
-    failed = failed or bool(faults)
-    print(f"FAILED: {name}: {'; '.join(faults[:4])}" if faults else f"ok: {name}")
+    """Tells of a case. Some of its faults are shown."""
+    REPORT.tell(name, *faults[:4])
 
 
 def ill(*words, given=b""):
@@ -331,38 +329,32 @@ def check_width(browser, folder, text, width):
                f"file://{folder}/frame.html")
 
 
-def main():
-    folder = tempfile.mkdtemp()
-    os.chdir(folder)
-    try:
-        titles = begin()
-        for words in (["here", "there"], ["there"]):
-            text = ill("report", *words, "--today", DAY).stdout.decode()
-            page = Page(text)
-            tell(f"the page of {' and '.join(words)} is well formed", page.faults)
-            for desk in words:
-                check_desk(page, desk, titles)
-        check_text(text)
-        check_style(page.style)
-        check_unread()
-        name = "a<b>&\"'\u202Ec"
-        os.rename("here", name)
-        page = Page(ill("report", name, "--today", DAY).stdout.decode())
-        tell("the name of a file is shown as text", [] if page.file == shown(name) and not page.faults else [repr(page.file)])
-        lines("new", "empty", "requester")
-        page = Page(ill("report", "empty", "--today", DAY).stdout.decode())
-        tell("a desk without loans has a page", page.faults or [str(page.counts)] * (set(page.counts.values()) != {0}))
-        for words, status, said in ((["report", "empty"], 2, ""),
-                                    (["report", "empty", "--today", "20250230"], 2, "ill: arguments\n")):
-            done = ill(*words)
-            is_right = done.returncode == status and not done.stdout and (not said or done.stderr.decode() == said)
-            tell(f"ill {' '.join(words)}", [] if is_right else [f"{done.returncode} {done.stderr.decode()}"])
-        text = ill("report", name, "there", "--today", DAY).stdout.decode()
-        check_browser(text, titles.values())
-    finally:
-        os.chdir("/")
-        shutil.rmtree(folder)
-    return 1 if failed else 0
-
-
-sys.exit(main())
+def main(program):
+    """Looks at pages, in the folder that it is in. Returns the exit status."""
+    global PROGRAM
+    PROGRAM = program
+    titles = begin()
+    for words in (["here", "there"], ["there"]):
+        text = ill("report", *words, "--today", DAY).stdout.decode()
+        page = Page(text)
+        tell(f"the page of {' and '.join(words)} is well formed", page.faults)
+        for desk in words:
+            check_desk(page, desk, titles)
+    check_text(text)
+    check_style(page.style)
+    check_unread()
+    name = "a<b>&\"'\u202Ec"
+    os.rename("here", name)
+    page = Page(ill("report", name, "--today", DAY).stdout.decode())
+    tell("the name of a file is shown as text", [] if page.file == shown(name) and not page.faults else [repr(page.file)])
+    lines("new", "empty", "requester")
+    page = Page(ill("report", "empty", "--today", DAY).stdout.decode())
+    tell("a desk without loans has a page", page.faults or [str(page.counts)] * (set(page.counts.values()) != {0}))
+    for words, status, said in ((["report", "empty"], 2, ""),
+                                (["report", "empty", "--today", "20250230"], 2, "ill: arguments\n")):
+        done = ill(*words)
+        is_right = done.returncode == status and not done.stdout and (not said or done.stderr.decode() == said)
+        tell(f"ill {' '.join(words)}", [] if is_right else [f"{done.returncode} {done.stderr.decode()}"])
+    text = ill("report", name, "there", "--today", DAY).stdout.decode()
+    check_browser(text, titles.values())
+    return REPORT.status()

@@ -1,17 +1,15 @@
-#!/usr/bin/env python3
 """Damages desks, and looks at what tools/salvage shows of them.
 
-check-salvage PROGRAM: the desks of a requester and of a responder have five loans in five states. Of both it looks that
+The desks of a requester and of a responder have five loans in five states. Of both it looks that
 
 - a whole desk is shown as `ill status` shows it, and the example of docs/RECORDS.md as that document has it;
 - with one wrong bit in an octet, or if it is cut, no other loan is shown otherwise, and it is not called whole;
-- if the digest is made to fit again, it is called whole exactly if PROGRAM reads it;
+- if the digest is made to fit again, it is called whole exactly if the program reads it;
 - noise is shown without a failure;
 - as a command it changes nothing, has the right status, and keeps to its bounds.
 
 It prints a line for each part; exit 1 if one fails.
 """
-import hashlib
 import importlib.machinery
 import importlib.util
 import os
@@ -19,12 +17,12 @@ import random
 import resource
 import sys
 
-import harness
-from harness import CLOSED, FULL, read, write
+from ill import harness
+from ill.harness import CLOSED, FULL, read, write
+from ill.records import DIGEST, repaired
 
 REPORT = harness.Report()
 SALVAGE = f"{harness.TOOLS}/salvage"
-DIGEST = 32
 
 # The loans: what the sides do in turn, with the number of the message that is carried to the other side behind it.
 COURSES = {
@@ -77,11 +75,6 @@ def load():
 def noise(rng, size):
     """So many bytes, drawn at random."""
     return bytes(rng.choices(range(256), k=size))
-
-
-def repaired(data):
-    """These bytes, with the digest that fits."""
-    return data[:-DIGEST] + hashlib.sha256(data[:-DIGEST]).digest()
 
 
 def bound_memory(most):
@@ -279,19 +272,10 @@ class Checks:
         tell("a file of 4 GiB in 400 MB", [] if is_well else [f"status {status}: {errors[-200:]}"])
 
 
-def main():
-    with harness.own_folder() as folder:
-        checks = Checks(harness.Program(sys.argv[1]), folder)
-        checks.check_whole()
-        checks.check_bits()
-        checks.check_cuts()
-        checks.check_digests()
-        checks.check_noise()
-        checks.check_command()
-        checks.check_opens()
-        checks.check_bounds()
+def main(program):
+    """Checks all, in the folder that it is in. Returns the exit status."""
+    checks = Checks(harness.Program(program), os.getcwd())
+    for check in (checks.check_whole, checks.check_bits, checks.check_cuts, checks.check_digests, checks.check_noise,
+                  checks.check_command, checks.check_opens, checks.check_bounds):
+        check()
     return REPORT.status()
-
-
-if __name__ == "__main__":
-    sys.exit(main())

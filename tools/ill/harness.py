@@ -11,6 +11,7 @@ import contextlib
 import dataclasses
 import errno
 import itertools
+import multiprocessing
 import os
 import re
 import shutil
@@ -21,12 +22,14 @@ import tempfile
 import threading
 import time
 
-TOP = os.path.dirname(os.path.dirname(os.path.realpath(__file__)))
+TOP = os.path.dirname(os.path.dirname(os.path.dirname(os.path.realpath(__file__))))
 TOOLS = os.path.join(TOP, "tools")
 TIMED_OUT = 124  # the status of a run that takes too long
 NO_FOLDER = "no folder of its own: "
 CLOSED = "closed"  # in place of a stream
 FULL = "/dev/full"
+# How long a run may take. Programs without proof are slow, so `make test` gives them more.
+SECONDS = int(os.environ.get("ILL_SECONDS", "60"))
 STARTS = 20  # how often a command is started while the machine has no room for a process, a quarter of a second apart
 
 
@@ -46,6 +49,20 @@ def own_folder(in_memory=False):
         yield folder
     finally:
         shutil.rmtree(folder, ignore_errors=True)
+
+
+def apart(part, folder, *words):
+    """Performs a part of a script in a process of its own, in a new folder. Returns its exit status."""
+    def perform():
+        os.mkdir(folder)
+        os.chdir(folder)
+        sys.exit(part(*words))
+
+    process = multiprocessing.get_context("fork").Process(target=perform)
+    sys.stdout.flush()
+    process.start()
+    process.join()
+    return process.exitcode
 
 
 def read(path):
@@ -161,7 +178,7 @@ def _perform(command, **how):
         time.sleep(0.25)
 
 
-def run(command, given=None, *, piped=None, output=None, errors=None, limit=60, before=None, **more):
+def run(command, given=None, *, piped=None, output=None, errors=None, limit=SECONDS, before=None, **more):
     """Runs a command to its end, and returns what it has left.
 
     `given` is standard input: none, bytes, which stand in a file, the path of a file, a descriptor, or CLOSED. `piped`
@@ -226,7 +243,7 @@ def run_unread(command, given, **more):
 class Program:
     """A program that is tested."""
 
-    def __init__(self, path, limit=60):
+    def __init__(self, path, limit=SECONDS):
         self.path, self.limit = os.path.realpath(path), limit
 
     def command(self, words):
@@ -274,6 +291,16 @@ def faults_of(done, status, output, errors):
             yield lacks_front(what, found, wanted.encode())
         elif wanted is not None:
             yield differs(what, found, wanted)
+
+
+class Wrong(Exception):
+    """What a run, or a stop, has done wrong."""
+
+
+def expect(is_so, what):
+    """Goes on only if it is so."""
+    if not is_so:
+        raise Wrong(what)
 
 
 class Report:

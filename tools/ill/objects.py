@@ -1,7 +1,6 @@
-#!/usr/bin/env python3
 """Compares what `--json` writes with docs/ill.schema.json, and with what the commands write without it.
 
-check-json PROGRAM: the messages of examples/messages, and two desks whose loans have all states and awkward titles. It
+It takes the messages of examples/messages, and two desks whose loans have all states and awkward titles. It
 looks that
 
 - each line is one object of the schema, in UTF-8, and holds no character on which a terminal acts;
@@ -14,10 +13,9 @@ compared, or what is wrong; exit 1 if anything is.
 import json
 import os
 import re
-import sys
 
-import harness
-from harness import TOP, read
+from ill import harness
+from ill.harness import TOP, read
 
 SCHEMA = json.loads(read(f"{TOP}/docs/ill.schema.json"))
 
@@ -58,6 +56,7 @@ COURSES = {
     "checked in": "here request none Maps> there ship +14> here receive> here return> there check-in>"}
 DAYS = {"here": [], "there": ["--today", "20250301"], "late": ["--today", "20250310"]}
 
+PROGRAM = None  # as main has it
 faults = []
 compared = 0
 
@@ -223,7 +222,7 @@ def run(words, given=None):
     """What a command writes, which has to go well."""
     done = PROGRAM.run(words, given)
     if done.status or not LEFT_OUT.fullmatch(done.errors):
-        raise SystemExit(f"check-json: ill {' '.join(words)}: {done.status} {done.errors.decode()}")
+        raise SystemExit(f"objects: ill {' '.join(words)}: {done.status} {done.errors.decode()}")
     return done.output
 
 
@@ -325,13 +324,12 @@ def compare_words():
             faults.append(f"docs/ill.schema.json: the words of {name} are {words}, and those of the sources {sources}")
 
 
-if __name__ == "__main__":
-    PROGRAM = harness.Program(sys.argv[1])
-    with harness.own_folder() as own:
-        os.chdir(own)
-        compare_desks()
-        compare_messages()
-        os.chdir("/")
+def main(program):
+    """Compares all, in the folder that it is in. Returns the exit status."""
+    global PROGRAM
+    PROGRAM = harness.Program(program)
+    compare_desks()
+    compare_messages()
     compare_words()
-    print("\n".join(faults) or f"check-json: {compared} objects")
-    sys.exit(bool(faults))
+    print("\n".join(faults) or f"ok: {compared} objects")
+    return 1 if faults else 0

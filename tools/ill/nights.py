@@ -1,8 +1,7 @@
-#!/usr/bin/env python3
 """Crashes of `inbox`, `outbox` and `exchange`, and of commands on a shelf, and faults, at each call of the system in turn;
 and losses of power.
 
-crash-nights PROGRAM: each of the nights below is killed before, after and within each call, without and with the loss
+Each of the nights below is killed before, after and within each call, without and with the loss
 of what was not flushed; and each call fails, by each of some faults, or all from one on. Each time
 
 - FILE has one of the records that the night makes one after another, whole;
@@ -15,7 +14,7 @@ of what was not flushed; and each call fails, by each of some faults, or all fro
 Then the night runs again, and all is as if it had never been stopped. On a shelf that holds of each desk with the mails
 of its group; no loan begins at the shelf's own desk; a new group is begun whole or not at all; and a group that is told
 to be retired has its mark, and never a desk again. It prints a line for each night; exit 1 if one
-fails. `tools/crash` calls it.
+fails. It is a part of tools/crash.
 """
 import hashlib
 import itertools
@@ -24,8 +23,9 @@ import shutil
 import subprocess
 import sys
 
-import harness
-from harness import LOSSES, read, write
+from ill import harness
+from ill.der import element, messages_of, request, shipped, spell
+from ill.harness import LOSSES, Wrong, expect, read, write
 
 KILLS = ("before", "after", "half")
 FAULTS = ("EIO", "ENOSPC", "EDQUOT", "ENOMEM", "EINTR", "EPERM", "EACCES", "EINVAL", "ENFILE", "EMFILE", "short", "broken")
@@ -40,37 +40,6 @@ TRIED = {"half": ("write",), "short": ("write", "read"), "EINTR": ("open", "read
 def is_tried(how, call):
     """Returns true if a call may be stopped or fail so."""
     return how not in TRIED or call.split(" ")[0] in TRIED[how]
-
-
-class Wrong(Exception):
-    """What a stop has left wrong."""
-
-
-def expect(is_so, what):
-    """The stop is judged on only where this is so."""
-    if not is_so:
-        raise Wrong(what)
-
-
-def element(tag, contents):
-    """An element of a message, as docs/FORMATS.md spells it."""
-    return bytes([tag, len(contents)]) + contents
-
-
-def spell(tag, transaction, number, *fields):
-    """A message of a loan of G1."""
-    identity = element(0xA1, element(0x81, b"G1") + element(0x82, transaction))
-    return element(tag, element(0x80, b"\1") + identity + element(0x82, bytes([number])) + b"".join(fields))
-
-
-def request(transaction, *fields):
-    """An ILL-Request."""
-    return spell(0x61, transaction, 1, *fields, element(0x86, b"Maps"))
-
-
-def shipped(transaction):
-    """A Shipped, due on 15 March 2025."""
-    return spell(0x63, transaction, 1, element(0x85, b"20250315"))
 
 
 def is_new(name):
@@ -88,15 +57,6 @@ def expect_reasons(files):
     for path in files:
         if ".mail/aside/" in path and not path.endswith(".why") and len(os.path.basename(path)) == 64:
             expect(files.get(path + ".why"), f"{path} has no reason")
-
-
-def messages_of(row):
-    """The whole messages of a row, and what stands after them. None has 128 bytes here."""
-    messages = []
-    while len(row) > 1 and len(row) >= 2 + row[1]:
-        messages.append(row[:2 + row[1]])
-        row = row[2 + row[1]:]
-    return messages, row
 
 
 class Night:
@@ -591,9 +551,8 @@ NIGHTS = (
 )
 
 
-def main():
-    program = os.path.realpath(sys.argv[1])
-    only = sys.argv[2:]
+def main(program, *only):
+    """Performs the nights, or those with these names. Returns the exit status."""
     fine = True
     with harness.own_folder(in_memory=True) as folder:
         shim = harness.build_stop_nth(folder)
@@ -606,7 +565,3 @@ def main():
                 sys.exit(f"a whole {name} comes to {night.whole}")
             fine &= night.perform(name)
     return 0 if fine else 1
-
-
-if __name__ == "__main__":
-    sys.exit(main())

@@ -1,7 +1,6 @@
-#!/usr/bin/env python3
 """Compares the man page and the completions with the built program; tools/make-words writes both from the sources.
 
-check-manual PROGRAM: compares the usages of the man page with those that the program prints. It renders the page, if
+It compares the usages of the man page with those that the program prints. It renders the page, if
 man is installed. It asks bash, zsh and fish themselves what they offer, and says which of them it had: zsh and fish are
 asked if they are installed. It performs the examples of the help and of the man page. It prints a line for each
 comparison, and what is in one and not in the other; exit 1 if one fails.
@@ -12,10 +11,9 @@ import re
 import shlex
 import shutil
 import subprocess
-import sys
 
-import harness
-from harness import read, write
+from ill import harness
+from ill.harness import read, write
 
 REPORT = harness.Report()
 MAN = os.path.join(harness.TOP, "man", "ill.1")
@@ -534,31 +532,23 @@ def perform(name, lines, program):
         print(done.output.decode(errors="replace"), end="", flush=True)
 
 
-def main():
-    """Compares all, in the folder of the script."""
-    program = os.path.realpath(sys.argv[1])
-    with harness.own_folder() as folder:
-        os.chdir(folder)
-        os.mkdir("bin")
-        os.symlink(program, "bin/ill")
-        os.environ.update(PATH=f"{folder}/bin:{os.environ['PATH']}", LC_ALL="C")
-        ill = harness.Program(program)
-        ill.path = f"{folder}/bin/ill"
-        known, page = Help(ill), Page()
-        compare_page(known, page)
-        render_page()
-        prepare_desks(ill)
-        ask_shells(Offers(known))
-        for command in known.on_shelf:
-            check_width(f"shelf {command}", known.texts[f"shelf {command}"])
-        for command in ["ill", *known.commands]:
-            if command != "help":
-                perform(f"examples of the help of {command}", examples_of(known.texts[command]), program)
-                check_width(command, known.texts[command])
-        perform("examples of the man page", page.examples(), program)
-        os.chdir("/")
+def main(program):
+    """Compares all, in the folder that it is in. Returns the exit status."""
+    os.mkdir("bin")
+    os.symlink(program, "bin/ill")
+    os.environ.update(PATH=f"{os.getcwd()}/bin:{os.environ['PATH']}", LC_ALL="C")
+    ill = harness.Program(program)
+    ill.path = os.path.abspath("bin/ill")
+    known, page = Help(ill), Page()
+    compare_page(known, page)
+    render_page()
+    prepare_desks(ill)
+    ask_shells(Offers(known))
+    for command in known.on_shelf:
+        check_width(f"shelf {command}", known.texts[f"shelf {command}"])
+    for command in ["ill", *known.commands]:
+        if command != "help":
+            perform(f"examples of the help of {command}", examples_of(known.texts[command]), program)
+            check_width(command, known.texts[command])
+    perform("examples of the man page", page.examples(), program)
     return REPORT.status()
-
-
-if __name__ == "__main__":
-    sys.exit(main())

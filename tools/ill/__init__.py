@@ -1,0 +1,5 @@
+"""What the scripts of tools/ share. Nothing here is taken from the program that they test.
+
+`harness` has folders, runs, verdicts and stops; `der` the messages in the short form; `records` the record of a desk;
+`model` the sides of a loan, by the tables of docs/PROTOCOL.md.
+"""

@@ -1,0 +1,90 @@
+"""Messages in the short form, written and read as docs/FORMATS.md says."""
+
+# The types of messages, with their first octets, and those of the requester.
+TYPES = {"ILL-Request": 0x61, "Shipped": 0x63, "ILL-Answer": 0x64, "Conditional-Reply": 0x65, "Cancel": 0x66,
+         "Cancel-Reply": 0x67, "Received": 0x68, "Recall": 0x69, "Returned": 0x6A, "Checked-In": 0x6B, "Overdue": 0x6C,
+         "Renew": 0x6D, "Renew-Answer": 0x6E, "Expired": 0x74}
+ASKED = {"ILL-Request", "Conditional-Reply", "Cancel", "Received", "Renew", "Returned"}
+RESULTS = ["conditional", "retry", "unfilled", "locations-provided", "will-supply", "hold-placed", "estimate"]
+
+
+# ---- The writer
+
+def element(tag, contents):
+    """Returns an element: its tag, its length in the fewest octets, and what it has."""
+    size = len(contents)
+    length = [size] if size < 128 else [0x81, size] if size < 256 else [0x82, *divmod(size, 256)]
+    return bytes([tag, *length]) + contents
+
+
+def integer(tag, number):
+    """Returns a number under a tag. One above 127 has a zero in front."""
+    return element(tag, bytes([number] if number < 128 else [0, number]))
+
+
+def spell(tag, transaction, number, *fields, group=b"G1"):
+    """Returns a message of a loan, with these further fields."""
+    identity = element(0xA1, element(0x81, group) + element(0x82, transaction))
+    return element(tag, element(0x80, b"\1") + identity + integer(0x82, number) + b"".join(fields))
+
+
+def request(transaction, *fields, item=b"Maps"):
+    """Returns an ILL-Request. The fields stand before the item."""
+    return spell(0x61, transaction, 1, *fields, element(0x86, item))
+
+
+def cancel(transaction):
+    """Returns a Cancel, which follows the request."""
+    return spell(0x66, transaction, 2)
+
+
+def shipped(transaction, number=1):
+    """Returns a Shipped, due on 15 March 2025."""
+    return spell(0x63, transaction, number, element(0x85, b"20250315"))
+
+
+def spelled(txn, apdu):
+    """Returns the bytes of a message of the model."""
+    fields = []
+    if "answers" in apdu:
+        fields.append(integer(0x83, apdu["answers"]))
+    if "result" in apdu:
+        fields.append(element(0x84, bytes([RESULTS.index(apdu["result"]) + 1])))
+    if "reply" in apdu:
+        fields.append(element(0x84, b"\xff" if apdu["reply"] else b"\0"))
+    if apdu.get("date") is not None:
+        fields.append(element(0x85, apdu["date"].encode()))
+    if "item" in apdu:
+        fields.append(element(0x86, apdu["item"].encode()))
+    group, transaction = (part.encode() for part in txn)
+    return spell(TYPES[apdu["apdu"]], transaction, apdu["number"], *fields, group=group)
+
+
+# ---- The reader
+
+def size_of(row):
+    """Returns the size of the message at the front of a row, as its length says; None if its length is cut."""
+    longer = row[1] - 0x80 if len(row) > 1 and row[1] > 0x80 else 0
+    if len(row) < 2 + longer:
+        return None
+    return 2 + longer + (int.from_bytes(row[2:2 + longer], "big") if longer else row[1])
+
+
+def is_whole(message):
+    """Returns true if bytes are one message: as long as its length says."""
+    return size_of(message) == len(message)
+
+
+def messages_of(row):
+    """Returns the whole messages of a row, and what stands after them."""
+    messages = []
+    while (size := size_of(row)) is not None and size <= len(row):
+        messages.append(row[:size])
+        row = row[size:]
+    return messages, row
+
+
+def parts_of(row):
+    """Returns the messages of a row. What stands after the last whole one is a part, too."""
+    messages, rest = messages_of(row)
+    return [*messages, rest] if rest else messages

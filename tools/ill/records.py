@@ -1,0 +1,42 @@
+"""The record of a desk, written as docs/RECORDS.md says."""
+import hashlib
+
+from ill.der import spelled
+from ill.model import REQUESTER
+
+DIGEST = 32  # the bytes at the end of a record of version 2
+
+# The states of each role with their octets (RECORDS.md, section 1).
+OCTETS = {"IDLE": 0, "PENDING": 1, "IN-PROCESS": 1, "CONDITIONAL": 2, "CANCEL-PENDING": 3, "CANCELLED": 4,
+          "NOT-SUPPLIED": 5, "SHIPPED": 6, "RECEIVED": 7, "RENEW/PENDING": 8, "OVERDUE": 9, "RENEW/OVERDUE": 10,
+          "NOT-RECEIVED/OVERDUE": 11, "RECALL": 12, "RETURNED": 13, "CHECKED-IN": 14}
+
+
+def record(side):
+    """Returns the record of one side, of version 1."""
+    txn, parts = side.txn, b"ILL1" + bytes([side.role, OCTETS[side.state]])
+    parts += b"".join(bytes([len(part)]) + part.encode() for part in txn)
+    if side.role == REQUESTER:
+        parts += bytes([side.held or 0, side.checked_in]) + (side.due or "0" * 8).encode()
+    else:
+        parts += bytes([side.accepted or 0, side.cancelled or 0, side.renewed or 0, side.received])
+        parts += b"\1" + spelled(txn, side.request) if side.request else b"\0"
+    return parts + bytes([len(side.issued)]) + b"".join(spelled(txn, apdu) for apdu in side.issued)
+
+
+def with_digest(parts):
+    """Returns these bytes with their digest after them."""
+    return parts + hashlib.sha256(parts).digest()
+
+
+def repaired(data):
+    """Returns a record with the digest that fits."""
+    return with_digest(data[:-DIGEST])
+
+
+def desk_record(role, sides):
+    """Returns the record of a desk, of version 2."""
+    parts = [b"ILL2", bytes([role]), len(sides).to_bytes(2, "big")]
+    for each in map(record, sides):
+        parts += [len(each).to_bytes(2, "big"), each]
+    return with_digest(b"".join(parts))

@@ -1,5 +1,5 @@
-"""What the tests of the built program share: folders, a table, runs of a program, verdicts, helpers in C, and stops at
-calls.
+"""What the tests of the built program share: folders, a table, runs of a program, verdicts, tasks side by side, helpers
+in C, and stops at calls.
 
 A test compares what has come with what is expected, and tells it with a `Report`: a line `ok: NAME`, or a line
 `FAILED: NAME:` that shows what came. A run is judged by its status and by the bytes of both its streams.
@@ -7,11 +7,13 @@ A test compares what has come with what is expected, and tells it with a `Report
 `Disk` and `walk` are for tools/stop-nth.c: a program is stopped at each of its calls of the system, and may lose what
 was not flushed.
 """
+import collections
 import contextlib
 import dataclasses
 import errno
 import itertools
 import multiprocessing
+import multiprocessing.connection
 import os
 import re
 import shutil
@@ -30,6 +32,7 @@ CLOSED = "closed"  # in place of a stream
 FULL = "/dev/full"
 # How long a run may take. Programs without proof are slow, so `make test` gives them more.
 SECONDS = int(os.environ.get("ILL_SECONDS", "60"))
+FORK = multiprocessing.get_context("fork")
 STARTS = 20  # how often a command is started while the machine has no room for a process, a quarter of a second apart
 
 
@@ -58,7 +61,7 @@ def apart(part, folder, *words):
         os.chdir(folder)
         sys.exit(part(*words))
 
-    process = multiprocessing.get_context("fork").Process(target=perform)
+    process = FORK.Process(target=perform)
     sys.stdout.flush()
     process.start()
     process.join()
@@ -343,6 +346,70 @@ class Report:
     def status(self):
         """Returns the exit status of the script."""
         return 1 if self.failed else 0
+
+
+# ---- Tasks side by side
+
+
+class Task:
+    """A function that is called in a process of its own. Its answer is whether all went well, and what to say of it."""
+
+    def __init__(self, name, function, *words):
+        self.name, self.function, self.words = name, function, words
+        self.is_second = False
+
+    def start(self):
+        """Starts the process. Returns the pipe through which the answer comes."""
+        receiver, sender = FORK.Pipe(duplex=False)
+        self.process = FORK.Process(target=lambda: sender.send(self.function(*self.words)), daemon=True)
+        sys.stdout.flush()
+        self.process.start()
+        sender.close()
+        return receiver
+
+    def end(self, receiver):
+        """Returns the answer. Returns None if a signal has ended the process for the first time: nothing was judged."""
+        with receiver:
+            try:
+                return receiver.recv()
+            except EOFError:
+                pass
+            finally:
+                self.process.join()
+        status = self.process.exitcode
+        if status < 0 and not self.is_second:
+            self.is_second = True
+            print(f"again: {self.name}: signal {-status} has ended its process", file=sys.stderr, flush=True)
+            return None
+        return False, f"its process has given no answer, and ended with {status}"
+
+
+def side_by_side(tasks, workers):
+    """Performs tasks, `workers` of them at a time. Yields each with its answer, in their order. A task whose process a
+    signal ends is performed once more."""
+    waiting, running, answers = collections.deque(tasks), {}, {}
+    for task in tasks:
+        while task not in answers:
+            while waiting and len(running) < workers:
+                begun = waiting.popleft()
+                running[begun.start()] = begun
+            for receiver in multiprocessing.connection.wait(list(running)):
+                ended = running.pop(receiver)
+                answer = ended.end(receiver)
+                if answer is None:
+                    waiting.appendleft(ended)
+                else:
+                    answers[ended] = answer
+        yield task, answers[task]
+
+
+def tell_all(tasks, workers):
+    """Prints a line for each task. Returns the exit status of the script."""
+    fine = True
+    for task, (well, text) in side_by_side(tasks, workers):
+        print(f"{'ok' if well else 'FAILED'}: {task.name}: {text}", flush=True)
+        fine &= well
+    return 0 if fine else 1
 
 
 # ---- Stops at calls of the system

@@ -1,2 +1,1 @@
 pub mod Nights
-pub mod Shelf

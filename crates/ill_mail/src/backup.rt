@@ -89,7 +89,7 @@ fn give_to_owner<T: Files>(rt: &T, path: &str, desk: &str) {
 
 /// Writes the file at `path` anew, if there is a path. Its time is then the time of the run, and its owner that of the
 /// file `desk`.
-pub(crate) fn beat<T: Files, W: Write, E: Write>(
+pub fn beat<T: Files, W: Write, E: Write>(
     machine: &mut Machine<'_, T, W, E>,
     path: Option<&str>,
     desk: &str,

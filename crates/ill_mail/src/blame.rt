@@ -9,18 +9,18 @@ use std::io::Write;
 use std::rt::Files;
 
 /// The texts that follow the path of a file or folder that has failed.
-pub(crate) const NO_BOX: &str = ".mail is no folder that its owner alone may enter";
+pub const NO_BOX: &str = ".mail is no folder that its owner alone may enter";
 
-pub(crate) const NO_RUN: &str = ".mail cannot be written";
+pub const NO_RUN: &str = ".mail cannot be written";
 
-pub(crate) const NOT_READ: &str = " is no folder of mails that can be read";
+pub const NOT_READ: &str = " is no folder of mails that can be read";
 
 const NOT_SENT: &str = " is not written, so nothing more is sent";
 
 pub(crate) const NO_FOLDER: &str = " is no folder";
 
 /// Returns `sent`. If a mail could not be put into its folder, a line with its path goes to the errors.
-pub(crate) fn blame_mail<T: Files, W: Write, E: Write>(
+pub fn blame_mail<T: Files, W: Write, E: Write>(
     machine: &mut Machine<'_, T, W, E>,
     sent: Result<usize, ToolFault>,
     out: &MailFolder<'_, T>,

@@ -1,18 +1,13 @@
-//! The commands on the mails of a desk, or of all desks of a shelf: they are claimed, taken, settled and sent.
+//! The commands on the mails of a desk: they are claimed, taken, settled and sent.
 #![tactic(auto)]
 
-mod backup;
-mod blame;
+pub mod backup;
+pub mod blame;
 pub mod exchange;
-mod last_words;
 pub mod mail;
-mod mail_box;
-mod mail_folder;
+pub mod mail_box;
+pub mod mail_folder;
 pub mod night;
-pub mod on_shelf;
-mod places;
-mod reserved;
-mod settle;
-pub mod sorting;
-pub mod take_home;
-mod visit;
+pub mod places;
+pub mod reserved;
+pub mod settle;

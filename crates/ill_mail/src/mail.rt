@@ -288,7 +288,7 @@ fn may_have_folders<T: Files>(rt: &T, folder: &str) -> io::Result<bool> {
 
 /// Makes the folder of a run among the claimed mails, and returns its path. Its number is greater than the number of
 /// each folder there. The folder is new, so no other run has it.
-pub(crate) fn new_run<T: Files>(rt: &T, alloc: Global, mail_box: &MailBox) -> io::Result<String> {
+pub fn new_run<T: Files>(rt: &T, alloc: Global, mail_box: &MailBox) -> io::Result<String> {
     let mut last = 0;
     for run in names_in(rt, alloc, mail_box.claimed())? {
         last = number_of(&run).unwrap_or_default().max(last);
@@ -305,7 +305,7 @@ pub(crate) fn new_run<T: Files>(rt: &T, alloc: Global, mail_box: &MailBox) -> io
 }
 
 /// Returns the names in `folder` that do not begin with a dot, in the order of their bytes.
-pub(crate) fn names_in<T: Files>(rt: &T, alloc: Global, folder: &str) -> io::Result<Vec<Vec<u8>>> {
+pub fn names_in<T: Files>(rt: &T, alloc: Global, folder: &str) -> io::Result<Vec<Vec<u8>>> {
     let mut names = raw_names(rt, alloc, folder)?;
     names.retain(|name| !name.starts_with(b"."));
     names.sort()?;

@@ -23,7 +23,7 @@ const WHY: &str = ".why";
 const MONTH: i64 = 30 * 24 * 60 * 60;
 
 /// Opens the folder of the mail of the desk in `file`. What is made in it belongs to the owner of the file `original`.
-pub(crate) fn open_box<T: Files>(
+pub fn open_box<T: Files>(
     rt: &T,
     alloc: Global,
     file: &str,
@@ -210,7 +210,7 @@ fn make_new_folder<T: Files>(rt: &T, path: &str, owner: Owner) -> io::Result<()>
 }
 
 /// Removes the file at `path`, if it exists.
-pub(crate) fn remove_if_there<T: Files>(rt: &T, path: &str) -> io::Result<()> {
+pub fn remove_if_there<T: Files>(rt: &T, path: &str) -> io::Result<()> {
     match fs::remove_file(rt, path) {
         Err(error) if error.kind() != ErrorKind::NotFound => Err(error),
         _ => Ok(()),
@@ -240,7 +240,7 @@ fn write_anew<T: Files>(rt: &T, path: &str, line: &[u8], owner: Owner) -> io::Re
 
 /// Gives the mail `name` back to the folder from which it was claimed. If another mail with its name has come there, it
 /// remains claimed, and the next run takes it first.
-pub(crate) fn give_back<T: Files>(
+pub fn give_back<T: Files>(
     rt: &T,
     alloc: Global,
     folder: &str,

@@ -15,7 +15,7 @@ use std::{fs, io};
 
 /// A folder of mails, with one message in each file. Whoever moves the mails may put anything there at any moment.
 #[derive(Drop)]
-pub(crate) struct MailFolder<'a, R: Files> {
+pub struct MailFolder<'a, R: Files> {
     rt: &'a R,
     alloc: Global,
     path: &'a str,
@@ -25,7 +25,7 @@ pub(crate) struct MailFolder<'a, R: Files> {
 
 impl<'a, R: Files> MailFolder<'a, R> {
     /// Returns the folder at `path`.
-    pub(crate) fn at(rt: &'a R, alloc: Global, path: &'a str) -> MailFolder<'a, R> {
+    pub fn at(rt: &'a R, alloc: Global, path: &'a str) -> MailFolder<'a, R> {
         MailFolder {
             rt,
             alloc,
@@ -35,7 +35,7 @@ impl<'a, R: Files> MailFolder<'a, R> {
     }
 
     /// Returns the path of a mail that could not be put there.
-    pub(crate) fn failed(&self) -> Result<Option<String>, OutOfMemory> {
+    pub fn failed(&self) -> Result<Option<String>, OutOfMemory> {
         let Some(name) = &self.failed else {
             return Ok(None);
         };

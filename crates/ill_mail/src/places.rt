@@ -24,7 +24,7 @@ const ORIGINAL: &str = " is the original, and no copy of it";
 
 /// The places of the desks of a run.
 #[derive(Clone, Copy)]
-pub(crate) struct Places<'a> {
+pub struct Places<'a> {
     /// The file of the desk, or of the shelf's own desk.
     pub file: &'a str,
     /// The file of the desk, or the folder of the shelf: the run copies it.
@@ -69,7 +69,7 @@ fn find_folder<T: Files>(rt: &T, path: &str) -> Result<(), ToolFault>
 
 /// Looks at the folders of `night`, and at the paths of its copy and its sign of life, before anything is done. If one is
 /// misplaced, it writes a line to `errors`.
-pub(crate) fn look_at_places<T: Files, W: Write, E: Write>(
+pub fn look_at_places<T: Files, W: Write, E: Write>(
     machine: &mut Machine<'_, T, W, E>,
     places: &Places<'_>,
     night: &Night<'_>,

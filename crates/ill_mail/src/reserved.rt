@@ -12,12 +12,7 @@ use std::{fs, io};
 const DEPTH: usize = 3;
 
 /// Returns true if `path` leads to `folder`, or to a folder at most three levels below it.
-pub(crate) fn is_within<T: Files>(
-    rt: &T,
-    alloc: Global,
-    path: &str,
-    folder: &str,
-) -> io::Result<bool> {
+pub fn is_within<T: Files>(rt: &T, alloc: Global, path: &str, folder: &str) -> io::Result<bool> {
     let outer = fs::metadata(rt, folder)?;
     let mut inner = String::from_str(alloc, path)?;
     for _ in 0..=DEPTH {

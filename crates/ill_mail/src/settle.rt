@@ -61,7 +61,7 @@ fn settle_each<T: Files, E: Write>(
 }
 
 /// Removes the folders of runs that have no mail left.
-pub(crate) fn remove_runs<T: Files>(rt: &T, found: &Mails) {
+pub fn remove_runs<T: Files>(rt: &T, found: &Mails) {
     for run in &found.runs {
         let _ = fs::remove_dir(rt, run.as_str());
     }

@@ -13,7 +13,7 @@ use Rattle.ill_files.specs.AtFile.{VerifiesFile, ReportsPaths, IsOpenFault}
 use Rattle.ill_mail.specs.Nights.{InboxAtFile, OutboxAtFile, ExchangesAtFile}
 use Rattle.std.specs.Path.{path_file_name}
 use Rattle.ill_files.specs.ShelfNames.{IsNamedOnShelf}
-use Rattle.ill_mail.specs.Shelf.{is_lines, VisitsShelf, RetiresAtFile, TakesAtShelf}
+use Rattle.ill_shelf.specs.Shelf.{is_lines, VisitsShelf, RetiresAtFile, TakesAtShelf}
 
 -- A command has this result. The input went from `left` to `rest`, and the output from `before` to `after`.
 -- Only a shelf retires a group.

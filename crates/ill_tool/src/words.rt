@@ -16,11 +16,11 @@ use ill_files::machine::Machine;
 use ill_files::open::all_well;
 use ill_mail::exchange::{exchange, inbox, outbox};
 use ill_mail::mail::Incoming;
-use ill_mail::on_shelf::{
+use ill_shelf::on_shelf::{
     act_on_shelf, exchange_of_shelf, inbox_of_shelf, loan_on_shelf, new_shelf, outbox_of_shelf,
     retire, send_on_shelf, status_of_shelf,
 };
-use ill_mail::take_home::take_on_shelf;
+use ill_shelf::take_home::take_on_shelf;
 use ill_saved::{DeskFault, LockFiles};
 use ill_text::check::run_check;
 use ill_text::fault::ToolFault;

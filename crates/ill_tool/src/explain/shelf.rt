@@ -5,7 +5,7 @@ use crate::explain::file::tell_fault_at;
 use crate::explain::shown::Shown;
 use clap::ArgMatches;
 use ill_files::shelf::Shelf;
-use ill_mail::sorting::{Home, home_at};
+use ill_shelf::sorting::{Home, home_at};
 use ill_saved::{DeskFault, LockFiles};
 use ill_values::OutOfMemory;
 use std::alloc::Global;

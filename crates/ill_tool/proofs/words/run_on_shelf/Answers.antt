@@ -5,7 +5,7 @@ use Rattle.ill_tool.specs.declared.request.Request.{Request}
 use Rattle.ill_tool.specs.Asked.{asked}
 use Rattle.ill_mail.specs.Nights.{OutboxAtFile}
 use Rattle.ill_tool.specs.Runs.{RunsShelf}
-use Rattle.ill_mail.specs.Shelf.{VisitsShelf}
+use Rattle.ill_shelf.specs.Shelf.{VisitsShelf}
 use Rattle.ill_tool.proofs.words.run_on_shelf.Goals as goal
 
 -- An option and its image under `text` are both `Some` or both `None`.

@@ -2,10 +2,10 @@
 use Rattle.std.proofs.Common.{◌≡◌, inr, Ok, Err, refl, ap, subst}
 use Rattle.ill_text.specs.Input.{ReadsInput}
 use Rattle.ill_files.specs.declared.machine.Machine.{Machine}
-use Rattle.ill_mail.specs.declared.take_home.TakesHome.{TakesHome}
-use Rattle.ill_mail.specs.Shelf.{ShelfTaking, shelf_taking, TakesAtHome}
-use Rattle.ill_mail.proofs.ShelfLemmas.{taken_home}
-use Rattle.ill_mail.proofs.take_home.take_on_shelf.Goals as goal
+use Rattle.ill_shelf.specs.declared.take_home.TakesHome.{TakesHome}
+use Rattle.ill_shelf.specs.Shelf.{ShelfTaking, shelf_taking, TakesAtHome}
+use Rattle.ill_shelf.proofs.ShelfLemmas.{taken_home}
+use Rattle.ill_shelf.proofs.take_home.take_on_shelf.Goals as goal
 
 -- Proves the contract of `take_on_shelf` if the input ends well. By `taken_home` the views of the states show the
 -- effect.

@@ -2,8 +2,8 @@
 use Rattle.std.proofs.Common.{ℕ, List, Option, inr, map, ap, subst, sym}
 use Rattle.std.specs.Prelude.{string_bytes, is_some}
 use Rattle.ill_mail.specs.Nights.{OutboxAtFile}
-use Rattle.ill_mail.specs.Shelf.{VisitsAll}
-use Rattle.ill_mail.proofs.on_shelf.outbox_of_shelf.Goals as goal
+use Rattle.ill_shelf.specs.Shelf.{VisitsAll}
+use Rattle.ill_shelf.proofs.on_shelf.outbox_of_shelf.Goals as goal
 
 -- Proves the contract of `outbox_of_shelf`. `visit_all` visits the desks, and `graver` combines its answer with that of
 -- `send_words_to`, which writes nothing.

@@ -1,7 +1,7 @@
 -- Answers the contract of `handle` of `TakesHome` (`src/take_home.rt`).
 use Rattle.std.proofs.Common.{Some, inl, refl}
 use Rattle.ill_der.specs.ShortForm.{spelling}
-use Rattle.ill_mail.proofs.take_home.TakesHomeHandlerMachine.handle.Goals as goal
+use Rattle.ill_shelf.proofs.take_home.TakesHomeHandlerMachine.handle.Goals as goal
 
 pub returns-in-Err : goal.returns-in-Err
 returns-in-Err g c = (Some (spelling c.args.apdu.now), inl ((c.in-Err.ensures, refl), refl))

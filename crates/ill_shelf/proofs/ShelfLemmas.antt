@@ -3,7 +3,7 @@ use Rattle.std.proofs.Common.{ℕ, List, Option, Result}
 use Rattle.ill_text.specs.declared.fault.ToolFault.{ToolFault}
 use Rattle.ill_text.specs.Input.{ReadsInput}
 use Rattle.ill_text.proofs.InputLemmas.{reads_on_views}
-use Rattle.ill_mail.specs.Shelf.{ShelfTaking, TakesAtHome}
+use Rattle.ill_shelf.specs.Shelf.{ShelfTaking, TakesAtHome}
 
 -- If an input is read by `TakesAtHome` of views of states, `TakesAtHome` reads it from view to view.
 pub taken_home : {S : Type 0} (view : S → ShelfTaking) (left rest : Option (List ℕ)) (before after : S)

@@ -3,15 +3,15 @@
 ghost use Rattle.std.specs.Prelude.{◌≡◌, true, map, is_some, IfErr};
 ghost use Rattle.ill_files.specs.AtFile.{ActsAtFile, IsOpenFault, LoanAtFile, NewAtFile, SendsAtFile, ShowsFile};
 ghost use Rattle.ill_mail.specs.Nights.{ExchangesAtFile, InboxAtFile, OutboxAtFile};
-ghost use Rattle.ill_mail.specs.Shelf.{IsFurther, RetiresAtFile, VisitsShelf, is_lines, retired_line, told_with};
+ghost use Rattle.ill_shelf.specs.Shelf.{IsFurther, RetiresAtFile, VisitsShelf, is_lines, retired_line, told_with};
 ghost use Rattle.ill_desk.specs.Outbox.{IsFileFault};
 
-use crate::backup::beat;
+use ill_mail::backup::beat;
 use crate::last_words::{load_mark, send_last_words};
-use crate::mail::names_in;
-use crate::mail_box::remove_if_there;
-use crate::night::Night;
-use crate::places::{Places, look_at_places};
+use ill_mail::mail::names_in;
+use ill_mail::mail_box::remove_if_there;
+use ill_mail::night::Night;
+use ill_mail::places::{Places, look_at_places};
 use crate::sorting::{refuse_lost, sort_mails};
 use crate::visit::{Visit, visit_all};
 use ill_desk::act::run_desk_act;

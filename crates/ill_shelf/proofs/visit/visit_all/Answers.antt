@@ -2,10 +2,10 @@
 use Rattle.std.proofs.Common.{◌≡◌, ◌+◌, ◌<◌, ℕ, Bool, List, map, take, get_or, ap, sym, subst, ◌∙◌}
 use Rattle.std.specs.Prelude.{string_bytes}
 use Rattle.std.proofs.lemmas.List.{length-map, get_or-map}
-use Rattle.ill_mail.specs.Shelf.{Headed, RunsVisit, VisitsAll, is_headed}
+use Rattle.ill_shelf.specs.Shelf.{Headed, RunsVisit, VisitsAll, is_headed}
 use Rattle.ill_text.specs.Visits.{Stop}
 use Rattle.ill_text.proofs.VisitsLemmas.{no_visit, one_more_visit}
-use Rattle.ill_mail.proofs.visit.visit_all.Goals as goal
+use Rattle.ill_shelf.proofs.visit.visit_all.Goals as goal
 
 -- Proves the loop invariant of `visit_all` after one more desk. `one_more_visit` appends the visit at `place`.
 pub loop-place-preserved : goal.loop-place-preserved

@@ -2,7 +2,7 @@
 use Rattle.std.proofs.Common.{inr, map, Ok, true, refl}
 use Rattle.std.specs.Prelude.{string_bytes}
 use Rattle.ill_text.proofs.VisitsLemmas.{graver_well}
-use Rattle.ill_mail.proofs.on_shelf.status_of_shelf.Goals as goal
+use Rattle.ill_shelf.proofs.on_shelf.status_of_shelf.Goals as goal
 
 -- Proves the contract of `status_of_shelf`. `visit_all` visits the desks, and nothing makes its answer graver.
 pub returns : goal.returns

@@ -3,7 +3,7 @@
 ghost use Rattle.std.specs.Prelude.{◌≡◌, IfErr, IfOk};
 ghost use Rattle.ill_der.specs.ShortForm.{spelling};
 ghost use Rattle.ill_files.specs.AtFile.{IsOpenFault};
-ghost use Rattle.ill_mail.specs.Shelf.{TakesAtShelf, TakesAtHome};
+ghost use Rattle.ill_shelf.specs.Shelf.{TakesAtShelf, TakesAtHome};
 
 use crate::sorting::{Route, home_at, make_desk, route_of};
 use ill_der::{ApduView, BodyView, Handler, encode};

@@ -1,8 +1,8 @@
 -- States the loop invariant of `visit_all` (`src/visit.rt`).
 use Rattle.std.proofs.Common.{map, take}
 use Rattle.std.specs.Prelude.{string_bytes}
-use Rattle.ill_mail.specs.Shelf.{RunsVisit, VisitsAll, is_headed}
-use Rattle.ill_mail.proofs.visit.visit_all.Given as goal
+use Rattle.ill_shelf.specs.Shelf.{RunsVisit, VisitsAll, is_headed}
+use Rattle.ill_shelf.proofs.visit.visit_all.Given as goal
 
 -- The desks at the first `place` paths were visited.
 abbrev pub invariant-loop-place : goal.invariant-loop-place

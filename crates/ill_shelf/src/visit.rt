@@ -4,12 +4,12 @@
 ghost use Rattle.std.specs.Prelude.{◌≡◌, map, string_bytes};
 ghost use Rattle.ill_show.specs.Listing.{heading};
 ghost use Rattle.ill_text.specs.Output.{WritesText};
-ghost use Rattle.ill_mail.specs.Shelf.{Headed, RunsVisit, VisitsAll, is_headed, is_lines};
+ghost use Rattle.ill_shelf.specs.Shelf.{Headed, RunsVisit, VisitsAll, is_headed, is_lines};
 ghost use Rattle.ill_text.specs.Visits.{graver};
 
-use crate::exchange::{exchange, inbox, outbox};
-use crate::mail::Incoming;
-use crate::night::Night;
+use ill_mail::exchange::{exchange, inbox, outbox};
+use ill_mail::mail::Incoming;
+use ill_mail::night::Night;
 use ill_files::file::status;
 use ill_files::machine::Machine;
 use ill_saved::LockFiles;

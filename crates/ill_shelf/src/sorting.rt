@@ -6,14 +6,14 @@
 
 ghost use Rattle.std.specs.Prelude.{◌≡◌, IfErr};
 ghost use Rattle.ill_files.specs.AtFile.{IsOpenFault};
-ghost use Rattle.ill_mail.specs.Shelf.{route_of};
+ghost use Rattle.ill_shelf.specs.Shelf.{route_of};
 
-use crate::blame::{NO_BOX, NO_RUN, NOT_READ};
+use ill_mail::blame::{NO_BOX, NO_RUN, NOT_READ};
 use crate::last_words::LastWords;
-use crate::mail::{Mails, begin_run, claim_mails, new_run};
-use crate::mail_box::{MailBox, give_back, open_box, remove_if_there};
-use crate::reserved::is_within;
-use crate::settle::remove_runs;
+use ill_mail::mail::{Mails, begin_run, claim_mails, new_run};
+use ill_mail::mail_box::{MailBox, give_back, open_box, remove_if_there};
+use ill_mail::reserved::is_within;
+use ill_mail::settle::remove_runs;
 use ill_der::{ApduView, BodyView, encode};
 use ill_desk::inbox::message_in;
 use ill_desk::new::run_desk_new;

@@ -3,11 +3,11 @@
 
 ghost use Rattle.std.specs.Prelude.{◌≡◌, IfErr};
 ghost use Rattle.ill_desk.specs.Outbox.{IsFileFault};
-ghost use Rattle.ill_mail.specs.Shelf.{IsFurther};
+ghost use Rattle.ill_shelf.specs.Shelf.{IsFurther};
 
-use crate::blame::blame_mail;
-use crate::mail_box::asked_bytes;
-use crate::mail_folder::MailFolder;
+use ill_mail::blame::blame_mail;
+use ill_mail::mail_box::asked_bytes;
+use ill_mail::mail_folder::MailFolder;
 use ill_der::{ApduView, encode};
 use ill_desk::outbox::mail_name;
 use ill_desk::outgoing::Outgoing;

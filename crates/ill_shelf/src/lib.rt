@@ -1,0 +1,8 @@
+//! The commands on all desks of a shelf: mails are sorted, desks are made, visited and retired.
+#![tactic(auto)]
+
+mod last_words;
+pub mod on_shelf;
+pub mod sorting;
+pub mod take_home;
+mod visit;

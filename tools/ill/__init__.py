@@ -1,5 +1,7 @@
 """What the scripts of tools/ share. Nothing here is taken from the program that they test.
 
 `harness` has folders, runs, verdicts and stops; `der` the messages in the short form; `records` the record of a desk;
-`model` the sides of a loan, by the tables of docs/PROTOCOL.md.
+`model` the sides of a loan, by the tables of docs/PROTOCOL.md. `repository` has the files and the crates that scripts
+read. `texts` compares texts with sources. Parts of tools/check-program are `pages`, `objects`, `damaged` and `manual`;
+the nights of tools/crash are `nights`.
 """

@@ -1,4 +1,4 @@
-"""Compares the man page and the completions with the built program; tools/make-words writes both from the sources.
+"""Compares the man page and the completions with the built program; tools/texts writes both from the sources.
 
 It compares the usages of the man page with those that the program prints. It renders the page, if
 man is installed. It asks bash, zsh and fish themselves what they offer, and says which of them it had: zsh and fish are

@@ -1,9 +1,6 @@
-#!/usr/bin/env python3
-"""What the documents name is there: files, headings, targets of make, tools, and what can be counted.
+"""Compares the documents with what they name: files, headings, targets of make, tools, and what can be counted.
 
-check-documents [FOLDER]: looks through each .md of the repository, or of FOLDER, which is laid out alike. It
-prints a line for each fault, and at the end what it has looked up; exit 1 if there is a fault. In a document it
-looks up
+It looks through each .md of the repository. In a document it looks up
 
 - each link that leads to no other site: the file, and the heading after a #;
 - each word in backquotes or in a block that looks like a path of the repository. A name in capitals, as in
@@ -16,8 +13,9 @@ looks up
 - each block of Rust, against the sources: one has its lines, one after another, however far they are indented;
 - that each line of the crates.txt that it shows, but for one of `yours`, stands there.
 
-The map, docs/ARCHITECTURE.md, has to name each crate, with docs/TESTS.md those of tests and each tool, and the README
-each document of docs/. docs/PROMISES.md has to name each LAWS.md. Under a heading that names crates, each name there in
+The map, docs/ARCHITECTURE.md, has to name each crate, with docs/TESTS.md those of tests. docs/TESTS.md has to name each
+script of tools/, and the head of each package there its modules. The README has to name each document of docs/, and
+docs/PROMISES.md each LAWS.md. Under a heading that names crates, each name there in
 backquotes stands in the source that its link leads to, or else in a source or a definition of one of these crates or
 of their rooms.
 """
@@ -25,9 +23,10 @@ import collections
 import fnmatch
 import os
 import re
-import sys
 
-TOP = os.path.realpath(sys.argv[1] if len(sys.argv) > 1 else os.path.join(os.path.dirname(__file__), ".."))
+from ill import repository
+from ill.repository import read, stand_on
+
 MADE = {".git", "out", "dist", "__pycache__"}
 PARTS = {"src", "specs", "proofs", "messages", "scripts"}
 NUMBERS = ("none one two three four five six seven eight nine ten eleven twelve thirteen fourteen fifteen "
@@ -36,29 +35,20 @@ NUMBER = r"\b(\d+|" + "|".join(NUMBERS) + r")\b"
 CONTROLS = "strength/controls/*.edit"
 GATE = "strength/gate/*.edit"
 
-faults = []
-looked_up = collections.Counter()
+COMPARED = repository.Comparison()
 
 
-def read(path):
-    """The text of a file of the repository."""
-    with open(os.path.join(TOP, path), encoding="utf-8") as file:
-        return file.read()
+def expect(kind, is_there, place, what):
+    """Counts what was looked up. Keeps the fault if it is not so."""
+    COMPARED.expect(kind, is_there, f"{place}: {what}")
 
 
 def paths():
     """All files and folders of the repository, but what is made."""
-    for folder, folders, files in os.walk(TOP):
+    for folder, folders, files in os.walk(repository.TOP):
         folders[:] = sorted(name for name in folders if name not in MADE)
         for name in folders + sorted(files):
-            yield os.path.relpath(os.path.join(folder, name), TOP)
-
-
-def expect(kind, is_there, place, what):
-    """Counts what was looked up, and keeps the fault if it is not so."""
-    looked_up[kind] += 1
-    if not is_there:
-        faults.append(f"{place}: {what}")
+            yield os.path.relpath(os.path.join(folder, name), repository.TOP)
 
 
 def lines(document):
@@ -88,7 +78,7 @@ def check_links(document, place, line):
             continue
         path, _, anchor = target.partition("#")
         file = os.path.normpath(os.path.join(os.path.dirname(document), path)) if path else document
-        is_there = os.path.exists(os.path.join(TOP, file))
+        is_there = os.path.exists(repository.full(file))
         expect("links", is_there, place, f"the link {target} leads to no file")
         if anchor and is_there:
             expect("headings", anchor in headings(file), place, f"the link {target} leads to no heading")
@@ -99,7 +89,7 @@ def looks_like_path(word):
     if not re.fullmatch(r"\.?[\w*-][\w.*-]*(/[\w.*-]+)*/?", word) or MADE & set(word.split("/")):
         return False
     first = word.split("/")[0]
-    is_below = "/" in word and (first in PARTS or os.path.isdir(os.path.join(TOP, first)))
+    is_below = "/" in word and (first in PARTS or os.path.isdir(repository.full(first)))
     return is_below or re.fullmatch(r"[\w-][\w/.-]*\.(md|rt|antt|c)", word) is not None
 
 
@@ -128,31 +118,22 @@ def check_targets(code, targets, place):
 
 def check_tools(text, place):
     """Each tool that a text names is there."""
-    for name in re.findall(r"(?<![\w/])tools/((?:ill/)?[\w-]+(?:\.(?:c|py))?)", text):
-        is_there = os.path.exists(os.path.join(TOP, "tools", name))
+    for name in re.findall(r"(?<![\w/])tools/((?:\w+/)*[\w-]+(?:\.(?:c|py))?)", text):
+        is_there = os.path.exists(repository.full("tools", name))
         expect("tools", is_there, place, f"there is no tools/{name}")
-
-
-def stand_on():
-    """The crates, each with those of the repository that it stands on, in the order of crates.txt."""
-    lines = re.findall(r"(?m)^(\w+)(?: staticlib)?:(.*)$", read("crates.txt"))
-    names = [name for name, _ in lines]
-    return {name: [other for other in below.split() if other in names] for name, below in lines}
 
 
 def with_rooms(crates):
     """These crates, and their rooms: what they stand on of the libraries on which no crate of tests stands."""
-    below = stand_on()
-    tested = {other for name, others in below.items() if name.endswith(("_tests", "_kit")) for other in others}
-    return sorted({*crates, *(other for name in crates for other in below[name] if other not in tested)})
+    below, rooms = stand_on(), repository.rooms()
+    return sorted({*crates, *(other for name in crates for other in below[name] if other in rooms)})
 
 
 def counts(everything):
     """How many wrong bodies the gate has, how many there are beside it, and the least and the most of a crate."""
     edits = collections.Counter(path.split("/")[2] for path in everything if matches(path, [GATE]))
     beside = sum(matches(path, ["strength/*.edit"]) and not matches(path, [CONTROLS, GATE]) for path in everything)
-    across = read("tools/across").count('\nname="')
-    return sum(edits.values()), beside + across, min(edits.values()), max(edits.values())
+    return sum(edits.values()), beside + read("tools/across").count('\nname="'), min(edits.values()), max(edits.values())
 
 
 def value(word):
@@ -252,14 +233,28 @@ def check_code(document, sources):
         expect("blocks of Rust", is_there, document, f"no source has the lines after {block.splitlines()[0].strip()}")
 
 
+def tools(everything):
+    """The files of tools/."""
+    return [path for path in everything if path.startswith("tools/") and os.path.isfile(repository.full(path))]
+
+
+def named_at(path):
+    """Where a file of tools/ has to be named, and how: docs/TESTS.md names the scripts, and the head of a package names
+    its modules and packages."""
+    folder, name = os.path.split(path.removesuffix("/__init__.py"))
+    return ("docs/TESTS.md", path) if folder == "tools" else (f"{folder}/__init__.py", name.removesuffix(".py"))
+
+
 def check_maps(everything):
-    """The maps of the code and of the tests name each crate and each tool, and the README each document."""
+    """The maps of the code and of the tests name each crate, each file of tools/ is named in its place, and the README
+    names each document."""
     maps, readme = read("docs/ARCHITECTURE.md") + read("docs/TESTS.md"), read("README.md")
     for crate in stand_on():
         expect("crates", f"`{crate}`" in maps, "docs/ARCHITECTURE.md", f"no map names the crate {crate}")
+    for path in tools(everything):
+        page, name = named_at(path)
+        expect("tools", f"`{name}`" in read(page), page, f"it does not name {name}")
     for path in everything:
-        if path.startswith("tools/") and os.path.isfile(os.path.join(TOP, path)):
-            expect("tools", f"`{path}`" in maps, "docs/TESTS.md", f"it does not name {path}")
         if matches(path, ["docs/*.md"]):
             expect("documents", path in readme, "README.md", f"it does not name {path}")
         if matches(path, ["crates/*/LAWS.md"]):
@@ -288,7 +283,8 @@ def check_promises(everything):
             expect("names of promises", stands_in(name, sources), page, f"no source of {' or '.join(crates)} has {name}")
 
 
-def main():
+def compare():
+    """Returns the faults of all documents, and what was looked up."""
     everything = list(paths())
     targets = set(re.findall(r"(?m)^([a-z-]+):", read("Makefile")))
     counted = counts(everything)
@@ -298,16 +294,9 @@ def main():
         check_counts(document, " ".join(read(document).split()), counted)
         check_runs(document)
         check_code(document, sources)
-    tools = [path for path in everything if path.startswith("tools/") and os.path.isfile(os.path.join(TOP, path))]
-    for path in ["Makefile", "crates.txt", "man/ill.1"] + tools:
+    for path in ["Makefile", "crates.txt", "man/ill.1", *tools(everything)]:
         check_tools(read(path).replace("\\-", "-"), path)
     check_maps(everything)
     check_places(everything)
     check_promises(everything)
-    for fault in dict.fromkeys(faults):
-        print(fault)
-    print(", ".join(f"{count} {kind}" for kind, count in sorted(looked_up.items())))
-    return 1 if faults else 0
-
-
-sys.exit(main())
+    return list(dict.fromkeys(COMPARED.faults)), COMPARED.told()

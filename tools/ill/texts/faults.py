@@ -1,10 +1,9 @@
-#!/usr/bin/env python3
-"""Checks that docs/FAULTS.md has each fault of each public call, and that tools/fault-tests has a test of each.
+"""Compares docs/FAULTS.md with each fault of each public call, and the file fault-tests beside this one with the tests.
 
 The calls and the faults are taken from the sources: a call is what a library exports and answers a `Result`, a
 fault type an exported enum that derives `Error`. A room is a library that only other libraries stand on: it exports
-what one of these that is no room passes on. Each variant of a call's fault type is once in tools/fault-tests, and
-nothing else:
+what one of these that is no room passes on. Each variant of a call's fault type is once in fault-tests, and nothing
+else:
 
     CALL, ..: FAULT, ..
         PLACE: TEST
@@ -15,15 +14,14 @@ the name of each call. `none: WHY` is in place of the tests where there can be n
 no input has the call answer the fault, and # begins a remark. Each fault but these is once in a table of the page, and
 nothing else. A row may be of several calls, each with each fault of the row, which under "Want of memory" is
 `OutOfMemory`.
-It prints what is wrong, a line each, or how much was checked; exit 1 if anything is wrong.
 """
 import re
-import sys
 from pathlib import Path
 
-TOP = Path(__file__).resolve().parent.parent
-PAGE = TOP / "docs" / "FAULTS.md"
-TESTS = TOP / "tools" / "fault-tests"
+from ill import repository
+from ill.repository import read
+
+PAGE, TESTS = "docs/FAULTS.md", "tools/ill/texts/fault-tests"
 USE = re.compile(r"^pub use ([\w:]+?)(?:::\{([^}]*)\}|( as \w+)?);", re.M)
 MODULE = re.compile(r"^pub mod (\w+);", re.M)
 ENUM = re.compile(r"#\[derive\([^)]*\bError\b[^)]*\)\]\npub enum (\w+) \{\n(.*?)\n\}", re.S)
@@ -32,7 +30,7 @@ CALL = re.compile(r"^( *)(pub )?fn (\w+)(?:<[^(]*>)?\(([^)]*)\) -> (.*?)(?=\n *(
 NAMES = r"`[^`]+`(?:, `[^`]+`)*"
 NAMED = re.compile(r"`([^`]+)`")
 ENTRY = re.compile(r"([\w:]+(?:, [\w:]+)*): ([\w:]+(?:, [\w:]+)*)")
-TEST = re.compile(r"    (\w+_tests|tools/[\w-]+|none|never): (\S.*)")
+TEST = re.compile(r"    (\w+_tests|tools/[\w/.-]+|none|never): (\S.*)")
 MEMORY = "Want of memory"
 CELLS = {MEMORY: 3}
 ALIAS = re.compile(r"^pub type (\w+)<\w+> = (\w+)<", re.M)
@@ -42,21 +40,18 @@ PARTS = {"Holdings"}
 OF_ANY = {"begin", "act_on", "message_of"}
 
 
-def stand_on():
-    """The names of the crates, lowest first, each with those of the libraries that it stands on."""
-    lines = (TOP / "crates.txt").read_text().splitlines()
-    crates = dict(line.split(":", 1) for line in lines if ":" in line and not line.startswith("#"))
-    return {name: below.split() for name, below in crates.items()}
+def folder_of(crate):
+    """The folder of a crate."""
+    return Path(repository.full("crates", crate))
 
 
 def libraries():
     """The libraries but those for tests, lowest first, each with whether it is a room."""
-    below = stand_on()
-    for name in below:
-        folder = TOP / "crates" / name
-        if (folder / "src" / "lib.rt").exists() and not name.endswith(("_tests", "_kit")):
-            above = [other for other, crates in below.items() if name in crates]
-            yield folder, not any(other.endswith(("_tests", "_kit")) for other in above)
+    rooms = repository.rooms()
+    for name in repository.stand_on():
+        folder = folder_of(name)
+        if (folder / "src" / "lib.rt").exists() and not repository.is_for_tests(name):
+            yield folder, name in rooms
 
 
 def passed_on(root):
@@ -159,9 +154,9 @@ def read_sources():
 def test_is_there(place, test):
     """Whether a crate of tests has a function of this name, or a line; whether a tool has these words."""
     if place.startswith("tools/"):
-        path = TOP / place
+        path = Path(repository.full(place))
         return path.exists() and test in path.read_text()
-    folder = TOP / "crates" / place
+    folder = folder_of(place)
     if (folder / "stdin").exists():
         lines = (folder / "stdin").read_text().splitlines()
         return any(test in (line, line.strip(), line.lstrip("# ")) or line == f"# {test}" for line in lines)
@@ -188,7 +183,7 @@ def pairs(calls, faults):
 def read_page(wrong):
     """The calls of the tables with the faults that they answer."""
     seen, part = [], ""
-    for line in PAGE.read_text().splitlines():
+    for line in read(PAGE).splitlines():
         part = line[3:] if line.startswith("## ") else part
         if not line.startswith("| `"):
             continue
@@ -207,14 +202,14 @@ def read_tests(wrong):
     """The calls of the entries with their faults: those that have tests, and those that no call answers. What is wrong
     with an entry is told."""
     entries = []
-    for line in TESTS.read_text().splitlines():
+    for line in read(TESTS).splitlines():
         entry, test = ENTRY.fullmatch(line), TEST.fullmatch(line)
         if entry:
             entries.append((entry[1].split(", "), entry[2].split(", "), []))
         elif test and entries:
             entries[-1][2].append(test.groups())
         elif line and not line.startswith("#"):
-            wrong.append(f"tools/fault-tests: it is no entry, and no test of one: {line}")
+            wrong.append(f"{TESTS}: it is no entry, and no test of one: {line}")
     for calls, faults, tests in entries:
         if not are_there(tests, calls, faults):
             said = "; ".join(f"{place}: {test}" for place, test in tests) or "at all"
@@ -230,32 +225,30 @@ def twice(found):
     return sorted({one for one in found if found.count(one) > 1})
 
 
-def main():
+def compare():
+    """Returns the faults of the page and of the tests, and how much was compared."""
     calls, types = read_sources()
     wrong = []
     answered = read_page(wrong)
     tested, never = read_tests(wrong)
+    wrong += wrong_entries(calls, types, answered, tested, never)
+    faults = [f"{name}::{one}" for name, found in types.items() if name not in calls.values() for one in found]
+    wrong += [f"{fault}: no public call answers it" for fault in faults]
+    variants = sum(len(found) for name, found in types.items() if name != "OutOfMemory")
+    return wrong, (f"{PAGE} has {len(calls)} calls with each of their faults, {variants} of {len(types) - 1} types,"
+                   f" and {TESTS} has the tests of {len(tested)}")
+
+
+def wrong_entries(calls, types, answered, tested, never):
+    """What is wrong with the rows of the page and with the entries of the tests: each call has each fault once."""
     seen = answered + never
     wanted = [pair for call, fault in calls.items() for pair in pairs([call], types.get(fault, [fault]))]
-    wrong += [f"{call}: no row has its fault {fault}, and no entry says that it is never answered"
-              for call, fault in wanted if (call, fault) not in seen]
+    wrong = [f"{call}: no row has its fault {fault}, and no entry says that it is never answered"
+             for call, fault in wanted if (call, fault) not in seen]
     wrong += [f"{call}: {fault} is no fault of such a call" for call, fault in seen if (call, fault) not in wanted]
     wrong += [f"{call}, {fault}: two rows have it, or a row and an entry that it is never answered"
               for call, fault in twice(seen)]
     wrong += [f"{call}, {fault}: no entry has its test" for call, fault in answered if (call, fault) not in tested]
     wrong += [f"{call}, {fault}: an entry has a test, and no row a cause" for call, fault in tested
               if (call, fault) not in answered]
-    wrong += [f"{call}, {fault}: two entries have it" for call, fault in twice(tested)]
-    variants = sum(len(found) for name, found in types.items() if name != "OutOfMemory")
-    faults = [f"{name}::{one}" for name, found in types.items() if name not in calls.values() for one in found]
-    wrong += [f"{fault}: no public call answers it" for fault in faults]
-    for line in wrong:
-        print(f"FAILED: {line}")
-    if not wrong:
-        print(f"ok: docs/FAULTS.md has {len(calls)} calls with each of their faults, {variants} of {len(types) - 1} types,"
-              f" and tools/fault-tests has the tests of {len(tested)}")
-    return 1 if wrong else 0
-
-
-if __name__ == "__main__":
-    sys.exit(main())
+    return wrong + [f"{call}, {fault}: two entries have it" for call, fault in twice(tested)]

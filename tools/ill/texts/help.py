@@ -1,8 +1,6 @@
-#!/usr/bin/env python3
-"""Checks that the help, the man page and the explanations say the numbers, exit statuses and words of the sources.
+"""Compares help, man page and explanations with the numbers, exit statuses and words of the sources.
 
-check-help [FOLDER]: reads the repository, or FOLDER, which is laid out alike. It proves nothing and takes no program.
-It reads the command line as tools/make-words does, which writes the completions and most of the man page. It compares
+It reads the command line as the module `words` does, which writes the completions and most of the man page. It compares
 
 - each number, in figures or as a word from two on, with the constants of the sources. Phrases with numbers stand below;
   a number in no such phrase is a fault, and so is a phrase that no text has. Of the man page it reads what is written
@@ -11,25 +9,15 @@ It reads the command line as tools/make-words does, which writes the completions
 - lists of words: roles, actions, results, outcomes, marks, lines of a script and lines of a status;
 - each word in backquotes, in capitals or with the name of a message, with the words that there are;
 - the numbers, verbs, results and reserved names in the sentences of `--explain`.
-
-It prints a line for each fault, or how much it has compared; exit 1 if there is a fault.
 """
-import collections
-import importlib.machinery
-import importlib.util
 import os
 import re
-import sys
 
-LOADER = importlib.machinery.SourceFileLoader("make_words", os.path.join(os.path.dirname(__file__), "make-words"))
-make_words = importlib.util.module_from_spec(importlib.util.spec_from_loader("make_words", LOADER))
-sys.dont_write_bytecode = True
-LOADER.exec_module(make_words)
-if len(sys.argv) > 1:
-    make_words.TOP = os.path.realpath(sys.argv[1])
-HELP, LINE, MAN, TOP = make_words.HELP, make_words.LINE, make_words.MAN, make_words.TOP
-Unread, read, find, body, named = (
-    make_words.Unread, make_words.read, make_words.find, make_words.body, make_words.named)
+from ill import repository
+from ill.repository import Unread, read
+from ill.texts import words as command_line
+from ill.texts.words import HELP, LINE, MAN, body, find, named
+
 EXPLAIN = "crates/ill_tool/src/explain"
 WORLD, WORDS, TEXT, SHOW, DESK, FILES, MAIL, SHELF = (
     f"crates/ill_{room}/src" for room in ("world", "words", "text", "show", "desk", "files", "mail", "shelf"))
@@ -120,15 +108,8 @@ CAPITALS = set("ACL APDU APDUs ASCII COMMAND DAY DER DESK DIGEST DIR DUE EXPIRY 
                "ISO ISSUED ITEM ITU JSON LOCK N NAME NUMBER OUT OUTCOME PATH REASON RELEASED RESULT ROLE SIDE STATE "
                "TODAY SHA TRANSACTION TYPE U UTF VERB WISHED WORDS X".split())
 
-faults = []
-compared = collections.Counter()
-
-
-def expect(kind, is_so, what):
-    """Counts what was compared, and keeps the fault if it is not so."""
-    compared[kind] += 1
-    if not is_so:
-        faults.append(what)
+COMPARED = repository.Comparison()
+expect = COMPARED.expect
 
 
 def expect_same(kind, found, wanted, place):
@@ -186,7 +167,7 @@ def variants(name, path):
 
 def arguments_of():
     """The commands for one desk, or for none, in their order, each with its arguments."""
-    return {command.word: [part.kind for part in command.parts] for command in make_words.commands()[0]}
+    return {command.word: [part.kind for part in command.parts] for command in command_line.commands()[0]}
 
 
 def status_labels():
@@ -254,7 +235,7 @@ def statuses():
 def source_of(command):
     """The path of the source of a command: it stands in one of the crates of the program."""
     crates = (TEXT, SHOW, DESK, FILES, MAIL, SHELF, "crates/ill_tool/src")
-    found = [path for path in (f"{crate}/{command}.rt" for crate in crates) if os.path.exists(os.path.join(TOP, path))]
+    found = [path for path in (f"{crate}/{command}.rt" for crate in crates) if os.path.exists(repository.full(path))]
     if len(found) != 1:
         raise Unread(f"{command}.rt: it stands {len(found)} times in {', '.join(crates)}")
     return found[0]
@@ -327,7 +308,7 @@ def without_numbers_of_steps(text):
 
 def manual():
     """What is written by hand in the man page, without its macros, its fonts and its examples."""
-    text = make_words.by_hand(read(MAN)).partition(".SH DESCRIPTION")[2]
+    text = command_line.by_hand(read(MAN)).partition(".SH DESCRIPTION")[2]
     text = re.sub(r"(?ms)^\.EX$.*?^\.EE$|^\.TP \d+$", "", text)
     text = re.sub(r"\\f[A-Z]", "", text).replace("\\-", "-").replace("\\ ", " ")
     return re.sub(r"(?m)^\.(?:[A-Z]{1,2})\b ?", "", text)
@@ -335,7 +316,7 @@ def manual():
 
 def explanations():
     """The sentences of `--explain`, without what they are about."""
-    sources = (read(f"{EXPLAIN}/{name}") for name in sorted(os.listdir(os.path.join(TOP, EXPLAIN))))
+    sources = (read(f"{EXPLAIN}/{name}") for name in sorted(os.listdir(repository.full(EXPLAIN))))
     found = (said for source in sources for said in re.findall(r'"  ([^"]*)"', source))
     return re.sub(r"\{\w+\}`? ?", "", " ".join(found))
 
@@ -396,8 +377,8 @@ def compare_numbers(named_texts, numbers):
             known = any(begin <= found.start() and found.end() <= end for begin, end in read_spans)
             if not known and found[0].lower() != "one":
                 around = text[max(0, found.start() - 40):found.end() + 30]
-                faults.append(f"{name}: {found[0]} stands in no phrase that is known: \"{around}\"")
-    faults.extend(f"no text says: {phrase}" for phrase in phrases if phrase not in seen)
+                COMPARED.faults.append(f"{name}: {found[0]} stands in no phrase that is known: \"{around}\"")
+    COMPARED.faults.extend(f"no text says: {phrase}" for phrase in phrases if phrase not in seen)
 
 
 def pattern_of(phrase):
@@ -526,7 +507,7 @@ def compare_explanations():
 
 def compare_options():
     """The options that no word of an action may be are those of all commands."""
-    parts = [*make_words.options(), *make_words.general()]
+    parts = [*command_line.options(), *command_line.general()]
     wanted = {word for part in parts for word in (part.option, part.letter) if word}
     found = re.findall(r'"(-[\w-]+)"', find(r"const OPTIONS: [^=]*= \[(.*?)\];", LINE)[1])
     expect_same("lists", sorted(found), sorted(wanted), "command_line.rt: all options")
@@ -579,29 +560,17 @@ def compare_words(named_texts, words, arguments):
             expect("words", word in messages, f"{name}: {word} is no message")
 
 
-def main():
-    try:
-        text, arguments, known = texts(), arguments_of(), statuses()
-        compare_faults(text["ILL"], known)
-        words = compare_lists(text, arguments)
-        for command, own in arguments.items():
-            name = command.replace("-", "_").upper()
-            text[name] = compare_status(name, text[name], causes_of(command, own), known)
-        text["ILL"] = re.sub(r"(?m)^  \d  (\S+ )*", "", text["ILL"])
-        compare_words(text, words, arguments)
-        compare_explanations()
-        compare_options()
-        compare_numbers(text | {MAN: manual(), "explain": explanations()}, numbers_of())
-    except Unread as unread:
-        faults.append(str(unread))
-    for fault in faults:
-        print(f"FAILED: {fault}")
-    if faults:
-        return 1
-    print("ok: the help and the sources have the same "
-          + ", ".join(f"{count} {kind}" for kind, count in sorted(compared.items())))
-    return 0
-
-
-if __name__ == "__main__":
-    sys.exit(main())
+def compare():
+    """Returns the faults of the help, and what was compared."""
+    text, arguments, known = texts(), arguments_of(), statuses()
+    compare_faults(text["ILL"], known)
+    words = compare_lists(text, arguments)
+    for command, own in arguments.items():
+        name = command.replace("-", "_").upper()
+        text[name] = compare_status(name, text[name], causes_of(command, own), known)
+    text["ILL"] = re.sub(r"(?m)^  \d  (\S+ )*", "", text["ILL"])
+    compare_words(text, words, arguments)
+    compare_explanations()
+    compare_options()
+    compare_numbers(text | {MAN: manual(), "explain": explanations()}, numbers_of())
+    return COMPARED.faults, f"the help and the sources have the same {COMPARED.told()}"

@@ -1,26 +1,22 @@
-#!/usr/bin/env python3
 """Writes crates/NAME/LAWS.md of each crate that has laws: its laws, their sentences, and what their contracts name.
 
-make-laws [--check] [FOLDER]: reads the repository, or FOLDER, which is laid out alike. It takes no program. A law is a
-`pub fn` without parameters and without a result. Its contract has `ensures`, and its body is empty or cites other laws.
-The list has the modules of a crate, `laws.rt` first, and the laws of a module in the order of the source. A law has
+A law is a `pub fn` without parameters and without a result. Its contract has `ensures`, and its body is empty or cites
+other laws. The list has the modules of a crate, `laws.rt` first, and the laws of a module in the order of the source. A
+law has
 
 - its name, with a link to its file;
 - its sentences, from its `///` comment, which it must have;
 - the definitions of `specs/` that its contract names, each file once, with a link. Left out are names of the standard
   library, types of the code and their variants.
-
-With --check it changes nothing, and names each line that differs; exit 1 if one does.
 """
 import collections
-import difflib
-import glob
 import os
 import re
-import sys
 import textwrap
 
-TOP = os.path.dirname(os.path.dirname(os.path.realpath(__file__)))
+from ill import repository
+from ill.repository import Unread, found, read
+
 HEAD = """\
 # The laws of `{crate}`
 
@@ -32,21 +28,6 @@ contract is the law. The files after a law define what its contract names.
 # A law, its sentences and its contract; and a name that a source takes from `specs/`, in which file that is.
 Law = collections.namedtuple("Law", "name said contract")
 Named = collections.namedtuple("Named", "crate module name")
-
-
-class Unread(Exception):
-    """What cannot be read."""
-
-
-def read(path):
-    """The text of a file of the repository."""
-    with open(os.path.join(TOP, path), encoding="utf-8") as file:
-        return file.read()
-
-
-def found(*pattern):
-    """The files of the repository that fit a pattern, sorted."""
-    return sorted(os.path.relpath(path, TOP) for path in glob.glob(os.path.join(TOP, *pattern), recursive=True))
 
 
 def laws_of(path):
@@ -142,50 +123,39 @@ def page(crate):
 
 def written():
     """Each page with what has to stand there."""
-    crates = re.findall(r"(?m)^(\w+)(?: staticlib)?:", read("crates.txt"))
-    pages = {f"crates/{crate}/LAWS.md": page(crate) for crate in crates if not crate.endswith(("_tests", "_kit"))}
+    pages = {f"crates/{crate}/LAWS.md": page(crate) for crate in repository.stand_on()
+             if not repository.is_for_tests(crate)}
     return {path: text for path, text in pages.items() if text}
 
 
-def differences(path, wanted):
-    """The lines in which a page differs, each with what has to stand there."""
-    there = read(path) if os.path.exists(os.path.join(TOP, path)) else ""
-    old, new = there.splitlines(True), wanted.splitlines(True)
-    for kind, begin, end, first, last in difflib.SequenceMatcher(None, old, new, False).get_opcodes():
-        if kind != "equal":
-            has = f"it has \"{old[begin].strip()}\"" if begin < end else "a line is missing"
-            said = " / ".join(line.strip() for line in new[first:last])
-            yield f"{path}:{begin + 1}: {has}; the sources say {said or 'nothing'}"
+def of_no_laws(pages):
+    """The pages that are there of crates without a law."""
+    return [path for path in found("crates", "*", "LAWS.md") if path not in pages]
 
 
-def main():
-    global TOP
-    words = [word for word in sys.argv[1:] if word != "--check"]
-    TOP = os.path.realpath(words[0]) if words else TOP
-    try:
-        pages = written()
-    except Unread as unread:
-        print(f"FAILED: {unread}")
-        return 1
-    changed = [line for path, text in pages.items() for line in differences(path, text)]
-    changed += [f"{path}:1: it is there; the sources have no law of this crate"
-                for path in found("crates", "*", "LAWS.md") if path not in pages]
-    count = sum(text.count("\n- **[") for text in pages.values())
-    if "--check" in sys.argv[1:]:
-        for line in changed:
-            print(f"FAILED: {line}")
-        print("run `make laws`, which writes them anew" if changed else
-              f"ok: {', '.join(pages)} have the {count} laws of the sources")
-        return 1 if changed else 0
-    for path in found("crates", "*", "LAWS.md"):
-        if path not in pages:
-            os.remove(os.path.join(TOP, path))
+def count(pages):
+    """How many laws these pages have."""
+    return sum(text.count("\n- **[") for text in pages.values())
+
+
+def faults_of(pages):
+    """The places in which the pages of the repository differ from these."""
+    return repository.all_differences(pages) + [
+        f"{path}:1: it is there; the sources have no law of this crate" for path in of_no_laws(pages)]
+
+
+def compare():
+    """Returns the lines that differ, and which pages have how many laws."""
+    pages = written()
+    return faults_of(pages), f"{', '.join(pages)} have the {count(pages)} laws of the sources"
+
+
+def write():
+    """Writes the pages anew. Returns what was written."""
+    pages = written()
+    changed = len(faults_of(pages))
+    for path in of_no_laws(pages):
+        os.remove(repository.full(path))
     for path, text in pages.items():
-        with open(os.path.join(TOP, path), "w", encoding="utf-8") as file:
-            file.write(text)
-    print(f"written: {', '.join(pages)}: {count} laws; {len(changed)} places changed")
-    return 0
-
-
-if __name__ == "__main__":
-    sys.exit(main())
+        repository.write(path, text)
+    return f"written: {', '.join(pages)}: {count(pages)} laws; {changed} places changed"

@@ -1,18 +1,14 @@
-#!/usr/bin/env python3
 """Breaks each line of a proof or of definitions that has more than 130 columns.
 
-break-lines [--check] [FILE..]: without a file, all of the crates' proofs/ and specs/. A line is broken at a space where
-the fewest brackets are open, before an operator or after a comma, an `=` or an `in`. A `use` of many names becomes
-several of its module. Nothing but white space and these heads changes. `rt fmt` sets the indents after it. It prints
-each file that it changed. With --check nothing is changed: it prints each line that is too long, and exits with 1 if
-there is one.
+It reads all files of the crates' proofs/ and specs/. A line is broken at a space where the fewest brackets are open,
+before an operator or after a comma, an `=` or an `in`. A `use` of many names becomes several of its module. Nothing but
+white space and these heads changes. `rt fmt` sets the indents after it.
 """
-import os
 import re
 import subprocess
-import sys
 
-TOP = os.path.dirname(os.path.dirname(os.path.realpath(__file__)))
+from ill import repository
+
 WIDTH = 130
 OPEN, CLOSE = "([{⟨", ")]}⟩"
 USE = re.compile(r"(\s*(?:pub )?use [^{]*\{)(.*)\}")
@@ -81,39 +77,25 @@ def lines_of(line):
 
 def files():
     """Returns the files of proofs and definitions of the repository."""
-    listed = subprocess.run(["git", "ls-files", "crates/*/proofs/*", "crates/*/specs/*"], cwd=TOP, text=True, check=True,
-                            stdout=subprocess.PIPE).stdout
-    return [os.path.join(TOP, name) for name in listed.split("\n") if name.endswith(".antt")]
+    listed = subprocess.run(["git", "ls-files", "crates/*/proofs/*", "crates/*/specs/*"], cwd=repository.TOP, text=True,
+                            check=True, stdout=subprocess.PIPE).stdout
+    return [name for name in listed.split("\n") if name.endswith(".antt")]
 
 
-def long_lines(path):
-    """Yields the number of each line of a file that is too long."""
-    with open(path) as file:
-        for number, line in enumerate(file, 1):
-            if len(line.rstrip("\n")) > WIDTH:
-                yield number
+def compare():
+    """Returns each line that is too long, and how many files were read."""
+    faults = [f"{path}:{number}: over {WIDTH} columns" for path in files()
+              for number, line in enumerate(repository.read(path).split("\n"), 1) if len(line) > WIDTH]
+    return faults, f"no line of {len(files())} files of proofs and definitions is over {WIDTH} columns"
 
 
-def check(paths):
-    """Prints the long lines of these files, and returns the exit status."""
-    found = [f"FAILED: {path}:{number}: over {WIDTH} columns" for path in paths for number in long_lines(path)]
-    print("\n".join(found) or f"ok: no line of {len(paths)} files of proofs and definitions is over {WIDTH} columns")
-    return 1 if found else 0
-
-
-def main():
-    """Breaks the long lines of these files, or of all."""
-    if sys.argv[1:2] == ["--check"]:
-        sys.exit(check(sys.argv[2:] or files()))
-    for path in sys.argv[1:] or files():
-        with open(path) as file:
-            text = file.read()
+def write():
+    """Breaks the long lines of all files. Returns what was changed."""
+    changed = []
+    for path in files():
+        text = repository.read(path)
         new = "\n".join(line for old in text.split("\n") for line in lines_of(old))
         if new != text:
-            print(path)
-            with open(path, "w") as file:
-                file.write(new)
-
-
-if __name__ == "__main__":
-    main()
+            repository.write(path, new)
+            changed.append(path)
+    return f"lines were broken in: {', '.join(changed) or 'no file'}"

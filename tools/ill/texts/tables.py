@@ -1,7 +1,5 @@
-#!/usr/bin/env python3
-"""Checks that docs/PROTOCOL.md and the sources of ill_core have the same tables.
+"""Compares docs/PROTOCOL.md with the sources of ill_core: both have the same tables.
 
-check-tables [FOLDER]: reads the repository, or FOLDER, which is laid out alike. It proves nothing and takes no program.
 It compares
 
 - each array of rows in ill_core with the lines of its table, kind by kind, in their order;
@@ -11,14 +9,13 @@ It compares
 - each deed that its date forbids with the last cell of its line.
 
 The words of the tables and of the pictures stand below, with the names that the sources have for them. A cell with any
-other word is a fault. It prints a line for each fault, or how much it has compared; exit 1 if there is a fault.
+other word is a fault.
 """
 import collections
-import os
 import re
-import sys
 
-TOP = os.path.realpath(sys.argv[1] if len(sys.argv) > 1 else os.path.join(os.path.dirname(__file__), ".."))
+from ill.repository import Unread, read
+
 CORE, PAGE = "crates/ill_core/src", "docs/PROTOCOL.md"
 ANY, NONE = 0xFFFF, 0
 
@@ -104,16 +101,6 @@ TABLES = [Table("requester", "actions", "2.4 Wishes", WISHES, WISH_ISSUES),
 KINDS = {("requester", "actions"): "RequesterKind", ("requester", "deliveries"): "ResponderKind",
          ("responder", "actions"): "ResponderKind", ("responder", "deliveries"): "RequesterKind"}
 SECTION = {"requester": "2", "responder": "3"}
-
-
-class Unread(Exception):
-    """What cannot be read, and where it stands."""
-
-
-def read(path):
-    """The text of a file of the repository."""
-    with open(os.path.join(TOP, path), encoding="utf-8") as file:
-        return file.read()
 
 
 def need(found, place, what):
@@ -458,21 +445,10 @@ def check_role(role, states):
     return faults, len(rows), len(written)
 
 
-def main():
-    try:
-        states = read_states()
-        checked = [check_role(role, states) for role in SECTION]
-        faults = sum((found for found, _, _ in checked), []) + compare_dates()
-    except Unread as unread:
-        faults = [str(unread)]
-    for fault in faults:
-        print(f"FAILED: {fault}")
-    if faults:
-        return 1
-    print(f"ok: {PAGE} and {CORE} have the same {sum(rows for _, rows, _ in checked)} rows, and "
-          + " and ".join(str(edges) for _, _, edges in checked) + " edges")
-    return 0
-
-
-if __name__ == "__main__":
-    sys.exit(main())
+def compare():
+    """Returns the faults of the tables, and how many rows and edges were compared."""
+    states = read_states()
+    checked = [check_role(role, states) for role in SECTION]
+    faults = sum((found for found, _, _ in checked), []) + compare_dates()
+    return faults, (f"{PAGE} and {CORE} have the same {sum(rows for _, rows, _ in checked)} rows, and "
+                    + " and ".join(str(edges) for _, _, edges in checked) + " edges")

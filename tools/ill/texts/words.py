@@ -1,27 +1,22 @@
-#!/usr/bin/env python3
 r"""Writes the words of the program into the man page and the completions, from the sources of its help.
 
-make-words [--check] [FOLDER]: reads the repository, or FOLDER, which is laid out alike. It takes no program. It reads
-commands, arguments and options in crates/ill_tool/src/command_line.rt, the tables of crates/ill_tool/src/help.rt, and
-the states. It writes completions/ill.bash, _ill and ill.fish whole, from the texts at the end of this file. In
-man/ill.1 it writes the version, and what stands between `.\" words: PART` and `.\" end`. PART is
+It reads commands, arguments and options in crates/ill_tool/src/command_line.rt, the tables of
+crates/ill_tool/src/help.rt, and the states. It writes completions/ill.bash, _ill and ill.fish whole, from the texts at
+the end of this file. In man/ill.1 it writes the version, and what stands between `.\" words: PART` and `.\" end`. PART is
 
     commands, options, or statuses with their faults
     column TEXT HEAD       the first column of a table of a text of the help, under the line that ends in HEAD
 
-All else in the man page is written by hand. Each word that is bold there must stand in the help.
-
-With --check it changes nothing, and names each line that differs; exit 1 if one does. tools/check-help compares the
-texts of the help with the code, and tools/ill/manual.py the man page and the completions with the built program.
+All else in the man page is written by hand. Each word that is bold there must stand in the help. The module `help`
+compares the texts of the help with the code. `manual` compares the man page and the completions with the built program.
 """
 import collections
-import difflib
-import os
 import re
-import sys
 import textwrap
 
-TOP = os.path.dirname(os.path.dirname(os.path.realpath(__file__)))
+from ill import repository
+from ill.repository import Unread, read
+
 HELP, LINE, MAN = "crates/ill_tool/src/help.rt", "crates/ill_tool/src/command_line.rt", "man/ill.1"
 STATES = "crates/ill_core/src/state.rt"
 BEGIN, END = '.\\" words: ', '.\\" end'
@@ -46,17 +41,7 @@ VERSION_OPTION = Part("Version", "", "--version", "Print the version", letter="-
 HELP_COMMAND = {"help": "Print the help of a command"}
 
 
-class Unread(Exception):
-    """What cannot be read."""
-
-
 # What the sources say.
-
-def read(path):
-    """The text of a file of the repository."""
-    with open(os.path.join(TOP, path), encoding="utf-8") as file:
-        return file.read()
-
 
 def find(pattern, path):
     """What a pattern finds in a source, which must be there."""
@@ -544,7 +529,7 @@ def completion(text, words):
 
 BASH = r"""
 # Completion of ill(1) in bash: commands, options, roles, files, their loans, and the first words of actions.
-# Written by tools/make-words: change the text there, and run `make words`.
+# Written by tools/ill/texts/words.py: change the text there, and run `make words`.
 
 # A word of the line as a command sees it: without quotes and backslashes, and with the home folder for `~/`.
 _ill_text() {
@@ -673,7 +658,7 @@ complete -F _ill ill
 ZSH = r"""
 #compdef ill
 # Completion of ill(1) in zsh: commands, options, roles, files, their loans, and the first words of actions.
-# Written by tools/make-words: change the text there, and run `make words`.
+# Written by tools/ill/texts/words.py: change the text there, and run `make words`.
 
 local -a commands commands_on_shelf requester responder states
 commands=(
@@ -769,7 +754,7 @@ esac
 
 FISH = r"""
 # Completion of ill(1) in fish: commands, options, roles, files, their loans, and the first words of actions.
-# Written by tools/make-words: change the text there, and run `make words`.
+# Written by tools/ill/texts/words.py: change the text there, and run `make words`.
 
 # The words before the cursor, without the option that may stand before the command. A command of a shelf is one word,
 # such as `shelf-act`.
@@ -884,39 +869,16 @@ def written():
             "completions/ill.fish": completion(FISH, of_fish()), MAN: manual(read(MAN))}
 
 
-def differences(path, wanted):
-    """The lines in which a file differs, each with what has to stand there."""
-    found = read(path) if os.path.exists(os.path.join(TOP, path)) else ""
-    old, new = found.splitlines(True), wanted.splitlines(True)
-    for kind, begin, end, first, last in difflib.SequenceMatcher(None, old, new, False).get_opcodes():
-        if kind != "equal":
-            has = f"it has \"{old[begin].strip()}\"" if begin < end else "a line is missing"
-            said = " / ".join(line.strip() for line in new[first:last])
-            yield f"{path}:{begin + 1}: {has}; the sources say {said or 'nothing'}"
+def compare():
+    """Returns the lines that differ, and which files were compared."""
+    files = written()
+    return repository.all_differences(files), f"{', '.join(files)} have the words of the sources"
 
 
-def main():
-    global TOP
-    words = [word for word in sys.argv[1:] if word != "--check"]
-    TOP = os.path.realpath(words[0]) if words else TOP
-    try:
-        files = written()
-    except Unread as unread:
-        print(f"FAILED: {unread}")
-        return 1
-    found = [line for path, text in files.items() for line in differences(path, text)]
-    if "--check" in sys.argv[1:]:
-        for line in found:
-            print(f"FAILED: {line}")
-        print("run `make words`, which writes them anew" if found else
-              f"ok: {', '.join(files)} have the words of the sources")
-        return 1 if found else 0
+def write():
+    """Writes the files anew. Returns what was written."""
+    files = written()
+    changed = len(repository.all_differences(files))
     for path, text in files.items():
-        with open(os.path.join(TOP, path), "w", encoding="utf-8") as file:
-            file.write(text)
-    print(f"written: {', '.join(files)}; {len(found)} places changed")
-    return 0
-
-
-if __name__ == "__main__":
-    sys.exit(main())
+        repository.write(path, text)
+    return f"written: {', '.join(files)}; {changed} places changed"

@@ -22,9 +22,12 @@ def full(*path):
 
 
 def read(path):
-    """Returns the text of a file of the repository."""
-    with open(full(path), encoding="utf-8") as file:
-        return file.read()
+    """Returns the text of a file of the repository, which must be there."""
+    try:
+        with open(full(path), encoding="utf-8") as file:
+            return file.read()
+    except FileNotFoundError as error:
+        raise Unread(f"{path}: it is not there") from error
 
 
 def write(path, text):

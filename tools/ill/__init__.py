@@ -2,6 +2,9 @@
 
 `harness` has folders, runs, verdicts and stops; `der` the messages in the short form; `records` the record of a desk;
 `model` the sides of a loan, by the tables of docs/PROTOCOL.md. `repository` has the files and the crates that scripts
-read. `texts` compares texts with sources. Parts of tools/check-program are `pages`, `objects`, `damaged` and `manual`;
-the nights of tools/crash are `nights`.
+read.
+
+The others are parts of one script. `texts` compares texts with sources for tools/texts, and `strength` tries wrong
+bodies for tools/strength. Parts of tools/check-program are `pages`, `objects`, `damaged` and `manual`; the nights of
+tools/crash are `nights`.
 """

@@ -1,43 +1,19 @@
-#!/usr/bin/env bash
-# Tries what goes across two crates, since the edits in strength/ stay within one. A crate of others may not release a
-# message that no store has had: it cannot name the calls. A wrong contract in one crate must be refused by a crate
-# above; the body is changed with its contract, so that its own crate is proved.
-# across: it prints what became of each; exit 1 if it was not refused where it must be. It works on a
-# copy, a few minutes of proofs.
-set -u
-cd "$(dirname "$0")/.." || exit 2
+"""Tries what goes across two crates, since the edits in strength/ stay within one.
 
-# The copy has what was proved already, in out/, so that no library below is proved again.
-copy=$(mktemp -d) || exit 2
-trap 'rm -rf "$copy"' EXIT
-cp -r crates.txt HANDLES crates "$copy" || exit 2
-cd "$copy" || exit 2
+A crate of others may not release a message that no store has had: it cannot name the calls. A wrong contract in one
+crate must be refused by a crate above. Its body is changed with it, so that its own crate is proved. All is tried on a
+copy, a few minutes of proofs. A line tells what became of each.
+"""
+import re
+import shutil
+import subprocess
+import sys
+import tempfile
 
-# change FILE OLD NEW: puts NEW in the place of OLD, which stands once in the file.
-change() {
-  local text before after
-  text=$(< "$1")
-  before=${text%%"$2"*} after=${text#*"$2"}
-  if [ "$before" = "$text" ] || [ "${after#*"$2"}" != "$after" ]; then
-    echo "across: $1 does not have this once: $2" >&2
-    exit 2
-  fi
-  printf '%s\n' "$before$3$after" > "$1"
-}
+from ill.repository import full, read, write
+from ill.strength.edits import BadEdit, Pair, change
 
-# check CRATE: proves a crate, and keeps what was said.
-check() { (cd "crates/$1" && rt check) > said 2>&1; }
-
-# unproved CRATE: what was last said of each function of the crate that has no proof.
-unproved() { grep "^fn $1::" said | grep -v ': proved$'; }
-
-# refused CRATE: of these, the functions that were refused themselves, and not for one that they call.
-refused() { unproved "$1" | grep -v ', which is not proved$' | sed "s/^fn $1::\([^ ]*\): .*/\1/"; }
-
-name="a crate of others releases a message that no store has had"
-mkdir -p crates/others/src
-echo "others: ill_values ill_saved" >> crates.txt
-cat > crates/others/src/lib.rt << 'END'
+OTHERS = """\
 //! Releases a message without a store.
 #![tactic(auto)]
 
@@ -52,39 +28,88 @@ pub fn released(alloc: Global) -> Result<ManySides, OutOfMemory> {
     sides.release(record);
     Ok(sides)
 }
-END
-if check others || ! grep -q "lib.rt:10:.*\`begin\`" said; then
-  cat said >&2
-  echo "NOT REFUSED: $name: it can name \`begin\` of what a desk holds"
-  exit 1
-fi
-echo "refused, as it must be: $name"
-rm -r crates/others
-
-name="a desk gives each message that was issued, saved or not"
-change crates/ill_saved/src/desk.rt 'ghost use Rattle.ill_der.specs.ShortForm.{apdu_at};' \
-  'ghost use Rattle.ill_der.specs.ShortForm.{apdu_at};
+"""
+DESK = "crates/ill_saved/src/desk.rt"
+# The changes of a desk that gives messages which are not saved, and says so.
+GIVES_UNSAVED = [
+    Pair(DESK, "ghost use Rattle.ill_der.specs.ShortForm.{apdu_at};", """\
+ghost use Rattle.ill_der.specs.ShortForm.{apdu_at};
 ghost use Rattle.ill_core.specs.Issued.{message};
-ghost use Rattle.ill_saved.specs.Holdings.{Sends};'
-change crates/ill_saved/src/desk.rt 'SendsHeld (λ bytes. bytes.items) (one_side.found tt self.now.live) number result }' \
-  'Sends (λ bytes. bytes.items) (message (issued_of self.now.live.side) number) true result }'
-change crates/ill_saved/src/desk.rt '        self.message_of(alloc, &(), number)' \
-  '        let Some(apdu) = self.held.side().issued(number) else {
+ghost use Rattle.ill_saved.specs.Holdings.{Sends};"""),
+    Pair(DESK, "SendsHeld (λ bytes. bytes.items) (one_side.found tt self.now.live) number result }",
+         "Sends (λ bytes. bytes.items) (message (issued_of self.now.live.side) number) true result }"),
+    Pair(DESK, "        self.message_of(alloc, &(), number)", """\
+        let Some(apdu) = self.held.side().issued(number) else {
             return Err(DeskFault::NoSuchMessage);
         };
-        Ok(ill_der::encode(alloc, apdu)?)'
-if ! check ill_saved; then
-  cat said >&2
-  echo "across: ill_saved is not proved with this: $name" >&2
-  exit 2
-fi
-if check ill_world; then
-  echo "NOT REFUSED: $name: ill_world is proved with it"
-  exit 1
-fi
-where=$(refused ill_world | paste -sd' ')
-if [ "$where" != party::Party::send ] || ! unproved ill_world | grep -q '^fn ill_world::world::World::step: '; then
-  echo "NOT REFUSED: $name: not at party::Party::send, which World::step calls, but at ${where:-no function}"
-  exit 1
-fi
-echo "refused, as it must be: $name: ill_world has no proof of $where, and so none of world::World::step"
+        Ok(ill_der::encode(alloc, apdu)?)""")]
+
+
+def check(copy, crate):
+    """Proves a crate of the copy. Returns whether it is proved, and what was said."""
+    done = subprocess.run(["rt", "check"], cwd=f"{copy}/crates/{crate}", stdout=subprocess.PIPE,
+                          stderr=subprocess.STDOUT, text=True, errors="replace", check=False)
+    return done.returncode == 0, done.stdout
+
+
+def unproved(crate, said):
+    """Returns what was said of each function of a crate that has no proof."""
+    return [line for line in said.splitlines() if line.startswith(f"fn {crate}::") and not line.endswith(": proved")]
+
+
+def refused(crate, said):
+    """Returns the functions without a proof that were refused themselves, and not for one that they call."""
+    return [re.sub(rf"^fn {crate}::([^ ]*): .*", r"\1", line) for line in unproved(crate, said)
+            if not line.endswith(", which is not proved")]
+
+
+def releases_unsaved(copy):
+    """Tries a crate of others that releases a message. Returns what is told of its refusal."""
+    crates = read(f"{copy}/crates.txt")
+    write(f"{copy}/crates.txt", f"{crates}others: ill_values ill_saved\n")
+    write(f"{copy}/crates/others/src/lib.rt", OTHERS)
+    is_proved, said = check(copy, "others")
+    shutil.rmtree(f"{copy}/crates/others")
+    write(f"{copy}/crates.txt", crates)
+    if is_proved or not re.search("lib.rt:10:.*`begin`", said):
+        print(said, file=sys.stderr)
+        raise BadEdit("it can name `begin` of what a desk holds")
+    return ""
+
+
+def gives_unsaved(copy):
+    """Tries a desk that gives messages which are not saved. Returns what is told of its refusal."""
+    change(copy, GIVES_UNSAVED)
+    is_proved, said = check(copy, "ill_saved")
+    if not is_proved:
+        print(said, file=sys.stderr)
+        raise BadEdit("ill_saved is not proved with it")
+    is_proved, said = check(copy, "ill_world")
+    if is_proved:
+        raise BadEdit("ill_world is proved with it")
+    where = " ".join(refused("ill_world", said))
+    is_above = any(line.startswith("fn ill_world::world::World::step: ") for line in unproved("ill_world", said))
+    if where != "party::Party::send" or not is_above:
+        raise BadEdit(f"not at party::Party::send, which World::step calls, but at {where or 'no function'}")
+    return f": ill_world has no proof of {where}, and so none of world::World::step"
+
+
+CASES = {"a crate of others releases a message that no store has had": releases_unsaved,
+         "a desk gives each message that was issued, saved or not": gives_unsaved}
+
+
+def perform():
+    """Tries all. Returns true if each is refused where it must be."""
+    all_refused = True
+    with tempfile.TemporaryDirectory() as copy:
+        # The copy has what was proved already, in out/, so that no library below is proved again.
+        shutil.copytree(full("crates"), f"{copy}/crates", symlinks=True)
+        for file in ("crates.txt", "HANDLES"):
+            shutil.copy(full(file), copy)
+        for name, case in CASES.items():
+            try:
+                print(f"refused, as it must be: {name}{case(copy)}", flush=True)
+            except BadEdit as bad:
+                print(f"NOT REFUSED: {name}: {bad}", flush=True)
+                all_refused = False
+    return all_refused

@@ -1,15 +1,11 @@
-#!/usr/bin/env python3
-"""Tries the wrong bodies in strength/, each of which the prover must refuse at what it changes.
+"""Tries the wrong bodies that the prover must refuse at what they change.
 
-strength [--gate] [CRATE[/NAME]..]: the edits of these crates, these edits alone, or all; with --gate only those of the
-gate, in strength/gate/CRATE. A line tells what became of each, and the last one how many were refused, and how; exit 1
-if one was not. It works on copies, over the libraries below a crate as `make check` has proved them, and builds those
-that are not there. LANES says how many crates are tried side by side.
+It works on copies, over the libraries below a crate as `make check` has proved them, and builds those that are not
+there. LANES says how many crates are tried side by side.
 
-An edit is a file: lines `file: src/day.rt` and after each pairs of `old: TEXT` and `new: TEXT`. Each old text stands
-once in what the pairs before it made of the file. White space in it stands for any white space, also for the end of a
-line; an old text that begins with a space begins a line. An edit changes the body of one function, which must be
-refused, or else lines `refuses: PATH` name the functions that must be.
+An edit is a file: lines `file: src/day.rt` and after each pairs of `old: TEXT` and `new: TEXT`, as the module `edits`
+says. An edit changes the body of one function, which must be refused, or else lines `refuses: PATH` name the functions
+that must be.
 
 How it is tried: a function is proved from the contracts of what it calls, whatever bodies these have. So in a copy of
 the crate the bodies and proofs of all functions that no edit is about are left out, and their theorems are taken as
@@ -25,7 +21,7 @@ the right one, the wrong one is refused at that goal. Else it is open for want o
 goals would be refused too, so this says little, and it is counted apart. If all is proved then, the body is right, and
 is not refused.
 
-With --gate the right functions are not tried, since `rt ci` has just proved them. An answer that is false of a wrong
+For the gate the right functions are not tried, since `rt ci` has just proved them. An answer that is false of a wrong
 body refuses it there, and it is not checked without its answers.
 
 The controls, in strength/controls/CRATE, are edits that leave a body right. They are tried with the edits of their
@@ -33,6 +29,7 @@ crate, and none may be refused at a goal.
 """
 import collections
 import concurrent.futures
+import functools
 import os
 import re
 import shutil
@@ -40,9 +37,9 @@ import subprocess
 import sys
 import tempfile
 
-TOP = os.path.dirname(os.path.dirname(os.path.abspath(__file__)))
-RT = shutil.which("rt") or sys.exit("strength: there is no rt")
-KIT = os.path.dirname(os.path.dirname(os.path.realpath(RT)))
+from ill.repository import full, libraries, read, stand_on, write
+from ill.strength.edits import BadEdit, Pair, change, changed, places_of
+
 PARTS = ("src", "specs", "proofs")
 AXIOM = """use Rattle.{crate}.proofs.{path}.Statement.{{statement}}
 
@@ -61,25 +58,7 @@ RIGHT = {AT_GOAL: "REFUSED AT A GOAL", FOR_WANT: "open for want of a proof alone
          PROVED: "proved", UNTRIED: "NOT TRIED"}
 
 Function = collections.namedtuple("Function", "path of_trait file start begin end")
-Pair = collections.namedtuple("Pair", "file old new")
 Edit = collections.namedtuple("Edit", "name pairs refuses changes body_of is_of_bodies is_right")
-
-
-class BadEdit(Exception):
-    """Why an edit cannot be made or tried."""
-
-
-def read(path):
-    """The text of a file."""
-    with open(path, encoding="utf-8") as file:
-        return file.read()
-
-
-def write(path, text):
-    """Makes a file, and the folders that it lies in."""
-    os.makedirs(os.path.dirname(path), exist_ok=True)
-    with open(path, "w", encoding="utf-8") as file:
-        file.write(text)
 
 
 # The sources, as rt fmt lays them out.
@@ -144,8 +123,8 @@ def edits_of(folders, crate, functions):
 def folders_of(crate, is_gate):
     """The folders that have the edits of a crate: those of the gate, and unless they alone are tried, all others and
     the controls."""
-    others = [] if is_gate else [f"{TOP}/strength/{crate}", f"{TOP}/strength/controls/{crate}"]
-    return [f"{TOP}/strength/gate/{crate}", *others]
+    others = [] if is_gate else [full("strength", crate), full("strength", "controls", crate)]
+    return [full("strength", "gate", crate), *others]
 
 
 def names_in(folder):
@@ -168,7 +147,7 @@ def edit_of(name, text, crate, functions, is_right):
             old = rest
         elif line.startswith("new:"):
             pairs.append(Pair(file, old, rest))
-    found = {changed_by(pair, f"{TOP}/crates/{crate}", functions) for pair in pairs}
+    found = {changed_by(pair, full("crates", crate), functions) for pair in pairs}
     changes = sorted(it.path for it in found if it)
     body_of = next((it for it in found if len(found) == 1 and it and not it.of_trait and not refuses), None)
     return Edit(name, pairs, refuses or changes, changes, body_of, None not in found, is_right)
@@ -187,21 +166,6 @@ def changed_by(pair, folder, functions):
 def proof_of(path):
     """The folder of the proof of a function."""
     return f"proofs/{path.replace('::', '/')}"
-
-
-def places_of(text, old):
-    """The places of an old text: the begin and the end of each, without the white space around it."""
-    words = r"\s+".join(re.escape(word) for word in old.split())
-    return [it.span(1) for it in re.finditer(f"(?m)^[ ]*({words})" if old.startswith(" ") else f"({words})", text)]
-
-
-def changed(text, pair):
-    """A text with a pair's change."""
-    places = places_of(text, pair.old)
-    if len(places) != 1:
-        raise BadEdit(f"it stands {len(places)} times in {pair.file}: {pair.old.strip()}")
-    (begin, end), = places
-    return text[:begin] + pair.new.strip() + text[end:]
 
 
 def rounds_of(edits):
@@ -229,38 +193,40 @@ def are_apart(takes, taken):
 
 # The prover.
 
-def libraries():
-    """The crates, each with the libraries that crates.txt gives it."""
-    lines = [line.split("#")[0] for line in read(f"{TOP}/crates.txt").splitlines()]
-    return {line.split(":")[0].strip(): line.split(":")[1].split() for line in lines if line.strip()}
+@functools.cache
+def kit():
+    """The folder of the kit."""
+    rt = shutil.which("rt") or sys.exit("strength: there is no rt")
+    return os.path.dirname(os.path.dirname(os.path.realpath(rt)))
 
 
-def below(crate, crates):
+def below(crate):
     """The crates of the repository below this one, lowest first."""
     found = []
-    for name in crates[crate]:
-        if name in crates:
-            found += [it for it in [*below(name, crates), name] if it not in found]
+    for name in stand_on()[crate]:
+        found += [it for it in [*below(name), name] if it not in found]
     return found
 
 
-def words_of(crate, crates):
+def words_of(crate):
     """The words of a check of this crate, over the built libraries below it."""
-    words = ["--crate-name", crate, "src/lib.rt", "-L", f"dependency={KIT}/rlibs"]
-    for name in ["std", *(name for name in crates[crate] if name not in crates)]:
-        words += ["--extern", f"{name}={KIT}/rlibs/{name}.rlib"]
-    for name in below(crate, crates):
-        words += ["-L", f"dependency={TOP}/crates/{name}/out/rlib"]
-        if name in crates[crate]:
-            words += ["--extern", f"{name}={TOP}/crates/{name}/out/rlib/{name}.rlib"]
-    return [*words, "--antt-project", f"{KIT}/rattle/logic/antt-project.json", "--logic-built", f"{KIT}/logic_built"]
+    own, crates = libraries()[crate], libraries()
+    words = ["--crate-name", crate, "src/lib.rt", "-L", f"dependency={kit()}/rlibs"]
+    for name in ["std", *(name for name in own if name not in crates)]:
+        words += ["--extern", f"{name}={kit()}/rlibs/{name}.rlib"]
+    for name in below(crate):
+        words += ["-L", f"dependency={full('crates', name)}/out/rlib"]
+        if name in own:
+            words += ["--extern", f"{name}={full('crates', name)}/out/rlib/{name}.rlib"]
+    return [*words, "--antt-project", f"{kit()}/rattle/logic/antt-project.json", "--logic-built",
+            f"{kit()}/logic_built"]
 
 
-def build_below(crate, crates):
+def build_below(crate):
     """Builds the libraries below a crate that are not there, or older than their sources."""
     newest = 0
-    for name in below(crate, crates):
-        folder = f"{TOP}/crates/{name}"
+    for name in below(crate):
+        folder = full("crates", name)
         files = [f"{at}/{file}" for part in PARTS for at, _, names in os.walk(f"{folder}/{part}") for file in names]
         newest = max([newest, *map(os.path.getmtime, files)])
         built = f"{folder}/out/rlib/{name}.rlib"
@@ -272,10 +238,10 @@ def build_below(crate, crates):
 class Trial:
     """The copies of a crate in which its edits are tried."""
 
-    def __init__(self, crate, crates, edits, functions, room, is_gate):
-        self.crate, self.functions, self.room, self.source = crate, functions, room, f"{TOP}/crates/{crate}"
+    def __init__(self, crate, edits, functions, room, is_gate):
+        self.crate, self.functions, self.room, self.source = crate, functions, room, full("crates", crate)
         self.is_gate = is_gate
-        self.words = [f"{KIT}/bin/rattle", "check", *words_of(crate, crates), "--allow-holes", "--jobs", "1"]
+        self.words = [f"{kit()}/bin/rattle", "check", *words_of(crate), "--allow-holes", "--jobs", "1"]
         self.words += ["--incremental", f"{room}/kept"]
         self.beside = {f"{edit.body_of.path}_wrong_{number}": edit for number, edit in enumerate(edits) if edit.body_of}
         self.in_place = [edit for edit in edits if not edit.body_of]
@@ -397,8 +363,7 @@ class Trial:
         paths = sorted({path for edit in edits for path in edit.refuses})
         try:
             for edit in edits:
-                for pair in edit.pairs:
-                    write(f"{folder}/{pair.file}", changed(read(f"{folder}/{pair.file}"), pair))
+                change(folder, edit.pairs)
             said, printed = self.check(folder, paths)
             left = [path for path in paths if self.is_left(said, printed, path, path)]
             bare = self.check_bare(folder, left)
@@ -464,15 +429,15 @@ def refusal(said, printed, path):
     return False, "; ".join(found) or "nothing is said of it"
 
 
-def try_crate(crate, names, crates, is_gate):
+def try_crate(crate, names, is_gate):
     """Tries the edits of a crate, or those of these names: how many came to what, of the wrong bodies and of the right
     ones."""
-    functions = functions_of(f"{TOP}/crates/{crate}")
+    functions = functions_of(full("crates", crate))
     edits = edits_of(folders_of(crate, is_gate), crate, functions)
     edits = [edit for edit in edits if not names or edit.name in names]
     wrong, right = collections.Counter(), collections.Counter()
     with tempfile.TemporaryDirectory(prefix="strength-") as room:
-        for edit, verdict, what in Trial(crate, crates, edits, functions, room, is_gate).judge():
+        for edit, verdict, what in Trial(crate, edits, functions, room, is_gate).judge():
             is_right = edit is not None and edit.is_right
             (right if is_right else wrong)[verdict] += 1
             told = f"right, and {RIGHT[verdict]}" if is_right else WRONG[verdict]
@@ -492,25 +457,18 @@ def tell(counts):
     return refused == wrong.total() and let_be == right.total()
 
 
-def main():
-    crates = libraries()
-    is_gate = sys.argv[1:2] == ["--gate"]
-    known = {it: [name for folder in folders_of(it, is_gate) for name in names_in(folder)] for it in crates}
-    known = {it: names for it, names in known.items() if names}
-    asked = collections.defaultdict(list)
-    for word in sys.argv[1 + is_gate:] or known:
-        crate, _, name = word.partition("/")
-        if name and name not in known.get(crate, []) or crate not in known:
-            sys.exit(f"strength: there is no {word}, but edits of {', '.join(known)}")
-        asked[crate] += [name] if name else []
+def known(is_gate):
+    """The crates that have edits, each with their names."""
+    found = {it: [name for folder in folders_of(it, is_gate) for name in names_in(folder)] for it in libraries()}
+    return {it: names for it, names in found.items() if names}
+
+
+def perform(asked, is_gate):
+    """Tries the edits of these crates: those of the names of each, or all if it has none. Returns true if all is
+    well."""
     for crate in asked:
-        build_below(crate, crates)
+        build_below(crate)
     # The longest first.
-    order = sorted(asked, key=lambda crate: -len(known[crate]))
+    order = sorted(asked, key=lambda crate: -len(known(is_gate)[crate]))
     with concurrent.futures.ThreadPoolExecutor(int(os.environ.get("LANES", "1"))) as lanes:
-        counts = list(lanes.map(lambda crate: try_crate(crate, asked[crate], crates, is_gate), order))
-    return 0 if tell(counts) else 1
-
-
-if __name__ == "__main__":
-    sys.exit(main())
+        return tell(list(lanes.map(lambda crate: try_crate(crate, asked[crate], is_gate), order)))

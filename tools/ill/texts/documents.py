@@ -26,6 +26,7 @@ import re
 
 from ill import repository
 from ill.repository import read, stand_on
+from ill.strength import across
 
 MADE = {".git", "out", "dist", "__pycache__"}
 PARTS = {"src", "specs", "proofs", "messages", "scripts"}
@@ -133,7 +134,7 @@ def counts(everything):
     """How many wrong bodies the gate has, how many there are beside it, and the least and the most of a crate."""
     edits = collections.Counter(path.split("/")[2] for path in everything if matches(path, [GATE]))
     beside = sum(matches(path, ["strength/*.edit"]) and not matches(path, [CONTROLS, GATE]) for path in everything)
-    return sum(edits.values()), beside + read("tools/across").count('\nname="'), min(edits.values()), max(edits.values())
+    return sum(edits.values()), beside + len(across.CASES), min(edits.values()), max(edits.values())
 
 
 def value(word):
@@ -160,7 +161,7 @@ def places_of_wrong_bodies(everything):
     return {"The gate has N wrong bodies, in `strength/gate/NAME/`": counts(everything)[0],
             "tries N more, in `strength/NAME/`": len(beside) - others,
             "The N right bodies in `strength/controls/`": beside.count("controls"),
-            "`strength/NAME/`, and N across two crates": read("tools/across").count('\nname="'),
+            "`strength/NAME/`, and N across two crates": len(across.CASES),
             "The N that no contract can refuse[^.:]* are in `strength/tests/`": beside.count("tests")}
 
 

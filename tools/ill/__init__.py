@@ -5,6 +5,6 @@
 read.
 
 The others are parts of one script. `texts` compares texts with sources for tools/texts, and `strength` tries wrong
-bodies for tools/strength. Parts of tools/check-program are `pages`, `objects`, `damaged` and `manual`; the nights of
-tools/crash are `nights`.
+bodies for tools/strength. `desks` has the parts of tools/desks; `pages`, `objects`, `damaged` and `manual` are parts of
+tools/check-program. The nights of tools/crash are `nights`.
 """

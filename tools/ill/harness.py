@@ -68,6 +68,16 @@ def apart(part, folder, *words):
     return process.exitcode
 
 
+def all_apart(parts, chosen, folder, program, *words):
+    """Performs the chosen parts of a script on a program, each apart in a folder below this one. Returns the exit
+    status."""
+    program = os.path.realpath(program)
+    if not os.access(program, os.X_OK):
+        sys.exit(f"{program} is no program")
+    statuses = [apart(parts[part], os.path.join(folder, part), program, *words) for part in dict.fromkeys(chosen)]
+    return 1 if any(statuses) else 0
+
+
 def read(path):
     """Returns the bytes of a file."""
     with open(path, "rb") as file:

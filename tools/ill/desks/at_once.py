@@ -1,19 +1,16 @@
-#!/usr/bin/env python3
 """Several commands at once on one desk: no change is lost, and no number of a loan is told twice.
 
-two-hands PROGRAM [ROUNDS] [SEED]: plays ROUNDS rounds, 20 if nothing is said. In each, four commands start together
-on one desk. Each kind of round has its turn: four new loans; four answers in one loan; two actions beside a `take`
-of three messages and a `status`; four `new` of one file; four answers of which one is killed; and an action beside an
-`inbox`, an `outbox` and an `exchange` of three mails, with none of them killed or one. A round fails if a
-command that was not killed ends with another fault than its own, if what a command has told is not in the desk
-after the round, if a number was told twice, or if a file is left beside the desk. It prints a line for each kind;
-exit 1 if a round failed. SEED sets the moments of the kills.
+In each round four commands start together on one desk. Each kind of round has its turn: four new loans; four answers in
+one loan; two actions beside a `take` of three messages and a `status`; four `new` of one file; four answers, one of
+which is killed; and an action beside an `inbox`, an `outbox` and an `exchange` of three mails, with none of them killed
+or one. A round fails if a command that was not killed ends with another fault than its own. It fails if a change that
+was told is not in the desk afterwards, if a number was told twice, or if a file is left beside the desk. The seed sets
+the moments of the kills.
 """
 import collections
 import os
 import random
 import subprocess
-import sys
 import time
 
 from ill import harness
@@ -241,16 +238,12 @@ def play(desks, kind, rounds):
     REPORT.tell(f"{kind.__doc__} {rounds} rounds.")
 
 
-def main():
-    with harness.own_folder() as folder:
-        rounds = int(sys.argv[2]) if len(sys.argv) > 2 else 20
-        seed = int(sys.argv[3]) if len(sys.argv) > 3 else random.randrange(1 << 16)
-        print(f"the seed is {seed}")
-        desks = Desks(os.path.realpath(sys.argv[1]), folder, seed)
-        prepare(desks)
-        for kind in KINDS:
-            play(desks, kind, (rounds + len(KINDS) - 1) // len(KINDS))
+def main(program, rounds="20", seed=None):
+    """Plays `rounds` rounds, in the folder in which it is called. Returns the exit status."""
+    rounds, seed = int(rounds), int(seed) if seed else random.randrange(1 << 16)
+    print(f"the seed is {seed}")
+    desks = Desks(os.path.realpath(program), os.getcwd(), seed)
+    prepare(desks)
+    for kind in KINDS:
+        play(desks, kind, (rounds + len(KINDS) - 1) // len(KINDS))
     return REPORT.status()
-
-
-sys.exit(main())

@@ -1,12 +1,11 @@
-#!/usr/bin/env python3
 """Runs every command that reads a desk over ten desks, and compares the verbs that are listed with what `act` answers.
 
-ten-desks PROGRAM: the desks are, of each role, one without a loan, one with a loan of each kind, one of 1,000 loans, one
-with titles in many scripts and with characters on which a terminal acts, and one whose record is as long as loans make
-it. Their files are written here, as docs/RECORDS.md has them, from a model of docs/PROTOCOL.md; a desk that the commands
-make by the same courses must have the same bytes. Of each desk PROGRAM writes
+The desks are, of each role, one without a loan, one with a loan of each kind, one of 1,000 loans, one with titles in
+many scripts and with characters on which a terminal acts, and one whose record is as long as loans make it. Their files
+are written here, as docs/RECORDS.md has them, from a model of docs/PROTOCOL.md. A desk that the commands make by the
+same courses must have the same bytes. Of each desk the program writes
 
-- `list` and its objects with each combination of its options, in the order, with the columns and the counts of the model;
+- `list` and its objects with each combination of its options, in the order, with the columns and counts of the model;
 - `loan`, its picture and its object, of each loan or, on the large desks, of some;
 - `status`, its objects, `report` and `verify`;
 
@@ -15,8 +14,7 @@ and all but the slowest once more to a full device, to a closed output and to a 
 Then each kind of loan that actions and deliveries between two desks lead to, as far as the model finds any, is made by
 commands. A verb that `loan` and `list --mine` list must never be answered `not-now` there, and any other always.
 
-The model is written from the documents and shares nothing with the program. It prints a line for each part; exit 1 if
-one fails.
+The model is written from the documents and shares nothing with the program.
 """
 import concurrent.futures
 import html
@@ -26,7 +24,6 @@ import os
 import re
 import shutil
 import subprocess
-import sys
 import tempfile
 
 from ill import harness
@@ -673,27 +670,18 @@ def check_desks(judge):
     judge.part("a folder of desks")
 
 
-def main():
-    """Performs all."""
-    with harness.own_folder() as folder:
-        if len(sys.argv) != 2 or not os.access(sys.argv[1], os.X_OK):
-            sys.exit("usage: ten-desks PROGRAM")
-        judge = Judge(sys.argv[1])
-        os.chdir(folder)
-        check_played(judge)
-        judge.part("the commands make the records of the model")
-        check_desks(judge)
-        found = paths()
-        with concurrent.futures.ThreadPoolExecutor(os.cpu_count()) as lanes:
-            for done in [lanes.submit(check_kind, judge, *kind) for kind in found.values()]:
-                done.result()
-        states = {(role, side.state) for role, _, side in found.values()}
-        judge.same("how many states were met", len(states), 25)
-        judge.part(f"the verbs that are listed and what act answers, in {len(found)} kinds of loans")
-        os.chdir("/")
+def main(program):
+    """Performs all, in the folder in which it is called. Returns the exit status."""
+    judge = Judge(program)
+    check_played(judge)
+    judge.part("the commands make the records of the model")
+    check_desks(judge)
+    found = paths()
+    with concurrent.futures.ThreadPoolExecutor(os.cpu_count()) as lanes:
+        for done in [lanes.submit(check_kind, judge, *kind) for kind in found.values()]:
+            done.result()
+    states = {(role, side.state) for role, _, side in found.values()}
+    judge.same("how many states were met", len(states), 25)
+    judge.part(f"the verbs that are listed and what act answers, in {len(found)} kinds of loans")
     print(f"{'FAILED' if REPORT.failed else 'ok'}: {judge.compared} comparisons")
     return REPORT.status()
-
-
-if __name__ == "__main__":
-    sys.exit(main())

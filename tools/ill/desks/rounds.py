@@ -1,12 +1,11 @@
-#!/usr/bin/env python3
 """Plays random scripts with a round after each, and judges the pair of states that the round leaves.
 
-rounds PROGRAM [SCRIPTS [SEED]]: draws so many scripts of one loan (10,000), and a tenth as many of two desks with three
-loans, from a seed (1). The script loses, repeats and reorders messages, fails saves and crashes. After it stand the
-lines of a round: the requester saves, and all its messages are sent and delivered in order; then the responder does the
-same. PROGRAM performs the whole. The last line of a loan must show a pair of states of docs/PROTOCOL.md's table of
-both sides, and equal due dates, unless the item was recalled or returned. It tells how often each pair was met; exit 1
-if a loan is out of step, or a pair of the table was never met.
+It draws many scripts of one loan, and a tenth as many of two desks with three loans, from a seed. The script loses,
+repeats and reorders messages, fails saves and crashes. After it stand the lines of a round: the requester saves, and
+all its messages are sent and delivered in order; then the responder does the same. The program performs the whole. The
+last line of a loan must show a pair of states of docs/PROTOCOL.md's table of both sides, and equal due dates, unless
+the item was recalled or returned. It tells how often each pair was met. It is wrong if a loan is out of step, or a pair
+of the table was never met.
 
 Four scripts are no random ones: a request that is lost and then cancelled; conditions that were withdrawn; a renewal
 that crosses a Recall; and a crash of both sides before the round.
@@ -15,8 +14,6 @@ import collections
 import concurrent.futures
 import os
 import random
-import subprocess
-import sys
 
 from ill import harness
 
@@ -136,11 +133,11 @@ def judge(program, script, pairs):
     """The pairs in which the loans of a script are, and what is wrong."""
     words = ["simulate", "G1", "T1"] if script.loans == 1 else ["simulate-desks"]
     text = "".join(f"{line}\n" for line in script.lines)
-    ran = subprocess.run([program, *words], input=text, capture_output=True, text=True, check=False)
-    if ran.returncode:
-        return [], [f"exit {ran.returncode}: {ran.stderr.strip()}"]
+    ran = program.run(words, piped=text.encode())
+    if ran.status:
+        return [], [f"exit {ran.status}: {ran.errors.decode().strip()}"]
     met, wrong = [], []
-    for line in ran.stdout.splitlines()[-script.loans:]:
+    for line in ran.output.decode().splitlines()[-script.loans:]:
         seen = line.split()
         here, due, there, granted = seen[3], seen[4], seen[7], seen[8]
         met.append((here, there))
@@ -151,11 +148,9 @@ def judge(program, script, pairs):
     return met, wrong
 
 
-def main():
-    if len(sys.argv) not in (2, 3, 4) or not os.access(sys.argv[1], os.X_OK):
-        sys.exit("usage: rounds PROGRAM [SCRIPTS [SEED]]")
-    count, seed = map(int, [*sys.argv[2:], *["10000", "1"][len(sys.argv) - 2:]])
-    program = os.path.abspath(sys.argv[1])
+def main(path, count="10000", seed="1"):
+    """Plays `count` scripts, from a seed. Returns the exit status."""
+    program, count, seed = harness.Program(path), int(count), int(seed)
     pairs, met, failed = harness.pairs_in_step(), collections.Counter(), 0
     named = [(name, worked(lines)) for name, lines in WORKED.items()]
     named += [(f"seed {seed + i}, one loan", drawn(seed + i, 1)) for i in range(count)]
@@ -172,7 +167,3 @@ def main():
     print("; ".join(f"{here} beside {there} {n}" for (here, there), n in sorted(met.items())))
     print(f"{'FAILED' if failed else 'ok'}: {len(named)} scripts, {sum(met.values())} loans, {len(met)} pairs")
     return 1 if failed else 0
-
-
-if __name__ == "__main__":
-    sys.exit(main())

@@ -259,7 +259,8 @@ def check_maps(everything):
         if matches(path, ["docs/*.md"]):
             expect("documents", path in readme, "README.md", f"it does not name {path}")
         if matches(path, ["crates/*/LAWS.md"]):
-            expect("documents", f"../{path}" in read("docs/PROMISES.md"), "docs/PROMISES.md", f"it does not name {path}")
+            page = "docs/PROMISES.md"
+            expect("documents", f"../{path}" in read(page), page, f"it does not name {path}")
 
 
 def stands_in(name, files):
@@ -281,7 +282,8 @@ def check_promises(everything):
                 is_there = stands_in(name, [os.path.normpath(os.path.join("docs", target))])
                 expect("names of promises", is_there, page, f"{target} has no {name}")
         for name in re.findall(r"`([A-Za-z_][\w:]*)`", re.sub(r"\[[^\]]*\]\([^)\s]+\)", "", text)):
-            expect("names of promises", stands_in(name, sources), page, f"no source of {' or '.join(crates)} has {name}")
+            missing = f"no source of {' or '.join(crates)} has {name}"
+            expect("names of promises", stands_in(name, sources), page, missing)
 
 
 def compare():

@@ -128,7 +128,7 @@ def calls_of(path, names, traits):
         is_public = found.group(2) or trait == "trait" or trait.split("<")[0] in traits
         if is_public and owner in names and not {owner, trait} & PARTS:
             # A call of a generic type is one of each type that is another name of it.
-            aliases = [] if found.group(3) in OF_ANY else [alias for alias, base in ALIAS.findall(text) if base == owner]
+            aliases = [alias for alias, base in ALIAS.findall(text) if base == owner and found.group(3) not in OF_ANY]
             for name in aliases or [owner]:
                 yield f"{names[name]}::{found.group(3)}", fault
 

@@ -2,7 +2,8 @@ r"""Writes the words of the program into the man page and the completions, from 
 
 It reads commands, arguments and options in crates/ill_tool/src/command_line.rt, the tables of
 crates/ill_tool/src/help.rt, and the states. It writes completions/ill.bash, _ill and ill.fish whole, from the texts at
-the end of this file. In man/ill.1 it writes the version, and what stands between `.\" words: PART` and `.\" end`. PART is
+the end of this file. In man/ill.1 it writes the version, and what stands between `.\" words: PART` and `.\" end`. PART
+is
 
     commands, options, or statuses with their faults
     column TEXT HEAD       the first column of a table of a text of the help, under the line that ends in HEAD

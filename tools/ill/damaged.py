@@ -10,8 +10,6 @@ The desks of a requester and of a responder have five loans in five states. Of b
 
 It prints a line for each part; exit 1 if one fails.
 """
-import importlib.machinery
-import importlib.util
 import os
 import random
 import resource
@@ -63,15 +61,6 @@ first damage none
 """
 
 
-def load():
-    """tools/salvage, as a module."""
-    loader = importlib.machinery.SourceFileLoader("salvage", SALVAGE)
-    module = importlib.util.module_from_spec(importlib.util.spec_from_loader("salvage", loader))
-    sys.dont_write_bytecode = True
-    loader.exec_module(module)
-    return module
-
-
 def noise(rng, size):
     """So many bytes, drawn at random."""
     return bytes(rng.choices(range(256), k=size))
@@ -91,7 +80,7 @@ class Checks:
     """What is checked, with the program and a folder to work in."""
 
     def __init__(self, program, folder):
-        self.program, self.folder, self.salvage = program, folder, load()
+        self.program, self.folder, self.salvage = program, folder, harness.load("salvage")
         self.ill("new", "here", "requester")
         self.ill("new", "there", "responder")
         for number, course in enumerate(COURSES.values(), 1):

@@ -1,4 +1,5 @@
 """Messages in the short form, written and read as docs/FORMATS.md says."""
+import hashlib
 
 # The types of messages, with their first octets, and those of the requester.
 TYPES = {"ILL-Request": 0x61, "Shipped": 0x63, "ILL-Answer": 0x64, "Conditional-Reply": 0x65, "Cancel": 0x66,
@@ -6,6 +7,13 @@ TYPES = {"ILL-Request": 0x61, "Shipped": 0x63, "ILL-Answer": 0x64, "Conditional-
          "Renew": 0x6D, "Renew-Answer": 0x6E, "Expired": 0x74}
 ASKED = {"ILL-Request", "Conditional-Reply", "Cancel", "Received", "Renew", "Returned"}
 RESULTS = ["conditional", "retry", "unfilled", "locations-provided", "will-supply", "hold-placed", "estimate"]
+
+LONGEST = 361  # octets of a message
+
+
+def digest(mail):
+    """Returns the digest under which a mail is put aside. Of one that is too long it is that of its first octets."""
+    return hashlib.sha256(mail[:LONGEST + 1]).hexdigest()
 
 
 # ---- The writer

@@ -11,6 +11,8 @@ import collections
 import contextlib
 import dataclasses
 import errno
+import importlib.machinery
+import importlib.util
 import itertools
 import multiprocessing
 import multiprocessing.connection
@@ -102,6 +104,15 @@ def remove(*paths):
 def as_bytes(text):
     """Returns the bytes of a text. Bytes stay."""
     return text.encode() if isinstance(text, str) else text
+
+
+def load(name):
+    """Returns a script of tools/ as a module."""
+    loader = importlib.machinery.SourceFileLoader(name, os.path.join(TOOLS, name))
+    module = importlib.util.module_from_spec(importlib.util.spec_from_loader(name, loader))
+    sys.dont_write_bytecode = True
+    loader.exec_module(module)
+    return module
 
 
 def build(source, folder, *options):

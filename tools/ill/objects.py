@@ -16,12 +16,9 @@ import re
 
 from ill import harness
 from ill.harness import TOP, read
+from ill.screen import ACTING, shown
 
 SCHEMA = json.loads(read(f"{TOP}/docs/ill.schema.json"))
-
-# What a terminal may act on: control characters, and the marks that turn the direction of a text.
-ACTING = re.compile("[\x00-\x1f\x7f\x80-\x9f\u061c\u200e\u200f\u202a-\u202e\u2066-\u2069"
-                    "\u00ad\u200b\u2028\u2029\u2060-\u2064\ufeff\U000e0000-\U000e007f]")
 
 # Titles with what JSON or a terminal might take for something else.
 TITLES = {
@@ -137,11 +134,6 @@ def day(text):
 def or_dash(value):
     """A value, or a dash."""
     return "-" if value is None else str(value)
-
-
-def shown(text):
-    """A text as `loan` and `list` show it on a screen."""
-    return ACTING.sub(lambda found: f"\\u{{{ord(found[0]):x}}}", text)
 
 
 def message_lines(apdu, item=str):

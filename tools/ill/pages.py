@@ -19,6 +19,7 @@ import subprocess
 import tempfile
 
 from ill import harness
+from ill.screen import shown
 
 PROGRAM = None  # as main has it
 REPORT = harness.Report()
@@ -59,7 +60,6 @@ ELEMENTS = set("html head meta title style body h1 h2 h3 h4 p section details su
                "text path".split())
 EMPTY = {"meta", "path"}
 ATTRIBUTES = set("lang charset name content http-equiv dir role viewbox transform x y d".split())
-ACTING = re.compile("[\u0080-\u009F\u061C\u200E\u200F\u202A-\u202E\u2066-\u2069]")
 
 
 def tell(name, faults):
@@ -76,11 +76,6 @@ def lines(*words):
     if done.returncode:
         raise SystemExit(f"ill {' '.join(words)}: {done.stdout.decode()}{done.stderr.decode()}")
     return done.stdout.decode().splitlines()
-
-
-def shown(text):
-    """A text of a person, as a screen shows it."""
-    return ACTING.sub(lambda found: f"\\u{{{ord(found[0]):x}}}", text)
 
 
 class Page(html.parser.HTMLParser):

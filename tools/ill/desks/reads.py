@@ -31,6 +31,7 @@ from ill.der import ASKED
 from ill.harness import CLOSED, FULL, read, write
 from ill.model import REQUESTER, RESPONDER, ROLES, FORMS, Fault, Side
 from ill.records import desk_record
+from ill.screen import ACTING, shown
 
 REPORT = harness.Report()
 
@@ -39,10 +40,6 @@ VERBS_WIDTH = 20
 TODAY, SHIPS, LATE = "20250320", "20250301", "20250401"
 # How many loans of a large desk are looked at one by one, and of one with the longest record.
 SAMPLE, FEW = 12, 2
-
-# What a terminal may act on: control characters, and the marks that turn the direction of a text.
-ACTING = re.compile("[\x80-\x9f\u061c\u200e\u200f\u202a-\u202e\u2066-\u2069"
-                    "\u00ad\u200b\u2028\u2029\u2060-\u2064\ufeff\U000e0000-\U000e007f]")
 
 # Titles in many scripts: wide, combining, bidirectional and invisible characters, and some on which a terminal acts.
 TITLES = [
@@ -59,11 +56,6 @@ NO_NAME = "ill: shelf/no\\xffdesk\\x1b: no UTF-8"
 
 
 # ---- what the commands write
-
-def shown(text):
-    """A text as a screen shows it."""
-    return ACTING.sub(lambda found: f"\\u{{{ord(found[0]):x}}}", text)
-
 
 def iso(day):
     """A day as ISO 8601 has it."""
@@ -367,7 +359,7 @@ class Judge:
     def objects(self, words, wanted):
         """Compares the objects that a command writes, with the order of their fields."""
         text = self.text(words)
-        if ACTING.search(text):
+        if any(map(ACTING.search, text.split("\n"))):
             self.faults.append(f"{' '.join(words)}: a terminal may act on it")
         self.same(" ".join(words), [json.loads(line, object_pairs_hook=list) for line in text.split("\n")[:-1]],
                   [json.loads(json.dumps(value), object_pairs_hook=list) for value in wanted])

@@ -46,9 +46,11 @@ TITLES = [
     "War and Peace", "地図の歴史", "한국의 지도", "Ιστορία των χαρτών", "История карт", "تاريخ الخرائط", "תולדות המפות",
     "भारत के मानचित्र", "แผนที่โบราณ", "ქართული რუკები", "Հայաստանի քարտեզներ", "አማርኛ ካርታ", "ᚠᚢᚦᚨᚱᚲ", "𐎀𐎁𐎂 𒀀𒀁",
     "e\u0301\u0323\u0308 a\u20dd", "\u202egpj.spam", "\u200e\u200f\u061c", "\u202a\u202b\u202c\u202d\u202e",
-    "\u2066left\u2067right\u2068first\u2069", "👩\u200d👩\u200d👧\u200d👦 🇫🇮", "ﷺ ﷽", "\u3000ｗｉｄｅ\u3000", "\ufeffx\u00ad\u2028\u2029",
+    "\u2066left\u2067right\u2068first\u2069", "👩\u200d👩\u200d👧\u200d👦 🇫🇮", "ﷺ ﷽", "\u3000ｗｉｄｅ\u3000",
+    "\ufeffx\u00ad\u2028\u2029",
     "".join(map(chr, range(0x80, 0xA0))), "\x9b31m\x90\x9c\x85", "é" * 100, "地" * 66, "𝔐" * 50, "M" * 200, "-",
-    "<b>&amp;\"'</b>", "#35; %%{init}%% ;end", "\\u{202e} \\", "{\"a\":[null]}", "\u0600\u06dd\U000110bd", "\U0010ffff\uffff\ue000"]
+    "<b>&amp;\"'</b>", "#35; %%{init}%% ;end", "\\u{202e} \\", "{\"a\":[null]}",
+    "\u0600\u06dd\U000110bd", "\U0010ffff\uffff\ue000"]
 
 
 # What tells a name of a folder that is no UTF-8.
@@ -183,7 +185,8 @@ def list_lines(sides, turns, today=None, due_before=None, state=None, verbs=Fals
     """The lines of `list`."""
     groups, txns = (max((len(column(side.txn[place])) for side in sides), default=0) for place in (0, 1))
     lines = [padded(turn, 6) + padded(side.state, 20) + padded(side.due or "-", 8) + padded(column(side.txn[0]), groups)
-             + padded(column(side.txn[1]), txns) + (padded(",".join(side.possible(today)), VERBS_WIDTH) if verbs else "")
+             + padded(column(side.txn[1]), txns)
+             + (padded(",".join(side.possible(today)), VERBS_WIDTH) if verbs else "")
              + shown(side.asked()["item"]) for turn, side in listed(sides, turns, today, due_before, state)]
     return [*lines, "loans {loans}, open {open}, mine {mine}, room for {room}".format(**counts(sides, today))]
 
@@ -221,13 +224,14 @@ def page_parts(sides):
 def read_page(text):
     """The parts of a page, as it has them."""
     found = {}
-    for name, count, body in re.findall(r"<(?:h3|summary)>([\w ]+): (\d+)</(?:h3|summary)>\n(.*?)(?=<h3>|<details>|</details>)",
-                                        text, re.S):
+    part = r"<(?:h3|summary)>([\w ]+): (\d+)</(?:h3|summary)>\n(.*?)(?=<h3>|<details>|</details>)"
+    for name, count, body in re.findall(part, text, re.S):
         loans = []
         for article in re.findall(r"<article>\n(.*?)</article>\n", body, re.S):
             title = re.search(r'<h4 dir="auto">(.*?)</h4>', article, re.S)[1]
             told = dict(re.findall(r"<dt>([^<]*)</dt><dd>([^<]*)</dd>", article))
-            values = [told[label] for label in ("Group", "Transaction", "State", "Due", "Request expires") if label in told]
+            labels = ("Group", "Transaction", "State", "Due", "Request expires")
+            values = [told[label] for label in labels if label in told]
             last = re.findall(r"<li><b>([^<]*)</b>", article) if "<svg" not in article else [
                 told["Next"], *re.findall(r'<g [^>]*><text [^>]*>([^<]*)</text>', article)]
             loans.append(([html.unescape(value) for value in (title, *values)], last, "<" in title or "&&" in title))
@@ -248,7 +252,8 @@ COURSES = [
     ASK + " s answer conditional> r reply no", ASK + " s answer conditional> r reply no>", ASK + " s answer unfilled>",
     ASK + " s answer conditional> r reply no> s2>", ASK + " s answer will-supply>", ASK + " s answer hold-placed>",
     ASK + " r cancel>", ASK + " r cancel> s cancel-reply yes>", ASK + " r cancel> s cancel-reply no>",
-    SHIP, COME, SHIP + " s recall>", SHIP + " s recall> r receive>", LONG, RENEW, RENEW + " s renew-answer yes 20250601>",
+    SHIP, COME, SHIP + " s recall>", SHIP + " s recall> r receive>", LONG, RENEW,
+    RENEW + " s renew-answer yes 20250601>",
     RENEW + " s renew-answer no>", COME + " l overdue>", COME + " l overdue> r renew none>", SHIP + " l overdue>",
     COME + " l overdue> r renew none> s renew-answer no>", COME + " r renew none> l overdue>", COME + " s recall>",
     COME + " r return>", COME + " r return> s check-in>", SHIP + " l overdue> r receive> r return> s check-in>",
@@ -291,7 +296,8 @@ def both(loans):
 
 def kinds():
     """A loan of each kind, in groups of several lengths."""
-    return [(course, (f"Group {'x' * (place % 5)}", f"T{place}"), "A History of Maps") for place, course in enumerate(COURSES)]
+    return [(course, (f"Group {'x' * (place % 5)}", f"T{place}"), "A History of Maps")
+            for place, course in enumerate(COURSES)]
 
 
 def titled():
@@ -301,7 +307,8 @@ def titled():
 
 def thousand():
     """A thousand loans."""
-    return [(COURSES[1 + place * 7 % (len(COURSES) - 1)], (f"G{place % 37}", f"{place:04}"), f"Volume {place}") for place in range(1000)]
+    return [(COURSES[1 + place * 7 % (len(COURSES) - 1)], (f"G{place % 37}", f"{place:04}"), f"Volume {place}")
+            for place in range(1000)]
 
 
 def longest(role):
@@ -386,8 +393,8 @@ def is_longest(sides):
 
 def check_list(judge, path, sides):
     """Compares `list` with each combination of its options."""
-    whiches = [([], ("mine", "theirs", "over"), False), (["--open"], ("mine", "theirs"), False), (["--mine"], ("mine",), True),
-               (["--open", "--mine"], ("mine",), True)]
+    whiches = [([], ("mine", "theirs", "over"), False), (["--open"], ("mine", "theirs"), False),
+               (["--mine"], ("mine",), True), (["--open", "--mine"], ("mine",), True)]
     states = [None, *sorted({side.state for side in sides})[:4], "CHECKED-IN"][:2 if len(sides) > 900 else None]
     days, dues = [None, "20250315", LATE], [None, "20250315", "20250316"]
     if is_longest(sides):
@@ -402,7 +409,8 @@ def check_list(judge, path, sides):
             line = "" if today else left_out_line(path, left_out(sides, due, state))
             judge.same(f"what {' '.join(words)} leaves out of {path}", told, line)
     warned = judge.run(["list", path]).errors.decode()
-    judge.same(f"the warning of {path}", str(1000 - len(sides)) in warned and warned.count("\n") == 1, len(sides) >= 900)
+    is_warned = str(1000 - len(sides)) in warned and warned.count("\n") == 1
+    judge.same(f"the warning of {path}", is_warned, len(sides) >= 900)
 
 
 def check_loans(judge, path, sides):
@@ -479,8 +487,9 @@ def kind_of(side):
 def paths():
     """The shortest course to each kind of loan, as steps: words of a side, or the delivery of a message to it."""
     events = {"r": [f for f in FORMS[REQUESTER] if f[:7] != "request"], "s": [
-        *(f"answer {result}" for result in ("conditional", "will-supply", "unfilled")), "cancel-reply yes", "cancel-reply no",
-        "ship 20250315", "ship 20250501", "renew-answer yes 20250520", "renew-answer no", "overdue", "recall", "check-in", "expire"]}
+        *(f"answer {result}" for result in ("conditional", "will-supply", "unfilled")), "cancel-reply yes",
+        "cancel-reply no", "ship 20250315", "ship 20250501", "renew-answer yes 20250520", "renew-answer no", "overdue",
+        "recall", "check-in", "expire"]}
     begins, found, seen = [], {}, set()
     for expiry in ("none", "20250310", "20250501"):
         here, there = Side(REQUESTER, ("G1", "T1")), Side(RESPONDER, ("G1", "T1"))
@@ -492,7 +501,8 @@ def paths():
             if side.state != "IDLE":
                 found.setdefault(kind_of(side), (side.role, course, side))
         for nexts in followers(here, there, course, events):
-            last = [(apdu["apdu"], apdu.get("result"), apdu.get("reply")) for side in nexts[:2] for apdu in side.issued[-1:]]
+            last = [(apdu["apdu"], apdu.get("result"), apdu.get("reply"))
+                    for side in nexts[:2] for apdu in side.issued[-1:]]
             key = (kind_of(nexts[0]), kind_of(nexts[1]), str(last))
             if key not in seen and len(nexts[2]) < 14:
                 seen.add(key)
@@ -563,8 +573,8 @@ def check_kind(judge, role, course, side):
 
 
 def check_words(judge, desk, side, words, day):
-    """Tries words on a copy of a desk. The answer is `not-now` exactly if the state forbids their verb. It is `not-due` or
-    `not-expired` exactly if the day alone forbids it."""
+    """Tries words on a copy of a desk. The answer is `not-now` exactly if the state forbids their verb. It is
+    `not-due` or `not-expired` exactly if the day alone forbids it."""
     shutil.copy(desk, f"{desk}.copy")
     done = judge.run(["act", f"{desk}.copy", *side.txn, *(["--today", day] if day else []), *words.split(" ")])
     outcome = done.output.decode().split(" ")[0]
@@ -591,8 +601,9 @@ def check_played(judge):
         for place, (course, txn, item) in enumerate(loans):
             play_course(judge, course, txn, place, item)
         for role, sides in wanted.items():
-            judge.same(f"{name} of a {ROLES[role]}, by the commands", read(f"played-{ROLES[role]}"), desk_record(role, sides))
-            os.remove(f"played-{ROLES[role]}")
+            played = f"played-{ROLES[role]}"
+            judge.same(f"{name} of a {ROLES[role]}, by the commands", read(played), desk_record(role, sides))
+            os.remove(played)
 
 
 def play_course(judge, course, txn, place, item):
@@ -642,7 +653,8 @@ def check_folder(judge, desks):
     os.link("kinds-responder", "shelf/G2.responder")
     wanted = [*list_lines(desks["kinds-requester"][1], ("mine",), TODAY, verbs=True), "",
               *list_lines(desks["kinds-responder"][1], ("mine",), TODAY, verbs=True)]
-    judge.same("a shelf", [line for line in judge.text(words).split("\n")[:-1] if not line.startswith("shelf/")], wanted)
+    told = [line for line in judge.text(words).split("\n")[:-1] if not line.startswith("shelf/")]
+    judge.same("a shelf", told, wanted)
 
 
 def check_desks(judge):

@@ -26,7 +26,8 @@ USE = re.compile(r"^pub use ([\w:]+?)(?:::\{([^}]*)\}|( as \w+)?);", re.M)
 MODULE = re.compile(r"^pub mod (\w+);", re.M)
 ENUM = re.compile(r"#\[derive\([^)]*\bError\b[^)]*\)\]\npub enum (\w+) \{\n(.*?)\n\}", re.S)
 BLOCK = re.compile(r"^(?:impl\b|(?:pub(?:\(crate\))? )?trait \w)[^{;]*\{$", re.M)
-CALL = re.compile(r"^( *)(pub )?fn (\w+)(?:<[^(]*>)?\(([^)]*)\) -> (.*?)(?=\n *(?:requires|ensures|\{)| \{|;\n)", re.S | re.M)
+CALL = re.compile(r"^( *)(pub )?fn (\w+)(?:<[^(]*>)?\(([^)]*)\) -> (.*?)(?=\n *(?:requires|ensures|\{)| \{|;\n)",
+                  re.S | re.M)
 NAMES = r"`[^`]+`(?:, `[^`]+`)*"
 NAMED = re.compile(r"`([^`]+)`")
 ENTRY = re.compile(r"([\w:]+(?:, [\w:]+)*): ([\w:]+(?:, [\w:]+)*)")

@@ -43,13 +43,16 @@ the words that remain, of {item} bytes at most; {first} to {item} bytes of UTF-8
 more than {record} bytes; at most {record} bytes; FILE {record} bytes
 wait for each other: {wait} seconds; held FILE for {wait} seconds
 {day_digits} digits, as {day}, of the years {first_year} to {last_year}; A day is {day_digits} digits, as {day}
-days, such as {day}; The day of the action, as {day}; The day of the report, as {day}; The day of the run, as {day}; want the day: `--today {day}`; DAY is {day_digits} digits, as {day}; The day, as {day}: what is past; days {first_day} to {last_day}
+days, such as {day}; The day of the action, as {day}; The day of the report, as {day}; The day of the run, as {day}
+want the day: `--today {day}`; DAY is {day_digits} digits, as {day}; The day, as {day}: what is past
+days {first_day} to {last_day}
 N one to {days_digits} digits
 one to {number_digits} digits, with a value from {first} to {last}; The number of the message, {first} to {last}
 numbered {first}, {second}, {third}, up to {last}; numbered {first}, {second}, {third}, in the order
 numbers its messages of a loan {first}, {second}, {third}.
 all {last} numbers are used; messages of a loan {last}
-{status_lines} lines for each loan; The first {status_lines} lines on standard output; lines of {side_fields} fields; goes before the {simulated}.
+{status_lines} lines for each loan; The first {status_lines} lines on standard output
+lines of {side_fields} fields; goes before the {simulated}.
 has {roles} desks, one as requester and one as responder, in {roles} files; script of {roles} desks
 {desk_words} words are seen at desks alone; Bytes of a message or a record are counted from {zero}
 ISSUED has risen by one then, as from {first}/{first} to {second}/{second}
@@ -68,15 +71,16 @@ If none fails, it is {failed} if mails are left, or with; Else it is {refused} i
 If DIR is no shelf, it is {refused} with `no-record`
 """
 # Numbers in names, and what they are no numbers of: standards, letters, versions of this program.
-NAMES = r"`\+14` is the day 14|UTF-8|`[0-9a-f]{32}-\d{3}`|SHA-256|ISO \d+(?:-\d)?|X\.690|U\+00\d\d|ill 0\.1\b|\b0\.1 does|simple two-party profile"
+NAMES = r"`\+14` is the day 14|UTF-8|`[0-9a-f]{32}-\d{3}`|SHA-256|ISO \d+(?:-\d)?|X\.690|U\+00\d\d" \
+        r"|ill 0\.1\b|\b0\.1 does|simple two-party profile"
 
 # What the sentences on the exit status of a command name, by the keys of STATUS below.
 CAUSES = {
-    "the desk is saved": "ok", "all mails are done": "ok", "one was put aside or in conflict": "refused", "the action is done": "ok", "each was taken, a repeat or stale": "ok",
-    "the message is written": "ok", "the loans are listed": "ok", "the loans are shown": "ok", "the loan is shown": "ok", "the page is written": "ok",
+    "the desk is saved": "ok", "all mails are done": "ok", "one was put aside or in conflict": "refused",
+    "the action is done": "ok", "each was taken, a repeat or stale": "ok", "the message is written": "ok",
+    "the loans are listed": "ok", "the loans are shown": "ok", "the loan is shown": "ok", "the page is written": "ok",
     "it is a desk": "ok", "all messages are there": "ok", "nothing wants a person": "ok",
-    "all of them are shown": "ok",
-    "they are counted": "ok", "the whole script was performed": "ok",
+    "all of them are shown": "ok", "they are counted": "ok", "the whole script was performed": "ok",
     "it is refused": "refused", "one was anything else": "refused", "something does": "refused",
     "a mail stays for the next run": "left",
     "wrong arguments, a ROLE that is none too": "arguments", "wrong arguments or words": "arguments",
@@ -88,7 +92,8 @@ CAUSES = {
 # The variants that have these statuses.
 STATUS = {
     "ok": "Ok(true)", "refused": "Ok(false)", "arguments": "ToolFault::Arguments", "der": "ToolFault::Der",
-    "too-many": "ToolFault::TooMany", "script": "ToolFault::Script", "left": "ToolFault::Left", "read": "ToolFault::Read",
+    "too-many": "ToolFault::TooMany", "script": "ToolFault::Script", "left": "ToolFault::Left",
+    "read": "ToolFault::Read",
     "write": "ToolFault::Write", "memory": "ToolFault::OutOfMemory", "exists": "DeskFault::Exists",
     "no-record": "DeskFault::NoRecord", "no-such-transaction": "DeskFault::NoSuchTransaction",
     "no-such-message": "DeskFault::NoSuchMessage", "not-saved": "DeskFault::NotSaved",
@@ -517,7 +522,8 @@ def beside():
     """The endings of the names of what lies beside the file of a desk."""
     said = find(r"const BESIDE: [^=]*= \[(.*?)\];", f"{FILES}/paths.rt")[1].split(", ")
     sources = read(f"{FILES}/paths.rt")
-    return [end.strip('"') if end.startswith('"') else re.search(rf'const {end}: &str = "([^"]+)"', sources)[1] for end in said]
+    return [end.strip('"') if end.startswith('"') else re.search(rf'const {end}: &str = "([^"]+)"', sources)[1]
+            for end in said]
 
 
 def use_line():
@@ -542,7 +548,8 @@ def compare_words(named_texts, words, arguments):
     counted = set(re.findall(r"(\w+) \{\1\}", read(f"{DESK}/tally.rt")))
     staying = {f"NAME {word} REASON" for word in re.findall(r'b" (\w+) "', read(f"{DESK}/verdict.rt"))}
     sent = {f"{word} N" for word in re.findall(r'"(\w+) \{\w+\}\\n"', read(f"{MAIL}/exchange.rt"))}
-    known = words | labels | counted | staying | sent | verbs_known | set(arguments) | {told for told, _ in told_faults()} | set(files) | {
+    told = {text for text, _ in told_faults()}
+    known = words | labels | counted | staying | sent | verbs_known | set(arguments) | told | set(files) | {
         "done", "none", "-", "--", "--today", "--explain", "--help", "ill --help", "#", "+N", "ill: ",
         "ill COMMAND --help", "act --new-group", "_", "%", "PATH:"}
     for name, text in named_texts.items():

@@ -35,7 +35,7 @@ class Desks:
         self.program, self.folder, self.random = program, folder, random.Random(seed)
 
     def path(self, name):
-        """The path of a file of the folder."""
+        """Returns the path of a file of the folder."""
         return os.path.join(self.folder, name)
 
     def start(self, words, given=b""):
@@ -72,18 +72,18 @@ class Desks:
             write(self.path("desk"), read(self.path(name)))
 
     def left(self):
-        """The files that are beside the desk."""
+        """Returns the files that are beside the desk."""
         kept = ("desk.came", "desk.mail")
         return sorted(name for name in os.listdir(self.folder) if name.startswith("desk.") and name not in kept)
 
     def loans(self):
-        """What the desk says of each loan, by group and transaction."""
+        """Returns what the desk says of each loan, by group and transaction."""
         lines = [line.split(" ", 1) for line in self.run(["status", "desk"]).decode().splitlines()]
         each = [dict(lines[at:at + 7]) for at in range(0, len(lines), 7)]
         return {(loan["group"], loan["transaction"]): loan for loan in each}
 
     def message(self, number):
-        """The lines that show a message of the loan."""
+        """Returns the lines that show a message of the loan."""
         sent = self.run(["send", "desk", *LOAN, str(number)])
         return self.run(["show"], sent).decode().splitlines()
 
@@ -96,7 +96,7 @@ def fine(told):
 
 
 def issued(line):
-    """How many messages a line says that its loan has issued."""
+    """Returns how many messages a line says that its loan has issued."""
     return int(line.rsplit("/", 1)[1])
 
 
@@ -115,7 +115,7 @@ def new_loans(desks):
 
 
 def answer(result):
-    """The command that answers the request of the loan."""
+    """Returns the command that answers the request of the loan."""
     return (["act", "desk", *LOAN, *DAY, "answer", result],)
 
 

@@ -60,43 +60,43 @@ NO_NAME = "ill: shelf/no\\xffdesk\\x1b: no UTF-8"
 # ---- what the commands write
 
 def iso(day):
-    """A day as ISO 8601 has it."""
+    """Returns a day as ISO 8601 has it."""
     return day and f"{day[:4]}-{day[4:6]}-{day[6:]}"
 
 
 def yes_no(is_yes):
-    """The word for it."""
+    """Returns the word for it."""
     return "yes" if is_yes else "no"
 
 
 def field_lines(apdu):
-    """The lines of the further fields of a message."""
+    """Returns the lines of the further fields of a message."""
     values = {"reply": yes_no, "item": shown}
     return [f"{label} {values.get(label, str)(apdu[label])}" for label in ("answers", "result", "reply", "date", "item")
             if label in apdu]
 
 
 def message_lines(txn, apdu):
-    """The lines of a message that has been saved."""
+    """Returns the lines of a message that has been saved."""
     return ["", f"apdu {apdu['apdu']}", f"group {txn[0]}", f"transaction {txn[1]}", f"number {apdu['number']}",
             *field_lines(apdu), "leaves yes"]
 
 
 def status_lines(side):
-    """The seven lines of a loan."""
+    """Returns the seven lines of a loan."""
     count = len(side.issued)
     return [f"role {ROLES[side.role]}", f"group {side.txn[0]}", f"transaction {side.txn[1]}", f"state {side.state}",
             f"due {side.due or '-'}", f"messages {count}/{count}", f"marks {' '.join(side.marks()) or '-'}"]
 
 
 def taken(side):
-    """What a record tells of messages taken."""
+    """Returns what a record tells of messages taken."""
     return {"held": side.held} if side.role == REQUESTER else {
         "accepted": side.accepted, "last-cancel": side.cancelled, "last-renew": side.renewed}
 
 
 def loan_lines(side):
-    """All lines of a loan."""
+    """Returns all lines of a loan."""
     return [*status_lines(side), f"next {side.turn()}", f"now {' '.join(side.possible()) or '-'}",
             f"item {shown(side.asked()['item'])}", f"expiry {side.expiry() or '-'}",
             *(f"{label} {number or '-'}" for label, number in taken(side).items()),
@@ -104,32 +104,32 @@ def loan_lines(side):
 
 
 def status_object(side):
-    """The object of a loan."""
+    """Returns the object of a loan."""
     count = len(side.issued)
     return {"role": ROLES[side.role], "group": side.txn[0], "transaction": side.txn[1], "state": side.state,
             "due": iso(side.due), "released": count, "issued": count, "marks": side.marks()}
 
 
 def message_object(side, apdu):
-    """The object of a message."""
+    """Returns the object of a message."""
     fields = {label: iso(value) if label == "date" else value for label, value in apdu.items()}
     return {"apdu": fields.pop("apdu"), "group": side.txn[0], "transaction": side.txn[1], **fields, "leaves": True}
 
 
 def loan_object(side):
-    """The object of all of a loan."""
+    """Returns the object of all of a loan."""
     return {**status_object(side), "next": side.turn(), "now": side.possible(), "item": side.asked()["item"],
             "expiry": iso(side.expiry()), **taken(side), "messages": [message_object(side, it) for it in side.issued],
             "came": []}
 
 
 def drawn(text):
-    """A text in a chart: what is not plain by its number, and a line feed as the end of a line."""
+    """Returns a text in a chart: what is not plain by its number, and a line feed as the end of a line."""
     return re.sub("[^\\w \n,.\\-\x80-\U0010ffff]|_", lambda found: f"#{ord(found[0])};", text).replace("\n", "<br/>")
 
 
 def picture_lines(side):
-    """The lines of a chart: a responder's begins with the request that it has taken."""
+    """Returns the lines of a chart: a responder's begins with the request that it has taken."""
     apdus = side.issued if side.role == REQUESTER else [side.request, *side.issued]
     lines = ["sequenceDiagram", "  participant requester", "  participant responder"]
     for apdu in apdus:
@@ -144,17 +144,17 @@ def column(text):
 
 
 def padded(text, width):
-    """A column, and what is before the next one."""
+    """Returns a column, and what is before the next one."""
     return text + " " * max(width - len(text), 0) + "  "
 
 
 def by_deadline(sides):
-    """The most urgent first; of the same deadline those that were begun first."""
+    """Returns the most urgent first, and of the same deadline those that were begun first."""
     return sorted(sides, key=lambda side: side.deadline() or "99999999")
 
 
 def listed(sides, turns, today=None, due_before=None, state=None):
-    """The loans that `list` lists, each with its turn, in their order."""
+    """Yields the loans that `list` lists, each with its turn, in their order."""
     for turn in turns:
         for side in by_deadline(sides):
             is_due = due_before is None or side.due is not None and side.due < due_before
@@ -163,26 +163,26 @@ def listed(sides, turns, today=None, due_before=None, state=None):
 
 
 def left_out(sides, due_before=None, state=None):
-    """How many loans `list --mine` leaves out where no day is given: for some day they are listed."""
+    """Returns how many loans `list --mine` leaves out where no day is given: for some day they are listed."""
     return sum(1 for turn, side in listed(sides, ("theirs", "over"), None, due_before, state)
                if side.deadline() and side.verbs())
 
 
 def left_out_line(path, count):
-    """The line on standard error that tells so."""
+    """Returns the line on standard error that tells so."""
     words = "loan may wait for us by its date" if count == 1 else "loans may wait for us by their dates"
     return f"ill: {path}: {count} more {words}: give --today DAY\n" if count else ""
 
 
 def counts(sides, today=None):
-    """The counts of a desk."""
+    """Returns the counts of a desk."""
     over = sum(side.turn(today) == "over" for side in sides)
     mine = sum(side.turn(today) == "mine" for side in sides)
     return {"loans": len(sides), "open": len(sides) - over, "mine": mine, "room": 1000 - len(sides)}
 
 
 def list_lines(sides, turns, today=None, due_before=None, state=None, verbs=False):
-    """The lines of `list`."""
+    """Returns the lines of `list`."""
     groups, txns = (max((len(column(side.txn[place])) for side in sides), default=0) for place in (0, 1))
     lines = [padded(turn, 6) + padded(side.state, 20) + padded(side.due or "-", 8) + padded(column(side.txn[0]), groups)
              + padded(column(side.txn[1]), txns)
@@ -192,14 +192,14 @@ def list_lines(sides, turns, today=None, due_before=None, state=None, verbs=Fals
 
 
 def list_objects(sides, turns, today=None, due_before=None, state=None):
-    """The objects of `list`."""
+    """Returns the objects of `list`."""
     return [{"next": turn, "state": side.state, "due": iso(side.due), "group": side.txn[0], "transaction": side.txn[1],
              "now": side.possible(today), "item": side.asked()["item"]}
             for turn, side in listed(sides, turns, today, due_before, state)] + [counts(sides, today)]
 
 
 def message_name(apdu):
-    """A message in the chart of a page."""
+    """Returns a message in the chart of a page."""
     words = [apdu["apdu"], apdu.get("result"), yes_no(apdu["reply"]) if "reply" in apdu else None]
     if apdu["apdu"] != "ILL-Request":
         words.append(iso(apdu.get("date")))
@@ -207,7 +207,7 @@ def message_name(apdu):
 
 
 def page_loan(side, is_task):
-    """What a page tells of a loan."""
+    """Returns what a page tells of a loan."""
     told = [shown(side.asked()["item"]), *side.txn, side.state, iso(side.due) or "-", iso(side.expiry()) or "-"]
     actors = {"mine": "we", "theirs": "the partner", "over": "nobody"}
     last = side.possible(TODAY) if is_task else [actors[side.turn(TODAY)], *map(message_name, side.issued)]
@@ -215,14 +215,14 @@ def page_loan(side, is_task):
 
 
 def page_parts(sides):
-    """The parts of a page: how many loans each has, and what it tells of them."""
+    """Returns the parts of a page: how many loans each has, and what it tells of them."""
     turns = {"Waits for us today": ["mine"], "Open loans": ["mine", "theirs"], "Over": ["over"]}
     return {name: [page_loan(side, name == "Waits for us today") for side in by_deadline(sides)
                    if side.turn(TODAY) in wanted] for name, wanted in turns.items()}
 
 
 def read_page(text):
-    """The parts of a page, as it has them."""
+    """Returns the parts of a page, as it has them."""
     found = {}
     part = r"<(?:h3|summary)>([\w ]+): (\d+)</(?:h3|summary)>\n(.*?)(?=<h3>|<details>|</details>)"
     for name, count, body in re.findall(part, text, re.S):
@@ -263,14 +263,14 @@ DAYS = {"r": None, "s": SHIPS, "l": LATE}
 
 
 def steps(course, place, item):
-    """The steps of a course: whose turn, the day, the words, and whether the message is carried."""
+    """Yields the steps of a course: whose turn, the day, the words, and whether the message is carried."""
     for who, words, carried in re.findall(r"([rsl]) ([^>]*?)(>|(?= [rsl] )|$)|s2>", course) or []:
         if who:
             yield who, words.replace("{expiry}", EXPIRIES[place % 4]).replace("{item}", item), bool(carried)
 
 
 def modelled(course, txn, place, item):
-    """Both sides of a loan after a course."""
+    """Returns both sides of a loan after a course."""
     sides = {"r": Side(REQUESTER, txn), "s": Side(RESPONDER, txn)}
     sides["l"] = sides["s"]
     for who, words, carried in steps(course, place, item):
@@ -289,30 +289,30 @@ def carry_answer(own, other, course):
 
 
 def both(loans):
-    """The sides of two desks in these loans: courses, ids and titles."""
+    """Returns the sides of two desks in these loans: courses, ids and titles."""
     pairs = [modelled(course, txn, place, item) for place, (course, txn, item) in enumerate(loans)]
     return {REQUESTER: [here for here, _ in pairs], RESPONDER: [there for _, there in pairs if there.state != "IDLE"]}
 
 
 def kinds():
-    """A loan of each kind, in groups of several lengths."""
+    """Returns a loan of each kind, in groups of several lengths."""
     return [(course, (f"Group {'x' * (place % 5)}", f"T{place}"), "A History of Maps")
             for place, course in enumerate(COURSES)]
 
 
 def titled():
-    """A loan of each title."""
+    """Returns a loan of each title."""
     return [(COURSES[1 + place % 30], ('"\\{}[],:<&>', f"~{place}!"), title) for place, title in enumerate(TITLES)]
 
 
 def thousand():
-    """A thousand loans."""
+    """Returns a thousand loans."""
     return [(COURSES[1 + place * 7 % (len(COURSES) - 1)], (f"G{place % 37}", f"{place:04}"), f"Volume {place}")
             for place in range(1000)]
 
 
 def longest(role):
-    """A thousand loans whose messages are as long, and as many, as loans make them."""
+    """Returns a thousand loans whose messages are as long, and as many, as loans make them."""
     sides = []
     for place in range(1000):
         txn = ("G" * 64, f"{place:04}" + "T" * 60)
@@ -346,11 +346,11 @@ class Judge:
         self.program, self.faults, self.compared = harness.Program(program, limit=None), [], 0
 
     def run(self, words, given=None, **how):
-        """A command."""
+        """Returns a command."""
         return self.program.run(words, given, **how)
 
     def text(self, words, given=None):
-        """What a command writes that has to go well."""
+        """Returns what a command writes that has to go well."""
         return self.program.well(words, given).decode()
 
     def same(self, place, found, wanted):
@@ -378,7 +378,7 @@ class Judge:
 
 
 def first_difference(found, wanted):
-    """The first place at which two values differ."""
+    """Returns the first place at which two values differ."""
     if isinstance(found, list) and isinstance(wanted, list):
         for place, (one, other) in enumerate(itertools.zip_longest(found, wanted)):
             if one != other:
@@ -387,7 +387,7 @@ def first_difference(found, wanted):
 
 
 def is_longest(sides):
-    """Whether these are the sides of a longest record, whose every reading takes seconds."""
+    """Returns true if these are the sides of a longest record, whose every reading takes seconds."""
     return len(sides) > 900 and len(sides[0].issued) == 255
 
 
@@ -439,7 +439,7 @@ def check_rest(judge, path, role, sides):
 
 
 def reading(path, sides):
-    """The commands that read a desk."""
+    """Returns the commands that read a desk."""
     commands = [["list", path], ["list", path, "--mine", "--today", TODAY], ["list", path, "--json"], ["status", path],
                 ["status", path, "--json"], ["report", path, "--today", TODAY], ["verify", path]]
     for side in sides[:1]:
@@ -448,7 +448,7 @@ def reading(path, sides):
 
 
 def slowly(judge, words):
-    """What a command writes into a pipe that is read byte by byte."""
+    """Returns what a command writes into a pipe that is read byte by byte."""
     os.mkfifo("pipe")
     with open(os.open("pipe", os.O_RDONLY | os.O_NONBLOCK), "rb", buffering=0) as end, open("pipe", "wb") as start:
         os.set_blocking(end.fileno(), True)
@@ -460,7 +460,7 @@ def slowly(judge, words):
 
 
 def last_line(errors):
-    """The last line of standard error, or none."""
+    """Returns the last line of standard error, or none."""
     return errors.decode().rpartition("\n")[0].rpartition("\n")[2]
 
 
@@ -479,13 +479,14 @@ def check_streams(judge, path, sides):
 # ---- the verbs and `act`
 
 def kind_of(side):
-    """What `act` may tell apart: the state, the marks, and how the days lie."""
+    """Returns what `act` may tell apart: the state, the marks, and how the days lie."""
     days = [side.due and (side.due < LATE), side.expiry() and (side.expiry() < LATE)]
     return (side.role, side.state, *side.marks(), bool(side.held), *map(str, days))
 
 
 def paths():
-    """The shortest course to each kind of loan, as steps: words of a side, or the delivery of a message to it."""
+    """Returns the shortest course to each kind of loan, as steps: words of a side, or the delivery of a message to
+    it."""
     events = {"r": [f for f in FORMS[REQUESTER] if f[:7] != "request"], "s": [
         *(f"answer {result}" for result in ("conditional", "will-supply", "unfilled")), "cancel-reply yes",
         "cancel-reply no", "ship 20250315", "ship 20250501", "renew-answer yes 20250520", "renew-answer no", "overdue",
@@ -511,12 +512,12 @@ def paths():
 
 
 def day_of(words):
-    """The day of an action in a course."""
+    """Returns the day of an action in a course."""
     return SHIPS if words.startswith("ship") else LATE
 
 
 def followers(here, there, course, events):
-    """The pairs of sides to which one more step leads that changes something."""
+    """Yields the pairs of sides to which one more step leads that changes something."""
     for who, words in [(who, words) for who in "rs" for words in events[who]]:
         pair = {"r": here.twin(), "s": there.twin()}
         try:

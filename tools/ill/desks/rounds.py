@@ -109,7 +109,7 @@ class Script:
 
 
 def drawn(seed, loans):
-    """A script that is drawn from a seed."""
+    """Returns a script that is drawn from a seed."""
     script = Script(random.Random(seed), loans)
     for loan in range(1, loans + 1):
         if script.draw.random() < 0.95:
@@ -121,7 +121,7 @@ def drawn(seed, loans):
 
 
 def worked(lines):
-    """The script of these lines."""
+    """Returns the script of these lines."""
     script = Script(random.Random(0), 1)
     script.lines = list(lines)
     script.counts["requester", 1] = script.counts["responder", 1] = len(lines)
@@ -130,7 +130,7 @@ def worked(lines):
 
 
 def judge(program, script, pairs):
-    """The pairs in which the loans of a script are, and what is wrong."""
+    """Returns the pairs in which the loans of a script are, and what is wrong."""
     words = ["simulate", "G1", "T1"] if script.loans == 1 else ["simulate-desks"]
     text = "".join(f"{line}\n" for line in script.lines)
     ran = program.run(words, piped=text.encode())

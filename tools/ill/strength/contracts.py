@@ -64,7 +64,7 @@ Edit = collections.namedtuple("Edit", "name pairs refuses changes body_of is_of_
 # The sources, as rt fmt lays them out.
 
 def functions_of(folder):
-    """The functions of a crate, by path."""
+    """Returns the functions of a crate, by path."""
     files = [os.path.relpath(f"{at}/{name}", folder) for at, _, names in os.walk(f"{folder}/src") for name in names]
     texts = {file: read(f"{folder}/{file}") for file in files}
     types = {name: module_of(file) for file, text in texts.items()
@@ -73,12 +73,12 @@ def functions_of(folder):
 
 
 def module_of(file):
-    """The path of the module that a source is."""
+    """Returns the path of the module that a source is."""
     return [word for word in file[len("src/"):-len(".rt")].split("/") if word != "lib"]
 
 
 def functions_in(text, file, types):
-    """The functions of a source: each item, and each method of a type or a trait that has a body."""
+    """Yields the functions of a source: each item, and each method of a type or a trait that has a body."""
     for found in re.finditer(r"(?m)^(    )?(?:pub(?:\([\w ]+\))? )?(?:const )?fn (\w+)", text):
         indent, name = found[1] or "", found[2]
         block, kind = block_of(text[:found.start()], types) if indent else ([], None)
@@ -97,8 +97,8 @@ def functions_in(text, file, types):
 
 
 def block_of(text, types):
-    """What the last block of methods that begins in this text is called, and whether its methods are a type's own,
-    those of an instance of a type, of another name of it or of a trait for a type, or declared by a trait."""
+    """Returns what the last block of methods that begins in this text is called, and whether its methods are a type's
+    own, those of an instance of a type, of another name of it or of a trait for a type, or declared by a trait."""
     head = [*re.finditer(r"(?m)^(?:pub(?:\(\w+\))? )?(impl|trait)\b(?:<.*?>(?= ))? ?(.*(?:\n    for .*)?)", text)][-1]
     instance = re.match(r"impl(?:<(.*?)>(?= ))? (\w+)<([\w, ]+)> \{", head[0])
     if instance:
@@ -115,27 +115,27 @@ def block_of(text, types):
 # The edits.
 
 def edits_of(folders, crate, functions):
-    """The edits of a crate in these folders, and after them its controls."""
+    """Returns the edits of a crate in these folders, and after them its controls."""
     return [edit_of(name, read(f"{folder}/{name}.edit"), crate, functions, "/controls/" in folder)
             for folder in folders for name in names_in(folder)]
 
 
 def folders_of(crate, is_gate):
-    """The folders that have the edits of a crate: those of the gate, and unless they alone are tried, all others and
-    the controls."""
+    """Returns the folders that have the edits of a crate: those of the gate, and unless they alone are tried, all
+    others and the controls."""
     others = [] if is_gate else [full("strength", crate), full("strength", "controls", crate)]
     return [full("strength", "gate", crate), *others]
 
 
 def names_in(folder):
-    """The names of the edits in a folder, if it is there."""
+    """Returns the names of the edits in a folder, if it is there."""
     names = os.listdir(folder) if os.path.isdir(folder) else []
     return sorted(name[:-len(".edit")] for name in names if name.endswith(".edit"))
 
 
 def edit_of(name, text, crate, functions, is_right):
-    """An edit: its pairs, the functions that must be refused, those that it changes, whose body it is, if any's, and
-    whether it changes bodies alone."""
+    """Returns an edit: its pairs, the functions that must be refused, those that it changes, whose body it is, if
+    any's, and whether it changes bodies alone."""
     pairs, refuses, file, old = [], [], None, None
     for line in text.splitlines():
         word, _, rest = line.partition(": ")
@@ -154,7 +154,7 @@ def edit_of(name, text, crate, functions, is_right):
 
 
 def changed_by(pair, folder, functions):
-    """The function whose body or whose own proof a pair changes, or nothing if it changes anything else."""
+    """Returns the function whose body or whose own proof a pair changes, or nothing if it changes anything else."""
     begin, end = next(iter(places_of(read(f"{folder}/{pair.file}"), pair.old)), (-1, -1))
     for it in functions.values():
         is_body = it.file == pair.file and it.begin <= begin and end <= it.end
@@ -164,13 +164,13 @@ def changed_by(pair, folder, functions):
 
 
 def proof_of(path):
-    """The folder of the proof of a function."""
+    """Returns the folder of the proof of a function."""
     return f"proofs/{path.replace('::', '/')}"
 
 
 def rounds_of(edits):
-    """Edits that are made in place, as they are tried: together, if they change different bodies, or else different
-    sources. An edit of several sources, or of anything but sources, is tried alone."""
+    """Returns edits that are made in place, as they are tried: together, if they change different bodies, or else
+    different sources. An edit of several sources, or of anything but sources, is tried alone."""
     rounds = []
     for edit in edits:
         files = {pair.file for pair in edit.pairs}
@@ -186,8 +186,8 @@ def rounds_of(edits):
 
 
 def are_apart(takes, taken):
-    """Whether no two of these places are the same. A place is a source with the path of a function, or with none, if it
-    is all of the source."""
+    """Returns true if no two of these places are the same. A place is a source with the path of a function, or with
+    none, if it is all of the source."""
     return not any(file == other and (path == it or None in (path, it)) for file, path in takes for other, it in taken)
 
 
@@ -195,13 +195,13 @@ def are_apart(takes, taken):
 
 @functools.cache
 def kit():
-    """The folder of the kit."""
+    """Returns the folder of the kit."""
     rt = shutil.which("rt") or sys.exit("strength: there is no rt")
     return os.path.dirname(os.path.dirname(os.path.realpath(rt)))
 
 
 def below(crate):
-    """The crates of the repository below this one, lowest first."""
+    """Returns the crates of the repository below this one, lowest first."""
     found = []
     for name in stand_on()[crate]:
         found += [it for it in [*below(name), name] if it not in found]
@@ -209,7 +209,7 @@ def below(crate):
 
 
 def words_of(crate):
-    """The words of a check of this crate, over the built libraries below it."""
+    """Returns the words of a check of this crate, over the built libraries below it."""
     own, crates = libraries()[crate], libraries()
     words = ["--crate-name", crate, "src/lib.rt", "-L", f"dependency={kit()}/rlibs"]
     for name in ["std", *(name for name in own if name not in crates)]:
@@ -272,7 +272,8 @@ class Trial:
         write(f"{proof}/Proof.antt", AXIOM.format(crate=self.crate, path=path, name=path.rpartition(".")[2]))
 
     def wrong(self, folder, path, edit):
-        """The text of a wrong body, as a function of this path, whose proof it copies from that of the right one."""
+        """Returns the text of a wrong body, as a function of this path, whose proof it copies from that of the right
+        one."""
         it = edit.body_of
         right = f"{self.source}/{proof_of(it.path)}"
         files = [f"{proof_of(it.path)}/{file}" for file in os.listdir(right)] if os.path.isdir(right) else []
@@ -300,7 +301,8 @@ class Trial:
         return said, printed
 
     def judge(self):
-        """What became of each edit: the edit, or the name of a right function that is not proved; and what was said."""
+        """Yields what became of each edit: the edit, or the name of a right function that is not proved; and what was
+        said."""
         folder = f"{self.room}/{'beside' if self.beside else 'whole'}"
         right = [] if self.is_gate else self.right
         paths = [*right, *self.beside]
@@ -321,12 +323,12 @@ class Trial:
             yield from self.judge_in_place(edits, bare)
 
     def is_left(self, said, printed, path, right):
-        """Whether a function that stands for a right one is to be checked without its answers."""
+        """Returns true if a function that stands for a right one is to be checked without its answers."""
         is_refused = self.is_gate and refusal(said, printed, path)[0]
         return right in self.answered and not is_proved(said, path) and not is_refused
 
     def check_bare(self, folder, paths):
-        """What is said of these functions in a copy without their answers, or nothing if there are none."""
+        """Returns what is said of these functions in a copy without their answers, or nothing if there are none."""
         if not paths:
             return {}
         bare = f"{self.room}/bare"
@@ -337,7 +339,8 @@ class Trial:
         return self.check(bare, paths)[0]
 
     def how(self, said, printed, path, right, bare, right_bare):
-        """How a function was refused that stands for a right one, by what is said of both without their answers too."""
+        """Returns how a function was refused that stands for a right one, by what is said of both without their answers
+        too."""
         well, what = refusal(said, printed, path)
         if is_proved(said, path):
             return PROVED, what
@@ -356,7 +359,7 @@ class Trial:
         return FOR_WANT, f"{', '.join(goals)}, as of the right body"
 
     def judge_in_place(self, edits, right_bare):
-        """What became of edits that are made together in place."""
+        """Yields what became of edits that are made together in place."""
         folder = f"{self.room}/in_place"
         shutil.rmtree(folder, ignore_errors=True)
         shutil.copytree(f"{self.room}/whole", folder)
@@ -377,36 +380,36 @@ class Trial:
 
 
 def answers_of(path):
-    """The file of the answers of a function."""
+    """Returns the file of the answers of a function."""
     return f"{proof_of(path)}/Answers.antt"
 
 
 def worst(found):
-    """What became of an edit of which this became at each function that must be refused."""
+    """Returns what became of an edit of which this became at each function that must be refused."""
     order = [UNTRIED, PROVED, FOR_WANT, BY_ANSWERS, AT_GOAL]
     return min((verdict for verdict, _ in found), key=order.index, default=UNTRIED)
 
 
 def said_of(said, path):
-    """What was said of a function, and of each closure in it."""
+    """Returns what was said of a function, and of each closure in it."""
     name = path.rpartition("::")[2]
     owner = re.compile(rf"{re.escape(path)}|.*\bfn::(?:\w+::)?{name}::.*")
     return [what for it, what in said.items() if owner.fullmatch(it)]
 
 
 def is_proved(said, path):
-    """Whether a function is proved, and each closure in it."""
+    """Returns true if a function is proved, and each closure in it."""
     return set(said_of(said, path)) == {"no holes"}
 
 
 def open_goals(said, path):
-    """The goals of a function that `search` left open."""
+    """Returns the goals of a function that `search` left open."""
     lists = [what.partition("`search` did not prove ")[2].partition("; it calls")[0] for what in said_of(said, path)]
     return re.findall(r"`([^`]+)`", " ".join(lists))
 
 
 def kind_of(goal):
-    """What kind a goal is of: its first word, what it asks for, and its clause, whatever way leads to it."""
+    """Returns what kind a goal is of: its first word, what it asks for, and its clause, whatever way leads to it."""
     way, _, clause = goal.partition("-clause-")
     words = way.split("-")
     last = [it for it in words[-1:] if it in ("requires", "preserved", "init")]
@@ -414,7 +417,7 @@ def kind_of(goal):
 
 
 def refusal(said, printed, path):
-    """Whether a function, or a closure in it, was refused at a goal of its own, and what was said of it."""
+    """Returns whether a function, or a closure in it, was refused at a goal of its own, and what was said of it."""
     found = said_of(said, path)
     errors = re.findall(r"(?m)^\./proofs/.*?: error: `([^`]+)`: (.*)$", printed)
     for what in found:
@@ -458,7 +461,7 @@ def tell(counts):
 
 
 def known(is_gate):
-    """The crates that have edits, each with their names."""
+    """Returns the crates that have edits, each with their names."""
     found = {it: [name for folder in folders_of(it, is_gate) for name in names_in(folder)] for it in libraries()}
     return {it: names for it, names in found.items() if names}
 

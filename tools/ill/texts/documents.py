@@ -45,7 +45,7 @@ def expect(kind, is_there, place, what):
 
 
 def paths():
-    """All files and folders of the repository, but what is made."""
+    """Yields all files and folders of the repository, but what is made."""
     for folder, folders, files in os.walk(repository.TOP):
         folders[:] = sorted(name for name in folders if name not in MADE)
         for name in folders + sorted(files):
@@ -53,7 +53,7 @@ def paths():
 
 
 def lines(document):
-    """The lines of a document: number, whether it is one of a block, and text."""
+    """Yields the lines of a document: number, whether it is one of a block, and text."""
     fenced = False
     for number, line in enumerate(read(document).splitlines(), 1):
         fence = line.startswith("```")
@@ -62,7 +62,7 @@ def lines(document):
 
 
 def headings(document):
-    """The anchors of a document's headings, as a forge makes them."""
+    """Yields the anchors of a document's headings, as a forge makes them."""
     seen = collections.Counter()
     for _, in_block, line in lines(document):
         title = re.match(r"#+ +(.*)", line)
@@ -86,7 +86,7 @@ def check_links(document, place, line):
 
 
 def looks_like_path(word):
-    """Whether a word is the path of something in the repository, there or not."""
+    """Returns true if a word is the path of something in the repository, there or not."""
     if not re.fullmatch(r"\.?[\w*-][\w.*-]*(/[\w.*-]+)*/?", word) or MADE & set(word.split("/")):
         return False
     first = word.split("/")[0]
@@ -95,7 +95,7 @@ def looks_like_path(word):
 
 
 def matches(path, patterns):
-    """Whether a path fits one of the patterns."""
+    """Returns true if a path fits one of the patterns."""
     return any(fnmatch.fnmatchcase(path, pattern) for pattern in patterns)
 
 
@@ -125,20 +125,21 @@ def check_tools(text, place):
 
 
 def with_rooms(crates):
-    """These crates, and their rooms: what they stand on of the libraries on which no crate of tests stands."""
+    """Returns these crates, and their rooms: what they stand on of the libraries on which no crate of tests stands."""
     below, rooms = stand_on(), repository.rooms()
     return sorted({*crates, *(other for name in crates for other in below[name] if other in rooms)})
 
 
 def counts(everything):
-    """How many wrong bodies the gate has, how many there are beside it, and the least and the most of a crate."""
+    """Returns how many wrong bodies the gate has, how many there are beside it, and the least and the most of a
+    crate."""
     edits = collections.Counter(path.split("/")[2] for path in everything if matches(path, [GATE]))
     beside = sum(matches(path, ["strength/*.edit"]) and not matches(path, [CONTROLS, GATE]) for path in everything)
     return sum(edits.values()), beside + len(across.CASES), min(edits.values()), max(edits.values())
 
 
 def value(word):
-    """The number that a word says."""
+    """Returns the number that a word says."""
     return NUMBERS.index(word) if word in NUMBERS else int(word)
 
 
@@ -155,7 +156,8 @@ def check_counts(document, text, counted):
 
 
 def places_of_wrong_bodies(everything):
-    """What docs/TESTS.md says of each place of wrong bodies, with N for their number; and how many stand there."""
+    """Returns what docs/TESTS.md says of each place of wrong bodies, with N for their number; and how many stand
+    there."""
     beside = [path.split("/")[1] for path in everything if matches(path, ["strength/*/*.edit"])]
     others = sum(beside.count(folder) for folder in ("tests", "controls", "gate"))
     return {"The gate has N wrong bodies, in `strength/gate/NAME/`": counts(everything)[0],
@@ -223,7 +225,7 @@ def check_runs(document):
 
 
 def unindented(text):
-    """The lines of a text, each without the spaces before and after it."""
+    """Returns the lines of a text, each without the spaces before and after it."""
     return "".join(line.strip() + "\n" for line in text.strip().splitlines())
 
 
@@ -235,13 +237,13 @@ def check_code(document, sources):
 
 
 def tools(everything):
-    """The files of tools/."""
+    """Returns the files of tools/."""
     return [path for path in everything if path.startswith("tools/") and os.path.isfile(repository.full(path))]
 
 
 def named_at(path):
-    """Where a file of tools/ has to be named, and how: docs/TESTS.md names the scripts, and the head of a package names
-    its modules and packages."""
+    """Returns where a file of tools/ has to be named, and how: docs/TESTS.md names the scripts, and the head of a
+    package names its modules and packages."""
     folder, name = os.path.split(path.removesuffix("/__init__.py"))
     return ("docs/TESTS.md", path) if folder == "tools" else (f"{folder}/__init__.py", name.removesuffix(".py"))
 

@@ -42,12 +42,12 @@ OF_ANY = {"begin", "act_on", "message_of"}
 
 
 def folder_of(crate):
-    """The folder of a crate."""
+    """Returns the folder of a crate."""
     return Path(repository.full("crates", crate))
 
 
 def libraries():
-    """The libraries but those for tests, lowest first, each with whether it is a room."""
+    """Yields the libraries but those for tests, lowest first, each with whether it is a room."""
     rooms = repository.rooms()
     for name in repository.stand_on():
         folder = folder_of(name)
@@ -56,7 +56,7 @@ def libraries():
 
 
 def passed_on(root):
-    """What a file exports by `pub use`: the path, the name at its end, and the name that it has then."""
+    """Yields what a file exports by `pub use`: the path, the name at its end, and the name that it has then."""
     for path, group, renamed in USE.findall(root.read_text()):
         front, _, last = path.rpartition("::")
         for part in group.split(",") if group else [last + renamed]:
@@ -66,7 +66,7 @@ def passed_on(root):
 
 
 def exported(root, prefix=""):
-    """The names that a file exports, and under which name."""
+    """Returns the names that a file exports, and under which name."""
     names = {old: prefix + new for _, old, new in passed_on(root)}
     for module in MODULE.findall(root.read_text()):
         names |= of_module(root.parent / f"{module}.rt", module)
@@ -74,13 +74,13 @@ def exported(root, prefix=""):
 
 
 def of_module(path, module):
-    """The names that a module exports, and under which name."""
+    """Returns the names that a module exports, and under which name."""
     functions = re.findall(r"^pub fn (\w+)", path.read_text(), re.M)
     return {name: f"{module}::{name}" for name in functions} | exported(path, f"{module}::")
 
 
 def exported_of_room(room):
-    """The names of a room that the other libraries pass on, and under which name."""
+    """Returns the names of a room that the other libraries pass on, and under which name."""
     names = {}
     for folder, is_room in libraries():
         for path, old, new in [] if is_room else passed_on(folder / "src" / "lib.rt"):
@@ -93,14 +93,14 @@ def exported_of_room(room):
 
 
 def subject(head):
-    """The type, and the trait, of the head of a block."""
+    """Returns the type, and the trait, of the head of a block."""
     head = re.sub(r"^impl<.*?> (?=\S)", "", re.sub(r"^impl ", "", head.replace("pub trait", "trait")))
     trait, _, name = head.partition(" for ") if " for " in head else ("", "", head)
     return re.match(r"(?:trait )?(\w+)", name).group(1), trait or ("trait" if head.startswith("trait") else "")
 
 
 def fault_of(answer):
-    """The type of the faults in an answer, or None where it is no Result."""
+    """Returns the type of the faults in an answer, or None where it is no Result."""
     answer = " ".join(answer.split())
     if not answer.startswith("Result<"):
         return None
@@ -114,7 +114,7 @@ def fault_of(answer):
 
 
 def calls_of(path, names, traits):
-    """The calls that a file has of what its library exports, each with the type of its faults."""
+    """Yields the calls that a file has of what its library exports, each with the type of its faults."""
     text = path.read_text()
     blocks = [(found.start(), subject(" ".join(found.group().split()))) for found in BLOCK.finditer(text)]
     for found in CALL.finditer(text):
@@ -135,7 +135,7 @@ def calls_of(path, names, traits):
 
 
 def read_sources():
-    """Each call with the type of its faults, and each type of faults with its variants."""
+    """Returns each call with the type of its faults, and each type of faults with its variants."""
     calls, types = {}, {"OutOfMemory": ["OutOfMemory"]}
     traits = set()
     for folder, is_room in libraries():
@@ -153,7 +153,7 @@ def read_sources():
 
 
 def test_is_there(place, test):
-    """Whether a crate of tests has a function of this name, or a line; whether a tool has these words."""
+    """Returns true if a crate of tests has a function of this name, or a line; whether a tool has these words."""
     if place.startswith("tools/"):
         path = Path(repository.full(place))
         return path.exists() and test in path.read_text()
@@ -166,7 +166,7 @@ def test_is_there(place, test):
 
 
 def are_there(tests, calls, faults):
-    """Whether an entry names tests that are there, or says that there can be none."""
+    """Returns true if an entry names tests that are there, or says that there can be none."""
     if [place for place, _ in tests] in (["none"], ["never"]):
         return True
     if len(tests) == 1:
@@ -177,12 +177,12 @@ def are_there(tests, calls, faults):
 
 
 def pairs(calls, faults):
-    """Each call with each fault."""
+    """Returns each call with each fault."""
     return [(call, fault) for call in calls for fault in faults]
 
 
 def read_page(wrong):
-    """The calls of the tables with the faults that they answer."""
+    """Returns the calls of the tables with the faults that they answer."""
     seen, part = [], ""
     for line in read(PAGE).splitlines():
         part = line[3:] if line.startswith("## ") else part
@@ -200,8 +200,8 @@ def read_page(wrong):
 
 
 def read_tests(wrong):
-    """The calls of the entries with their faults: those that have tests, and those that no call answers. What is wrong
-    with an entry is told."""
+    """Returns the calls of the entries with their faults: those that have tests, and those that no call answers. What
+    is wrong with an entry is told."""
     entries = []
     for line in read(TESTS).splitlines():
         entry, test = ENTRY.fullmatch(line), TEST.fullmatch(line)
@@ -222,7 +222,7 @@ def read_tests(wrong):
 
 
 def twice(found):
-    """What is found more than once."""
+    """Returns what is found more than once."""
     return sorted({one for one in found if found.count(one) > 1})
 
 
@@ -241,7 +241,8 @@ def compare():
 
 
 def wrong_entries(calls, types, answered, tested, never):
-    """What is wrong with the rows of the page and with the entries of the tests: each call has each fault once."""
+    """Returns what is wrong with the rows of the page and with the entries of the tests: each call has each fault
+    once."""
     seen = answered + never
     wanted = [pair for call, fault in calls.items() for pair in pairs([call], types.get(fault, [fault]))]
     wrong = [f"{call}: no row has its fault {fault}, and no entry says that it is never answered"

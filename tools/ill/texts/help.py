@@ -123,14 +123,14 @@ def expect_same(kind, found, wanted, place):
 
 
 def constant(name, path):
-    """The number that a source gives to a constant."""
+    """Returns the number that a source gives to a constant."""
     return int(find(rf"const {name}: \w+ = ([\d_]+);", path)[1].replace("_", ""))
 
 
 # What the sources say.
 
 def numbers_of():
-    """The numbers that the phrases name."""
+    """Returns the numbers that the phrases name."""
     saved, der, values = (f"crates/{it}/src" for it in ("ill_saved", "ill_der", "ill_values"))
     years = find(r"year < (\d+) \|\| year > (\d+)", f"{values}/day.rt")
     pause = int(find(r"Duration::from_millis\((\d+)\)", f"{saved}/file_lock.rt")[1])
@@ -166,17 +166,17 @@ def numbers_of():
 
 
 def variants(name, path):
-    """The variants of an enum."""
+    """Returns the variants of an enum."""
     return re.findall(r"^    (\w+)", find(rf"pub enum {name} \{{\n(.*?)\n\}}", path)[1], re.M)
 
 
 def arguments_of():
-    """The commands for one desk, or for none, in their order, each with its arguments."""
+    """Returns the commands for one desk, or for none, in their order, each with its arguments."""
     return {command.word: [part.kind for part in command.parts] for command in command_line.commands()[0]}
 
 
 def status_labels():
-    """The labels of the lines of a status."""
+    """Returns the labels of the lines of a status."""
     path, labels = f"{SHOW}/status.rt", []
     for line in body("push_status", path).partition("{\n")[2].splitlines():
         called = re.search(r"\b(push_\w+)\(", line)
@@ -187,23 +187,23 @@ def status_labels():
 
 
 def loan_labels():
-    """The labels of the lines of a loan that a status has not."""
+    """Returns the labels of the lines of a loan that a status has not."""
     sources = read(f"{SHOW}/loan.rt") + read(f"{SHOW}/kept.rt")
     return labels_in(sources + body("push_item", f"{TEXT}/lines.rt"))
 
 
 def results_of():
-    """The names of the results, in their order."""
+    """Returns the names of the results, in their order."""
     return list(named("AnswerResult", read("crates/ill_values/src/apdu.rt")).values())
 
 
 def labels_in(text):
-    """The labels of the lines that a source adds."""
+    """Returns the labels of the lines that a source adds."""
     return re.findall(r'push_\w+\(lines, "([\w-]+)"', text)
 
 
 def texts_of(kind, path):
-    """The texts of the faults of a type, by variant, with the type of what stands in them."""
+    """Returns the texts of the faults of a type, by variant, with the type of what stands in them."""
     said = re.findall(r'#\[error\("([^"]+)"\)\]\s*(\w+)(?:\((\w+)\))?', find(rf"enum {kind} \{{.*?\n\}}", path)[0])
     return {name: (text, inner) for text, name, inner in said}
 
@@ -214,7 +214,7 @@ SOURCES = {"ToolFault": f"{TEXT}/fault.rt", "DeskFault": "crates/ill_saved/src/f
 
 
 def told_faults(kind="ToolFault"):
-    """The text of each fault that a command tells, with the variant that has its status."""
+    """Yields the text of each fault that a command tells, with the variant that has its status."""
     for name, (text, inner) in texts_of(kind, SOURCES[kind]).items():
         variant = f"{kind}::{name}"
         if variant in UNTOLD or name == "OutOfMemory" and kind != "ToolFault":
@@ -227,7 +227,7 @@ def told_faults(kind="ToolFault"):
 
 
 def statuses():
-    """The exit status of each outcome and of each variant of a fault."""
+    """Returns the exit status of each outcome and of each variant of a fault."""
     path = "crates/ill_tool/src/words.rt"
     found = {}
     for name in ("finish", "status_after", "status_after_desk"):
@@ -238,7 +238,7 @@ def statuses():
 
 
 def source_of(command):
-    """The path of the source of a command: it stands in one of the crates of the program."""
+    """Returns the path of the source of a command: it stands in one of the crates of the program."""
     crates = (TEXT, SHOW, DESK, FILES, MAIL, SHELF, "crates/ill_tool/src")
     found = [path for path in (f"{crate}/{command}.rt" for crate in crates) if os.path.exists(repository.full(path))]
     if len(found) != 1:
@@ -247,7 +247,7 @@ def source_of(command):
 
 
 def causes_of(command, arguments):
-    """What may become of a command, by its arguments and by what its source calls."""
+    """Returns what may become of a command, by its arguments and by what its source calls."""
     name = command.replace("-", "_")
     source = read(source_of(command.partition("-")[0]))
     call = find(rf"=>[\s{{]*(?:all_well\()?(?:run_)?{name}(?:_as)?\((.*?)\)", "crates/ill_tool/src/words.rt")[1]
@@ -265,7 +265,7 @@ def causes_of(command, arguments):
 
 
 def verbs(names, path):
-    """The forms of what functions read: the verb, and what follows it."""
+    """Yields the forms of what functions read: the verb, and what follows it."""
     for name in names:
         said = body(name, path)
         arms = [*re.finditer(r'is\(verb, "([\w-]+)"\)(?: && is\(word, "(\w+)"\))?', said)]
@@ -277,14 +277,14 @@ def verbs(names, path):
 
 
 def actions():
-    """The forms of the actions of each role."""
+    """Returns the forms of the actions of each role."""
     path = f"{WORDS}/words/actions.rt"
     return {"requester": [*verbs(["bare_wish", "wish_with_word", "wish"], path)],
             "responder": [*verbs(["bare_deed", "deed_with_word", "grant"], path)]}
 
 
 def events():
-    """The forms of the lines of a script."""
+    """Returns the forms of the lines of a script."""
     own = verbs(["bare_event", "event_with_word"], f"{WORLD}/script/events.rt")
     sided = [f"{verb} SIDE {rest}".strip() for verb, _, rest in (form.partition(" ") for form in own)]
     found = actions()
@@ -295,7 +295,7 @@ def events():
 # The texts.
 
 def texts():
-    """The texts of the help by their names, without the examples, and those of the command line."""
+    """Returns the texts of the help by their names, without the examples, and those of the command line."""
     found = {name: text for name, text in re.findall(r'pub const (\w+): &str = "\\\n(.*?)";', read(HELP), re.S)
              if not name.endswith("_EXAMPLE")}
     found["ILL"] = re.sub(r"(?m)^(  \$ .*\n|  (?!\d)\S.*\n)+", "", found["ILL"])
@@ -305,14 +305,14 @@ def texts():
 
 
 def without_numbers_of_steps(text):
-    """A text without the numbers of its steps, which begin with 1."""
+    """Returns a text without the numbers of its steps, which begin with 1."""
     steps = re.findall(r"(?m)^  (\d)\. ", text)
     expect_same("lists", steps, [str(step) for step in range(1, len(steps) + 1)], "EXCHANGE: the numbers of the steps")
     return re.sub(r"(?m)^  \d\. ", "  ", text)
 
 
 def manual():
-    """What is written by hand in the man page, without its macros, its fonts and its examples."""
+    """Returns what is written by hand in the man page, without its macros, its fonts and its examples."""
     text = command_line.by_hand(read(MAN)).partition(".SH DESCRIPTION")[2]
     text = re.sub(r"(?ms)^\.EX$.*?^\.EE$|^\.TP \d+$", "", text)
     text = re.sub(r"\\f[A-Z]", "", text).replace("\\-", "-").replace("\\ ", " ")
@@ -320,30 +320,30 @@ def manual():
 
 
 def explanations():
-    """The sentences of `--explain`, without what they are about."""
+    """Returns the sentences of `--explain`, without what they are about."""
     sources = (read(f"{EXPLAIN}/{name}") for name in sorted(os.listdir(repository.full(EXPLAIN))))
     found = (said for source in sources for said in re.findall(r'"  ([^"]*)"', source))
     return re.sub(r"\{\w+\}`? ?", "", " ".join(found))
 
 
 def joined(text):
-    """A text in one line."""
+    """Returns a text in one line."""
     return " ".join(text.split())
 
 
 def table(text, after):
-    """The heads of a table of a text, each with what is said of it."""
+    """Returns the heads of a table of a text, each with what is said of it."""
     lines = text.partition(after)[2].split("\n\n")[0].splitlines()[1:]
     return [line.strip() for line in lines if re.match(r"  \S", line)]
 
 
 def heads(lines):
-    """What stands before two spaces in each line."""
+    """Returns what stands before two spaces in each line."""
     return [re.split(r"  +", line)[0] for line in lines]
 
 
 def listed(text, pattern, place):
-    """The words of a list that a pattern finds in a text."""
+    """Returns the words of a list that a pattern finds in a text."""
     found = re.search(pattern, joined(text))
     if found is None:
         raise Unread(f"{place}: it has no list like {pattern}")
@@ -351,7 +351,7 @@ def listed(text, pattern, place):
 
 
 def expanded(line, known):
-    """The forms that a line with alternatives stands for, of which each is known."""
+    """Returns the forms that a line with alternatives stands for, of which each is known."""
     first, *others = line.split(" | ")
     words = first.split()
     for place in range(len(words), -1, -1):
@@ -387,7 +387,7 @@ def compare_numbers(named_texts, numbers):
 
 
 def pattern_of(phrase):
-    """The pattern of a phrase, whose numbers are groups."""
+    """Returns the pattern of a phrase, whose numbers are groups."""
     parts = re.split(r"\{\w+\}", phrase)
     return rf"({NUMBER})".join(re.escape(part) for part in parts) + r"(?!\w)"
 
@@ -431,7 +431,7 @@ def compare_status(name, text, wanted, known):
 
 
 def causes_in(part, name):
-    """The keys of what a part of such a sentence names."""
+    """Yields the keys of what a part of such a sentence names."""
     rest = part.partition(": ")[0]
     for cause in sorted(CAUSES, key=len, reverse=True):
         if re.search(rf"\b{cause}\b", rest):
@@ -473,7 +473,8 @@ def compare_lists(text, arguments):
 
 
 def lists_of(arguments):
-    """The lists in sentences: the text, the sentence and the words; and the words of all outcomes, by variant."""
+    """Returns the lists in sentences: the text, the sentence and the words; and the words of all outcomes, by
+    variant."""
     events_source, saved = read(f"{WORDS}/outcome.rt"), "crates/ill_saved/src"
     roles = [name.lower() for name in variants("Role", f"{saved}/role.rt")]
     results = results_of()
@@ -519,7 +520,7 @@ def compare_options():
 
 
 def beside():
-    """The endings of the names of what lies beside the file of a desk."""
+    """Returns the endings of the names of what lies beside the file of a desk."""
     said = find(r"const BESIDE: [^=]*= \[(.*?)\];", f"{FILES}/paths.rt")[1].split(", ")
     sources = read(f"{FILES}/paths.rt")
     return [end.strip('"') if end.startswith('"') else re.search(rf'const {end}: &str = "([^"]+)"', sources)[1]
@@ -527,7 +528,7 @@ def beside():
 
 
 def use_line():
-    """The line that a script of two desks has beside the others."""
+    """Returns the line that a script of two desks has beside the others."""
     return find(r'is\(first, "(\w+)"\)', f"{WORLD}/desk_script.rt")[1] + " GROUP TRANSACTION"
 
 

@@ -31,7 +31,7 @@ Named = collections.namedtuple("Named", "crate module name")
 
 
 def laws_of(path):
-    """The laws of a source, in its order."""
+    """Yields the laws of a source, in its order."""
     blocks = re.split(r"\n\s*\n(?=\S)", read(path))
     for block in blocks:
         head = re.search(r"(?m)^pub fn (\w+)(?:<\w+>)?\(\)\n", block)
@@ -45,13 +45,14 @@ def laws_of(path):
 
 
 def subject(path):
-    """What a source says of itself in its first sentence, without the stop."""
+    """Returns what a source says of itself in its first sentence, without the stop."""
     said = " ".join(re.match(r"(?://! ?.*\n)*", read(path))[0].replace("//!", "").split())
     return re.split(r"\. |\.$", said)[0]
 
 
 def names_in(path):
-    """What a source takes from `specs/`: single names by the word that it has for them, and whole files by theirs."""
+    """Returns what a source takes from `specs/`: single names by the word that it has for them, and whole files by
+    theirs."""
     single, whole = {}, {}
     for crate, module, names, word in re.findall(
             r"(?m)^(?:ghost |pub )?use Rattle\.(\w+)\.specs\.(\w+)(?:\.\{([^}]*)\}| as (\w+));?$", read(path)):
@@ -64,7 +65,7 @@ def names_in(path):
 
 
 def defined(named, place):
-    """The name, in the file that defines it: the one that it is taken from, or one that passes it on."""
+    """Returns the name, in the file that defines it: the one that it is taken from, or one that passes it on."""
     path = f"crates/{named.crate}/specs/{named.module}.antt"
     name = re.escape(named.name)
     if re.search(rf"(?m)^(?:\w+ )?pub (?:(?:record|data|mod) )?{name}(?!\w)|^  {name} :", read(path)):
@@ -75,7 +76,7 @@ def defined(named, place):
 
 
 def definitions(path, contract):
-    """The definitions that a contract of a source names, in its order, each with its file."""
+    """Yields the definitions that a contract of a source names, in its order, each with its file."""
     single, whole = names_in(path)
     code = re.sub(r"(?m)^ +ensures \w+", "", contract)
     for front, word in re.findall(r"(?<![\w.⟦])(?:(\w+)\.)?(\w+)", code):
@@ -88,7 +89,7 @@ def definitions(path, contract):
 
 
 def files_of(crate, path, contract):
-    """The definitions that a contract names, file by file, with links from the page of the crate."""
+    """Yields the definitions that a contract names, file by file, with links from the page of the crate."""
     files = {}
     for named in definitions(path, contract):
         names = files.setdefault((named.crate, named.module), [])
@@ -100,13 +101,13 @@ def files_of(crate, path, contract):
 
 
 def wrapped(text, first):
-    """A text in lines of at most 119 columns; words and links are not cut."""
+    """Returns a text in lines of at most 119 columns; words and links are not cut."""
     return textwrap.fill(text, 119, initial_indent=first, subsequent_indent="  ", break_long_words=False,
                          break_on_hyphens=False)
 
 
 def page(crate):
-    """The page of a crate; nothing if it has no law."""
+    """Returns the page of a crate; nothing if it has no law."""
     text = ""
     sources = found("crates", crate, "src", "**", "*.rt")
     for path in sorted(sources, key=lambda path: (os.path.basename(path) != "laws.rt", path)):
@@ -122,24 +123,24 @@ def page(crate):
 
 
 def written():
-    """Each page with what has to stand there."""
+    """Returns each page with what has to stand there."""
     pages = {f"crates/{crate}/LAWS.md": page(crate) for crate in repository.stand_on()
              if not repository.is_for_tests(crate)}
     return {path: text for path, text in pages.items() if text}
 
 
 def of_no_laws(pages):
-    """The pages that are there of crates without a law."""
+    """Returns the pages that are there of crates without a law."""
     return [path for path in found("crates", "*", "LAWS.md") if path not in pages]
 
 
 def count(pages):
-    """How many laws these pages have."""
+    """Returns how many laws these pages have."""
     return sum(text.count("\n- **[") for text in pages.values())
 
 
 def faults_of(pages):
-    """The places in which the pages of the repository differ from these."""
+    """Returns the places in which the pages of the repository differ from these."""
     return repository.all_differences(pages) + [
         f"{path}:1: it is there; the sources have no law of this crate" for path in of_no_laws(pages)]
 

@@ -104,7 +104,7 @@ SECTION = {"requester": "2", "responder": "3"}
 
 
 def need(found, place, what):
-    """What was found, which must be there."""
+    """Returns what was found, which must be there."""
     if found is None:
         raise Unread(f"{place}: {what}")
     return found
@@ -113,7 +113,7 @@ def need(found, place, what):
 # The sources.
 
 def read_states():
-    """The states by their names in the code, as their bit and their name in the document."""
+    """Returns the states by their names in the code, as their bit and their name in the document."""
     text = read(f"{CORE}/state.rt")
     body = need(re.search(r"pub enum State \{\n(.*?)\n\}", text, re.S), f"{CORE}/state.rt", "it has no states")[1]
     names = dict(re.findall(r'State::(\w+) => "([^"]+)"', text))
@@ -122,7 +122,7 @@ def read_states():
 
 
 def constants(path, known, states):
-    """The masks that a source declares, and those that are known to it."""
+    """Returns the masks that a source declares, and those that are known to it."""
     masks = dict(known)
     for name, said in re.findall(r"const (\w+): u16 = ([^;]*);", read(path)):
         masks[name] = or_of([term_of(term.strip(), masks, states, f"{path}: {name}") for term in said.split("|")])
@@ -130,7 +130,7 @@ def constants(path, known, states):
 
 
 def or_of(masks):
-    """The bits of all masks."""
+    """Returns the bits of all masks."""
     result = 0
     for mask in masks:
         result |= mask
@@ -138,7 +138,7 @@ def or_of(masks):
 
 
 def term_of(term, masks, states, place):
-    """The mask that a term of an expression says."""
+    """Returns the mask that a term of an expression says."""
     shifted = re.fullmatch(r"1 << (?:State::(\w+) as u16|(\d+))", term)
     if shifted:
         return bit_of(shifted[1], states, place) if shifted[1] else 1 << int(shifted[2])
@@ -148,17 +148,17 @@ def term_of(term, masks, states, place):
 
 
 def bit_of(variant, states, place):
-    """The bit of a state that the code names."""
+    """Returns the bit of a state that the code names."""
     return need(states.get(variant), place, f"no state {variant}")[0]
 
 
 def mask_of(said, masks, place):
-    """The mask that an expression of names says."""
+    """Returns the mask that an expression of names says."""
     return or_of([need(masks.get(term.strip()), place, f"no mask {term.strip()}") for term in said.split("|")])
 
 
 def source_rows(table, masks, states):
-    """The rows of an array, by kind, as the code finds them."""
+    """Returns the rows of an array, by kind, as the code finds them."""
     path = f"{CORE}/{table.role}/{table.file}.rt"
     text = read(path)
     array = need(re.search(r"const ROWS: \[Row<Kind>; (\d+)\] = \[\n(.*?)\n\];", text, re.S), path, "it has no rows")
@@ -172,7 +172,7 @@ def source_rows(table, masks, states):
 
 
 def source_row(found, text, start, path, masks, states):
-    """A row of an array."""
+    """Returns a row of an array."""
     place = f"{path}:{text.count(chr(10), 0, start + found.start()) + 1}"
     cells = [cell.strip() for cell in found[1].split(",") if cell.strip()]
     if len(cells) != 5:
@@ -185,12 +185,12 @@ def source_row(found, text, start, path, masks, states):
 
 
 def row_of(place, kind, states, facts, then, changes):
-    """A row, in which a state that leads to itself stays."""
+    """Returns a row, in which a state that leads to itself stays."""
     return Row(place, kind, states, facts, "Stay" if then == states else then, changes)
 
 
 def by_kind(rows, places, kinds, path):
-    """The rows of each kind, from one beginning to the next."""
+    """Returns the rows of each kind, from one beginning to the next."""
     text = read(f"{CORE}/kind.rt")
     body = need(re.search(rf"pub enum {kinds} \{{\n(.*?)\n\}}", text, re.S), f"{CORE}/kind.rt", f"no {kinds}")[1]
     names = re.findall(r"^    (\w+),", body, re.M)
@@ -204,7 +204,7 @@ def by_kind(rows, places, kinds, path):
 
 
 def date_refusals():
-    """The refusal of each deed that its date forbids."""
+    """Returns the refusal of each deed that its date forbids."""
     text = read(f"{CORE}/responder/actions.rt")
     body = need(re.search(r"fn check_date\(.*?\n\}", text, re.S), f"{CORE}/responder/actions.rt", "no check_date")[0]
     arms = re.findall(r"Deed::(\w+)(?: \{[^}]*\})? =>[\s{]*check\(.*Refusal::(\w+)\)", body)
@@ -214,7 +214,7 @@ def date_refusals():
 # The document.
 
 def section(heading):
-    """The lines of a section, each with its number."""
+    """Yields the lines of a section, each with its number."""
     number, inside = 0, False
     for number, line in enumerate(read(PAGE).splitlines(), 1):
         if line.startswith("#"):
@@ -224,7 +224,7 @@ def section(heading):
 
 
 def table_lines(heading):
-    """The cells of each line of the table of a section, as many as its head has, with the place of the line."""
+    """Yields the cells of each line of the table of a section, as many as its head has, with the place of the line."""
     lines = [(f"{PAGE}:{number}", line[1:].rstrip().removesuffix("|").split("|"))
              for number, line in section(heading) if line.startswith("|")]
     for place, cells in lines[2:]:
@@ -234,7 +234,7 @@ def table_lines(heading):
 
 
 def later_states(role, names):
-    """The states of a role, and those of them that are SHIPPED or later: they stand from SHIPPED on."""
+    """Returns the states of a role, and those of them that are SHIPPED or later: they stand from SHIPPED on."""
     listed = [(place, cells[0].split(", ")[0]) for place, cells in table_lines(f"{SECTION[role]}.2 Its states")]
     masks = [need(names.get(name), place, f"no state {name}") for place, name in listed]
     later = [name for _, name in listed].index("SHIPPED")
@@ -242,7 +242,7 @@ def later_states(role, names):
 
 
 def conditions(cell, place, names, later):
-    """The states and the other conditions of a cell."""
+    """Returns the states and the other conditions of a cell."""
     said, states, others = cell, [], []
     words = {**dict.fromkeys(FACTS), "SHIPPED or later": later, "any other state": ANY, **names}
     while said:
@@ -257,7 +257,8 @@ def conditions(cell, place, names, later):
 
 
 def answer(cell, kind, place, names):
-    """What comes of a line: for each of its states, or for all (ANY), the answer, and the words of what changes."""
+    """Returns what comes of a line: for each of its states, or for all (ANY), the answer, and the words of what
+    changes."""
     if cell in ANSWERS:
         return [(ANY, ANSWERS[cell], [])]
     first, *changes = need(re.fullmatch(r"Taken: (.*)", cell), place, f"no answer: {cell}")[1].split(", ")
@@ -272,19 +273,19 @@ def answer(cell, kind, place, names):
 
 
 def changed(words, masks, place):
-    """The mask of what these words change."""
+    """Returns the mask of what these words change."""
     known = [need(CHANGES.get(word), place, f"no change: {word}") for word in words]
     return or_of([need(masks.get(name), place, f"the source has no {name}") for name in known if name])
 
 
 def asked_facts(words, masks, place):
-    """The mask of the facts that these words ask for."""
+    """Returns the mask of the facts that these words ask for."""
     names = [FACTS[word] for word in words if FACTS[word]]
     return or_of([need(masks.get(name), place, f"the source has no {name}") for name in names])
 
 
 def delivery_rows(table, masks, names, later):
-    """The rows that the lines of a table of deliveries say."""
+    """Yields the rows that the lines of a table of deliveries say."""
     kinds, before = [], None     # the kinds of the line above, and its states and facts without the answer
     for place, cells in table_lines(table.heading):
         if cells[0]:
@@ -300,7 +301,7 @@ def delivery_rows(table, masks, names, later):
 
 
 def action_rows(table, masks, names, later):
-    """The rows that the lines of a table of wishes or deeds say. A `;` in From parts two rows."""
+    """Yields the rows that the lines of a table of wishes or deeds say. A `;` in From parts two rows."""
     for place, cells in table_lines(table.heading):
         kind = need(table.words.get(cells[0]), place, f"no action: {cells[0]}")[0]
         to, *changes = cells[2].removesuffix(" (now declined)").split(", ")
@@ -315,7 +316,7 @@ def action_rows(table, masks, names, later):
 
 
 def picture_edges(role, names):
-    """The edges of the pictures of a role: the place, the label, and the two states."""
+    """Returns the edges of the pictures of a role: the place, the label, and the two states."""
     aliases = {name.replace("-", "_").replace("/", "_"): mask for name, mask in names.items()}
     written = {}
     for number, line in section(f"{SECTION[role]}.3 Its states in a picture"):
@@ -335,7 +336,7 @@ def picture_edges(role, names):
 
 
 def labelled(label, place):
-    """The kinds that a label names, each after the table that it is of."""
+    """Yields the kinds that a label names, each after the table that it is of."""
     for part in label.split(", or "):
         table = "actions" if part.startswith(("wish ", "deed ")) else "deliveries"
         for kind in need(LABELS.get(part), place, f"no label: {part}"):
@@ -345,7 +346,7 @@ def labelled(label, place):
 # The comparison.
 
 def spell(row, names, masks):
-    """What a row says, in the document's names of states and in the source's names of facts and changes."""
+    """Returns what a row says, in the document's names of states and in the source's names of facts and changes."""
     states = "any state" if row.states == ANY else ", ".join(name for name, bit in names.items() if row.states & bit)
     then = next((f"To {name}" for name, bit in names.items() if bit == row.then), row.then)
     facts = [name for name in dict.fromkeys(FACTS.values()) if row.facts & masks.get(name, NONE)]
@@ -354,7 +355,7 @@ def spell(row, names, masks):
 
 
 def compare_rows(table, source, written, names, masks):
-    """The faults of a table: each kind has the rows of its lines, in their order."""
+    """Returns the faults of a table: each kind has the rows of its lines, in their order."""
     lines = collections.defaultdict(list)
     for row in written:
         lines[row.kind].append(row)
@@ -371,7 +372,7 @@ def compare_rows(table, source, written, names, masks):
 
 
 def edges_of(table, rows):
-    """The changes of state in the rows of a table."""
+    """Yields the changes of state in the rows of a table."""
     for row in sum(rows.values(), []):
         if isinstance(row.then, int):
             for bit in range(16):
@@ -380,7 +381,7 @@ def edges_of(table, rows):
 
 
 def compare_edges(role, changes, written, names):
-    """The faults of the pictures of a role: they have each change of state, and no other."""
+    """Returns the faults of the pictures of a role: they have each change of state, and no other."""
     named = {bit: name for name, bit in names.items()}
     drawn = {(*kind, begin, end): place for (label, begin, end), place in written.items()
              for kind in labelled(label, place)}
@@ -392,14 +393,15 @@ def compare_edges(role, changes, written, names):
 
 
 def compare_states(role, states, rows, names):
-    """The faults of the list of states of a role: it has those that the rows name, and no other."""
+    """Returns the faults of the list of states of a role: it has those that the rows name, and no other."""
     seen = or_of([mask for row in rows for mask in (row.states, row.then) if isinstance(mask, int) and mask != ANY])
     return [f"{PAGE}, {SECTION[role]}.2: {name} is " + ("no state of a row" if states & bit else "missing")
             for name, bit in names.items() if (states ^ seen) & bit]
 
 
 def compare_verbs(role, rows, masks, names):
-    """The faults of the verbs of a role: each state has those of its rows, and no other; and each row has its line."""
+    """Returns the faults of the verbs of a role: each state has those of its rows, and no other; and each row has its
+    line."""
     faults, listed = [], set()
     for place, cells in table_lines(f"{SECTION[role]}.2 Its states"):
         states, others = conditions(cells[0], place, names, NONE)
@@ -414,7 +416,7 @@ def compare_verbs(role, rows, masks, names):
 
 
 def compare_dates():
-    """The faults of the last cell of each deed."""
+    """Returns the faults of the last cell of each deed."""
     refusals, faults = date_refusals(), []
     for place, cells in table_lines("3.4 Deeds"):
         refusal = refusals.get(DEEDS[cells[0]][0])
@@ -425,7 +427,7 @@ def compare_dates():
 
 
 def check_role(role, states):
-    """The faults of a role, with the numbers of its rows and edges."""
+    """Returns the faults of a role, with the numbers of its rows and edges."""
     names = {name: bit for bit, name in states.values()}
     common = constants(f"{CORE}/table.rt", {}, states)
     common = constants(f"{CORE}/{role}/standing.rt", common, states)

@@ -45,7 +45,7 @@ HELP_COMMAND = {"help": "Print the help of a command"}
 # What the sources say.
 
 def find(pattern, path):
-    """What a pattern finds in a source, which must be there."""
+    """Returns what a pattern finds in a source, which must be there."""
     found = re.search(pattern, read(path), re.S)
     if found is None:
         raise Unread(f"{path}: it has nothing like {pattern}")
@@ -53,13 +53,13 @@ def find(pattern, path):
 
 
 def function(name, text):
-    """The first function of this name that a text has, from its name to the end of its body."""
+    """Returns the first function of this name that a text has, from its name to the end of its body."""
     found = re.search(rf"(?ms)^( *)(?:pub(?:\([\w ]+\))? )?fn {name}\b.*?^\1\}}$", text)
     return found[0] if found else None
 
 
 def body(name, *paths):
-    """A function of the first of these sources that has it, from its name to the end of its body."""
+    """Returns a function of the first of these sources that has it, from its name to the end of its body."""
     found = next(filter(None, (function(name, read(path)) for path in paths)), None)
     if found is None:
         raise Unread(f"{', '.join(paths)}: no function {name}")
@@ -67,19 +67,19 @@ def body(name, *paths):
 
 
 def named(kind, text):
-    """The words that a text gives to the variants of a type."""
+    """Returns the words that a text gives to the variants of a type."""
     found = re.findall(rf'((?:{kind}::\w+(?:\(_\)| \{{[^}}]*\}})?(?: \| )?)+) => "([^"]+)"', text)
     return {name: word for names, word in found for name in re.findall(rf"{kind}::(\w+)", names)}
 
 
 def arms(text, indent):
-    """The variants of the arms of a match, each with the code after it; `_` stands for all others."""
+    """Returns the variants of the arms of a match, each with the code after it; `_` stands for all others."""
     found = re.findall(rf"(?ms)^ {{{indent}}}([\w:| ]+?) => (.*?)(?=^ {{{indent}}}\S|^ {{{indent - 4}}}\}})", text)
     return {name: code for names, code in found for name in re.findall(r"(?<=::)\w+|^_", names)}
 
 
 def part_of(kind, label, about, code):
-    """A part of a command line, as the code makes it of which `clap` is told."""
+    """Returns a part of a command line, as the code makes it of which `clap` is told."""
     valued = re.search(r'valued\(arg, "([\w-]+)", "(\w+)"\)', code)
     option = valued or re.search(r'\.long\("([\w-]+)"\)', code)
     value = re.search(r'\.value_name\("(\w+)"\)', code)
@@ -89,7 +89,7 @@ def part_of(kind, label, about, code):
 
 
 def parts():
-    """All parts of command lines by their variants: for one desk, and on a shelf."""
+    """Returns all parts of command lines by their variants: for one desk, and on a shelf."""
     of_arguments = read(LINE).partition("impl Argument {")[2]
     labels, abouts = (named("Argument", function(name, of_arguments)) for name in ("id", "help"))
     codes, on_shelf = (arms(body(name, LINE), 12) for name in ("arg", "arg_on_shelf"))
@@ -103,18 +103,18 @@ def parts():
 
 
 def kinds_of():
-    """The variants of the parts of each command, by the variant of the command."""
+    """Returns the variants of the parts of each command, by the variant of the command."""
     said = arms(body("arguments", LINE), 12)
     return {name: re.findall(r"Argument::(\w+)", code) for name, code in said.items()}
 
 
 def names_in(constant):
-    """The variants of the commands that a constant lists."""
+    """Returns the variants of the commands that a constant lists."""
     return re.findall(r"Name::(\w+),", find(rf"const {constant}: .*?\];", LINE)[0])
 
 
 def commands():
-    """The commands for one desk, or for none, and those on a shelf, each in the order of the help."""
+    """Returns the commands for one desk, or for none, and those on a shelf, each in the order of the help."""
     words, abouts = (named("Name", body(name, LINE)) for name in ("word", "about"))
     plain, shelved = parts()
     kinds, own = kinds_of(), named("Name", body("about_shelf", LINE))
@@ -129,7 +129,7 @@ def commands():
 
 
 def said_by(code, place):
-    """What code tells `clap` that a part of the command line is for."""
+    """Returns what code tells `clap` that a part of the command line is for."""
     found = re.search(r'\.(?:about|help)\("([^"]+)"\)', code)
     if found is None:
         raise Unread(f"{place}: nothing is said in {code}")
@@ -137,38 +137,38 @@ def said_by(code, place):
 
 
 def about(name):
-    """What a part of the command line is for that has a function of its own."""
+    """Returns what a part of the command line is for that has a function of its own."""
     return said_by(body(name, LINE), LINE)
 
 
 def explained():
-    """The option that stands before the command, or before the words of an action."""
+    """Returns the option that stands before the command, or before the words of an action."""
     return Part("Explain", "", "--explain", about("explain"))
 
 
 def general():
-    """The options of the program."""
+    """Returns the options of the program."""
     return [explained(), HELP_OPTION, VERSION_OPTION]
 
 
 def options():
-    """All options of commands, each once for each command that has it."""
+    """Returns all options of commands, each once for each command that has it."""
     return [part for some in commands() for command in some for part in command.parts if part.option]
 
 
 def text_of(name):
-    """A text of the help."""
+    """Returns a text of the help."""
     return find(rf'pub const {name}: &str = "(?:\\\n)?(.*?)";', HELP)[1].replace("\\\\", "\\")
 
 
 def groups():
-    """The groups of commands, as the help has them: the title, and the words."""
+    """Returns the groups of commands, as the help has them: the title, and the words."""
     rows = re.findall(r"(?m)^  ((?:for|to) \S.*?)  +(.*)$", text_of("ILL").partition("\n\n")[0])
     return [(title, said.partition(", which")[0].split(", ")) for title, said in rows]
 
 
 def table(name, head):
-    """The rows of a table of a text of the help, in two columns, under the line that ends in a head."""
+    """Returns the rows of a table of a text of the help, in two columns, under the line that ends in a head."""
     text = text_of(name)
     if text.count(head + "\n") != 1:
         raise Unread(f"{HELP}: {name} has not one line that ends in {head}")
@@ -187,72 +187,72 @@ def table(name, head):
 
 
 def ends():
-    """The rows of the list of exit statuses: the status, the text of the fault or `-`, and what it says."""
+    """Returns the rows of the list of exit statuses: the status, the text of the fault or `-`, and what it says."""
     rows = table("ILL", "The exit status, and the line of a fault on standard error after `ill: `:")
     return [(*re.split("  ", head, maxsplit=1), said) for head, said in rows]
 
 
 def verbs(role):
-    """The first words of the actions of a role."""
+    """Returns the first words of the actions of a role."""
     heads = re.findall(rf"(?m)^The words of a {role}\b.*:$", text_of("ACT"))
     return list(dict.fromkeys(row[0].split()[0] for row in table("ACT", heads[0])))
 
 
 def states():
-    """The names of the states."""
+    """Returns the names of the states."""
     return list(named("State", read(STATES)).values())
 
 
 # The man page.
 
 def escaped(text):
-    """A text for the man page in which no character is taken for a macro."""
+    """Returns a text for the man page in which no character is taken for a macro."""
     return text.replace("\\", "\\e").replace("-", "\\-")
 
 
 def roff(text):
-    """A text for the man page: words in backquotes and options are bold."""
+    """Returns a text for the man page: words in backquotes and options are bold."""
     text = re.sub(r"`([^`]+)`", r"\\fB\1\\fP", escaped(text))
     return re.sub(r"(?<![\w\\{-])((?:\\-){2}[a-z]+(?:\\-[a-z]+)*)", r"\\fB\1\\fP", text)
 
 
 def slanted(text):
-    """A text for the man page in which the words in capitals that stand for others are slanted."""
+    """Returns a text for the man page in which the words in capitals that stand for others are slanted."""
     known = CAPITALS | {part.label for some in commands() for command in some for part in command.parts} - {""}
     longest_first = "|".join(sorted(known, key=len, reverse=True))
     return re.sub(rf"(?<![\w\\-])({longest_first})(?![\w\\])", r"\\fI\1\\fP", roff(text))
 
 
 def bold(words):
-    """Words for the man page, in bold, with commas between them."""
+    """Returns words for the man page, in bold, with commas between them."""
     return ", ".join(f"\\fB{escaped(word)}\\fP" for word in words)
 
 
 def bold_head(row):
-    """The head of an entry: words of the program are bold, those in capitals are slanted."""
+    """Returns the head of an entry: words of the program are bold, those in capitals are slanted."""
     said = " ".join(f"\\fI{word}\\fP" if word.isupper() else word if word == "|" else bold([word])
                     for word in row.split())
     return re.sub(r"(?<=[a-z])\\fP \\fB(?=[a-z])|(?<=[A-Z])\\fP \\fI(?=[A-Z])", " ", said)
 
 
 def sentence(text):
-    """A text that begins with a capital and ends with a stop."""
+    """Returns a text that begins with a capital and ends with a stop."""
     return text[0].upper() + text[1:] + ("" if text.endswith(".") else ".")
 
 
 def filled(text):
-    """Lines of the man page, none of which is taken for a macro."""
+    """Returns lines of the man page, none of which is taken for a macro."""
     return [("\\&" if line[0] in ".'" else "") + line for line in
             textwrap.wrap(text, 118, break_on_hyphens=False, break_long_words=False)]
 
 
 def entry(head, text):
-    """An entry of a list of the man page."""
+    """Returns an entry of a list of the man page."""
     return [".TP", head, *filled(text)]
 
 
 def form(part):
-    """A part of a command line as a usage has it."""
+    """Returns a part of a command line as a usage has it."""
     if part.option:
         said = bold([part.option]) + (f" \\fI{part.label}\\fP" if part.label else "")
     else:
@@ -261,7 +261,7 @@ def form(part):
 
 
 def usage(command, before=""):
-    """The usage of a command: options that must be there, arguments, other options, and words up to the end."""
+    """Returns the usage of a command: options that must be there, arguments, other options, and words up to the end."""
     def place(part):
         return 3 if part.last else 2 * (not part.required) if part.option else 1
     said = " ".join([bold([before + command.word]), *map(form, sorted(command.parts, key=place))])
@@ -269,7 +269,7 @@ def usage(command, before=""):
 
 
 def listed_commands():
-    """All commands in their groups, each with what it does."""
+    """Returns all commands in their groups, each with what it does."""
     desk, shelf = commands()
     known = {command.word: entry(usage(command), f"{roff(command.about)}.") for command in desk}
     known["shelf"] = listed_shelf(set(known), shelf)
@@ -284,7 +284,8 @@ def listed_commands():
 
 
 def listed_shelf(of_desks, shelf):
-    """The commands on a shelf: those that a desk has too in a sentence, and the others each with what it does."""
+    """Returns the commands on a shelf: those that a desk has too in a sentence, and the others each with what it
+    does."""
     alike = [command.word for command in shelf if command.word in of_desks]
     said = (f"{roff(about('shelf'))}. It has {bold(alike[:-1])} and {bold(alike[-1:])}, with \\fIDIR\\fP in place of"
             " \\fIFILE\\fP.")
@@ -296,7 +297,7 @@ def listed_shelf(of_desks, shelf):
 
 
 def said_of(is_listed, head):
-    """The parts of command lines by their heads, each with what is said of it and of which commands."""
+    """Returns the parts of command lines by their heads, each with what is said of it and of which commands."""
     found = {}
     desk, shelf = commands()
     for before, some in (("", desk), ("shelf ", shelf)):
@@ -309,7 +310,7 @@ def said_of(is_listed, head):
 
 
 def listed_options():
-    """All options, those of the program first, each with what it does in which commands."""
+    """Returns all options, those of the program first, each with what it does in which commands."""
     lines = []
     for part in general():
         lines += entry(bold(filter(None, [part.letter, part.option])), f"{part.about}.")
@@ -320,7 +321,7 @@ def listed_options():
 
 
 def listed_statuses():
-    """The exit statuses, each with what it says, and with its faults in a sentence."""
+    """Returns the exit statuses, each with what it says, and with its faults in a sentence."""
     lines = []
     for status in dict.fromkeys(status for status, _, _ in ends()):
         said = [sentence(roff(text)) for of, fault, text in ends() if of == status and fault == "-"]
@@ -335,7 +336,7 @@ PARTS = {"commands": listed_commands, "options": listed_options, "statuses": lis
 
 
 def part_of_page(said):
-    """The lines of a part of the man page that its mark names."""
+    """Returns the lines of a part of the man page that its mark names."""
     if said in PARTS:
         return PARTS[said]()
     kind, _, rest = said.partition(" ")
@@ -347,12 +348,12 @@ def part_of_page(said):
 
 
 def by_hand(page):
-    """What is written by hand in the man page."""
+    """Returns what is written by hand in the man page."""
     return re.sub(rf"(?ms)^{re.escape(BEGIN)}.*?^{re.escape(END)}$", "", page)
 
 
 def bold_by_hand(page):
-    """The words that are bold in what is written by hand."""
+    """Returns the words that are bold in what is written by hand."""
     text = by_hand(page).replace("\\-", "-")
     return set(re.findall(r"\\fB(.*?)\\fP", " ".join(text.split()))) | set(re.findall(r"(?m)^\.B (.*)$", text))
 
@@ -364,7 +365,7 @@ def stands_in_help(word):
 
 
 def manual(old):
-    """The man page with its parts written anew."""
+    """Returns the man page with its parts written anew."""
     lines, at = [], None
     for line in old.splitlines():
         if line.startswith(BEGIN) and at is None:
@@ -386,7 +387,7 @@ def manual(old):
 # The completions.
 
 def rows():
-    """What may stand after each command: first none, then those for one desk, and those on a shelf."""
+    """Returns what may stand after each command: first none, then those for one desk, and those on a shelf."""
     desk, shelf = commands()
     found = [Row("", ["command"], general()), Row("help", ["command"], [])]
     found += [row_of(command.word, command) for command in desk]
@@ -395,14 +396,14 @@ def rows():
 
 
 def row_of(word, command):
-    """What may stand after a command."""
+    """Returns what may stand after a command."""
     of_desk = any(part.kind == "File" for part in command.parts)
     kinds = [kind_of(part, of_desk, word.startswith("shelf-")) for part in command.parts if not part.option]
     return Row(word, kinds, [*(part for part in command.parts if part.option), explained(), HELP_OPTION])
 
 
 def kind_of(part, of_desk, on_shelf):
-    """The kind of an argument: a loan only if there is a desk or a shelf that has it."""
+    """Returns the kind of an argument: a loan only if there is a desk or a shelf that has it."""
     if part.kind not in KINDS:
         raise Unread(f"{LINE}: no completion knows the argument {part.kind}")
     kind = KINDS[part.kind]
@@ -410,42 +411,42 @@ def kind_of(part, of_desk, on_shelf):
 
 
 def value_of(option):
-    """The kind of the value of an option, or nothing if it has none."""
+    """Returns the kind of the value of an option, or nothing if it has none."""
     if option.label and option.label not in VALUES:
         raise Unread(f"{LINE}: no completion knows the value {option.label} of {option.option}")
     return VALUES.get(option.label, "")
 
 
 def quoted(text):
-    """A text between the quotes of a shell."""
+    """Returns a text between the quotes of a shell."""
     return "'" + text.replace("'", r"'\''") + "'"
 
 
 def lowered(text):
-    """A text that begins with no capital."""
+    """Returns a text that begins with no capital."""
     return text[0].lower() + text[1:]
 
 
 def described(option):
-    """An option and its letter with what it does, as zsh reads it."""
+    """Returns an option and its letter with what it does, as zsh reads it."""
     return [quoted(f"{word}:{lowered(option.about)}") for word in (option.letter, option.option) if word]
 
 
 def offered(on_shelf=False):
-    """The commands that a shell offers, each with what it does."""
+    """Returns the commands that a shell offers, each with what it does."""
     desk, shelf = commands()
     found = {command.word: command.about for command in (shelf if on_shelf else desk)}
     return found | ({} if on_shelf else {"shelf": about("shelf")}) | HELP_COMMAND
 
 
 def wrapped(words, indent):
-    """Words in lines that are not too long."""
+    """Returns words in lines that are not too long."""
     return textwrap.fill(" ".join(words), 96, break_long_words=False, break_on_hyphens=False,
                          subsequent_indent=" " * indent)
 
 
 def cases(between, indent, line):
-    """A line for each kind of value that an option may have."""
+    """Returns a line for each kind of value that an option may have."""
     kinds = {}
     for option in options():
         kinds.setdefault(value_of(option), []).append(f"any-{option.option}")
@@ -454,13 +455,13 @@ def cases(between, indent, line):
 
 
 def common():
-    """What all completions name."""
+    """Returns what all completions name."""
     return {"requester": " ".join(verbs("requester")), "responder": " ".join(verbs("responder")),
             "roles": " ".join(parts()[0]["Role"].about.split(" or ")), "explain": explained().option}
 
 
 def of_bash():
-    """The words of the completion of bash."""
+    """Returns the words of the completion of bash."""
     lines = [f"    {row.word or quoted('')}) parts=({' '.join(row.kinds)})"
              f" options={quoted(' '.join(option.option for option in row.options))} ;;" for row in rows()]
     return common() | {
@@ -470,7 +471,7 @@ def of_bash():
 
 
 def of_zsh():
-    """The words of the completion of zsh."""
+    """Returns the words of the completion of zsh."""
     lines = []
     for row in rows():
         said = [word for option in row.options for word in described(option)]
@@ -485,17 +486,17 @@ def of_zsh():
 
 
 def rule(condition, rest):
-    """A line of the completion of fish: what it offers on a condition."""
+    """Returns a line of the completion of fish: what it offers on a condition."""
     return f"complete -c ill -n {in_fish(condition)} {rest}"
 
 
 def in_fish(text):
-    """A text between the quotes of fish."""
+    """Returns a text between the quotes of fish."""
     return f'"{text}"' if "'" in text else f"'{text}'"
 
 
 def of_fish():
-    """The words of the completion of fish."""
+    """Returns the words of the completion of fish."""
     known = [row._replace(word=row.word.removesuffix("-") or "''") for row in rows()]
     lines = []
     for on_shelf, at, of_help in ((False, "''", "help"), (True, "shelf", "shelf-help")):
@@ -524,7 +525,7 @@ def of_fish():
 
 
 def completion(text, words):
-    """A completion whose words stand in place of their names between @."""
+    """Returns a completion whose words stand in place of their names between @."""
     return re.sub(r"@(\w+)@", lambda found: words[found[1]], text.lstrip("\n"))
 
 
@@ -865,7 +866,7 @@ complete -c ill -f
 
 
 def written():
-    """Each file with what has to stand there."""
+    """Returns each file with what has to stand there."""
     return {"completions/ill.bash": completion(BASH, of_bash()), "completions/_ill": completion(ZSH, of_zsh()),
             "completions/ill.fish": completion(FISH, of_fish()), MAN: manual(read(MAN))}
 

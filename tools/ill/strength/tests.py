@@ -24,10 +24,12 @@ def known():
 
 
 def written_by(folder, cases, arguments):
-    """Returns what the program of tests in this folder writes of the cases, or None if it does not run to its end."""
+    """Returns what the program of tests in this folder writes of the cases. It must run to its end."""
     words = {"input": cases, "capture_output": True, "encoding": "utf-8", "check": False}
     ran = subprocess.run(["rt", "try", *arguments], cwd=folder, **words)
-    return ran.stdout if "run=ended" in ran.stderr else None
+    if "run=ended" not in ran.stderr:
+        raise BadEdit(f"its program does not run: {' '.join(ran.stderr.split())[-300:]}")
+    return ran.stdout
 
 
 def cases_of(key, value, crate):
@@ -54,11 +56,9 @@ def judge(crate, name):
             shutil.copy(full(file), copy)
         try:
             change(copy, pairs_of(others))
+            written = written_by(f"{copy}/crates/{crate}", cases, arguments)
         except BadEdit as bad:
             return str(bad)
-        written = written_by(f"{copy}/crates/{crate}", cases, arguments)
-    if written is None:
-        return "its program does not run"
     return "NOT REFUSED" if written == cases else "refused"
 
 

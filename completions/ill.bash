@@ -1,5 +1,5 @@
 # Completion of ill(1) in bash: commands, options, roles, files, their loans, and the first words of actions.
-# Written by tools/make-words: change the text there, and run `make words`.
+# Written by tools/ill/texts/words.py: change the text there, and run `make words`.
 
 # A word of the line as a command sees it: without quotes and backslashes, and with the home folder for `~/`.
 _ill_text() {

@@ -1,5 +1,5 @@
 # Completion of ill(1) in fish: commands, options, roles, files, their loans, and the first words of actions.
-# Written by tools/make-words: change the text there, and run `make words`.
+# Written by tools/ill/texts/words.py: change the text there, and run `make words`.
 
 # The words before the cursor, without the option that may stand before the command. A command of a shelf is one word,
 # such as `shelf-act`.

@@ -7,7 +7,7 @@ ghost use Rattle.ill_saved.specs.Holdings.{SendsHeld};
 ghost use Rattle.ill_saved.specs.ManySides.{found_by, txn_held};
 
 use anyhow::{Context, Result, bail};
-use ill_core::{Deed, Taking, is_ill_request};
+use ill_core::{Deed, Taking};
 use ill_der::{read_apdu, write_bytes};
 use ill_saved::{Action, Desk, DeskFault, FileLock, FileStore, RECORD_LIMIT, Role, Store};
 use ill_values::{AnswerResult, Apdu, Body, Day, Item, Number};
@@ -63,7 +63,7 @@ fn answer_each<S: Store>(rt: &HostRuntime, desk: &mut Desk<S>, today: Day) -> Re
 /// Takes `apdu`, and writes the reply to it, if it is a request.
 fn answer<S: Store>(rt: &HostRuntime, desk: &mut Desk<S>, today: Day, apdu: &Apdu) -> Result<()> {
     take(rt.alloc(), desk, today, apdu)?;
-    if is_ill_request(&apdu.body) {
+    if apdu.body.is_ill_request() {
         write_bytes(&mut rt.stdout(), &reply(rt.alloc(), desk, apdu)?)?;
     }
     Ok(())

@@ -15,7 +15,7 @@ use Rattle.ill_values.specs.declared.apdu.Apdu.{Apdu}
 use Rattle.ill_values.specs.declared.apdu.Body.{Body}
 use Rattle.ill_core.specs.declared.refusal.Refusal.TheVariants.{NumbersUsed}
 use Rattle.ill_core.specs.Numbers.{is_equal_number}
-use Rattle.ill_core.specs.Bodies.{is_cancel, is_renew, is_ill_request}
+use Rattle.ill_values.specs.Bodies.{is_cancel, is_renew, is_ill_request}
 use Rattle.ill_core.specs.Issued.{is_message_with, number_of_cancel, number_of_renew, next_number, with_next, next_apdu}
 use Rattle.ill_core.specs.Issued.{are_numbered}
 use Rattle.ill_core.specs.Issued.{is_same_txn, has_message_with, last_of}

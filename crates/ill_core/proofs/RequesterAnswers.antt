@@ -13,7 +13,7 @@ use Rattle.ill_core.specs.declared.state.State.{State}
 use Rattle.ill_core.specs.declared.state.State.TheVariants.{Pending, Conditional}
 use Rattle.ill_core.specs.State.{is_among}
 use Rattle.ill_core.specs.Numbers.{is_at_most, is_below, are_distinct}
-use Rattle.ill_core.specs.Bodies.{declines, accepts}
+use Rattle.ill_values.specs.Bodies.{declines, accepts}
 use Rattle.ill_core.specs.Issued.{has_message_with, accepted_in, last_of, with_next, next_apdu}
 use Rattle.ill_core.specs.Requester.{RequesterRecord, requester_of, accepted_number}
 use Rattle.ill_core.specs.RequesterEvidence.{AnswersOnce, replies, replied_number, Holds}

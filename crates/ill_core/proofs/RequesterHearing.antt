@@ -15,7 +15,7 @@ use Rattle.ill_core.specs.declared.refusal.Refusal.TheVariants.{OtherTransaction
 use Rattle.ill_core.specs.State.{is_among}
 use Rattle.ill_core.specs.Rules.{implies}
 use Rattle.ill_core.specs.Numbers.{is_at_most}
-use Rattle.ill_core.specs.Bodies.{is_renew, is_requesters}
+use Rattle.ill_values.specs.Bodies.{is_renew, is_requesters}
 use Rattle.ill_core.specs.Dates.{is_due_on, is_after_due}
 use Rattle.ill_core.specs.Issued.{is_same_txn, is_message_with}
 use Rattle.ill_core.specs.Answers.{unless_refused}

@@ -13,7 +13,7 @@ use Rattle.ill_core.specs.declared.requester.Wish.{Wish}
 use Rattle.ill_core.specs.declared.requester.Wish.TheVariants as wishes
 use Rattle.ill_core.specs.State.{is_among}
 use Rattle.ill_core.specs.Rules.{implies}
-use Rattle.ill_core.specs.Bodies.{declines, is_requesters, is_ill_request, is_cancel, is_received, is_renew, is_returned}
+use Rattle.ill_values.specs.Bodies.{declines, is_requesters, is_ill_request, is_cancel, is_received, is_renew, is_returned}
 use Rattle.ill_core.specs.Issued.{has_message_with, is_none, with_next, next_apdu}
 use Rattle.ill_core.specs.Requester.{RequesterRecord, requester_of}
 use Rattle.ill_core.specs.RequesterRules.{RequesterRules, PartsFit, IssuedFit}

@@ -15,7 +15,7 @@ use Rattle.ill_core.specs.declared.taking.Taking.{Taking}
 use Rattle.ill_core.specs.declared.refusal.Refusal.{Refusal}
 use Rattle.ill_core.specs.State.{is_among}
 use Rattle.ill_core.specs.Numbers.{is_at_most, is_equal_number}
-use Rattle.ill_core.specs.Bodies.{is_cancel, is_renew, is_requesters, is_unsupplied}
+use Rattle.ill_values.specs.Bodies.{is_cancel, is_renew, is_requesters, is_unsupplied}
 use Rattle.ill_core.specs.Dates.{is_after_due, is_due_on}
 use Rattle.ill_core.specs.Issued.{first_refusal, is_message_with}
 use Rattle.ill_core.specs.Answers.{unless_refused}

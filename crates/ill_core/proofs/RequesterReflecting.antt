@@ -13,7 +13,7 @@ use Rattle.ill_core.specs.declared.requester.Wish.{Wish}
 use Rattle.ill_core.specs.State.{is_among}
 use Rattle.ill_core.specs.Dates.{is_same_day, is_due_on}
 use Rattle.ill_core.specs.Numbers.{is_equal_number}
-use Rattle.ill_core.specs.Bodies.{is_renew, accepts}
+use Rattle.ill_values.specs.Bodies.{is_renew, accepts}
 use Rattle.ill_core.specs.Issued.{is_message_with, next_apdu, accepted_in, number_of_renew}
 use Rattle.ill_core.specs.Requester.{RequesterRecord, IsRequester, later, accepted_number, last_renew}
 use Rattle.ill_core.specs.RequesterActions.{Transition, acts, record_after}

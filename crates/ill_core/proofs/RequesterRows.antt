@@ -18,7 +18,7 @@ use Rattle.ill_core.specs.declared.taking.Taking.{Taking}
 use Rattle.ill_core.specs.declared.taking.Taking.TheVariants as takings
 use Rattle.ill_core.specs.State.{is_among}
 use Rattle.ill_core.specs.Numbers.{is_at_most, is_equal_number}
-use Rattle.ill_core.specs.Bodies.{is_requesters, is_cancel, is_renew, declines, accepts}
+use Rattle.ill_values.specs.Bodies.{is_requesters, is_cancel, is_renew, declines, accepts}
 use Rattle.ill_core.specs.Issued.{first_refusal, is_message_with, has_message_with, next_number, next_apdu, number_of_cancel}
 use Rattle.ill_core.specs.Issued.{last_of}
 use Rattle.ill_core.specs.RequesterRules.{RequesterRules}

@@ -19,11 +19,12 @@ use Rattle.ill_core.specs.declared.requester.Wish.{Wish}
 use Rattle.ill_core.specs.declared.requester.Wish.TheVariants as wishes
 use Rattle.ill_core.specs.declared.taking.Taking.{Taking}
 use Rattle.ill_core.specs.Answers.{taken, stale, conflict}
-use Rattle.ill_core.specs.Bodies.{is_renew, is_received, declines}
+use Rattle.ill_values.specs.Bodies.{is_renew, is_received, declines}
 use Rattle.ill_core.specs.Dates.{is_after_due}
 use Rattle.ill_core.specs.Issued.{is_message_with, has_message_with, next_number, with_next}
 use Rattle.ill_core.specs.Numbers.{is_equal_number}
-use Rattle.ill_core.specs.Kinds.{wish_kind, responder_kind, number_in, date_in}
+use Rattle.ill_core.specs.Kinds.{wish_kind, responder_kind, number_in}
+use Rattle.ill_values.specs.Bodies.{date_in}
 use Rattle.ill_core.specs.Tables as tables
 use Rattle.ill_core.specs.Tables.{taking_of, next_state, fits}
 use Rattle.ill_core.specs.Requester.{RequesterRecord, requester_of, IsRequester, last_renew}

@@ -16,7 +16,7 @@ use Rattle.ill_core.specs.declared.responder.Deed.{Deed}
 use Rattle.ill_core.specs.State.{is_among}
 use Rattle.ill_core.specs.Dates.{is_before, is_after_due}
 use Rattle.ill_core.specs.Numbers.{is_at_most}
-use Rattle.ill_core.specs.Bodies.{grant_in}
+use Rattle.ill_values.specs.Bodies.{grant_in}
 use Rattle.ill_core.specs.Issued.{message, granted_day, last_of, next_apdu}
 use Rattle.ill_core.specs.Responder.{ResponderRecord, IsResponder, later, due_of, are_rising}
 use Rattle.ill_core.specs.ResponderRules.{ResponderRules}

@@ -16,8 +16,8 @@ use Rattle.ill_core.specs.State.{is_among}
 use Rattle.ill_core.specs.Dates.{is_after_due}
 use Rattle.ill_core.specs.Rules.{implies}
 use Rattle.ill_core.specs.Numbers.{is_equal_number, is_at_most}
-use Rattle.ill_core.specs.Bodies.{is_ill_request, is_requesters, is_shipped, is_checked_in, names_conditions, is_renewal}
-use Rattle.ill_core.specs.Bodies.{grant_in}
+use Rattle.ill_values.specs.Bodies.{is_ill_request, is_requesters, is_shipped, is_checked_in, names_conditions, is_renewal}
+use Rattle.ill_values.specs.Bodies.{grant_in}
 use Rattle.ill_core.specs.Issued.{next_number, is_message_with, is_same_txn, next_apdu, granted_day}
 use Rattle.ill_core.specs.ResponderRules.{ResponderRules, IssuedFits, PartsFit}
 use Rattle.ill_core.proofs.Rules.{responder_rules, is_responder}

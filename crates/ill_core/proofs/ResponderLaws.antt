@@ -17,7 +17,7 @@ use Rattle.ill_core.specs.declared.responder.Deed.{Deed}
 use Rattle.ill_core.specs.State.{is_among}
 use Rattle.ill_core.specs.Rules.{implies}
 use Rattle.ill_core.specs.Numbers.{is_at_most, is_below}
-use Rattle.ill_core.specs.Bodies.{is_shipped, is_ill_request, is_requesters}
+use Rattle.ill_values.specs.Bodies.{is_shipped, is_ill_request, is_requesters}
 use Rattle.ill_core.specs.Issued.{has_message_with, first_refusal, with_next, next_apdu, IssuesNext}
 use Rattle.ill_core.specs.Responder.{ResponderRecord, IsResponder}
 use Rattle.ill_core.specs.ResponderActions.{acts, issues_to}

@@ -17,7 +17,7 @@ use Rattle.ill_core.specs.declared.state.State.{State}
 use Rattle.ill_core.specs.declared.state.State.TheVariants.{Idle}
 use Rattle.ill_core.specs.State.{is_among}
 use Rattle.ill_core.specs.Dates.{is_after_due}
-use Rattle.ill_core.specs.Bodies.{is_shipped, is_renewal, names_conditions, grant_in}
+use Rattle.ill_values.specs.Bodies.{is_shipped, is_renewal, names_conditions, grant_in}
 use Rattle.ill_core.specs.Issued.{is_message_with, granted_day, last_of}
 use Rattle.ill_core.specs.Responder.{is_after_last, rise_from, ships_first, ends_with_conditions, is_named, is_request_of}
 use Rattle.ill_core.specs.Responder.{request_in}

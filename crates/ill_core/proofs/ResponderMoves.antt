@@ -17,7 +17,7 @@ use Rattle.ill_core.specs.declared.taking.Taking.{Taking}
 use Rattle.ill_core.specs.State.{is_among}
 use Rattle.ill_core.specs.Rules.{implies}
 use Rattle.ill_core.specs.Numbers.{is_equal_number, is_at_most}
-use Rattle.ill_core.specs.Bodies.{is_requesters, names_conditions}
+use Rattle.ill_values.specs.Bodies.{is_requesters, names_conditions}
 use Rattle.ill_core.specs.Issued.{first_refusal, next_apdu, is_message_with, is_same_txn}
 use Rattle.ill_core.specs.Responder.{ResponderRecord, later, outstanding_number}
 use Rattle.ill_core.specs.Answers.{unless_refused}

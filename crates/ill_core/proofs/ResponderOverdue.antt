@@ -17,7 +17,7 @@ use Rattle.ill_core.specs.declared.state.State.TheVariants.{Returned, CheckedIn}
 use Rattle.ill_core.specs.declared.responder.Deed.{Deed}
 use Rattle.ill_core.specs.State.{is_among}
 use Rattle.ill_core.specs.Dates.{is_same_day, is_before, is_after_due}
-use Rattle.ill_core.specs.Bodies.{grant_in}
+use Rattle.ill_values.specs.Bodies.{grant_in}
 use Rattle.ill_core.specs.Issued.{message, has_message_with, last_of, granted_day, next_apdu}
 use Rattle.ill_core.specs.Responder.{ResponderRecord, IsResponder, later, due_of}
 use Rattle.ill_core.specs.ResponderRules.{ResponderRules}

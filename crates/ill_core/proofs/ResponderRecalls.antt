@@ -11,7 +11,7 @@ use Rattle.ill_core.specs.declared.state.State.{State}
 use Rattle.ill_core.specs.declared.state.State.TheVariants.{NotSupplied, Recall, Returned, CheckedIn}
 use Rattle.ill_core.specs.declared.responder.Deed.{Deed}
 use Rattle.ill_core.specs.State.{is_among}
-use Rattle.ill_core.specs.Bodies.{is_shipped}
+use Rattle.ill_values.specs.Bodies.{is_shipped}
 use Rattle.ill_core.specs.Issued.{message, has_message_with, next_apdu}
 use Rattle.ill_core.specs.Responder.{ResponderRecord}
 use Rattle.ill_core.specs.ResponderActions.{Transition, acts, issues_to}

@@ -19,7 +19,7 @@ use Rattle.ill_core.specs.declared.taking.Taking.{Taking}
 use Rattle.ill_core.specs.declared.taking.Taking.TheVariants.{Taken}
 use Rattle.ill_core.specs.State.{is_among}
 use Rattle.ill_core.specs.Numbers.{is_equal_number, is_at_most}
-use Rattle.ill_core.specs.Bodies.{is_requesters, names_conditions, declines, is_shipped}
+use Rattle.ill_values.specs.Bodies.{is_requesters, names_conditions, declines, is_shipped}
 use Rattle.ill_core.specs.Issued.{first_refusal, next_number, is_message_with}
 use Rattle.ill_core.specs.Responder.{ResponderRecord, responder_of, later, outstanding_number}
 use Rattle.ill_core.specs.Answers.{unless_refused}

@@ -7,7 +7,7 @@ use Rattle.ill_values.specs.TxnId.{Qualifiers}
 use Rattle.ill_values.specs.declared.apdu.Apdu.{Apdu}
 use Rattle.ill_values.specs.declared.apdu.Body.{Body}
 use Rattle.ill_values.specs.Day.{Date}
-use Rattle.ill_core.specs.Bodies.{is_cancel, is_renew, is_end, grant_in, accepts}
+use Rattle.ill_values.specs.Bodies.{is_cancel, is_renew, is_end, grant_in, accepts}
 use Rattle.ill_core.specs.declared.issued.Sought.{Sought}
 use Rattle.ill_core.specs.declared.issued.Sought.TheVariants.{Accepted, CancelNumber, RenewNumber, EndNumber}
 use Rattle.ill_core.specs.declared.refusal.Refusal.{Refusal}

@@ -1,6 +1,5 @@
 -- Defines the kinds of messages that the tables distinguish (this profile's own).
 use Rattle.std.specs.Prelude.{ℕ, true, false, Option, Some, None}
-use Rattle.ill_values.specs.Day.{Date}
 use Rattle.ill_values.specs.declared.apdu.Apdu.{Apdu}
 use Rattle.ill_values.specs.declared.apdu.Body.{Body}
 use Rattle.ill_values.specs.declared.apdu.Body.TheVariants as types
@@ -21,13 +20,6 @@ number_in a (types.ConditionalReply answers is_yes) = answers
 number_in a (types.CancelReply answers is_yes) = answers
 number_in a (types.RenewAnswer answers granted) = answers
 number_in a other = a.number
-
--- Returns the due date that an APDU states, or `None`.
-abbrev pub date_in : Body → Option Date
-date_in (types.Shipped due) = Some due
-date_in (types.Overdue due) = Some due
-date_in (types.RenewAnswer answers granted) = granted
-date_in other = None
 
 -- Returns the index of a requester's kind in the order of `RequesterKind`, from 0.
 abbrev pub requester_place : RequesterKind → ℕ

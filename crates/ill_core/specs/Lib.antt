@@ -2,10 +2,10 @@ pub mod State
 pub mod Dates
 pub mod Kinds
 pub mod Tables
+pub mod Words
 pub mod Answers
 pub mod Rules
 pub mod Numbers
-pub mod Bodies
 pub mod Issued
 pub mod Requester
 pub mod RequesterRules

@@ -11,7 +11,7 @@ use Rattle.ill_core.specs.declared.state.State.TheVariants.{NotReceivedOverdue, 
 use Rattle.ill_core.specs.declared.requester.standing.Standing.{Standing}
 use Rattle.ill_core.specs.State.{is_among}
 use Rattle.ill_core.specs.Rules.{implies, are_alike}
-use Rattle.ill_core.specs.Bodies.{declines, is_requesters, is_ill_request, is_cancel, is_received, is_renew, is_returned}
+use Rattle.ill_values.specs.Bodies.{declines, is_requesters, is_ill_request, is_cancel, is_received, is_renew, is_returned}
 use Rattle.ill_core.specs.Issued.{is_none, are_numbered, has_message_with, last_of, number_of_cancel, number_of_renew}
 use Rattle.ill_core.specs.Issued.{accepted_in}
 

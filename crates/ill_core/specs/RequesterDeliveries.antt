@@ -16,7 +16,7 @@ use Rattle.ill_core.specs.State.{is_among}
 use Rattle.ill_core.specs.Answers.{taken, repeat, stale, conflict, unless_refused}
 use Rattle.ill_core.specs.Dates.{is_due_on, is_after_due}
 use Rattle.ill_core.specs.Numbers.{is_equal_number, is_at_most}
-use Rattle.ill_core.specs.Bodies.{is_cancel, is_renew, is_requesters}
+use Rattle.ill_values.specs.Bodies.{is_cancel, is_renew, is_requesters}
 use Rattle.ill_core.specs.Issued.{is_message_with, first_refusal}
 use Rattle.ill_core.specs.Requester.{RequesterRecord, accepted_number, last_cancel, last_renew, later}
 

@@ -8,7 +8,7 @@ use Rattle.ill_values.specs.declared.apdu.Body.TheVariants as types
 use Rattle.ill_core.specs.declared.state.State.TheVariants as states
 use Rattle.ill_core.specs.State.{is_among}
 use Rattle.ill_core.specs.Numbers.{is_equal_number, is_at_most, is_below, are_distinct}
-use Rattle.ill_core.specs.Bodies.{is_cancel, declines, is_final}
+use Rattle.ill_values.specs.Bodies.{is_cancel, declines, is_final}
 use Rattle.ill_core.specs.Issued.{is_message_with, has_message_with}
 use Rattle.ill_core.specs.Requester.{RequesterRecord, accepted_number, last_cancel, later}
 use Rattle.ill_core.specs.Dates.{is_after_due}

@@ -11,7 +11,7 @@ use Rattle.ill_core.specs.State.{is_among}
 use Rattle.ill_core.specs.Rules.{implies}
 use Rattle.ill_core.specs.Dates.{is_same_day, is_due_on, is_before, is_after_due}
 use Rattle.ill_core.specs.Numbers.{is_equal_number, is_at_most}
-use Rattle.ill_core.specs.Bodies.{is_renew}
+use Rattle.ill_values.specs.Bodies.{is_renew}
 use Rattle.ill_core.specs.Issued.{is_message_with}
 use Rattle.ill_core.specs.Requester.{RequesterRecord, accepted_number, last_cancel, last_renew}
 

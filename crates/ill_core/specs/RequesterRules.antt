@@ -8,7 +8,7 @@ use Rattle.ill_core.specs.declared.state.State.TheVariants.{Received, RenewPendi
 use Rattle.ill_core.specs.declared.state.State.TheVariants.{CheckedIn}
 use Rattle.ill_core.specs.State.{is_among}
 use Rattle.ill_core.specs.Rules.{implies}
-use Rattle.ill_core.specs.Bodies.{declines, is_requesters, is_cancel, is_received, is_renew, is_returned}
+use Rattle.ill_values.specs.Bodies.{declines, is_requesters, is_cancel, is_received, is_renew, is_returned}
 use Rattle.ill_core.specs.Issued.{is_none, are_numbered, has_message_with}
 use Rattle.ill_core.specs.Requester.{RequesterRecord, later, begins_with_request}
 

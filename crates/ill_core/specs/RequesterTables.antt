@@ -14,11 +14,12 @@ use Rattle.ill_core.specs.declared.requester.deliveries.TheConstants as delivery
 use Rattle.ill_core.specs.declared.requester.actions.TheConstants as wish
 use Rattle.ill_core.specs.declared.requester.Wish.{Wish}
 use Rattle.ill_core.specs.declared.requester.Wish.TheVariants as wishes
-use Rattle.ill_core.specs.Bodies.{is_cancel, is_renew}
+use Rattle.ill_values.specs.Bodies.{is_cancel, is_renew}
 use Rattle.ill_core.specs.Dates.{is_due_on, is_after_due}
 use Rattle.ill_core.specs.Numbers.{is_equal_number, is_at_most}
 use Rattle.ill_core.specs.Issued.{is_message_with}
-use Rattle.ill_core.specs.Kinds.{responder_kind, responder_place, requester_place, wish_kind, number_in, date_in}
+use Rattle.ill_core.specs.Kinds.{responder_kind, responder_place, requester_place, wish_kind, number_in}
+use Rattle.ill_values.specs.Bodies.{date_in}
 use Rattle.ill_core.specs.Tables.{Guard, has_common_bit, next_state, fits}
 use Rattle.ill_core.specs.Requester.{RequesterRecord, accepted_number, is_declined, is_received_by, last_cancel, last_renew}
 

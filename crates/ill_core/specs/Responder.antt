@@ -13,7 +13,7 @@ use Rattle.ill_core.specs.declared.responder.standing.Standing.{Standing}
 use Rattle.ill_core.specs.State.{is_among}
 use Rattle.ill_core.specs.Dates.{is_after_due}
 use Rattle.ill_core.specs.Rules.{implies, are_alike}
-use Rattle.ill_core.specs.Bodies.{is_requesters, is_ill_request, is_shipped, is_checked_in, names_conditions, is_renewal}
+use Rattle.ill_values.specs.Bodies.{is_requesters, is_ill_request, is_shipped, is_checked_in, names_conditions, is_renewal}
 use Rattle.ill_core.specs.Issued.{are_numbered, is_same_txn, has_message_with, is_message_with, last_of, is_none, granted_day}
 use Rattle.ill_core.specs.Issued.{number_of_end}
 

@@ -14,7 +14,7 @@ use Rattle.ill_core.specs.declared.taking.Taking.TheVariants.{Taken}
 use Rattle.ill_core.specs.State.{is_among}
 use Rattle.ill_core.specs.Answers.{taken, repeat, stale, conflict, unless_refused}
 use Rattle.ill_core.specs.Numbers.{is_equal_number, is_at_most}
-use Rattle.ill_core.specs.Bodies.{names_conditions, is_requesters}
+use Rattle.ill_values.specs.Bodies.{names_conditions, is_requesters}
 use Rattle.ill_core.specs.Issued.{is_message_with, first_refusal, next_number}
 use Rattle.ill_core.specs.Responder.{ResponderRecord, outstanding_number, later}
 use Rattle.ill_core.specs.ResponderActions.{issues_to}

@@ -16,8 +16,8 @@ use Rattle.ill_core.specs.declared.taking.Taking.{Taking}
 use Rattle.ill_core.specs.declared.taking.Taking.TheVariants.{Taken, Repeat}
 use Rattle.ill_core.specs.State.{is_among}
 use Rattle.ill_core.specs.Numbers.{is_at_most, is_below, are_distinct}
-use Rattle.ill_core.specs.Bodies.{is_shipped, is_cancel, is_renew, declines}
-pub use Rattle.ill_core.specs.Bodies.{is_unsupplied, is_cancelled, is_end}
+use Rattle.ill_values.specs.Bodies.{is_shipped, is_cancel, is_renew, declines}
+pub use Rattle.ill_values.specs.Bodies.{is_unsupplied, is_cancelled, is_end}
 use Rattle.ill_core.specs.Issued.{has_message_with, with_next}
 use Rattle.ill_core.specs.Responder.{ResponderRecord, later}
 

@@ -13,7 +13,7 @@ use Rattle.ill_core.specs.State.{is_among}
 use Rattle.ill_core.specs.Rules.{implies}
 use Rattle.ill_core.specs.Dates.{is_same_day, is_before}
 use Rattle.ill_core.specs.Numbers.{is_equal_number, is_at_most}
-use Rattle.ill_core.specs.Bodies.{is_shipped}
+use Rattle.ill_values.specs.Bodies.{is_shipped}
 use Rattle.ill_core.specs.Issued.{message, has_message_with}
 use Rattle.ill_core.specs.Responder.{ResponderRecord, due_of, outstanding_number, later}
 use Rattle.ill_core.specs.ResponderEvidence.{Question, MayCancel, MayRenew, last_asked, answers_to}

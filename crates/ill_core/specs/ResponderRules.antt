@@ -7,7 +7,7 @@ use Rattle.ill_core.specs.declared.state.State.TheVariants.{Idle, Pending, Condi
 use Rattle.ill_core.specs.declared.state.State.TheVariants.{RenewPending, RenewOverdue, NotReceivedOverdue, CheckedIn}
 use Rattle.ill_core.specs.State.{is_among}
 use Rattle.ill_core.specs.Rules.{implies}
-use Rattle.ill_core.specs.Bodies.{is_requesters, is_shipped, is_checked_in}
+use Rattle.ill_values.specs.Bodies.{is_requesters, is_shipped, is_checked_in}
 use Rattle.ill_core.specs.Issued.{are_numbered, has_message_with, is_none, granted_day}
 use Rattle.ill_core.specs.Responder.{ResponderRecord, later, are_rising, ships_first, ends_with_conditions, is_named}
 use Rattle.ill_core.specs.Responder.{is_request_of}

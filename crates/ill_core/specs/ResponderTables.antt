@@ -20,7 +20,7 @@ use Rattle.ill_core.specs.declared.table.Row.{Row}
 use Rattle.ill_core.specs.declared.responder.standing.TheConstants.{ACCEPTS, CANCELS, RENEWS, RECEIVES, KEEPS, ENDS}
 use Rattle.ill_core.specs.declared.responder.actions.TheConstants as action
 use Rattle.ill_core.specs.declared.responder.deliveries.TheConstants as delivery
-use Rattle.ill_core.specs.Bodies.{names_conditions}
+use Rattle.ill_values.specs.Bodies.{names_conditions}
 use Rattle.ill_core.specs.Dates.{is_before, is_after_due}
 use Rattle.ill_core.specs.Numbers.{is_equal_number, is_at_most}
 use Rattle.ill_core.specs.Issued.{is_message_with, next_number, with_next}

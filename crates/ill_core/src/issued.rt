@@ -3,9 +3,8 @@
 ghost use Rattle.std.specs.Prelude.{◌≡◌, ◌≤◌, ◌<◌, ◌==◌, ◌&&◌, true, length, take, [], Ok, Some, is_some, IfOk, IfErr, IfSome, OnOk, OnErr, option_map};
 ghost use Rattle.ill_core.specs.declared.refusal.Refusal.TheVariants as refusals;
 ghost use Rattle.ill_core.specs.Issued.{IssuedList, is_same_txn, are_numbered, message, next_number, with_next, first_refusal, Admits, last_of, sought_number, granted_day, has_message_with};
-ghost use Rattle.ill_core.specs.Bodies.{is_ill_request, is_received, is_cancel, is_renew, is_returned, is_checked_in, declines};
+ghost use Rattle.ill_values.specs.Bodies.{is_ill_request, is_received, is_cancel, is_renew, is_returned, is_checked_in, declines};
 
-use crate::body::{grant_in, is_end, is_ill_request};
 use crate::refusal::Refusal;
 use ill_values::{Apdu, Body, Day, Number, TxnId};
 use std::alloc::Global;
@@ -52,7 +51,7 @@ impl Sought {
             (Sought::Accepted, Body::ConditionalReply { answers, yes: true }) => Some(*answers),
             (Sought::CancelNumber, Body::Cancel) => Some(apdu.number),
             (Sought::RenewNumber, Body::Renew { .. }) => Some(apdu.number),
-            (Sought::EndNumber, body) if is_end(body) => Some(apdu.number),
+            (Sought::EndNumber, body) if body.is_end() => Some(apdu.number),
             _ => None,
         }
     }
@@ -172,7 +171,7 @@ impl Issued {
         ensures memory { IfErr result (λ refusal. refusal ≡ refusals.OutOfMemory) }
     {
         let txn = self.txn.copy(alloc)?;
-        let granted = grant_in(&body).or(self.granted);
+        let granted = body.grant().or(self.granted);
         self.apdus.push(Apdu { txn, number, body })?;
         self.granted = granted;
         Ok(())
@@ -199,7 +198,7 @@ fn last_granted(apdus: &[Apdu]) -> Option<Day>
 {
     let mut last = None;
     for apdu in apdus {
-        last = grant_in(&apdu.body).or(last);
+        last = apdu.body.grant().or(last);
     }
     last
 }
@@ -229,7 +228,7 @@ fn is_message(apdu: &Apdu, txn: &TxnId, number: usize) -> bool
 pub fn has_ill_request(apdus: &[Apdu]) -> bool
     ensures { result ≡ has_message_with is_ill_request apdus.now }
 {
-    apdus.iter().any(|apdu| is_ill_request(&apdu.body))
+    apdus.iter().any(|apdu| apdu.body.is_ill_request())
 }
 
 /// Returns true if `apdus` has a Received.

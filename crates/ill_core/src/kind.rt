@@ -1,7 +1,7 @@
 //! Defines the kinds of messages that the tables distinguish.
 
 ghost use Rattle.std.specs.Prelude.{◌≡◌, ◌<◌, Some, None, IsSome};
-ghost use Rattle.ill_core.specs.Kinds.{requester_kind, responder_kind, answer_kind, requester_place, responder_place, number_in, date_in};
+ghost use Rattle.ill_core.specs.Kinds.{requester_kind, responder_kind, answer_kind, requester_place, responder_place, number_in};
 
 use ill_values::{AnswerResult, Apdu, Body, Day, Number};
 
@@ -131,17 +131,6 @@ pub fn number_in(apdu: &Apdu) -> Number
         | Body::CancelReply { answers, .. }
         | Body::RenewAnswer { answers, .. } => *answers,
         _ => apdu.number,
-    }
-}
-
-/// Returns the due date that a message states, or `None`.
-pub fn date_in(body: &Body) -> Option<Day>
-    ensures { result ≡ date_in body.now }
-{
-    match body {
-        Body::Shipped { due } | Body::Overdue { due } => Some(*due),
-        Body::RenewAnswer { granted, .. } => *granted,
-        _ => None,
     }
 }
 

@@ -4,7 +4,6 @@
 //! side.
 #![tactic(auto)]
 
-mod body;
 mod date;
 mod issued;
 mod kind;
@@ -19,7 +18,6 @@ mod taking;
 mod turn;
 mod verb;
 
-pub use body::{is_ill_request, is_requesters};
 pub use refusal::Refusal;
 pub use requester::standing::Standing as RequesterStanding;
 pub use requester::{Requester, Wish};

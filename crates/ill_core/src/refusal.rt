@@ -2,6 +2,7 @@
 
 ghost use Rattle.std.specs.Prelude.{◌≡◌};
 ghost use Rattle.ill_core.specs.declared.refusal.Refusal.TheVariants.{OutOfMemory};
+ghost use Rattle.ill_core.specs.Words.{refusal_name};
 
 use crate::state::State;
 use std::alloc::{AllocError, AllocFailed};
@@ -39,6 +40,25 @@ pub enum Refusal {
     /// Memory ran out.
     #[error("out of memory")]
     OutOfMemory,
+}
+
+impl Refusal {
+    /// Returns the name of the refusal, as `not-now`.
+    pub fn name(self) -> &'static str
+        ensures { result.now ≡ refusal_name self }
+    {
+        match self {
+            Refusal::OtherTransaction => "other-transaction",
+            Refusal::WrongRole => "wrong-role",
+            Refusal::NotNow(_) => "not-now",
+            Refusal::DateEarlier => "date-earlier",
+            Refusal::DateNotLater => "date-not-later",
+            Refusal::NotDue => "not-due",
+            Refusal::NotExpired => "not-expired",
+            Refusal::NumbersUsed => "numbers-used",
+            Refusal::OutOfMemory => "memory",
+        }
+    }
 }
 
 impl From<AllocError> for Refusal {

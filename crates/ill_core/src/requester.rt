@@ -16,7 +16,6 @@ ghost use Rattle.ill_core.specs.RequesterDeliveries.{Takes};
 ghost use Rattle.ill_core.specs.declared.turn.Turn.TheVariants.{Mine};
 ghost use Rattle.ill_core.specs.Verbs.{wish_verb, is_verb_among, is_now, requester_verbs, requester_turn};
 
-use crate::body::is_requesters;
 use crate::issued::{Issued, Sought, are_numbered, has_declined, has_received};
 use crate::refusal::Refusal;
 use crate::state::State;
@@ -184,7 +183,7 @@ impl Requester {
         ensures takes { Takes self.old apdu.now result self.new }
         ensures memory { result ≡ Err refusals.OutOfMemory → ⊥ }
     {
-        self.issued.admit(apdu, is_requesters(&apdu.body))?;
+        self.issued.admit(apdu, apdu.body.is_requesters())?;
         Ok(deliveries::take_message(self, apdu))
     }
 

@@ -16,7 +16,6 @@ ghost use Rattle.ill_values.specs.Day.{Date};
 ghost use Rattle.ill_core.specs.declared.turn.Turn.TheVariants.{Mine};
 ghost use Rattle.ill_core.specs.Verbs.{deed_verb, is_verb_among, is_now, responder_verbs, responder_turn};
 
-use crate::body::is_requesters;
 use crate::issued::{Issued, Sought, are_numbered};
 use crate::refusal::Refusal;
 use crate::state::State;
@@ -207,7 +206,7 @@ impl Responder {
     pub fn take(&mut self, alloc: Global, apdu: &Apdu) -> Result<Taking, Refusal>
         ensures { Takes self.old apdu.now result self.new }
     {
-        self.issued.admit(apdu, !is_requesters(&apdu.body))?;
+        self.issued.admit(apdu, !apdu.body.is_requesters())?;
         deliveries::take_message(self, alloc, apdu)
     }
 

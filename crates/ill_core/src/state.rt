@@ -1,10 +1,13 @@
 //! Defines the states of a side.
 
 ghost use Rattle.std.specs.Prelude.{◌≡◌, Some};
+ghost use Rattle.std.specs.Result.{result_ok};
 ghost use Rattle.std.specs.Fmt.{padded};
 ghost use Rattle.ill_core.specs.State.{state_name, state_named};
 
+use ill_values::UnknownName;
 use std::fmt;
+use std::str::FromStr;
 
 /// The state of one side of a transaction. It is displayed by its name, as `NOT-SUPPLIED`.
 #[derive(Clone, Copy, Debug, PartialEq, Eq, Hash)]
@@ -98,6 +101,17 @@ impl State {
             .iter()
             .copied()
             .find(|state| state.name().as_bytes() == text)
+    }
+}
+
+/// Reads the name of a state, as `State::read` does.
+impl FromStr for State {
+    type Err = UnknownName;
+
+    ghost from_str_gives = { λ text result. result_ok result ≡ state_named text };
+
+    fn from_str(text: &str) -> Result<State, UnknownName> {
+        State::read(text.as_bytes()).ok_or(UnknownName)
     }
 }
 

@@ -1,10 +1,13 @@
 //! Defines the verbs: the first words of all actions.
 
 ghost use Rattle.std.specs.Prelude.{◌≡◌, Some};
+ghost use Rattle.std.specs.Result.{result_ok};
 ghost use Rattle.std.specs.Fmt.{padded};
 ghost use Rattle.ill_core.specs.Verbs.{verb_name, verb_named};
 
+use ill_values::UnknownName;
 use std::fmt;
+use std::str::FromStr;
 
 /// The first word of an action of a library. It is displayed by its name, as `cancel-reply`.
 #[derive(Clone, Copy, Debug, PartialEq, Eq, Hash)]
@@ -88,6 +91,17 @@ impl Verb {
             .iter()
             .copied()
             .find(|verb| verb.name().as_bytes() == text)
+    }
+}
+
+/// Reads the name of a verb, as `Verb::read` does.
+impl FromStr for Verb {
+    type Err = UnknownName;
+
+    ghost from_str_gives = { λ text result. result_ok result ≡ verb_named text };
+
+    fn from_str(text: &str) -> Result<Verb, UnknownName> {
+        Verb::read(text.as_bytes()).ok_or(UnknownName)
     }
 }
 

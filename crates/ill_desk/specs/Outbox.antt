@@ -31,7 +31,7 @@ use Rattle.ill_desk.specs.declared.verdict.Unfit.{Unfit}
 use Rattle.ill_desk.specs.Inbox.{message_in}
 use Rattle.ill_text.specs.Input.{AreIn}
 use Rattle.ill_text.specs.Output.{WritesText}
-use Rattle.ill_words.specs.Names.{role_name}
+use Rattle.ill_saved.specs.Roles.{role_name}
 
 -- ---- the messages that ask
 

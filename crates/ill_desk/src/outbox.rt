@@ -11,7 +11,6 @@ use ill_text::fault::ToolFault;
 use ill_text::input::apdus_in;
 use ill_text::output::write_whole;
 use ill_values::{Apdu, Number, OutOfMemory, TxnId};
-use ill_words::names::role_name;
 use ill_words::sides::{HeldSide, all_held};
 use ill_words::wants_sending;
 use sha2::{Digest, Sha256};
@@ -209,7 +208,7 @@ fn loan_text(alloc: Global, role: Role, txn: &TxnId) -> Result<Vec<u8>, OutOfMem
     ensures { IfOk result (λ text. text.items ≡ loan_text role txn.now) }
 {
     let mut text = Vec::new(alloc);
-    push_line(&mut text, role_name(role).as_bytes())?;
+    push_line(&mut text, role.name().as_bytes())?;
     push_line(&mut text, txn.group())?;
     push_line(&mut text, txn.transaction())?;
     Ok(text)

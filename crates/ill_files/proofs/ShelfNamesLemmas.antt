@@ -16,7 +16,7 @@ use Rattle.ill_saved.specs.declared.role.Role.{Role}
 use Rattle.ill_saved.specs.declared.role.Role.TheVariants.{Requester, Responder}
 use Rattle.ill_files.specs.declared.shelf.TheConstants.{ESCAPED}
 use Rattle.ill_files.specs.ShelfNames.{IsDeskName, desk_name, group_in}
-use Rattle.ill_words.specs.Names.{role_name}
+use Rattle.ill_saved.specs.Roles.{role_name}
 
 -- A printable character is less than 256.
 printable_is_byte : (b : ℕ) → is_printable b ≡ true → b < 256

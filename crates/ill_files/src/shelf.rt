@@ -14,7 +14,6 @@ use ill_desk::inbox::message_in;
 use ill_saved::{DeskFault, Role};
 use ill_text::fault::{STORE_FAILED, ToolFault};
 use ill_values::{OutOfMemory, TxnId};
-use ill_words::names::role_name;
 use percent_encoding::{AsciiSet, NON_ALPHANUMERIC, ascii_set, percent_decode, percent_encode};
 use std::alloc::Global;
 use std::io;
@@ -47,7 +46,7 @@ pub fn desk_name(alloc: Global, role: Role, group: &[u8]) -> Result<String, OutO
     let mut name = String::new(alloc);
     percent_encode(group, ESCAPED).append_to(&mut name)?;
     name.push_str(".")?;
-    name.push_str(role_name(role))?;
+    name.push_str(role.name())?;
     Ok(name)
 }
 
@@ -169,7 +168,7 @@ pub(crate) fn is_desk_name(alloc: Global, role: Role, name: &str) -> Result<bool
 fn group_in(alloc: Global, role: Role, name: &str) -> Result<Vec<u8>, OutOfMemory>
     ensures { IfOk result (λ group. group.items ≡ group_in role name.now) }
 {
-    let ending = role_name(role).len();
+    let ending = role.name().len();
     let stem = name.len().saturating_sub(ending).saturating_sub(1);
     let mut group = Vec::new(alloc);
     percent_decode(&name.as_bytes()[..stem]).append_to(&mut group)?;

@@ -13,7 +13,7 @@ use Rattle.ill_core.specs.declared.refusal.Refusal.{Refusal}
 use Rattle.ill_core.specs.declared.refusal.Refusal.TheVariants as refusals
 use Rattle.ill_core.specs.declared.taking.Taking.{Taking}
 use Rattle.ill_core.specs.declared.taking.Taking.TheVariants.{Taken}
-use Rattle.ill_core.specs.Bodies.{is_ill_request, is_requesters}
+use Rattle.ill_values.specs.Bodies.{is_ill_request, is_requesters}
 use Rattle.ill_core.specs.declared.state.State.TheVariants.{Idle}
 use Rattle.ill_core.specs.Answers.{unless_refused}
 use Rattle.ill_core.specs.Responder.{ResponderRecord, responder_of}

@@ -19,7 +19,7 @@ use Rattle.ill_der.specs.Laws.{IsBytes}
 use Rattle.ill_core.specs.declared.state.State.{State}
 use Rattle.ill_core.specs.declared.state.State.TheVariants.{Idle, Pending, InProcess, Received, NotReceivedOverdue, CheckedIn}
 use Rattle.ill_core.specs.State.{is_among}
-use Rattle.ill_core.specs.Bodies.{is_ill_request}
+use Rattle.ill_values.specs.Bodies.{is_ill_request}
 use Rattle.ill_core.specs.Issued.{is_same_txn}
 use Rattle.ill_core.specs.Responder.{is_request_of}
 use Rattle.ill_saved.specs.declared.fault.LayoutFault.TheVariants.{Bad}

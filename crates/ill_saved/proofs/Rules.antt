@@ -6,7 +6,7 @@ use Rattle.ill_core.specs.declared.state.State.TheVariants.{Idle, Pending, InPro
 use Rattle.ill_core.specs.declared.state.State.TheVariants.{RenewPending, RenewOverdue, NotReceivedOverdue, CheckedIn}
 use Rattle.ill_core.specs.State.{is_among}
 use Rattle.ill_core.specs.Rules.{implies, are_alike}
-use Rattle.ill_core.specs.Bodies.{is_requesters}
+use Rattle.ill_values.specs.Bodies.{is_requesters}
 use Rattle.ill_core.specs.Issued.{are_numbered, is_none, granted_day}
 use Rattle.ill_core.specs.Requester as requester
 use Rattle.ill_core.specs.Responder as responder

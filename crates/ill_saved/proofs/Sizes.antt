@@ -16,7 +16,7 @@ use Rattle.ill_values.specs.declared.apdu_type.ApduType.TheVariants.{IllRequest}
 use Rattle.ill_values.specs.Types.{type_of}
 use Rattle.ill_der.specs.ShortForm.{spelling}
 use Rattle.ill_core.specs.declared.state.State.{State}
-use Rattle.ill_core.specs.Bodies.{is_ill_request, is_requesters}
+use Rattle.ill_values.specs.Bodies.{is_ill_request, is_requesters}
 use Rattle.ill_core.specs.Issued.{has_message_with}
 use Rattle.ill_core.specs.Requester.{begins_with_request}
 use Rattle.ill_saved.specs.declared.side.Side.{Side}

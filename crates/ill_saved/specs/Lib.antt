@@ -1,3 +1,4 @@
+pub mod Roles
 pub mod Side
 pub mod SideVerbs
 pub mod Sides

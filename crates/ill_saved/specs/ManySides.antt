@@ -9,7 +9,7 @@ use Rattle.ill_core.specs.declared.refusal.Refusal.{Refusal}
 use Rattle.ill_core.specs.declared.refusal.Refusal.TheVariants.{WrongRole}
 use Rattle.ill_core.specs.declared.taking.Taking.{Taking}
 use Rattle.ill_core.specs.declared.taking.Taking.TheVariants.{Taken}
-use Rattle.ill_core.specs.Bodies.{is_ill_request, is_requesters}
+use Rattle.ill_values.specs.Bodies.{is_ill_request, is_requesters}
 use Rattle.ill_saved.specs.declared.role.Role.{Role}
 use Rattle.ill_saved.specs.declared.role.Role.TheVariants.{Requester, Responder}
 use Rattle.ill_saved.specs.declared.side.Side.{Side}

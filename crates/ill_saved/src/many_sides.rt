@@ -1,7 +1,7 @@
 //! The sides of one library in many transactions, as a desk holds them.
 
 ghost use Rattle.std.specs.Prelude.{◌≡◌, ◌≤◌, true, false, None, length, nat_lt, option_map, IfOk, IfErr, OnOk};
-ghost use Rattle.ill_core.specs.Bodies.{is_ill_request};
+ghost use Rattle.ill_values.specs.Bodies.{is_ill_request};
 ghost use Rattle.ill_saved.specs.declared.fault.DeskFault.TheVariants as desks;
 ghost use Rattle.ill_saved.specs.Side.{issued_of, txn_of, idle_side, role_for, begins, IsConsistent, IsSideTransition};
 ghost use Rattle.ill_saved.specs.Ranges.{Each};
@@ -21,7 +21,7 @@ use crate::role::Role;
 use crate::shown::Shown;
 use crate::side::{Action, Side};
 use crate::sides::{SIDES_LIMIT, Sides};
-use ill_core::{Refusal, Taking, is_ill_request, is_requesters};
+use ill_core::{Refusal, Taking};
 use ill_der::encode;
 use ill_values::{Apdu, Body, Number, OutOfMemory, TxnId};
 use std::alloc::Global;
@@ -109,7 +109,7 @@ impl ManySides {
     {
         laws::rows_grow();
         ill_core::laws::responder_has_begun();
-        self.may_begin(is_ill_request(&apdu.body))?;
+        self.may_begin(apdu.body.is_ill_request())?;
         let side = first_take(alloc, self.sides.role(), apdu)?;
         self.hold(alloc, side)?;
         Ok(Taking::Taken)
@@ -292,8 +292,8 @@ fn is_own(role: Role, body: &Body) -> bool
     ensures { result ≡ is_own role body.now }
 {
     match role {
-        Role::Requester => is_requesters(body),
-        Role::Responder => !is_requesters(body),
+        Role::Requester => body.is_requesters(),
+        Role::Responder => !body.is_requesters(),
     }
 }
 

@@ -1,6 +1,7 @@
 //! The sides of one library: one in each of many transactions, all of one role.
 
-ghost use Rattle.std.specs.Prelude.{◌≡◌, ◌≤◌, ◌<◌, ◌++◌, [], ◌∷◌, length, position, slice_get, option_copied, None, Some, true, OnOk, OnErr, IfErr, IfSome};
+ghost use Rattle.std.specs.Prelude.{◌≡◌, ◌≤◌, ◌<◌, ◌++◌, ◌==◌, [], ◌∷◌, length, position, slice_get, option_copied, None, Some, true, OnOk, OnErr, IfErr, IfSome};
+ghost use Rattle.std.specs.Map.Iter.{ShowsInOrder, deref};
 ghost use Rattle.indexmap.specs.IndexMap.{get, keys, values};
 ghost use Rattle.ill_core.specs.Issued.{is_same_txn};
 ghost use Rattle.ill_saved.specs.Side.{txn_of, Acts, Takes};
@@ -13,6 +14,7 @@ use crate::side::{Action, Side};
 use ill_core::{Refusal, Taking};
 use ill_values::{Apdu, OutOfMemory, TxnId};
 use indexmap::IndexMap;
+use indexmap::map::Values;
 use std::alloc::Global;
 use std::marker::Model;
 
@@ -98,6 +100,14 @@ impl Sides {
         self.map.get_index(place).map(|(_, side)| side)
     }
 
+    /// Returns the sides, in the order in which they were put.
+    pub fn iter(&self) -> Values<'_, TxnId, Side>
+        ensures rest { result ≡ self.now.sides }
+        ensures runs { ShowsInOrder (deref {X = Side}) }
+    {
+        self.map.values()
+    }
+
     /// Returns the place of the side of `txn`, if it is held.
     pub(crate) fn place(&self, txn: &TxnId) -> Option<usize>
         ensures place { result ≡ position (λ side. is_same_txn txn.now (txn_of side)) self.now.sides }
@@ -136,6 +146,13 @@ impl Sides {
         ensures held { may_be_held self.now ≡ true }
     {
         self.map.len()
+    }
+
+    /// Returns true if there is no side.
+    pub fn is_empty(&self) -> bool
+        ensures { result ≡ (length self.now.sides == 0) }
+    {
+        self.len() == 0
     }
 
     /// Returns the role of all sides.

@@ -19,7 +19,7 @@ use Rattle.ill_show.specs.declared.wanted.Wanted.{Wanted}
 use Rattle.ill_show.specs.declared.counts.Counts.{Counts}
 use Rattle.ill_show.specs.declared.row.Columns.{Columns}
 use Rattle.ill_text.specs.Escape.{escaped}
-use Rattle.ill_words.specs.Names.{turn_word}
+use Rattle.ill_core.specs.Words.{turn_name}
 use Rattle.ill_words.specs.Possible.{possible_on, request_of, item_asked}
 use Rattle.ill_words.specs.Waiting.{is_turn, is_sooner, turn_on, waits_by_date}
 
@@ -113,7 +113,7 @@ verbs_cell false today side = []
 -- Returns the line of a loan with the turn `turn` on the day `today`.
 unfoldable pub row : Columns → Option Date → Turn → Side → List ℕ
 row columns today turn side =
-    cell 6 (turn_word turn) ++ cell 20 (state_name (state_of side))
+    cell 6 (turn_name turn) ++ cell 20 (state_name (state_of side))
     ++ cell 8 (due_text (due_date_of side)) ++ cell columns.group (column (txn_of side).group)
     ++ cell columns.transaction (column (txn_of side).transaction) ++ verbs_cell columns.has_verbs today side
     ++ title_text (item_asked (request_of side)) ++ codes "\n"

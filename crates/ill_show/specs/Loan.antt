@@ -21,12 +21,12 @@ use Rattle.ill_text.specs.Lines.{line, reply_word, shown_lines}
 use Rattle.ill_words.specs.Possible.{possible_on, request_of}
 use Rattle.ill_show.specs.Status.{status_lines, spaced_or_dash}
 use Rattle.ill_text.specs.Output.{WritesText}
-use Rattle.ill_words.specs.Names.{turn_word}
+use Rattle.ill_core.specs.Words.{turn_name}
 
 -- Returns the lines of the library that acts next, and of the actions that the side may do now on some day.
 abbrev pub turn_lines : Side → List ℕ
 turn_lines side =
-    line (codes "next") (turn_word (turn_of side))
+    line (codes "next") (turn_name (turn_of side))
     ++ line (codes "now") (spaced_or_dash (map verb_name (possible_on None side)))
 
 -- Returns the lines of the item and the expiry date of a request.

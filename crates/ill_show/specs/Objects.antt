@@ -18,7 +18,8 @@ use Rattle.ill_text.specs.declared.form.Form.TheVariants.{Lines, Json}
 use Rattle.ill_show.specs.declared.counts.Counts.{Counts}
 use Rattle.ill_text.specs.Json.{Field, array, day, flag, object, optional, quoted}
 use Rattle.ill_show.specs.Status.{status_lines, marks_of}
-use Rattle.ill_words.specs.Names.{role_name, turn_word}
+use Rattle.ill_core.specs.Words.{turn_name}
+use Rattle.ill_saved.specs.Roles.{role_name}
 use Rattle.ill_words.specs.Possible.{possible_on, request_of, item_asked}
 use Rattle.ill_text.specs.ApduObject.{object_line, apdu_fields}
 
@@ -64,7 +65,7 @@ names_of today side = map verb_name (possible_on today side)
 -- Returns the fields of the library that acts next, the actions `names`, the item and the expiry date.
 abbrev pub turn_fields : Side → List (List ℕ) → List Field
 turn_fields side names =
-    (codes "next", quoted (turn_word (turn_of side))) ∷ (codes "now", array quoted names)
+    (codes "next", quoted (turn_name (turn_of side))) ∷ (codes "now", array quoted names)
     ∷ (codes "item", optional quoted (item_asked (request_of side)))
     ∷ (codes "expiry", optional day (expiry_of (request_of side))) ∷ []
 
@@ -113,7 +114,7 @@ file_fields (Some path) = (codes "file", quoted path) ∷ []
 -- Returns the fields of a listed loan of this turn, with the actions `names`.
 abbrev pub row_fields : Turn → Side → List (List ℕ) → List Field
 row_fields turn side names =
-    (codes "next", quoted (turn_word turn)) ∷ (codes "state", quoted (state_name (state_of side)))
+    (codes "next", quoted (turn_name turn)) ∷ (codes "state", quoted (state_name (state_of side)))
     ∷ (codes "due", optional day (due_date_of side)) ∷ (codes "group", quoted (txn_of side).group)
     ∷ (codes "transaction", quoted (txn_of side).transaction) ∷ (codes "now", array quoted names)
     ∷ (codes "item", optional quoted (item_asked (request_of side))) ∷ []

@@ -7,7 +7,7 @@ use Rattle.ill_values.specs.declared.apdu.Apdu.{Apdu}
 use Rattle.ill_values.specs.declared.apdu.Body.{Body}
 use Rattle.ill_values.specs.declared.apdu.Body.TheVariants.{IllRequest, ConditionalReply, CancelReply, Shipped, Received}
 use Rattle.ill_values.specs.declared.apdu.Body.TheVariants.{Returned, CheckedIn, Renew, RenewAnswer}
-use Rattle.ill_core.specs.Bodies.{is_requesters}
+use Rattle.ill_values.specs.Bodies.{is_requesters}
 use Rattle.ill_saved.specs.declared.side.Side.{Side}
 use Rattle.ill_saved.specs.declared.side.Side.TheVariants.{Requester, Responder}
 use Rattle.ill_saved.specs.Side.{issued_of}

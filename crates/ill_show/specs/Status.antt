@@ -11,7 +11,7 @@ use Rattle.ill_saved.specs.Holdings.{DeskEntry}
 use Rattle.ill_words.specs.Words.{spaced}
 use Rattle.ill_words.specs.Shown.{due_text}
 use Rattle.ill_text.specs.Lines.{line, id_lines}
-use Rattle.ill_words.specs.Names.{role_name}
+use Rattle.ill_saved.specs.Roles.{role_name}
 
 -- Returns the mark `word` if the Bool is true, else nothing.
 abbrev pub mark : Bool → List ℕ → List (List ℕ)

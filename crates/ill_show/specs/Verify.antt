@@ -14,7 +14,7 @@ use Rattle.ill_saved.specs.declared.fault.DeskFault.TheVariants.{NoRecord, Saved
 use Rattle.ill_text.specs.declared.fault.ToolFault.{ToolFault}
 use Rattle.ill_text.specs.declared.fault.ToolFault.TheVariants.{Desk, OutOfMemory}
 use Rattle.ill_text.specs.Lines.{line, number_line}
-use Rattle.ill_words.specs.Names.{role_name}
+use Rattle.ill_saved.specs.Roles.{role_name}
 use Rattle.ill_text.specs.Fault.{desk_fault}
 use Rattle.ill_text.specs.Output.{WritesText}
 

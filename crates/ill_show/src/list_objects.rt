@@ -10,7 +10,7 @@ use ill_core::Turn;
 use ill_saved::Side;
 use ill_text::json::{Value, push_members, push_plain};
 use ill_values::{Day, OutOfMemory};
-use ill_words::names::{names, turn_word};
+use ill_words::names::names;
 use ill_words::possible::possible_on;
 
 /// Appends the object of the loan of `side` on the day `today`, on a line. It has the path `file` of the desk, if it
@@ -75,7 +75,7 @@ fn push_row_with<'a>(
         text,
         b"",
         &[
-            ("next", Value::Text(turn_word(turn).as_bytes())),
+            ("next", Value::Text(turn.name().as_bytes())),
             ("state", Value::Text(side.state().name().as_bytes())),
             ("due", Value::day(side.due())),
             ("group", Value::Text(side.txn().group())),

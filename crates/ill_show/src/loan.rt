@@ -6,7 +6,7 @@ ghost use Rattle.ill_saved.specs.ManySides.{found_by, txn_held};
 ghost use Rattle.ill_text.specs.Output.{WritesText};
 ghost use Rattle.ill_words.specs.Possible.{request_of};
 ghost use Rattle.ill_show.specs.Loan.{RunsLoan, item_lines, loan_lines, marked_lines, message_lines, optional_number_line, request_lines, side_lines, taken_lines, turn_lines};
-ghost use Rattle.ill_words.specs.Names.{turn_word};
+ghost use Rattle.ill_core.specs.Words.{turn_name};
 
 use crate::status::{push_day_or_dash, push_status, push_words};
 use ill_saved::{Desk, Desk1, DeskFault, Side, Store};
@@ -14,7 +14,7 @@ use ill_text::fault::ToolFault;
 use ill_text::lines::{push_item, push_line, push_number, push_shown, push_whether};
 use ill_text::output::write_whole;
 use ill_values::{Apdu, Body, Number, OutOfMemory, TxnId};
-use ill_words::names::{names, turn_word};
+use ill_words::names::names;
 use ill_words::possible::{possible_on, request};
 use std::alloc::Global;
 use std::io::Write;
@@ -87,7 +87,7 @@ fn push_side(lines: &mut Vec<u8>, side: &Side, released: u8) -> Result<(), OutOf
 fn push_turn(lines: &mut Vec<u8>, side: &Side) -> Result<(), OutOfMemory>
     ensures { OnOk result (lines.new.items ≡ lines.old.items ++ turn_lines side.now) }
 {
-    push_line(lines, "next", turn_word(side.turn()).as_bytes())?;
+    push_line(lines, "next", side.turn().name().as_bytes())?;
     let alloc = *lines.allocator();
     let names = names(alloc, &possible_on(alloc, None, side)?)?;
     push_words(lines, "now", &names)

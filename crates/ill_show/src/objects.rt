@@ -12,7 +12,7 @@ use ill_text::apdu_object::push_apdu;
 use ill_text::json::{Value, push_label, push_members, push_plain};
 use ill_text::lines::view;
 use ill_values::{Apdu, OutOfMemory};
-use ill_words::names::{names, role_name, turn_word};
+use ill_words::names::names;
 use ill_words::possible::{expiry, item_asked, possible_on};
 
 /// Appends the object of `status` for `side`, on a line.
@@ -53,7 +53,7 @@ fn push_standing<'a>(
         text,
         b"",
         &[
-            ("role", Value::Text(role_name(side.role()).as_bytes())),
+            ("role", Value::Text(side.role().name().as_bytes())),
             ("group", Value::Text(side.txn().group())),
             ("transaction", Value::Text(side.txn().transaction())),
             ("state", Value::Text(side.state().name().as_bytes())),
@@ -125,7 +125,7 @@ fn push_now<'a>(text: &mut Vec<u8>, side: &'a Side, names: &'a [&'a str]) -> Res
         text,
         b",",
         &[
-            ("next", Value::Text(turn_word(side.turn()).as_bytes())),
+            ("next", Value::Text(side.turn().name().as_bytes())),
             ("now", Value::Words(names)),
             ("item", title(side)),
             ("expiry", Value::day(expiry(side))),

@@ -7,7 +7,6 @@ ghost use Rattle.ill_show.specs.Kept.{RunsKeptLoan, WritesKept};
 ghost use Rattle.ill_show.specs.Picture.{answers, arrow, arrows, comes_before, drawn, drawn_byte, is_linked, is_plain, label_of, picture, picture_of, theirs_of, through, arrow_of, with_own, with_request};
 
 use crate::kept::{is_among, kept_of};
-use ill_core::is_requesters;
 use ill_saved::{Desk, DeskFault, Side, Store};
 use ill_text::fault::ToolFault;
 use ill_text::input::apdus_in;
@@ -201,7 +200,7 @@ fn push_arrow(lines: &mut Vec<u8>, apdu: &Apdu) -> Result<(), OutOfMemory>
 fn way(body: &Body) -> &'static str
     ensures { result.now ≡ arrow_of body.now }
 {
-    if is_requesters(body) {
+    if body.is_requesters() {
         "  requester->>responder: "
     } else {
         "  responder->>requester: "

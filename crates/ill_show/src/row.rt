@@ -4,7 +4,7 @@ ghost use Rattle.std.specs.Prelude.{◌≡◌, ◌++◌, ◌||◌, map, string_b
 ghost use Rattle.ill_core.specs.State.{state_name};
 ghost use Rattle.ill_saved.specs.Side.{state_of, due_date_of};
 ghost use Rattle.ill_words.specs.Shown.{due_text};
-ghost use Rattle.ill_words.specs.Names.{turn_word};
+ghost use Rattle.ill_core.specs.Words.{turn_name};
 ghost use Rattle.ill_words.specs.Possible.{request_of, item_asked};
 ghost use Rattle.ill_show.specs.List.{title_text, padded, cell, column, column_byte, columns_of, is_end, verbs_text, verbs_cell, row};
 
@@ -12,7 +12,7 @@ use ill_core::Turn;
 use ill_saved::Side;
 use ill_text::escape::push_escaped;
 use ill_values::{Day, OutOfMemory};
-use ill_words::names::{names, turn_word};
+use ill_words::names::names;
 use ill_words::possible::{item_asked, possible_on};
 use std::alloc::Global;
 
@@ -81,10 +81,10 @@ pub fn push_row(
 /// Appends the turn, the state, and the due date, or a dash for it.
 fn push_standing(lines: &mut Vec<u8>, turn: Turn, side: &Side) -> Result<(), OutOfMemory>
     ensures { OnOk result (lines.new.items ≡ lines.old.items
-        ++ (cell 6 (turn_word turn) ++ cell 20 (state_name (state_of side.now))
+        ++ (cell 6 (turn_name turn) ++ cell 20 (state_name (state_of side.now))
         ++ cell 8 (due_text (due_date_of side.now)))) }
 {
-    push_cell(lines, TURN, turn_word(turn).as_bytes())?;
+    push_cell(lines, TURN, turn.name().as_bytes())?;
     push_cell(lines, STATE, side.state().name().as_bytes())?;
     match side.due() {
         None => push_cell(lines, DUE, b"-"),

@@ -10,7 +10,7 @@ ghost use Rattle.ill_words.specs.Shown.{due_text};
 ghost use Rattle.ill_text.specs.Lines.{line};
 ghost use Rattle.ill_show.specs.Objects.{status_of_desk, status_text, text_of_one};
 ghost use Rattle.ill_show.specs.Status.{status_lines, desk_lines, marks_of, counts_text, spaced_or_dash};
-ghost use Rattle.ill_words.specs.Names.{role_name};
+ghost use Rattle.ill_saved.specs.Roles.{role_name};
 
 use crate::marks::marks;
 use crate::objects::push_status_object;
@@ -20,7 +20,6 @@ use ill_text::form::Form;
 use ill_text::lines::{push_id, push_line};
 use ill_text::output::write_whole;
 use ill_values::{Day, OutOfMemory};
-use ill_words::names::role_name;
 use std::alloc::Global;
 use std::io::Write;
 
@@ -113,7 +112,7 @@ fn push_status_as(
 pub(crate) fn push_status(lines: &mut Vec<u8>, side: &Side, released: u8) -> Result<(), OutOfMemory>
     ensures { OnOk result (lines.new.items ≡ lines.old.items ++ status_lines side.now released) }
 {
-    push_line(lines, "role", role_name(side.role()).as_bytes())?;
+    push_line(lines, "role", side.role().name().as_bytes())?;
     push_id(lines, side.txn().group(), side.txn().transaction())?;
     push_state_and_due(lines, side)?;
     push_counts(lines, side, released)?;

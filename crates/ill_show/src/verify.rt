@@ -12,7 +12,6 @@ use ill_text::fault::ToolFault;
 use ill_text::lines::{push_decimal, push_line};
 use ill_text::output::write_whole;
 use ill_values::OutOfMemory;
-use ill_words::names::role_name;
 use ill_words::sides::all_of;
 use std::alloc::Global;
 use std::io::Write;
@@ -70,7 +69,7 @@ fn push_found(lines: &mut Vec<u8>, bytes: &[u8], sides: &Sides) -> Result<(), Ou
 {
     let loans = sides.len();
     push_line(lines, "version", version(bytes))?;
-    push_line(lines, "role", role_name(sides.role()).as_bytes())?;
+    push_line(lines, "role", sides.role().name().as_bytes())?;
     push_decimal(lines, "loans", loans)?;
     let all = all_of(*lines.allocator(), sides)?;
     push_decimal(lines, "messages", issued_by_all(&all))?;

@@ -1,17 +1,18 @@
 -- Proves the tests of texts: UTF-8 by the result of `from_utf8`, and the size of a text.
-use Rattle.std.proofs.Common.{◌≡◌, ℕ, ◌/◌, ◌<◌, ◌≤◌, Bool, true, false, cond, eqb, ltb, List, [], ◌∷◌, length, Result, Ok, Err}
+use Rattle.std.proofs.Common.{◌≡◌, ℕ, ◌/◌, ◌<◌, ◌≤◌, Bool, true, false, cond, eqb, leb, ltb, List, [], ◌∷◌, length, Result, Ok}
+use Rattle.std.proofs.Common.{Err}
 use Rattle.std.proofs.Common.{sym, refl, arith}
 use Rattle.std.specs.Prelude.{MatchResult, is_ok, map}
 use Rattle.std.specs.List.{All, list_all}
 use Rattle.std.specs.Str.{IsUtf8, is_utf8}
 use Rattle.std.proofs.lemmas.Str.{is_utf8-from_IsUtf8, IsUtf8-from_is_utf8, IsUtf8-from_ascii}
 use Rattle.std.proofs.lemmas.Str.Ascii.{IsAscii-from_all}
-use Rattle.std.proofs.lemmas.Bool.{ltb-false, and_parts}
+use Rattle.std.proofs.lemmas.Bool.{leb-true, ltb-false, and_parts}
 use Rattle.std.proofs.lemmas.List.Elements.{All-nil, All-cons}
 use Rattle.ill_values.specs.declared.fault.TextFault.{TextFault}
 use Rattle.ill_values.specs.declared.fault.TextFault.TheVariants.{Empty, TooLong, BadByte}
 use Rattle.ill_values.specs.Day.{Date, date_text, last_digit}
-use Rattle.ill_values.specs.Text.{text_check, is_no_control, is_item_text, IsItem}
+use Rattle.ill_values.specs.Text.{text_check, is_no_control, is_printable, is_item_text, IsItem, IsQualifier}
 
 -- If `b` is not true, it is false.
 is_false : (b : Bool) → (b ≡ true → ⊥) → false ≡ b
@@ -70,13 +71,32 @@ pub item_utf8 : (text : List ℕ) → IsItem text → IsUtf8 text
 item_utf8 text e =
     IsUtf8-from_is_utf8 text (and_parts (list_all is_no_control text) (is_utf8 text) (text_passes 200 is_item_text text e)).1
 
--- The digit that `last_digit` returns is ASCII.
-digit_ascii : (n : ℕ) → last_digit n < 128
-digit_ascii n = omega arith
-
 -- `byte` is below 128.
 abbrev below_128 : ℕ → Type 0
 below_128 byte = byte < 128
+
+-- A printing character is ASCII.
+printable_ascii : (byte : ℕ) → is_printable byte ≡ true → byte < 128
+printable_ascii byte e =
+    let most = and_parts (leb 0x20 byte) (leb byte 0x7E) e in
+    let at_most = leb-true byte 0x7E most.1 in
+    omega arith
+
+-- Printing characters are ASCII.
+printables_ascii : (text : List ℕ) → list_all is_printable text ≡ true → All below_128 text
+printables_ascii [] e = All-nil below_128
+printables_ascii (byte ∷ text) e =
+    let parts = and_parts (is_printable byte) (list_all is_printable text) e in
+    All-cons below_128 byte text (printable_ascii byte parts.0) (printables_ascii text parts.1)
+
+-- A qualifier is UTF-8.
+pub qualifier_utf8 : (text : List ℕ) → IsQualifier text → IsUtf8 text
+qualifier_utf8 text e =
+    IsUtf8-from_ascii text (IsAscii-from_all text (printables_ascii text (text_passes 64 (list_all is_printable) text e)))
+
+-- The digit that `last_digit` returns is ASCII.
+digit_ascii : (n : ℕ) → last_digit n < 128
+digit_ascii n = omega arith
 
 -- The last digits of all `numbers` are ASCII.
 digits_ascii : (numbers : List ℕ) → All below_128 (map last_digit numbers)

@@ -1,17 +1,20 @@
 //! Defines the messages of the protocol.
 
 ghost use Rattle.std.specs.Prelude.{◌≡◌, Some, IfOk};
+ghost use Rattle.std.specs.Result.{result_ok};
 ghost use Rattle.std.specs.Fmt.{padded};
 ghost use Rattle.ill_values.specs.Results.{result_name, result_named};
 ghost use Rattle.ill_values.specs.Types.{type_name};
 
 use crate::apdu_type::ApduType;
 use crate::day::Day;
+use crate::fault::UnknownName;
 use crate::item::Item;
 use crate::number::Number;
 use crate::txn_id::TxnId;
 use std::alloc::{AllocError as OutOfMemory, Global};
 use std::fmt;
+use std::str::FromStr;
 
 /// A message of the interlibrary loan protocol (ISO 10161-1), with the fields that this profile has.
 #[derive(Debug, PartialEq, Eq, Drop)]
@@ -204,6 +207,17 @@ impl AnswerResult {
             .iter()
             .copied()
             .find(|answer| answer.name().as_bytes() == text)
+    }
+}
+
+/// Reads the name of a result, as `AnswerResult::read` does.
+impl FromStr for AnswerResult {
+    type Err = UnknownName;
+
+    ghost from_str_gives = { λ text result. result_ok result ≡ result_named text };
+
+    fn from_str(text: &str) -> Result<AnswerResult, UnknownName> {
+        AnswerResult::read(text.as_bytes()).ok_or(UnknownName)
     }
 }
 

@@ -1,12 +1,15 @@
 //! Defines the types of APDU.
 
 ghost use Rattle.std.specs.Prelude.{◌≡◌, Some};
+ghost use Rattle.std.specs.Result.{result_ok};
 ghost use Rattle.std.specs.Fmt.{padded};
 ghost use Rattle.ill_values.specs.declared.apdu.Body.{Body};
 ghost use Rattle.ill_values.specs.Types.{type_of, apdu_type_name, apdu_type_named};
 
 use crate::apdu::Body;
+use crate::fault::UnknownName;
 use std::fmt;
+use std::str::FromStr;
 
 /// The fourteen types of APDU, in the order of their tags. A type is displayed by its name, as `ILL-Request`.
 #[derive(Clone, Copy, Debug, PartialEq, Eq, Hash)]
@@ -112,6 +115,17 @@ impl ApduType {
             Body::RenewAnswer { .. } => ApduType::RenewAnswer,
             Body::Expired => ApduType::Expired,
         }
+    }
+}
+
+/// Reads the name of a type, as `ApduType::read` does.
+impl FromStr for ApduType {
+    type Err = UnknownName;
+
+    ghost from_str_gives = { λ text result. result_ok result ≡ apdu_type_named text };
+
+    fn from_str(text: &str) -> Result<ApduType, UnknownName> {
+        ApduType::read(text.as_bytes()).ok_or(UnknownName)
     }
 }
 

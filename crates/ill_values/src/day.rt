@@ -12,6 +12,7 @@ ghost use Rattle.jiff.specs.Words.{IsYmd};
 use crate::fault::DayFault;
 use jiff::{ToSpan, civil};
 use std::marker::Model;
+use std::str::FromStr;
 use std::{fmt, str};
 
 /// The largest number of days in a span of jiff. From 1 January 1900, the first day of this profile, this many days
@@ -146,6 +147,17 @@ impl Day {
         ensures { result ≡ date_of (unsigned_abs date.year) date.month date.day }
     {
         Day::new(date.year() as u16, date.month() as u8, date.day() as u8)
+    }
+}
+
+/// Reads the eight digits of a day, as `Day::read` does.
+impl FromStr for Day {
+    type Err = DayFault;
+
+    ghost from_str_gives = { λ text result. result ≡ read_date text };
+
+    fn from_str(text: &str) -> Result<Day, DayFault> {
+        Day::read(text.as_bytes())
     }
 }
 

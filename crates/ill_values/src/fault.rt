@@ -26,7 +26,7 @@ pub enum TextFault {
 /// A fault of a day that does not exist. If there are several, it is the first in this order.
 #[derive(Clone, Copy, Debug, PartialEq, Eq, Hash, Error)]
 pub enum DayFault {
-    /// The text is not exactly eight ASCII digits. Only `Day::read` returns this.
+    /// The text is not exactly eight ASCII digits. Only `Day::read` and `Day::from_str` return this.
     #[error("a date is eight digits")]
     NotDigits,
     /// The year is not from 1900 to 9999, or a later day is after 31 December 9999.
@@ -36,6 +36,16 @@ pub enum DayFault {
     #[error("the calendar has no such day")]
     NotADate,
 }
+
+/// A text that names no value of its type.
+#[derive(Clone, Copy, Debug, PartialEq, Eq, Hash, Error)]
+#[error("the text is no name")]
+pub struct UnknownName;
+
+/// The number 0, which no message has.
+#[derive(Clone, Copy, Debug, PartialEq, Eq, Hash, Error)]
+#[error("a number is 1 to 255")]
+pub struct NotANumber;
 
 impl From<AllocError> for TextFault {
     ghost from_gives = { λ _ fault. fault ≡ OutOfMemory };

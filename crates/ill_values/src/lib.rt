@@ -6,6 +6,7 @@
 
 mod apdu;
 mod apdu_type;
+mod body;
 mod day;
 mod fault;
 mod item;
@@ -17,7 +18,7 @@ mod txn_id;
 pub use apdu::{AnswerResult, Apdu, Body};
 pub use apdu_type::ApduType;
 pub use day::Day;
-pub use fault::{DayFault, TextFault};
+pub use fault::{DayFault, NotANumber, TextFault, UnknownName};
 pub use item::Item;
 pub use number::Number;
 pub use std::alloc::AllocError as OutOfMemory;

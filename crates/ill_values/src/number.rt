@@ -1,7 +1,10 @@
 //! Defines the numbers of messages.
 
-ghost use Rattle.std.specs.Prelude.{◌≡◌, ℕ, ◌≤◌, ◌<◌, ◌↔◌, IsSome, IfSome};
+ghost use Rattle.std.specs.Prelude.{◌≡◌, ℕ, ◌≤◌, ◌<◌, ◌↔◌, Some, IsSome, IfSome, MatchResult};
+ghost use Rattle.std.specs.Fmt.{decimal};
 
+use crate::fault::NotANumber;
+use std::fmt;
 use std::marker::Model;
 
 /// The number of a message among those that one side issued in a transaction: 1 to 255.
@@ -42,5 +45,31 @@ impl Number {
         ensures to { result ≤ 255 }
     {
         self.value
+    }
+}
+
+impl From<Number> for u8 {
+    ghost from_gives = { λ number value. value ≡ number };
+
+    fn from(number: Number) -> u8 {
+        number.get()
+    }
+}
+
+impl TryFrom<u8> for Number {
+    type Error = NotANumber;
+
+    ghost try_from_gives = { λ value result. MatchResult result (λ number. number ≡ value) (λ _. value ≡ 0) };
+
+    fn try_from(value: u8) -> Result<Number, NotANumber> {
+        Number::new(value).ok_or(NotANumber)
+    }
+}
+
+impl fmt::Display for Number {
+    ghost output = { λ number. Some (decimal number) };
+
+    fn fmt<W: fmt::Write>(&self, f: &mut fmt::Formatter<W>) -> fmt::Result {
+        self.value.fmt(f)
     }
 }

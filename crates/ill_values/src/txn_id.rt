@@ -13,6 +13,7 @@ use crate::text::check_qualifier;
 use std::alloc::{AllocError as OutOfMemory, Global};
 use std::hash::{Hash, Hasher};
 use std::marker::Model;
+use std::str;
 
 /// The id of a transaction: a transaction group qualifier and a transaction qualifier. Each has 1 to 64 bytes from 0x20
 /// to 0x7E (this profile's own). Ids with equal qualifiers are equal, and have equal hashes.
@@ -103,5 +104,27 @@ impl TxnId {
         ensures most { length result.now ≤ 64 }
     {
         &self.transaction
+    }
+
+    /// Returns the transaction group qualifier as text.
+    pub fn group_str(&self) -> &str
+        ensures bytes { result.now ≡ self.now.group }
+        ensures id { AreQualifiers self.now }
+    {
+        match str::from_utf8(self.group()) {
+            Ok(text) => text,
+            Err(_) => unreachable!(),
+        }
+    }
+
+    /// Returns the transaction qualifier as text.
+    pub fn transaction_str(&self) -> &str
+        ensures bytes { result.now ≡ self.now.transaction }
+        ensures id { AreQualifiers self.now }
+    {
+        match str::from_utf8(self.transaction()) {
+            Ok(text) => text,
+            Err(_) => unreachable!(),
+        }
     }
 }

@@ -174,6 +174,8 @@ fn texts_that_are_no_days(rt: HostRuntime) {
     for row in &NO_DAYS {
         let fault = Day::read(row.text.as_bytes()).err();
         assert!(rt; fault == Some(row.fault), "\"{}\"", row.text);
+        let fault = row.text.parse::<Day>().err();
+        assert!(rt; fault == Some(row.fault), "\"{}\" parsed", row.text);
     }
 }
 

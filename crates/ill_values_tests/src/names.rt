@@ -1,6 +1,6 @@
 //! Tests of the names of results and of APDU types.
 
-use ill_values::{AnswerResult, ApduType, Body};
+use ill_values::{AnswerResult, ApduType, Body, UnknownName};
 use std::test::Fail;
 
 /// The results and their names.
@@ -23,6 +23,7 @@ fn results_are_shown_and_read_by_their_names(rt: HostRuntime) -> Result<(), Fail
             AnswerResult::read(name.as_bytes()) == Some(*answer),
             "{name} read"
         );
+        assert!(rt; name.parse() == Ok(*answer), "{name} parsed");
     }
     Ok(())
 }
@@ -54,6 +55,7 @@ fn types_are_shown_and_read_by_their_names(rt: HostRuntime) -> Result<(), Fail> 
             ApduType::read(name.as_bytes()) == Some(*apdu_type),
             "{name} read"
         );
+        assert!(rt; name.parse() == Ok(*apdu_type), "{name} parsed");
     }
     assert!(rt;
         Body::CheckedIn.type_name() == "Checked-In",
@@ -76,5 +78,9 @@ fn texts_that_are_no_names(rt: HostRuntime) {
             ApduType::read(text.as_bytes()).is_none(),
             "\"{text}\" as a type"
         );
+        let parsed = text.parse::<AnswerResult>();
+        assert!(rt; parsed == Err(UnknownName), "\"{text}\" parsed as a result");
+        let parsed = text.parse::<ApduType>();
+        assert!(rt; parsed == Err(UnknownName), "\"{text}\" parsed as a type");
     }
 }

@@ -1,6 +1,6 @@
 //! Tests of transaction ids, items and numbers.
 
-use ill_values::{ITEM_LIMIT, Item, Number, QUALIFIER_LIMIT, TextFault, TxnId};
+use ill_values::{ITEM_LIMIT, Item, NotANumber, Number, QUALIFIER_LIMIT, TextFault, TxnId};
 use std::alloc::Global;
 use std::process::Abort;
 use std::test::Fail;
@@ -64,6 +64,8 @@ fn transaction_id_keeps_its_qualifiers(rt: HostRuntime) -> Result<(), Fail> {
     let id = TxnId::new(rt.alloc(), b"G1", b"T1")?;
     assert!(rt; id.group() == b"G1".as_slice(), "group");
     assert!(rt; id.transaction() == b"T1".as_slice(), "transaction");
+    assert!(rt; id.group_str() == "G1", "group as text");
+    assert!(rt; id.transaction_str() == "T1", "transaction as text");
     Ok(())
 }
 
@@ -186,4 +188,16 @@ fn numbers_are_1_to_255(rt: HostRuntime) {
         let number = Number::new(value).map(|number| number.get());
         assert!(rt; number == Some(value), "{value}");
     }
+}
+
+#[test]
+fn numbers_are_converted_and_shown(rt: HostRuntime) -> Result<(), Fail> {
+    assert!(rt; Number::try_from(0) == Err(NotANumber), "0");
+    for (value, text) in &[(1, "1"), (255, "255")] {
+        let number = Number::try_from(*value)?;
+        assert!(rt; u8::from(number) == *value, "{text} back");
+        let shown = format!(in rt.alloc(); "{number}")?;
+        assert!(rt; shown.as_str() == *text, "{text} shown");
+    }
+    Ok(())
 }

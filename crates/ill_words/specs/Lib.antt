@@ -1,5 +1,4 @@
 pub mod BadSending
-pub mod Names
 pub mod Outcome
 pub mod Possible
 pub mod Sending

@@ -1,7 +1,7 @@
 //! An event has an outcome, and an outcome has a word.
 
 ghost use Rattle.std.specs.Prelude.{◌≡◌};
-ghost use Rattle.ill_words.specs.Outcome.{outcome_word, taking_word, refusal_word, desk_outcome_word};
+ghost use Rattle.ill_words.specs.Outcome.{outcome_word, desk_outcome_word};
 
 use ill_core::{Refusal, Taking};
 
@@ -45,8 +45,8 @@ impl Outcome {
             Outcome::Saved => "saved",
             Outcome::Faulted => "faulted",
             Outcome::Sent => "sent",
-            Outcome::Answered(taking) => word_of_taking(taking),
-            Outcome::Refused(refusal) => word_of_refusal(refusal),
+            Outcome::Answered(taking) => taking.name(),
+            Outcome::Refused(refusal) => refusal.name(),
             Outcome::NoSuchMessage => "no-such-message",
             Outcome::NotSaved => "not-saved",
             Outcome::NotSent => "not-sent",
@@ -78,32 +78,5 @@ impl DeskOutcome {
             DeskOutcome::NoSuchTransaction => "no-such-transaction",
             DeskOutcome::DeskFull => "desk-full",
         }
-    }
-}
-
-fn word_of_taking(taking: Taking) -> &'static str
-    ensures { result.now ≡ taking_word taking }
-{
-    match taking {
-        Taking::Taken => "taken",
-        Taking::Repeat => "repeat",
-        Taking::Stale => "stale",
-        Taking::Conflict(_) => "conflict",
-    }
-}
-
-fn word_of_refusal(refusal: Refusal) -> &'static str
-    ensures { result.now ≡ refusal_word refusal }
-{
-    match refusal {
-        Refusal::OtherTransaction => "other-transaction",
-        Refusal::WrongRole => "wrong-role",
-        Refusal::NotNow(_) => "not-now",
-        Refusal::DateEarlier => "date-earlier",
-        Refusal::DateNotLater => "date-not-later",
-        Refusal::NotDue => "not-due",
-        Refusal::NotExpired => "not-expired",
-        Refusal::NumbersUsed => "numbers-used",
-        Refusal::OutOfMemory => "memory",
     }
 }

@@ -9,8 +9,8 @@ use Rattle.ill_values.specs.declared.apdu.Body.TheVariants as types
 use Rattle.ill_core.specs.declared.state.State.{State}
 use Rattle.ill_core.specs.declared.state.State.TheVariants as states
 use Rattle.ill_core.specs.State.{is_among}
-use Rattle.ill_core.specs.Bodies.{is_cancelled, is_shipped, is_ill_request, is_cancel, is_received, is_returned, is_checked_in}
-use Rattle.ill_core.specs.Bodies.{accepts}
+use Rattle.ill_values.specs.Bodies.{is_cancelled, is_shipped, is_ill_request, is_cancel, is_received, is_returned, is_checked_in}
+use Rattle.ill_values.specs.Bodies.{accepts}
 use Rattle.ill_core.specs.Issued.{message, has_message_with, is_message_with, is_there}
 use Rattle.ill_core.specs.Requester.{RequesterRecord, later}
 use Rattle.ill_core.specs.RequesterEvidence as requester

@@ -13,7 +13,7 @@ use Rattle.ill_core.specs.declared.taking.Taking.{Taking}
 use Rattle.ill_core.specs.declared.taking.Taking.TheVariants.{Taken, Repeat}
 use Rattle.ill_core.specs.State.{is_among}
 use Rattle.ill_core.specs.Numbers.{is_equal_number}
-use Rattle.ill_core.specs.Bodies.{is_unsupplied, is_shipped, is_end, is_ill_request, is_returned}
+use Rattle.ill_values.specs.Bodies.{is_unsupplied, is_shipped, is_end, is_ill_request, is_returned}
 use Rattle.ill_core.specs.Issued.{message, has_message_with, is_none, is_same_txn}
 use Rattle.ill_core.specs.Requester.{RequesterRecord, later, last_cancel}
 use Rattle.ill_core.specs.RequesterDeliveries as requester_deliveries

@@ -11,7 +11,7 @@ use Rattle.ill_values.specs.declared.apdu.Body.TheVariants.{Expired}
 use Rattle.ill_core.specs.declared.state.State.{State}
 use Rattle.ill_core.specs.declared.state.State.TheVariants as states
 use Rattle.ill_core.specs.State.{is_among}
-use Rattle.ill_core.specs.Bodies.{is_end, is_final, is_returned}
+use Rattle.ill_values.specs.Bodies.{is_end, is_final, is_returned}
 use Rattle.ill_core.specs.Issued.{message}
 use Rattle.ill_core.specs.Requester.{RequesterRecord}
 use Rattle.ill_core.specs.RequesterEvidence.{replied_number, KeepsDue}

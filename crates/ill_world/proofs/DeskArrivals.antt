@@ -6,7 +6,7 @@ use Rattle.ill_values.specs.declared.apdu.Apdu.{Apdu}
 use Rattle.ill_core.specs.declared.state.State.{State}
 use Rattle.ill_core.specs.declared.state.State.TheVariants as states
 use Rattle.ill_core.specs.State.{is_among}
-use Rattle.ill_core.specs.Bodies.{is_ill_request, is_returned, is_shipped}
+use Rattle.ill_values.specs.Bodies.{is_ill_request, is_returned, is_shipped}
 use Rattle.ill_core.specs.Issued.{message, has_message_with, is_none}
 use Rattle.ill_core.specs.Rules.{implies}
 use Rattle.ill_core.specs.ResponderEvidence as responder

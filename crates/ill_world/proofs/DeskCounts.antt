@@ -12,7 +12,7 @@ use Rattle.ill_values.specs.declared.apdu.Apdu.{Apdu}
 use Rattle.ill_core.specs.declared.refusal.Refusal.{Refusal}
 use Rattle.ill_core.specs.declared.refusal.Refusal.TheVariants.{WrongRole}
 use Rattle.ill_core.specs.declared.taking.Taking.{Taking}
-use Rattle.ill_core.specs.Bodies.{is_ill_request}
+use Rattle.ill_values.specs.Bodies.{is_ill_request}
 use Rattle.ill_core.specs.Issued.{message, is_same_txn}
 use Rattle.ill_saved.specs.declared.fault.DeskFault.{DeskFault}
 use Rattle.ill_saved.specs.declared.fault.DeskFault.TheVariants as faults

@@ -11,7 +11,7 @@ use Rattle.ill_values.specs.declared.apdu.Body.TheVariants as types
 use Rattle.ill_core.specs.declared.refusal.Refusal.{Refusal}
 use Rattle.ill_core.specs.declared.state.State.TheVariants as states
 use Rattle.ill_core.specs.Answers.{unless_refused}
-use Rattle.ill_core.specs.Bodies.{is_ill_request, is_requesters}
+use Rattle.ill_values.specs.Bodies.{is_ill_request, is_requesters}
 use Rattle.ill_core.specs.Issued.{message, is_same_txn, first_refusal}
 use Rattle.ill_core.specs.Responder.{ResponderRecord, responder_of}
 use Rattle.ill_core.specs.ResponderDeliveries.{take_message}

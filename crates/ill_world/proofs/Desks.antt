@@ -16,7 +16,7 @@ use Rattle.ill_saved.specs.declared.side.Action.{Action}
 use Rattle.ill_saved.specs.declared.side.Action.TheVariants as actions
 use Rattle.ill_saved.specs.Side.{issued_of, role_of, other, acts, takes, begins}
 use Rattle.ill_saved.specs.Sides.{is_same_role}
-use Rattle.ill_core.specs.Bodies.{is_ill_request}
+use Rattle.ill_values.specs.Bodies.{is_ill_request}
 use Rattle.ill_saved.specs.Holdings.{DeskEntry}
 use Rattle.ill_saved.specs.ManySides.{held_for, side_for_call, acted as acted_at, acts_reached, contents_after_message as took_at}
 use Rattle.ill_saved.specs.ManySides.{takes_reached, is_own, found_by, txn_held}

@@ -16,8 +16,8 @@ use Rattle.ill_core.specs.declared.state.State.{State}
 use Rattle.ill_core.specs.declared.state.State.TheVariants as states
 use Rattle.ill_core.specs.State.{is_among}
 use Rattle.ill_core.specs.Dates.{is_same_day}
-use Rattle.ill_core.specs.Bodies.{is_ill_request, is_requesters, is_shipped, is_end, is_cancelled, is_unsupplied}
-use Rattle.ill_core.specs.Bodies.{names_conditions}
+use Rattle.ill_values.specs.Bodies.{is_ill_request, is_requesters, is_shipped, is_end, is_cancelled, is_unsupplied}
+use Rattle.ill_values.specs.Bodies.{names_conditions}
 use Rattle.ill_core.specs.Issued.{message, has_message_with, is_same_txn, next_apdu}
 use Rattle.ill_core.specs.Requester.{RequesterRecord, begins_with_request}
 use Rattle.ill_core.specs.RequesterDeliveries as requester_deliveries

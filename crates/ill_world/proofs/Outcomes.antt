@@ -21,7 +21,7 @@ use Rattle.ill_core.specs.declared.requester.Wish.TheVariants as wishes
 use Rattle.ill_core.specs.declared.responder.Deed.{Deed}
 use Rattle.ill_core.specs.declared.responder.Deed.TheVariants as deeds
 use Rattle.ill_core.specs.Answers.{unless_refused, taken, repeat, stale, conflict}
-use Rattle.ill_core.specs.Bodies.{is_requesters, names_conditions}
+use Rattle.ill_values.specs.Bodies.{is_requesters, names_conditions}
 use Rattle.ill_core.specs.Issued.{message, is_message_with, next_number, is_same_txn}
 use Rattle.ill_core.specs.Requester.{RequesterRecord}
 use Rattle.ill_core.specs.RequesterActions as requester_actions

@@ -19,8 +19,9 @@ use Rattle.ill_core.specs.State.{is_among}
 use Rattle.ill_core.specs.Dates.{is_same_day, is_due_on, is_before, is_after_due}
 use Rattle.ill_core.specs.Rules.{implies}
 use Rattle.ill_core.specs.Numbers.{is_equal_number, is_at_most, is_below}
-use Rattle.ill_core.specs.Bodies.{is_ill_request, is_cancel, is_received, is_renew, is_returned, is_shipped, is_checked_in}
-use Rattle.ill_core.specs.Bodies.{is_cancelled, is_unsupplied, is_end, is_renewal, grant_in, names_conditions, declines, accepts}
+use Rattle.ill_values.specs.Bodies.{is_ill_request, is_cancel, is_received, is_renew, is_returned, is_shipped, is_checked_in}
+use Rattle.ill_values.specs.Bodies.{is_cancelled, is_unsupplied, is_end, is_renewal, grant_in, names_conditions, declines}
+use Rattle.ill_values.specs.Bodies.{accepts}
 use Rattle.ill_core.specs.Issued.{message, has_message_with, is_message_with, is_there, is_none, last_of, accepted_in}
 use Rattle.ill_core.specs.Issued.{granted_day}
 use Rattle.ill_core.specs.Requester.{RequesterRecord, later, begins_with_request, is_declined, is_received_by, accepted_number}

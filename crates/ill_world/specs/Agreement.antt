@@ -9,7 +9,7 @@ use Rattle.ill_core.specs.declared.state.State.TheVariants as states
 use Rattle.ill_core.specs.declared.taking.Taking.TheVariants.{Taken, Repeat}
 use Rattle.ill_core.specs.State.{is_among}
 use Rattle.ill_core.specs.Dates.{is_before}
-use Rattle.ill_core.specs.Bodies.{is_end, is_received, is_returned, accepts}
+use Rattle.ill_values.specs.Bodies.{is_end, is_received, is_returned, accepts}
 use Rattle.ill_core.specs.Issued.{message, has_message_with, last_of, number_of_end}
 use Rattle.ill_core.specs.Requester.{RequesterRecord}
 use Rattle.ill_core.specs.Requester as requester

@@ -9,7 +9,7 @@ use Rattle.ill_values.specs.declared.apdu.Body.TheVariants as bodies
 use Rattle.ill_values.specs.declared.apdu.AnswerResult.{AnswerResult}
 use Rattle.ill_core.specs.declared.state.State.{State}
 use Rattle.ill_core.specs.declared.state.State.TheVariants as states
-use Rattle.ill_core.specs.Bodies.{is_final}
+use Rattle.ill_values.specs.Bodies.{is_final}
 use Rattle.ill_core.specs.Requester.{later}
 use Rattle.ill_saved.specs.declared.role.Role.TheVariants.{Requester, Responder}
 use Rattle.ill_saved.specs.declared.side.Side.{Side}

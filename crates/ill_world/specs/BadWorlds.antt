@@ -12,7 +12,7 @@ use Rattle.ill_core.specs.declared.state.State.TheVariants as states
 use Rattle.ill_core.specs.declared.taking.Taking.TheVariants.{Taken, Repeat}
 use Rattle.ill_core.specs.State.{is_among}
 use Rattle.ill_core.specs.Dates.{is_before}
-use Rattle.ill_core.specs.Bodies.{is_end, is_final, is_received, is_shipped, accepts, grant_in}
+use Rattle.ill_values.specs.Bodies.{is_end, is_final, is_received, is_shipped, accepts, grant_in}
 use Rattle.ill_core.specs.Issued.{message, has_message_with}
 use Rattle.ill_core.specs.Requester.{RequesterRecord, later}
 use Rattle.ill_core.specs.Responder.{ResponderRecord, due_of}

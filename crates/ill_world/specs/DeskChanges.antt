@@ -2,7 +2,7 @@
 use Rattle.std.specs.Prelude.{◌≡◌, nat_lt, Bool, true, false, length, Option, Some, None}
 use Rattle.ill_values.specs.TxnId.{Qualifiers}
 use Rattle.ill_values.specs.declared.apdu.Apdu.{Apdu}
-use Rattle.ill_core.specs.Bodies.{is_ill_request}
+use Rattle.ill_values.specs.Bodies.{is_ill_request}
 use Rattle.ill_saved.specs.declared.side.Action.TheVariants as actions
 use Rattle.ill_saved.specs.declared.side.Side.{Side}
 use Rattle.ill_saved.specs.Side.{other, begins}

@@ -4,7 +4,7 @@ use Rattle.std.specs.Prelude.{◌≡◌, ◌⊎◌, ℕ, zero, suc, ◌+◌, ◌
 use Rattle.ill_core.specs.declared.state.State.{State}
 use Rattle.ill_core.specs.declared.state.State.TheVariants as states
 use Rattle.ill_core.specs.State.{is_among}
-use Rattle.ill_core.specs.Bodies.{is_end, is_received, declines}
+use Rattle.ill_values.specs.Bodies.{is_end, is_received, declines}
 use Rattle.ill_core.specs.Issued.{has_message_with}
 use Rattle.ill_core.specs.Requester.{RequesterRecord, is_declined, is_received_by}
 use Rattle.ill_core.specs.Responder.{ResponderRecord, due_of, later}

@@ -5,7 +5,7 @@ use Rattle.ill_values.specs.Day.{Date}
 use Rattle.ill_values.specs.declared.apdu.Apdu.{Apdu}
 use Rattle.ill_core.specs.declared.state.State.TheVariants.{Cancelled, NotSupplied}
 use Rattle.ill_core.specs.State.{is_among}
-use Rattle.ill_core.specs.Bodies.{is_shipped, grant_in}
+use Rattle.ill_values.specs.Bodies.{is_shipped, grant_in}
 use Rattle.ill_core.specs.Issued.{message, has_message_with}
 use Rattle.ill_core.specs.Requester.{later}
 use Rattle.ill_saved.specs.declared.side.Side.{Side}

@@ -467,7 +467,7 @@ def compare_lists(text, arguments):
     compare_forms("SIMULATE_DESKS: one more line", table(text["SIMULATE_DESKS"], "and one more:"), [use_line()])
     printable = find(r"\*byte >= (0x\w+) && \*byte <= (0x\w+)", "crates/ill_values/src/text.rt")
     expect_same("lists", " ~", "".join(chr(int(end, 16)) for end in printable.groups()), "from space to tilde")
-    turns = named("Turn", read(f"{WORDS}/names.rt"))
+    turns = named("Turn", read("crates/ill_core/src/turn.rt"))
     said = ["yes", "no", *loan_labels(), *turns.values()]
     return set(words.values()) | set(said) | {word for _, _, wanted in lists for word in wanted}
 
@@ -475,17 +475,17 @@ def compare_lists(text, arguments):
 def lists_of(arguments):
     """Returns the lists in sentences: the text, the sentence and the words; and the words of all outcomes, by
     variant."""
-    events_source, saved = read(f"{WORDS}/outcome.rt"), "crates/ill_saved/src"
+    core, saved = "crates/ill_core/src", "crates/ill_saved/src"
     roles = [name.lower() for name in variants("Role", f"{saved}/role.rt")]
     results = results_of()
     filed = [command for command, own in arguments.items() if FILE_KINDS & set(own)]
     locking = [name for name in filed if re.search(r"\block\(|open_locked\(", body(name, *FILED))]
     marks = dict.fromkeys(re.findall(r'push_mark\(&mut marks, .*?"([\w-]+)"', read(f"{SHOW}/marks.rt")))
-    refusals = named("Refusal", events_source)
-    at_desks = named("DeskOutcome", events_source)
+    refusals = named("Refusal", read(f"{core}/refusal.rt"))
+    at_desks = named("DeskOutcome", read(f"{WORDS}/outcome.rt"))
     untold = sorted(set(refusals) - set(ACTED + TAKEN))
     expect_same("lists", ["OtherTransaction", "OutOfMemory"], untold, "the refusals that no desk tells")
-    words = refusals | named("Taking", events_source) | at_desks
+    words = refusals | named("Taking", read(f"{core}/taking.rt")) | at_desks
     return [("ILL", "change it, (.*?), wait for each other", locking),
             ("ILL", r"input ends\. (.*?) wait for nobody", [it for it in filed if it not in locking]),
             ("ILL", r"a file is well\. (.*?) keep nothing", [it for it in arguments if it not in filed]),

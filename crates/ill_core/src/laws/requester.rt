@@ -10,7 +10,7 @@ ghost use Rattle.ill_core.specs.declared.state.State.TheVariants as states;
 ghost use Rattle.ill_core.specs.declared.taking.Taking.TheVariants.{Taken};
 ghost use Rattle.ill_core.specs.State.{is_among};
 ghost use Rattle.ill_core.specs.Numbers.{is_equal_number};
-ghost use Rattle.ill_core.specs.Bodies.{is_requesters};
+ghost use Rattle.ill_values.specs.Bodies.{is_requesters};
 ghost use Rattle.ill_core.specs.Issued.{is_same_txn, IssuesNext};
 ghost use Rattle.ill_core.specs.Requester.{RequesterRecord, IsRequester, later, last_cancel};
 ghost use Rattle.ill_core.specs.RequesterRules.{RequesterRules};

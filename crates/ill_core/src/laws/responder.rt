@@ -9,7 +9,7 @@ ghost use Rattle.ill_core.specs.declared.state.State.TheVariants as states;
 ghost use Rattle.ill_core.specs.declared.taking.Taking.TheVariants.{Taken};
 ghost use Rattle.ill_core.specs.State.{is_among};
 ghost use Rattle.ill_core.specs.Rules.{implies};
-ghost use Rattle.ill_core.specs.Bodies.{is_ill_request, is_requesters};
+ghost use Rattle.ill_values.specs.Bodies.{is_ill_request, is_requesters};
 ghost use Rattle.ill_core.specs.Issued.{is_same_txn, IssuesNext};
 ghost use Rattle.ill_core.specs.Responder.{ResponderRecord, IsResponder, later};
 ghost use Rattle.ill_core.specs.ResponderRules.{ResponderRules};

@@ -1,7 +1,7 @@
 //! Defines the requester's table of deliveries: the messages of a responder.
 
 ghost use Rattle.std.specs.Prelude.{◌≡◌, ◌==◌, ◌&&◌, Ok, List, filter, option_copied};
-ghost use Rattle.ill_core.specs.Bodies.{is_cancel, is_renew};
+ghost use Rattle.ill_values.specs.Bodies.{is_cancel, is_renew};
 ghost use Rattle.ill_core.specs.Issued.{is_message_with};
 ghost use Rattle.ill_core.specs.Dates.{is_due_on, is_after_due};
 ghost use Rattle.ill_core.specs.Tables.{are_met};
@@ -12,7 +12,7 @@ use super::Requester;
 use super::standing::{DUE, FREES, HOLDS, MARK};
 use crate::date::{is_after, is_due_on};
 use crate::issued::Sought;
-use crate::kind::{ResponderKind as Kind, date_in, number_in};
+use crate::kind::{ResponderKind as Kind, number_in};
 use crate::number::is_at_most;
 use crate::state::State::{
     Cancelled, Conditional, NotReceivedOverdue, NotSupplied, Overdue, Pending, Recall, Received,
@@ -106,7 +106,7 @@ pub fn take_message(requester: &mut Requester, apdu: &Apdu) -> Taking
         Some(row) => {
             let next = requester
                 .standing
-                .after(row, number_in(apdu), date_in(&apdu.body));
+                .after(row, number_in(apdu), apdu.body.date());
             requester.standing = next;
             row.3.taking(state)
         }
@@ -121,7 +121,7 @@ fn row_of(requester: &Requester, apdu: &Apdu) -> Option<&'static Row<Kind>>
     let arrival = Arrival {
         requester,
         number: number_in(apdu),
-        date: date_in(&apdu.body),
+        date: apdu.body.date(),
     };
     let rows = rows_of(Kind::of(&apdu.body)?);
     find(rows, requester.standing.state, &arrival)

@@ -4,11 +4,10 @@ ghost use Rattle.std.specs.Prelude.{◌≡◌, ◌&&◌, false, [], ◌∷◌, i
 ghost use Rattle.std.specs.List.{list_all};
 ghost use Rattle.ill_core.specs.declared.state.State.TheVariants as states;
 ghost use Rattle.ill_core.specs.State.{is_among};
-ghost use Rattle.ill_core.specs.Bodies.{is_requesters};
+ghost use Rattle.ill_values.specs.Bodies.{is_requesters};
 ghost use Rattle.ill_core.specs.Requester.{parts_fit, issued_fits, issued_keeps_rules, begins_with_request};
 
 use super::{Standing, is_later};
-use crate::body::{is_ill_request, is_requesters};
 use crate::issued::{
     has_cancel, has_declined, has_ill_request, has_received, has_renew, has_returned,
 };
@@ -51,7 +50,7 @@ fn are_kept(state: State, apdus: &[Apdu]) -> bool
 fn is_role(apdus: &[Apdu]) -> bool
     ensures { result ≡ list_all (λ a. is_requesters a.body) apdus.now }
 {
-    apdus.iter().all(|apdu| is_requesters(&apdu.body))
+    apdus.iter().all(|apdu| apdu.body.is_requesters())
 }
 
 /// Returns true if `apdus` is empty, or its first APDU and no other is an ILL-Request.
@@ -59,7 +58,7 @@ fn begins_with_request(apdus: &[Apdu]) -> bool
     ensures { result ≡ begins_with_request apdus.now }
 {
     match apdus.split_first() {
-        Some((first, others)) => is_ill_request(&first.body) && !has_ill_request(others),
+        Some((first, others)) => first.body.is_ill_request() && !has_ill_request(others),
         None => true,
     }
 }

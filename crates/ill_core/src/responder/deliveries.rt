@@ -1,7 +1,7 @@
 //! Defines the responder's table of deliveries: the messages of a requester.
 
 ghost use Rattle.std.specs.Prelude.{◌≡◌, true, OnOk, OnErr, IfErr, None, filter, option_copied};
-ghost use Rattle.ill_core.specs.Bodies.{names_conditions};
+ghost use Rattle.ill_values.specs.Bodies.{names_conditions};
 ghost use Rattle.ill_core.specs.Issued.{is_same_txn, is_message_with};
 ghost use Rattle.ill_core.specs.Tables.{are_met};
 ghost use Rattle.ill_core.specs.ResponderDeliveries.{MayWantMemory, takes_memory, take_message};
@@ -9,7 +9,6 @@ ghost use Rattle.ill_core.specs.ResponderTables.{request_after, issued_after, nu
 
 use super::Responder;
 use super::standing::{ACCEPTS, CANCELS, ENDS, KEEPS, RECEIVES, RENEWS};
-use crate::body::names_conditions;
 use crate::issued::Issued;
 use crate::kind::{RequesterKind as Kind, number_in};
 use crate::number::is_at_most;
@@ -198,7 +197,7 @@ fn was_conditional(responder: &Responder, number: Number) -> bool
     ensures { result ≡ is_message_with names_conditions responder.now.issued number }
 {
     match responder.issued.get(number) {
-        Some(apdu) => names_conditions(&apdu.body),
+        Some(apdu) => apdu.body.names_conditions(),
         None => false,
     }
 }

@@ -2,14 +2,11 @@
 
 ghost use Rattle.std.specs.Prelude.{◌≡◌, false, not, ◌&&◌, is_some};
 ghost use Rattle.std.specs.List.{list_all, filter_map, count_by};
-ghost use Rattle.ill_core.specs.Bodies.{is_requesters, is_shipped};
+ghost use Rattle.ill_values.specs.Bodies.{is_requesters, is_shipped};
 ghost use Rattle.ill_core.specs.Issued.{granted_day, is_none};
 ghost use Rattle.ill_core.specs.Responder.{is_after_last, parts_fit, issued_fits, issued_keeps_rules, is_request_of, is_named, are_rising, ships_first, ends_with_conditions};
 
 use super::{Standing, is_later};
-use crate::body::{
-    grant_in, is_ill_request, is_renewal, is_requesters, is_shipped, names_conditions,
-};
 use crate::issued::has_checked_in;
 use crate::state::State;
 use ill_values::{Apdu, Day, Number, TxnId};
@@ -60,7 +57,7 @@ pub fn is_request_of(txn: &TxnId, request: &Option<Apdu>) -> bool
     ensures { result ≡ is_request_of txn.now request.now }
 {
     match request {
-        Some(apdu) => apdu.txn == *txn && is_ill_request(&apdu.body),
+        Some(apdu) => apdu.txn == *txn && apdu.body.is_ill_request(),
         None => true,
     }
 }
@@ -69,7 +66,7 @@ pub fn is_request_of(txn: &TxnId, request: &Option<Apdu>) -> bool
 pub fn is_role(apdus: &[Apdu]) -> bool
     ensures { result ≡ list_all (λ a. not (is_requesters a.body)) apdus.now }
 {
-    apdus.iter().all(|apdu| !is_requesters(&apdu.body))
+    apdus.iter().all(|apdu| !apdu.body.is_requesters())
 }
 
 /// Says for each part of a responder that it is there.
@@ -123,7 +120,7 @@ pub fn is_named(accepted: &Option<Number>, apdus: &[Apdu]) -> bool
 {
     match accepted {
         Some(number) => match apdus.get(usize::from(number.get()) - 1) {
-            Some(apdu) => names_conditions(&apdu.body),
+            Some(apdu) => apdu.body.names_conditions(),
             None => false,
         },
         None => true,
@@ -150,7 +147,7 @@ pub fn issued_fits(state: State, apdus: &[Apdu]) -> bool
 fn shipped_count(apdus: &[Apdu]) -> usize
     ensures { result ≡ count_by (λ a. is_shipped a.body) apdus.now }
 {
-    apdus.iter().filter(|apdu| is_shipped(&apdu.body)).count()
+    apdus.iter().filter(|apdu| apdu.body.is_shipped()).count()
 }
 
 /// Returns true if the last of `apdus` is an ILL-Answer conditional.
@@ -161,7 +158,7 @@ fn ends_with_conditions(apdus: &[Apdu]) -> bool
         return false;
     }
     match apdus.get(apdus.len() - 1) {
-        Some(apdu) => names_conditions(&apdu.body),
+        Some(apdu) => apdu.body.names_conditions(),
         None => false,
     }
 }
@@ -173,7 +170,7 @@ pub fn dates_rise(apdus: &[Apdu]) -> bool
 {
     let mut last = None;
     for apdu in apdus {
-        let found = grant_in(&apdu.body);
+        let found = apdu.body.grant();
         if !may_follow(&found, &last) {
             return false;
         }
@@ -198,10 +195,10 @@ pub fn ships_first(apdus: &[Apdu]) -> bool
     ensures { result ≡ ships_first apdus.now }
 {
     for apdu in apdus {
-        if is_shipped(&apdu.body) {
+        if apdu.body.is_shipped() {
             return true;
         }
-        if is_renewal(&apdu.body) {
+        if apdu.body.is_renewal() {
             return false;
         }
     }

@@ -7,7 +7,6 @@ use crate::explain::verbs::{Form, Parts, form_of, names_of, nearest};
 use clap::ArgMatches;
 use ill_saved::{Desk, FileStore, RECORD_LIMIT, Role};
 use ill_values::{Day, Item, OutOfMemory, TextFault};
-use ill_words::names::role_name;
 use std::alloc::Global;
 use std::rt::Files;
 
@@ -95,8 +94,8 @@ fn tell_no_verb(
 /// Appends a line about a verb that only the other role has, and the verbs of this one.
 fn tell_other_role(text: &mut String, role: Role, form: Form) -> Result<(), OutOfMemory> {
     let verb = form.verb;
-    let other = role_name(form.role);
-    let own = role_name(role);
+    let other = form.role.name();
+    let own = role.name();
     writeln!(
         text,
         "  `{verb}` is a verb of a {other}, and this is the desk of a {own}."
@@ -106,7 +105,7 @@ fn tell_other_role(text: &mut String, role: Role, form: Form) -> Result<(), OutO
 
 /// Appends a line with the verbs of `role`.
 fn tell_verbs(text: &mut String, role: Role) -> Result<(), OutOfMemory> {
-    let name = role_name(role);
+    let name = role.name();
     write!(text, "  The verbs of a {name}: ")?;
     let names = names_of(*text.allocator(), role)?;
     text.push_str(names.join(*text.allocator(), ", ")?.as_str())?;

@@ -6,10 +6,10 @@ use Rattle.ill_core.proofs.responder.rules.dates_rise.Goals as goal
 
 pub returns-then-not-may_follow : goal.returns-then-not-may_follow
 returns-then-not-may_follow c =
-    sym (c.loop-apdu.invariant ∙ rise_at c.loop-apdu.last c.grant_in-found.result _ false _ _ c.apdu-item.result
-    c.loop-apdu-test.true c.apdu-item.is c.grant_in-found.ensures c.if-not-may_follow.ensures refl)
+    sym (c.loop-apdu.invariant ∙ rise_at c.loop-apdu.last c.grant-found.result _ false _ _ c.apdu-item.result
+    c.loop-apdu-test.true c.apdu-item.is c.grant-found.ensures c.if-not-may_follow.ensures refl)
 
 pub loop-apdu-preserved : goal.loop-apdu-preserved
 loop-apdu-preserved c =
-    c.loop-apdu.invariant ∙ rise_at c.loop-apdu.last c.grant_in-found.result c.or-last.result true _ _ c.apdu-item.result
-    c.loop-apdu-test.true c.apdu-item.is c.grant_in-found.ensures c.if-not-may_follow.ensures c.or-last.ensures
+    c.loop-apdu.invariant ∙ rise_at c.loop-apdu.last c.grant-found.result c.or-last.result true _ _ c.apdu-item.result
+    c.loop-apdu-test.true c.apdu-item.is c.grant-found.ensures c.if-not-may_follow.ensures c.or-last.ensures

@@ -2,7 +2,7 @@
 -- The message leads to the new side by a transition from the idle side of the transaction.
 use Rattle.std.proofs.Common.{rules, ◌≡◌, true, None, Ok, length, nat_lt, ap}
 use Rattle.ill_core.specs.declared.taking.Taking.TheVariants.{Taken}
-use Rattle.ill_core.specs.Bodies.{is_ill_request}
+use Rattle.ill_values.specs.Bodies.{is_ill_request}
 use Rattle.ill_saved.specs.Side.{took, takes, txn_of, idle_side, IsSideTransition}
 use Rattle.ill_saved.specs.Sides.{most_sides, put_refusal}
 use Rattle.ill_saved.specs.ManySides.{sides_held}

@@ -1,6 +1,5 @@
 -- Proves the contract of `ManySides::whole` (`src/many_sides.rt`).
 -- Consistent sides back themselves with all messages released.
-use Rattle.std.proofs.Common.{rules}
 use Rattle.ill_saved.proofs.Contents.{as_many_counted, whole_backable, whole_held}
 use Rattle.ill_saved.proofs.many_sides.ManySides.whole.Goals as goal
 

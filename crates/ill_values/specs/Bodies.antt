@@ -2,6 +2,7 @@
 use Rattle.std.specs.Prelude.{ℕ, Bool, true, false, ◌||◌, Option, Some, None}
 use Rattle.ill_values.specs.declared.apdu.Body.{Body}
 use Rattle.ill_values.specs.declared.apdu.Body.TheVariants.{IllRequest, IllAnswer, ConditionalReply, Cancel, CancelReply, Shipped}
+use Rattle.ill_values.specs.declared.apdu.Body.TheVariants.{Overdue}
 use Rattle.ill_values.specs.declared.apdu.Body.TheVariants.{Received, Returned, CheckedIn, Renew, RenewAnswer, Expired}
 use Rattle.ill_values.specs.declared.apdu.AnswerResult.{AnswerResult}
 use Rattle.ill_values.specs.declared.apdu.AnswerResult.TheVariants.{Conditional, WillSupply, HoldPlaced}
@@ -79,6 +80,13 @@ abbrev pub grant_in : Body → Option Date
 grant_in (Shipped due) = Some due
 grant_in (RenewAnswer answers due) = due
 grant_in other = None
+
+-- Returns the due date that an APDU states, or `None`.
+abbrev pub date_in : Body → Option Date
+date_in (Shipped due) = Some due
+date_in (Overdue due) = Some due
+date_in (RenewAnswer answers granted) = granted
+date_in other = None
 
 -- Returns true if the APDU is a Conditional-Reply no.
 abbrev pub declines : Body → Bool

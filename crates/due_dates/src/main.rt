@@ -2,8 +2,7 @@
 //! explains it. The desk `data/lending` was made by `ill`. Two of its five loans are SHIPPED.
 #![tactic(auto)]
 
-ghost use Rattle.std.specs.Prelude.{◌≡◌, ◌++◌, map, slice_get, IfOk, OnOk};
-ghost use Rattle.std.specs.Option.{option_to_list};
+ghost use Rattle.std.specs.Prelude.{◌≡◌, map, IfOk};
 ghost use Rattle.due_dates.specs.Shipped.{shipped};
 
 use anyhow::{Context, Result};
@@ -11,7 +10,7 @@ use ill_core::State;
 use ill_saved::{Desk, DeskFault, FileStore, RECORD_LIMIT, Side, Sides};
 use ill_values::OutOfMemory;
 use std::alloc::Global;
-use std::{env, str};
+use std::env;
 
 fn main(rt: HostRuntime) -> Result<()> {
     let path = env::args(&rt)?.nth(1).context("usage: due_dates DESK")?;
@@ -40,34 +39,19 @@ fn shipped<'a>(alloc: Global, sides: &'a Sides) -> Result<Vec<&'a Side>, OutOfMe
     ensures { IfOk result (λ found. map (λ side. side.now) found.items ≡ shipped sides.now.sides) }
 {
     let mut found = Vec::new(alloc);
-    for place in 0..sides.len() {
-        push_shipped(&mut found, sides, place)?;
+    for side in sides.iter() {
+        if side.state() == State::Shipped {
+            found.push(side)?;
+        }
     }
     Ok(found)
-}
-
-/// Appends the side at `place`, if it is SHIPPED.
-fn push_shipped<'a>(
-    found: &mut Vec<&'a Side>,
-    sides: &'a Sides,
-    place: usize,
-) -> Result<(), OutOfMemory>
-    ensures { OnOk result (map (λ side. side.now) found.new.items ≡ map (λ side. side.now) found.old.items
-        ++ shipped (option_to_list (slice_get sides.now.sides place))) }
-{
-    if let Some(side) = sides.at(place)
-        && side.state() == State::Shipped
-    {
-        found.push(side)?;
-    }
-    Ok(())
 }
 
 /// Prints the due date of `side` and its transaction.
 fn print_line(rt: &HostRuntime, side: &Side) -> Result<()> {
     let due = side.due().context("no due date")?;
-    let group = str::from_utf8(side.txn().group())?;
-    let transaction = str::from_utf8(side.txn().transaction())?;
+    let group = side.txn().group_str();
+    let transaction = side.txn().transaction_str();
     println!(rt; "{due} {group} {transaction}")?;
     Ok(())
 }

@@ -1,33 +1,40 @@
--- Proves the loop invariant of `shipped` (`src/main.rt`): each turn appends the side at `place` if it is
--- SHIPPED.
-use Rattle.std.proofs.Common.{◌≡◌, ℕ, zero, suc, ◌+◌, ◌++◌, List, [], ◌∷◌, map, drop, Bor, refl, ap, sym, ◌∙◌, append_assoc}
-use Rattle.std.proofs.Common.{add-one}
-use Rattle.std.specs.Prelude.{slice_get}
-use Rattle.std.specs.Option.{option_to_list}
-use Rattle.std.proofs.lemmas.List.Elements.{filter-append}
+-- Proves the loop invariant of `shipped` (`src/main.rt`): each turn appends the next side if it is SHIPPED.
+use Rattle.std.proofs.Common.{rules, ◌≡◌, true, ◌++◌, List, [], ◌∷◌, map, Bor, ap, ◌∙◌, append_assoc}
+use Rattle.std.proofs.lemmas.List.{map-append}
+use Rattle.ill_core.specs.declared.state.State.TheVariants.{Shipped}
+use Rattle.ill_core.specs.State.{is_among}
 use Rattle.ill_saved.specs.declared.side.Side.{Side}
+use Rattle.ill_saved.specs.Side.{state_of}
 use Rattle.due_dates.specs.Shipped.{shipped}
 use Rattle.due_dates.proofs.shipped.Goals as goal
 
--- The items from `place` on are the item at `place` and the items after it.
-one_item : {X : Type 0} (items : List X) (place : ℕ)
-    → option_to_list (slice_get items place) ++ drop (suc place) items ≡ drop place items
-one_item [] zero = refl
-one_item [] (suc place) = refl
-one_item (item ∷ items) zero = refl
-one_item (item ∷ items) (suc place) = one_item items place
+pub loop-side-init : goal.loop-side-init
+loop-side-init c = search rules
 
-pub loop-place-preserved : goal.loop-place-preserved
-loop-place-preserved c =
-    let sides = c.args.sides.now.sides in
-    let place = c.loop-place.place in
-    let so_far = map (λ (side : Bor Side). side.now) c.loop-place.found.items in
-    let here = option_to_list (slice_get sides place) in
-    let left = drop (place + 1) sides in
-    let further : here ++ left ≡ drop place sides = ap (λ n. here ++ drop n sides) (add-one place) ∙ one_item sides place in
-    let split : shipped here ++ shipped left ≡ shipped (drop place sides) =
-    sym (filter-append _ here left) ∙ ap shipped further in
+-- A SHIPPED side before others is the first of those that are SHIPPED.
+is_found : (side : Side) (left : List Side) → is_among (Shipped ∷ []) (state_of side) ≡ true
+    → side ∷ shipped left ≡ shipped (side ∷ left)
+is_found side left is = search (rules, is)
+
+pub loop-side-preserved-in-Continue-1 : goal.loop-side-preserved-in-Continue-1
+loop-side-preserved-in-Continue-1 c =
+    let side = c.in-Some.side in
+    let left = c.next.new.self in
+    let now : Bor Side → Side = λ side. side.now in
+    let so_far = map now c.loop-side.found.items in
+    let next : side.now ∷ left ≡ c.loop-side.side-iterator = search rules in
+    let is : is_among (Shipped ∷ []) (state_of side.now) ≡ true = search rules in
     record {
-      all = ap (λ items. items ++ shipped left) c.in_ok-push_shipped.ensures
-          ∙ append_assoc so_far (shipped here) (shipped left) ∙ ap (λ items. so_far ++ items) split ∙ c.loop-place.invariant.all;
+      all = ap (λ items. map now items ++ shipped left) c.in_ok-push.ensures.items
+          ∙ ap (λ items. items ++ shipped left) (map-append now c.loop-side.found.items (side ∷ []))
+          ∙ append_assoc so_far (side.now ∷ []) (shipped left)
+          ∙ ap (λ items. so_far ++ items) (is_found side.now left is)
+          ∙ ap (λ items. so_far ++ shipped items) next
+          ∙ c.loop-side.invariant.all;
     }
+
+pub loop-side-preserved : goal.loop-side-preserved
+loop-side-preserved c = search rules
+
+pub returns : goal.returns
+returns c = search rules

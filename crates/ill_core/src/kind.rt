@@ -3,7 +3,7 @@
 ghost use Rattle.std.specs.Prelude.{◌≡◌, ◌<◌, Some, None, IsSome};
 ghost use Rattle.ill_core.specs.Kinds.{requester_kind, responder_kind, answer_kind, requester_place, responder_place, number_in};
 
-use ill_values::{AnswerResult, Apdu, Body, Day, Number};
+use ill_values::{AnswerResult, Apdu, Body, Number};
 
 /// The kind of a message that a requester issues, and of the wish that issues it.
 #[derive(Clone, Copy)]

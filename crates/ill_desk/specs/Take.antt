@@ -122,13 +122,6 @@ abbrev pub RunsTake : {L K : Type 0} → Wording → Effects L K → Option (Lis
 RunsTake told effects old new before after from result to =
     RunsTaking false told effects old new None None before after from result to
 
--- The command `take --keep`, which keeps each taken message.
-abbrev pub RunsKeptTake : {L K : Type 0} → Wording → Effects L K → Option (List ℕ) → Option (List ℕ) →
-    Option (List ℕ) → Option (List ℕ) → Option (List ℕ) → Option (List ℕ) → HeldAndLanded L → Result Bool ToolFault →
-    HeldAndLanded L → Type 0
-RunsKeptTake told effects old new kept_before kept_after before after from result to =
-    RunsTaking true told effects old new kept_before kept_after before after from result to
-
 -- The lent desk and file are unchanged, and the failures of the store are counted.
 abbrev pub KeepsDesk : {X N M : Type 0} → Bool → Result X ToolFault → N → N → M → M → ℕ → ℕ → Type 0
 KeepsDesk is_kept result old new old_came new_came before after =

@@ -1,13 +1,13 @@
 //! The command `take`.
 
-ghost use Rattle.std.specs.Prelude.{◌≡◌, ◌≤◌, true};
+ghost use Rattle.std.specs.Prelude.{◌≡◌, true};
 ghost use Rattle.ill_der.specs.ShortForm.{spelling};
 ghost use Rattle.ill_saved.specs.OneSide.{one_side};
 ghost use Rattle.ill_saved.specs.ManySides.{many_sides};
 ghost use Rattle.ill_desk.specs.Performing.{view_of};
 ghost use Rattle.ill_text.specs.Fault.{CountsToolFailure};
-ghost use Rattle.ill_desk.specs.Take.{CountsTaking, KeepsBefore, KeepsDesk, KeepsPrefix, KeepsTaken, RunsKeptTake, RunsTake, RunsTaking, SavesTaken, TakesAndSaves, kept_text, progress, TakesMessage};
-ghost use Rattle.ill_desk.specs.Telling.{long, short, wording};
+ghost use Rattle.ill_desk.specs.Take.{CountsTaking, KeepsBefore, KeepsDesk, KeepsPrefix, KeepsTaken, RunsTake, RunsTaking, SavesTaken, TakesAndSaves, kept_text, progress, TakesMessage};
+ghost use Rattle.ill_desk.specs.Telling.{short, wording};
 
 use crate::side_line::report_message;
 use ill_core::Taking;
@@ -58,60 +58,47 @@ pub fn run_desk_take<S: Store, R: Read, W: Write>(
     take_on::<ManySides, S, Sink, R, W, false, false>(alloc, desk, &mut sink(), reader, writer)
 }
 
-/// Takes each APDU of the input as `run_take` does. Each line has the heading of the message: `GROUP TRANSACTION TYPE
-/// NUMBER OUTCOME STATE DUE RELEASED/ISSUED`. After it come the lines of its further fields, each with two spaces
-/// before it.
-pub fn run_long_take<S: Store, R: Read, W: Write>(
-    alloc: Global,
-    desk: &mut Desk1<S>,
-    reader: &mut R,
-    writer: &mut W,
-) -> Result<bool, ToolFault>
-    ensures runs { RunsTake long one_side (R.remaining reader.old) (R.remaining reader.new)
-        (W.contents writer.old) (W.contents writer.new)
-        (view_of S.state desk.old) result (view_of S.state desk.new) }
-    ensures counted { CountsToolFailure result (S.state desk.old.store).failures (S.state desk.new.store).failures }
-{
-    take_on::<OneSide, S, Sink, R, W, true, false>(alloc, desk, &mut sink(), reader, writer)
+/// The form of `take`: how it tells of a message, and if it keeps it.
+#[derive(Clone, Copy)]
+pub struct TakeForm {
+    /// Set if each line has the heading of the message: `GROUP TRANSACTION TYPE NUMBER OUTCOME STATE DUE
+    /// RELEASED/ISSUED`. After it come the lines of its further fields, each with two spaces before it.
+    pub is_long: bool,
+    /// Set if each taken message is kept.
+    pub is_kept: bool,
 }
 
-/// Takes each APDU of the input as `run_desk_take` does, and writes the lines of `run_long_take`.
-pub fn run_desk_long_take<S: Store, R: Read, W: Write>(
-    alloc: Global,
-    desk: &mut Desk<S>,
-    reader: &mut R,
-    writer: &mut W,
-) -> Result<bool, ToolFault>
-    ensures runs { RunsTake long many_sides (R.remaining reader.old) (R.remaining reader.new)
-        (W.contents writer.old) (W.contents writer.new)
-        (view_of S.state desk.old) result (view_of S.state desk.new) }
-    ensures counted { CountsToolFailure result (S.state desk.old.store).failures (S.state desk.new.store).failures }
-{
-    take_on::<ManySides, S, Sink, R, W, true, false>(alloc, desk, &mut sink(), reader, writer)
-}
-
-/// Takes each APDU of the input as `run_desk_long_take` or `run_desk_take` does, and keeps each taken one. Its bytes
-/// are written to `came` and flushed before the desk is saved. So no saved message is lost. A message that is kept but
-/// not saved is kept twice if it is taken again.
+/// Takes each APDU of the input as `run_desk_take` does, in the form `form`. The bytes of a message that is kept are
+/// written to `came` and flushed before the desk is saved. So no saved message is lost. A message that is kept but not
+/// saved is kept twice if it is taken again.
 ///
 /// If a message cannot be kept, it is taken in memory and not saved. This is a failure of the store.
-pub fn run_desk_kept_take<S: Store, F: Write, R: Read, W: Write>(
+pub fn run_desk_take_as<S: Store, F: Write, R: Read, W: Write>(
     alloc: Global,
     desk: &mut Desk<S>,
-    is_long: bool,
+    form: TakeForm,
     came: &mut F,
     reader: &mut R,
     writer: &mut W,
 ) -> Result<bool, ToolFault>
-    ensures runs { RunsKeptTake (wording is_long) many_sides (R.remaining reader.old) (R.remaining reader.new)
+    ensures runs { RunsTaking form.is_kept (wording form.is_long) many_sides (R.remaining reader.old) (R.remaining reader.new)
         (F.contents came.old) (F.contents came.new) (W.contents writer.old) (W.contents writer.new)
         (view_of S.state desk.old) result (view_of S.state desk.new) }
-    ensures never_fewer { (S.state desk.old.store).failures ≤ (S.state desk.new.store).failures }
+    ensures counted { CountsTaking form.is_kept result (S.state desk.old.store).failures (S.state desk.new.store).failures }
 {
-    if is_long {
-        take_on::<ManySides, S, F, R, W, true, true>(alloc, desk, came, reader, writer)
-    } else {
-        take_on::<ManySides, S, F, R, W, false, true>(alloc, desk, came, reader, writer)
+    match (form.is_long, form.is_kept) {
+        (false, false) => take_on::<ManySides, S, F, R, W, false, false>(
+            alloc, desk, came, reader, writer,
+        ),
+        (true, false) => take_on::<ManySides, S, F, R, W, true, false>(
+            alloc, desk, came, reader, writer,
+        ),
+        (false, true) => take_on::<ManySides, S, F, R, W, false, true>(
+            alloc, desk, came, reader, writer,
+        ),
+        (true, true) => take_on::<ManySides, S, F, R, W, true, true>(
+            alloc, desk, came, reader, writer,
+        ),
     }
 }
 

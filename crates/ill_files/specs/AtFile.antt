@@ -18,9 +18,10 @@ use Rattle.ill_desk.specs.New.{RunsNew}
 use Rattle.ill_desk.specs.Act.{RunsAct}
 use Rattle.ill_desk.specs.Telling.{wording}
 use Rattle.ill_desk.specs.Take.{RunsTaking}
+use Rattle.ill_desk.specs.declared.take.TakeForm.{TakeForm}
 use Rattle.ill_desk.specs.Send.{RunsSend}
-use Rattle.ill_show.specs.Kept.{RunsKeptLoan}
-use Rattle.ill_show.specs.Picture.{drawn_or_shown}
+use Rattle.ill_show.specs.Loan.{RunsLoan}
+use Rattle.ill_show.specs.declared.loan.LoanForm.{LoanForm}
 use Rattle.ill_show.specs.Verify.{VerifiesLoaded}
 use Rattle.ill_show.specs.declared.wanted.Wanted.{Wanted}
 use Rattle.ill_show.specs.Listing.{between, listed_desk}
@@ -62,14 +63,13 @@ ActsAtFile txn today words before after result =
     ⊎ ((old : HeldAndLanded DeskContents) × (new : HeldAndLanded DeskContents)
     × RunsAct many_sides txn (action_named old.live.role today words) old before after result new)
 
--- The APDUs of the input were taken at a desk. They were kept if `is_kept`, and their lines are long if
--- `is_long`. Or its file could not be opened.
-abbrev pub TakesAtFile : Bool → Bool → Option (List ℕ) → Option (List ℕ) → Option (List ℕ) → Option (List ℕ) →
+-- The APDUs of the input were taken at a desk, in this form. Or its file could not be opened.
+abbrev pub TakesAtFile : TakeForm → Option (List ℕ) → Option (List ℕ) → Option (List ℕ) → Option (List ℕ) →
     Result Bool ToolFault → Type 0
-TakesAtFile is_kept is_long left rest before after result =
+TakesAtFile form left rest before after result =
     (FailsToOpen before after result × (rest ≡ left))
     ⊎ ((old : HeldAndLanded DeskContents) × (new : HeldAndLanded DeskContents)
-    × RunsTaking is_kept (wording is_long) many_sides left rest None None before after old result new)
+    × RunsTaking form.is_kept (wording form.is_long) many_sides left rest None None before after old result new)
 
 -- The message `number` of `txn` at a desk was written. Or a file could not be opened.
 abbrev pub SendsAtFile : Qualifiers → ℕ → Option (List ℕ) → Option (List ℕ) → Result Bool ToolFault → Type 0
@@ -116,11 +116,11 @@ ListsPaths form wanted before after result =
 
 -- The transaction `txn` at a desk was shown or drawn, with the messages that came. Or a file could not be
 -- opened.
-abbrev pub LoanAtFile : Form → Bool → Qualifiers → Option (List ℕ) → Option (List ℕ) → Result Bool ToolFault → Type 0
-LoanAtFile form is_picture txn before after result =
+abbrev pub LoanAtFile : LoanForm → Qualifiers → Option (List ℕ) → Option (List ℕ) → Result Bool ToolFault → Type 0
+LoanAtFile form txn before after result =
     FailsToOpen before after result
     ⊎ ((held : List DeskEntry) × (came : List ℕ)
-    × GoesWell (RunsKeptLoan (drawn_or_shown form is_picture) (found_by txn_held txn held) came before after) result)
+    × GoesWell (RunsLoan form (found_by txn_held txn held) came before after) result)
 
 -- The record in a file was verified. Or the file could not be opened.
 abbrev pub VerifiesFile : Option (List ℕ) → Option (List ℕ) → Result Bool ToolFault → Type 0

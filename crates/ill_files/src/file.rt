@@ -1,18 +1,9 @@
 //! The commands that keep a desk in a file. Their arguments are values that were read before, except the words of an
 //! action. A command that may change the file holds its lock from before the load to its end.
 
-ghost use Rattle.std.specs.Prelude.{◌≡◌, ◌++◌, Ok, true, map, string_bytes, IfErr, IfOk};
-ghost use Rattle.ill_saved.specs.ManySides.{found_by, sides_held, txn_held, many_sides};
+ghost use Rattle.std.specs.Prelude.{◌≡◌, map, string_bytes, IfErr, IfOk};
 ghost use Rattle.ill_show.specs.Report.{AddsPart, AddsParts};
 ghost use Rattle.ill_files.specs.AtFile.{ActsAtFile, IsOpenFault, ListsDesk, ListsDesks, ListsPaths, LoanAtFile, NewAtFile, ReportsPaths, SendsAtFile, ShowsFile, TakesAtFile, VerifiesFile, after_writing, all_well};
-ghost use Rattle.ill_show.specs.Listing.{between, listed_desk};
-ghost use Rattle.ill_show.specs.Kept.{RunsKeptLoan};
-ghost use Rattle.ill_show.specs.Picture.{drawn_or_shown};
-ghost use Rattle.ill_text.specs.declared.form.Form.TheVariants.{Lines};
-ghost use Rattle.ill_text.specs.Output.{WritesText};
-ghost use Rattle.ill_desk.specs.Performing.{view_of};
-ghost use Rattle.ill_desk.specs.Take.{RunsTake};
-ghost use Rattle.ill_desk.specs.Telling.{wording};
 
 use crate::came::{came_bytes, open_came};
 use crate::folder::{desk_paths, warn_of_names};
@@ -21,12 +12,11 @@ use crate::open::{all_well, end, lock, open, open_locked, release};
 use ill_desk::act::run_desk_act;
 use ill_desk::new::run_desk_new;
 use ill_desk::send::run_desk_send;
-use ill_desk::take::{run_desk_kept_take, run_desk_long_take, run_desk_take};
+use ill_desk::take::{TakeForm, run_desk_take_as};
 use ill_saved::{Desk, FileStore, LockFiles, RECORD_LIMIT, SIDES_LIMIT, Sides, Store};
-use ill_show::kept::run_desk_kept_loan;
-use ill_show::list::{count_left_out, run_desk_list, run_desk_list_objects};
-use ill_show::listed::{Listed, heading, left_out_line, warning};
-use ill_show::picture::run_desk_picture;
+use ill_show::list::{count_left_out, run_desk_list};
+use ill_show::listed::{Listed, left_out_line, warning};
+use ill_show::loan::{LoanView, run_desk_loan};
 use ill_show::report::{end_page, push_desk, push_fault, push_head};
 use ill_show::status::run_desk_status_as;
 use ill_show::verify::run_desk_verify;
@@ -36,7 +26,7 @@ use ill_text::form::Form;
 use ill_values::{Day, Number, OutOfMemory, TxnId};
 use ill_words::Who;
 use std::alloc::Global;
-use std::io::{Read, Write};
+use std::io::{Read, Write, sink};
 use std::rt::Files;
 
 /// The number of loans from which on `list` warns of the room left.
@@ -84,81 +74,47 @@ pub fn act<T: LockFiles, W: Write, E: Write>(
 pub fn take<T: LockFiles, R: Read, W: Write, E: Write>(
     machine: &mut Machine<'_, T, W, E>,
     file: &str,
-    is_long: bool,
-    is_kept: bool,
+    form: TakeForm,
     reader: &mut R,
 ) -> Result<bool, ToolFault>
-    ensures { TakesAtFile is_kept is_long (R.remaining reader.old) (R.remaining reader.new)
-        (W.contents machine.old.writer) (W.contents machine.new.writer) result }
-{
-    if is_kept {
-        return take_kept(machine, file, is_long, reader);
-    }
-    let (lock, mut desk) = open_locked(machine.rt, machine.alloc, file)?;
-    let taken = take_told(
-        machine.alloc,
-        &mut desk,
-        is_long,
-        reader,
-        &mut machine.writer,
-    );
-    release(taken, desk, lock)
-}
-
-/// `ill take --keep`: takes the APDUs of the input. It keeps each taken one in a file beside the desk's file.
-fn take_kept<T: LockFiles, R: Read, W: Write, E: Write>(
-    machine: &mut Machine<'_, T, W, E>,
-    file: &str,
-    is_long: bool,
-    reader: &mut R,
-) -> Result<bool, ToolFault>
-    ensures { TakesAtFile true is_long (R.remaining reader.old) (R.remaining reader.new)
+    ensures { TakesAtFile form (R.remaining reader.old) (R.remaining reader.new)
         (W.contents machine.old.writer) (W.contents machine.new.writer) result }
 {
     let (lock, mut desk) = open_locked(machine.rt, machine.alloc, file)?;
-    let taken = take_and_keep(machine, file, &mut desk, is_long, reader);
+    let taken = take_at(machine, file, &mut desk, form, reader);
     release(taken, desk, lock)
 }
 
-/// Takes the APDUs of the input at `desk`. It keeps each taken one in the file beside `file`, if that can be opened.
-fn take_and_keep<T: Files, S: Store, R: Read, W: Write, E: Write>(
+/// Takes the APDUs of the input at `desk`. Those that are kept go to the file beside `file`, if that can be opened.
+fn take_at<T: Files, S: Store, R: Read, W: Write, E: Write>(
     machine: &mut Machine<'_, T, W, E>,
     file: &str,
     desk: &mut Desk<S>,
-    is_long: bool,
+    form: TakeForm,
     reader: &mut R,
 ) -> Result<bool, ToolFault>
-    ensures { TakesAtFile true is_long (R.remaining reader.old) (R.remaining reader.new)
+    ensures { TakesAtFile form (R.remaining reader.old) (R.remaining reader.new)
         (W.contents machine.old.writer) (W.contents machine.new.writer) result }
 {
+    if !form.is_kept {
+        return run_desk_take_as(
+            machine.alloc,
+            desk,
+            form,
+            &mut sink(),
+            reader,
+            &mut machine.writer,
+        );
+    }
     let mut came = open_came(machine.rt, machine.alloc, file)?;
-    run_desk_kept_take(
+    run_desk_take_as(
         machine.alloc,
         desk,
-        is_long,
+        form,
         &mut came,
         reader,
         &mut machine.writer,
     )
-}
-
-/// Takes the APDUs of the input at `desk`, and writes a line for each, with its fields or without.
-fn take_told<S: Store, R: Read, W: Write>(
-    alloc: Global,
-    desk: &mut Desk<S>,
-    is_long: bool,
-    reader: &mut R,
-    writer: &mut W,
-) -> Result<bool, ToolFault>
-    ensures { RunsTake (wording is_long) many_sides (R.remaining reader.old) (R.remaining reader.new)
-        (W.contents writer.old) (W.contents writer.new)
-        (view_of S.state desk.old) result (view_of S.state desk.new) }
-{
-    if is_long {
-        run_desk_long_take(alloc, desk, reader, writer)
-    } else {
-        run_desk_take(alloc, desk, reader, writer)
-    }
 }
 
 /// `ill send`: writes the bytes of a message of a transaction.
@@ -212,8 +168,9 @@ fn list_files<T: Files, W: Write, E: Write>(
             path: files[place].as_str(),
             is_headed: files.len() > 1,
             is_first: place == 0,
+            form,
         };
-        last = list_told(machine, last, &listed, wanted, form);
+        last = list_told(machine, last, &listed, wanted);
         answer = graver(answer, last);
     }
     answer
@@ -226,9 +183,8 @@ fn list_told<T: Files, W: Write, E: Write>(
     last: Result<bool, ToolFault>,
     listed: &Listed<'_>,
     wanted: &Wanted,
-    form: Form,
 ) -> Result<bool, ToolFault>
-    ensures { ListsDesk form wanted.now listed.now.is_headed listed.now.is_first (record {
+    ensures { ListsDesk listed.now.form wanted.now listed.now.is_headed listed.now.is_first (record {
       path = listed.now.path.now;
       before = W.contents machine.old.writer;
       after = W.contents machine.new.writer;
@@ -238,7 +194,7 @@ fn list_told<T: Files, W: Write, E: Write>(
     if let Err(ToolFault::Write) = last {
         return last;
     }
-    let answer = list_file(machine, listed, wanted, form);
+    let answer = list_file(machine, listed, wanted);
     if let Err(fault) = answer
         && fault != ToolFault::Write
     {
@@ -252,9 +208,8 @@ fn list_file<T: Files, W: Write, E: Write>(
     machine: &mut Machine<'_, T, W, E>,
     listed: &Listed<'_>,
     wanted: &Wanted,
-    form: Form,
 ) -> Result<bool, ToolFault>
-    ensures { ListsDesk form wanted.now listed.now.is_headed listed.now.is_first (record {
+    ensures { ListsDesk listed.now.form wanted.now listed.now.is_headed listed.now.is_first (record {
       path = listed.now.path.now;
       before = W.contents machine.old.writer;
       after = W.contents machine.new.writer;
@@ -262,7 +217,7 @@ fn list_file<T: Files, W: Write, E: Write>(
     }) }
 {
     let desk = open(machine.rt, machine.alloc, listed.path)?;
-    let answer = list_desk(machine, &desk, listed, wanted, form);
+    let answer = run_desk_list(machine.alloc, &desk, listed, wanted, &mut machine.writer);
     warn(
         machine.alloc,
         listed.path,
@@ -278,45 +233,6 @@ fn list_file<T: Files, W: Write, E: Write>(
     );
     drop(desk);
     all_well(answer)
-}
-
-/// Lists `desk` in the form `form`.
-fn list_desk<T: Files, S: Store, W: Write, E: Write>(
-    machine: &mut Machine<'_, T, W, E>,
-    desk: &Desk<S>,
-    listed: &Listed<'_>,
-    wanted: &Wanted,
-    form: Form,
-) -> Result<(), ToolFault>
-    ensures { WritesText (W.contents machine.old.writer) (W.contents machine.new.writer)
-        (between form listed.now.is_first ++ listed_desk form listed.now.is_headed wanted.now listed.now.path.now
-        (sides_held desk.now.live).sides) result }
-{
-    match form {
-        Form::Lines => list_lines(machine, desk, listed, wanted),
-        Form::Json => run_desk_list_objects(
-            machine.alloc,
-            desk,
-            listed.told(),
-            wanted,
-            &mut machine.writer,
-        ),
-    }
-}
-
-/// Lists `desk` in lines, after a heading.
-fn list_lines<T: Files, S: Store, W: Write, E: Write>(
-    machine: &mut Machine<'_, T, W, E>,
-    desk: &Desk<S>,
-    listed: &Listed<'_>,
-    wanted: &Wanted,
-) -> Result<(), ToolFault>
-    ensures { WritesText (W.contents machine.old.writer) (W.contents machine.new.writer)
-        (between Lines listed.now.is_first ++ listed_desk Lines listed.now.is_headed wanted.now listed.now.path.now
-        (sides_held desk.now.live).sides) result }
-{
-    let heading = heading(machine.alloc, listed)?;
-    run_desk_list(machine.alloc, desk, &heading, wanted, &mut machine.writer)
 }
 
 /// Writes a warning of the room left at a desk to `errors`, if the desk has many loans.
@@ -364,41 +280,15 @@ pub fn status<T: Files, W: Write, E: Write>(
 pub fn loan<T: Files, W: Write, E: Write>(
     machine: &mut Machine<'_, T, W, E>,
     file: &str,
-    txn: &TxnId,
-    form: Form,
-    is_picture: bool,
+    view: &LoanView<'_>,
 ) -> Result<bool, ToolFault>
-    ensures { LoanAtFile form is_picture txn.now (W.contents machine.old.writer) (W.contents machine.new.writer) result }
+    ensures { LoanAtFile view.now.form view.now.txn.now (W.contents machine.old.writer) (W.contents machine.new.writer) result }
 {
     let desk = open(machine.rt, machine.alloc, file)?;
     let came = came_bytes(machine.rt, machine.alloc, file)?;
-    let shown = shown_loan(machine, &desk, txn, form, is_picture, &came);
+    let shown = run_desk_loan(machine.alloc, &desk, view, &came, &mut machine.writer);
     drop(desk);
     all_well(shown)
-}
-
-/// Shows all that is known of a transaction, or draws it. `came` has the bytes of the messages that came.
-fn shown_loan<T: Files, S: Store, W: Write, E: Write>(
-    machine: &mut Machine<'_, T, W, E>,
-    desk: &Desk<S>,
-    txn: &TxnId,
-    form: Form,
-    is_picture: bool,
-    came: &[u8],
-) -> Result<(), ToolFault>
-    ensures { RunsKeptLoan (drawn_or_shown form is_picture) (found_by txn_held txn.now desk.now.live.held) came.now
-        (W.contents machine.old.writer) (W.contents machine.new.writer) result }
-{
-    match (form, is_picture) {
-        (Form::Lines, true) => run_desk_picture(
-            machine.alloc,
-            desk,
-            txn,
-            came,
-            &mut machine.writer,
-        ),
-        (form, _) => run_desk_kept_loan(machine.alloc, desk, txn, came, form, &mut machine.writer),
-    }
 }
 
 /// `ill verify`: checks the record in a file.

@@ -20,6 +20,7 @@ use Rattle.ill_files.specs.AtFile.{FailsToOpen, ShowsFile, TakesAtFile}
 use Rattle.ill_mail.specs.Nights.{ExchangesAtFile, InboxAtFile, OutboxAtFile}
 use Rattle.ill_text.specs.Input.{ReadsInput}
 use Rattle.ill_desk.specs.Take.{answer_of}
+use Rattle.ill_desk.specs.declared.take.TakeForm.{TakeForm}
 use Rattle.ill_show.specs.Listing.{heading}
 use Rattle.ill_desk.specs.Outbox.{IsFileFault}
 use Rattle.ill_text.specs.Output.{WritesText}
@@ -115,11 +116,9 @@ RetiresAtFile before after result =
 
 -- ---- an input
 
--- The state of `take` on a shelf, with its flags and its output. `is_kept` is true if taken messages are
--- kept, and `is_long` if their lines are long. `all_fine` is true if all went well so far.
+-- The state of `take` on a shelf: its form and its output. `all_fine` is true if all went well so far.
 pub record ShelfTaking : Type 0 where
-  pub is_kept : Bool
-  pub is_long : Bool
+  pub form : TakeForm
   pub all_fine : Bool
   pub written : Option (List ℕ)
 
@@ -127,21 +126,20 @@ pub record ShelfTaking : Type 0 where
 abbrev pub TakesAtHome : Handles ShelfTaking ToolFault
 TakesAtHome old a (Ok done) new =
     (is_well : Bool) × (rest : Option (List ℕ))
-    × TakesAtFile old.is_kept old.is_long (Some (spelling a)) rest old.written new.written (Ok is_well)
+    × TakesAtFile old.form (Some (spelling a)) rest old.written new.written (Ok is_well)
     × (new ≡ record old { all_fine = old.all_fine && is_well; written = new.written })
 TakesAtHome old a (Err fault) new =
-    (rest : Option (List ℕ))
-    × TakesAtFile old.is_kept old.is_long (Some (spelling a)) rest old.written new.written (Err fault)
+    (rest : Option (List ℕ)) × TakesAtFile old.form (Some (spelling a)) rest old.written new.written (Err fault)
 
 -- Returns the state before the first APDU.
-abbrev pub shelf_taking : (is_kept is_long : Bool) → Option (List ℕ) → ShelfTaking
-shelf_taking is_kept is_long before = record { is_kept = is_kept; is_long = is_long; all_fine = true; written = before }
+abbrev pub shelf_taking : TakeForm → Option (List ℕ) → ShelfTaking
+shelf_taking form before = record { form = form; all_fine = true; written = before }
 
 -- The APDUs of the input were taken, each at a desk. Or the shelf could not be opened.
-abbrev pub TakesAtShelf : (is_kept is_long : Bool) → Option (List ℕ) → Option (List ℕ) → Option (List ℕ) →
-    Option (List ℕ) → Result Bool ToolFault → Type 0
-TakesAtShelf is_kept is_long left rest before after result =
+abbrev pub TakesAtShelf : TakeForm → Option (List ℕ) → Option (List ℕ) → Option (List ℕ) → Option (List ℕ) →
+    Result Bool ToolFault → Type 0
+TakesAtShelf form left rest before after result =
     (FailsToOpen before after result × (rest ≡ left))
     ⊎ ((count : Result ℕ ToolFault) × (end : ShelfTaking)
-    × ReadsInput TakesAtHome left rest (shelf_taking is_kept is_long before) count end
+    × ReadsInput TakesAtHome left rest (shelf_taking form before) count end
     × (after ≡ end.written) × (result ≡ answer_of count end.all_fine))

@@ -6,12 +6,7 @@ ghost use Rattle.ill_mail.specs.Nights.{ExchangesAtFile, InboxAtFile, OutboxAtFi
 ghost use Rattle.ill_shelf.specs.Shelf.{IsFurther, RetiresAtFile, VisitsShelf, is_lines, retired_line, told_with};
 ghost use Rattle.ill_desk.specs.Outbox.{IsFileFault};
 
-use ill_mail::backup::beat;
 use crate::last_words::{load_mark, send_last_words};
-use ill_mail::mail::names_in;
-use ill_mail::mail_box::remove_if_there;
-use ill_mail::night::Night;
-use ill_mail::places::{Places, look_at_places};
 use crate::sorting::{refuse_lost, sort_mails};
 use crate::visit::{Visit, visit_all};
 use ill_desk::act::run_desk_act;
@@ -22,7 +17,13 @@ use ill_files::machine::Machine;
 use ill_files::open::{lock, open, release};
 use ill_files::paths::{CAME, MAIL, RETIRED, fault, is_there, path_of};
 use ill_files::shelf::{Shelf, is_retired, names_of_desks, own_path, refuse_retired, retired_path};
+use ill_mail::backup::beat;
+use ill_mail::mail::names_in;
+use ill_mail::mail_box::remove_if_there;
+use ill_mail::night::Night;
+use ill_mail::places::{Places, look_at_places};
 use ill_saved::{Desk, DeskFault, FileLock, FileStore, LockFiles, RECORD_LIMIT, Role, Store};
+use ill_show::loan::LoanView;
 use ill_text::fault::{STORE_FAILED, ToolFault, graver};
 use ill_text::form::Form;
 use ill_text::output::write_whole;
@@ -137,14 +138,12 @@ pub fn send_on_shelf<T: Files, W: Write, E: Write>(
 pub fn loan_on_shelf<T: Files, W: Write, E: Write>(
     machine: &mut Machine<'_, T, W, E>,
     folder: &str,
-    txn: &TxnId,
-    form: Form,
-    is_picture: bool,
+    view: &LoanView<'_>,
 ) -> Result<bool, ToolFault>
-    ensures { LoanAtFile form is_picture txn.now (W.contents machine.old.writer) (W.contents machine.new.writer) result }
+    ensures { LoanAtFile view.now.form view.now.txn.now (W.contents machine.old.writer) (W.contents machine.new.writer) result }
 {
-    let file = home_of(machine.rt, machine.alloc, folder, txn)?;
-    loan(machine, file.as_str(), txn, form, is_picture)
+    let file = home_of(machine.rt, machine.alloc, folder, view.txn)?;
+    loan(machine, file.as_str(), view)
 }
 
 /// Returns the path of the desk of the group of `txn`, unless the group is retired.

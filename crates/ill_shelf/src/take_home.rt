@@ -7,6 +7,7 @@ ghost use Rattle.ill_shelf.specs.Shelf.{TakesAtShelf, TakesAtHome};
 
 use crate::sorting::{Route, home_at, make_desk, route_of};
 use ill_der::{ApduView, BodyView, Handler, encode};
+use ill_desk::take::TakeForm;
 use ill_files::file::take;
 use ill_files::machine::Machine;
 use ill_files::paths::fault;
@@ -22,18 +23,16 @@ use std::io::{Read, Write};
 pub fn take_on_shelf<T: LockFiles, R: Read, W: Write, E: Write>(
     machine: &mut Machine<'_, T, W, E>,
     folder: &str,
-    is_long: bool,
-    is_kept: bool,
+    form: TakeForm,
     reader: &mut R,
 ) -> Result<bool, ToolFault>
-    ensures { TakesAtShelf is_kept is_long (R.remaining reader.old) (R.remaining reader.new)
+    ensures { TakesAtShelf form (R.remaining reader.old) (R.remaining reader.new)
         (W.contents machine.old.writer) (W.contents machine.new.writer) result }
 {
     let shelf = Shelf::open(machine.rt, machine.alloc, folder)?;
     let mut taken = Counted::new(TakesHome {
         shelf,
-        is_long,
-        is_kept,
+        form,
         all_fine: true,
     });
     match handle_input(machine.alloc, reader, machine, &mut taken) {
@@ -46,8 +45,7 @@ pub fn take_on_shelf<T: LockFiles, R: Read, W: Write, E: Write>(
 #[derive(Drop)]
 struct TakesHome<'a> {
     shelf: Shelf<'a>,
-    is_long: bool,
-    is_kept: bool,
+    form: TakeForm,
     all_fine: bool,
 }
 
@@ -55,9 +53,9 @@ impl<T: LockFiles, W: Write, E: Write> Handler<Machine<'_, T, W, E>> for TakesHo
     type Fault = ToolFault;
 
     ghost handles = { λ old apdu result new. TakesAtHome
-        (record { is_kept = old.0.is_kept; is_long = old.0.is_long; all_fine = old.0.all_fine; written = W.contents old.1.writer })
+        (record { form = old.0.form; all_fine = old.0.all_fine; written = W.contents old.1.writer })
         apdu result
-        (record { is_kept = new.0.is_kept; is_long = new.0.is_long; all_fine = new.0.all_fine; written = W.contents new.1.writer }) };
+        (record { form = new.0.form; all_fine = new.0.all_fine; written = W.contents new.1.writer }) };
 
     fn handle(
         &mut self,
@@ -74,14 +72,7 @@ impl<T: LockFiles, W: Write, E: Write> Handler<Machine<'_, T, W, E>> for TakesHo
             Err(_) => return Err(ToolFault::OutOfMemory),
         };
         let mut input = bytes.as_slice();
-        let taken = take(
-            machine,
-            file.as_str(),
-            self.is_long,
-            self.is_kept,
-            &mut input,
-        );
-        match taken {
+        match take(machine, file.as_str(), self.form, &mut input) {
             Ok(is_well) => {
                 self.all_fine = self.all_fine && is_well;
                 Ok(())

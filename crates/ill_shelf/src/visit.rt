@@ -7,11 +7,11 @@ ghost use Rattle.ill_text.specs.Output.{WritesText};
 ghost use Rattle.ill_shelf.specs.Shelf.{Headed, RunsVisit, VisitsAll, is_headed, is_lines};
 ghost use Rattle.ill_text.specs.Visits.{graver};
 
+use ill_files::file::status;
+use ill_files::machine::Machine;
 use ill_mail::exchange::{exchange, inbox, outbox};
 use ill_mail::mail::Incoming;
 use ill_mail::night::Night;
-use ill_files::file::status;
-use ill_files::machine::Machine;
 use ill_saved::LockFiles;
 use ill_show::listed::{Listed, heading};
 use ill_text::fault::{ToolFault, graver};
@@ -81,6 +81,7 @@ fn head<T: Files, W: Write, E: Write>(
         path,
         is_headed,
         is_first: true,
+        form: Form::Lines,
     };
     let line = heading(machine.alloc, &listed)?;
     write_whole(&mut machine.writer, &line)

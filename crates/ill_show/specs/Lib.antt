@@ -2,6 +2,7 @@ pub mod Kept
 pub mod List
 pub mod Listing
 pub mod Loan
+pub mod LoanLines
 pub mod Objects
 pub mod Picture
 pub mod Report

@@ -1,82 +1,48 @@
--- The command `loan`: all that a desk knows of one loan.
-use Rattle.std.specs.Prelude.{◌≡◌, ℕ, nat_le, Bool, List, [], ◌++◌, map, codes, Option, None, Some, Result, Err}
-use Rattle.std.specs.List.{flat_map}
-use Rattle.std.specs.Fmt.{decimal}
+-- The command `loan`: all that a desk knows of one loan, and the messages that came in it.
+use Rattle.std.specs.Prelude.{◌≡◌, ℕ, Bool, true, false, List, [], ◌++◌, Option, None, Some, Result, Err}
 use Rattle.std.specs.Io.KnownBytes.{Appends}
+use Rattle.ill_values.specs.TxnId.{Qualifiers}
 use Rattle.ill_values.specs.declared.apdu.Apdu.{Apdu}
-use Rattle.ill_values.specs.declared.apdu.Body.{Body}
-use Rattle.ill_values.specs.declared.apdu.Body.TheVariants.{IllRequest}
-use Rattle.ill_core.specs.Verbs.{verb_name}
-use Rattle.ill_saved.specs.declared.side.Side.{Side}
-use Rattle.ill_saved.specs.declared.side.Side.TheVariants.{Requester, Responder}
-use Rattle.ill_saved.specs.Side.{issued_of}
-use Rattle.ill_saved.specs.SideVerbs.{turn_of}
+use Rattle.ill_saved.specs.Side.{txn_of}
 use Rattle.ill_saved.specs.Holdings.{DeskEntry}
 use Rattle.ill_saved.specs.declared.fault.DeskFault.TheVariants.{NoSuchTransaction}
-use Rattle.ill_words.specs.Shown.{due_text}
 use Rattle.ill_text.specs.declared.fault.ToolFault.{ToolFault}
-use Rattle.ill_text.specs.declared.fault.ToolFault.TheVariants.{Desk}
-use Rattle.ill_text.specs.Escape.{escaped}
-use Rattle.ill_text.specs.Lines.{line, reply_word, shown_lines}
-use Rattle.ill_words.specs.Possible.{possible_on, request_of}
-use Rattle.ill_show.specs.Status.{status_lines, spaced_or_dash}
+use Rattle.ill_text.specs.declared.fault.ToolFault.TheVariants.{Desk, OutOfMemory}
+use Rattle.ill_text.specs.declared.form.Form.{Form}
+use Rattle.ill_text.specs.declared.form.Form.TheVariants as forms
+use Rattle.ill_text.specs.ApduObject.{object_line}
+use Rattle.ill_text.specs.Input.{AreIn}
 use Rattle.ill_text.specs.Output.{WritesText}
-use Rattle.ill_core.specs.Words.{turn_name}
+use Rattle.ill_show.specs.declared.loan.LoanForm.{LoanForm}
+use Rattle.ill_show.specs.declared.loan.LoanForm.TheVariants.{Lines, Object, Picture}
+use Rattle.ill_show.specs.Kept.{kept_lines, kept_of}
+use Rattle.ill_show.specs.Objects.{loan_fields, came_fields}
+use Rattle.ill_show.specs.Picture.{picture}
 
--- Returns the lines of the library that acts next, and of the actions that the side may do now on some day.
-abbrev pub turn_lines : Side → List ℕ
-turn_lines side =
-    line (codes "next") (turn_name (turn_of side))
-    ++ line (codes "now") (spaced_or_dash (map verb_name (possible_on None side)))
+-- Returns the form in which a loan is shown. A picture takes the place of lines alone.
+abbrev pub loan_form : Form → (is_picture : Bool) → LoanForm
+loan_form forms.Json is_picture = Object
+loan_form forms.Lines true = Picture
+loan_form forms.Lines false = Lines
 
--- Returns the lines of the item and the expiry date of a request.
-abbrev pub item_lines : Body → List ℕ
-item_lines (IllRequest expiry item) =
-    line (codes "item") (escaped item) ++ line (codes "expiry") (due_text expiry)
-item_lines other = []
+-- Returns the text of a loan and of the messages that came in it.
+abbrev pub loan_text : LoanForm → DeskEntry → List Apdu → List ℕ
+loan_text Lines = kept_lines
+loan_text Object = λ held kept. object_line (loan_fields held.side held.released ++ came_fields kept)
+loan_text Picture = picture
 
--- Returns the lines of a request, if there is one.
-abbrev pub request_lines : Option Apdu → List ℕ
-request_lines None = []
-request_lines (Some apdu) = item_lines apdu.body
+-- The output grew from `before` to `after` by the text of the messages of `txn` in `bytes`. If memory ran
+-- out, it did not grow.
+abbrev pub WritesLoan : (List Apdu → List ℕ) → Qualifiers → List ℕ → Option (List ℕ) → Option (List ℕ) →
+    Result (Unit {0}) ToolFault → Type 0
+WritesLoan text txn bytes before after (Err OutOfMemory) = Appends before after []
+WritesLoan text txn bytes before after result =
+    (came : List Apdu) × AreIn bytes came × WritesText before after (text (kept_of txn came)) result
 
--- Returns the line of the number of a message, or of a dash if there is none.
-abbrev pub optional_number_line : List ℕ → Option ℕ → List ℕ
-optional_number_line label None = line label (codes "-")
-optional_number_line label (Some number) = line label (decimal number)
-
--- Returns the lines of the message numbers that the record keeps of the other side. A requester's has the
--- conditions that it holds. A responder's has the last accepted conditions, the last Cancel and the last
--- Renew.
-abbrev pub taken_lines : Side → List ℕ
-taken_lines (Requester x) = optional_number_line (codes "held") x.held
-taken_lines (Responder y) =
-    optional_number_line (codes "accepted") y.accepted
-    ++ (optional_number_line (codes "last-cancel") y.last_cancel
-    ++ optional_number_line (codes "last-renew") y.last_renew)
-
--- Returns the lines of a side, without its messages.
-abbrev pub side_lines : Side → ℕ → List ℕ
-side_lines side released =
-    status_lines side released
-    ++ (turn_lines side ++ (request_lines (request_of side) ++ taken_lines side))
-
--- Returns the lines of a message: an empty line, the lines of its fields, and `label` with yes or no.
-abbrev pub marked_lines : List ℕ → Bool → Apdu → List ℕ
-marked_lines label is_so apdu = codes "\n" ++ (shown_lines apdu ++ line label (reply_word is_so))
-
--- Returns the lines of an issued message. The last says yes if the message may be sent.
-abbrev pub message_lines : ℕ → Apdu → List ℕ
-message_lines released apdu = marked_lines (codes "leaves") (nat_le apdu.number released) apdu
-
--- Returns the lines of a side, and of all messages that it has issued, in their order.
-unfoldable pub loan_lines : Side → ℕ → List ℕ
-loan_lines side released =
-    side_lines side released ++ flat_map (message_lines released) (issued_of side)
-
--- The command: if the side is held, its lines were written. If it is not, the fault is `NoSuchTransaction`,
--- and nothing was written.
-abbrev pub RunsLoan : Option DeskEntry → Option (List ℕ) → Option (List ℕ) → Result (Unit {0}) ToolFault → Type 0
-RunsLoan None before after result = (result ≡ Err (Desk NoSuchTransaction)) × Appends before after []
-RunsLoan (Some held) before after result =
-    WritesText before after (loan_lines held.side held.released) result
+-- The command: it writes the text of the side and of the messages of its transaction in `bytes`. If the side
+-- is not held, the fault is `NoSuchTransaction`, and nothing is written.
+abbrev pub RunsLoan : LoanForm → Option DeskEntry → List ℕ → Option (List ℕ) → Option (List ℕ) →
+    Result (Unit {0}) ToolFault → Type 0
+RunsLoan form None bytes before after result = (result ≡ Err (Desk NoSuchTransaction)) × Appends before after []
+RunsLoan form (Some held) bytes before after result =
+    WritesLoan (loan_text form held) (txn_of held.side) bytes before after result

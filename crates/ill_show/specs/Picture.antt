@@ -17,9 +17,7 @@ use Rattle.ill_show.specs.declared.picture.Link.TheVariants.{Before, After}
 use Rattle.ill_text.specs.Escape.{is_within}
 use Rattle.ill_values.specs.Types.{type_name}
 use Rattle.ill_text.specs.Lines.{shown_fields}
-use Rattle.ill_text.specs.declared.form.Form.{Form}
-use Rattle.ill_text.specs.declared.form.Form.TheVariants.{Lines, Json}
-use Rattle.ill_show.specs.Kept.{is_among, kept_text}
+use Rattle.ill_show.specs.Kept.{is_among}
 
 -- ---- texts
 
@@ -156,9 +154,3 @@ picture_of own theirs = all_drawn (fold with_own (record { lines = opening; left
 -- Returns the picture of a side and of the messages `kept` that came to it.
 abbrev pub picture : DeskEntry → List Apdu → List ℕ
 picture held kept = picture_of (issued_of held.side) (theirs_of held.side kept)
-
--- Returns the text of a loan: an object of JSON, its picture, or its lines.
-abbrev pub drawn_or_shown : Form → Bool → DeskEntry → List Apdu → List ℕ
-drawn_or_shown Json is_picture = kept_text Json
-drawn_or_shown Lines true = picture
-drawn_or_shown Lines false = kept_text Lines

@@ -3,14 +3,15 @@
 #![tactic(auto)]
 
 mod counts;
-pub mod kept;
+mod kept;
 pub mod list;
 mod list_objects;
 pub mod listed;
 pub mod loan;
+mod loan_lines;
 mod marks;
 mod objects;
-pub mod picture;
+mod picture;
 pub mod report;
 mod report_parts;
 mod row;

@@ -4,15 +4,17 @@ ghost use Rattle.std.specs.Prelude.{◌≡◌, [], ◌∷◌, ◌++◌, map, cou
 ghost use Rattle.ill_saved.specs.ManySides.{sides_held};
 ghost use Rattle.ill_text.specs.Output.{WritesText};
 ghost use Rattle.ill_show.specs.List.{has_verbs, is_wanted, has_turn, lacks_day, is_left_out, left_out, counts_line};
-ghost use Rattle.ill_show.specs.Listing.{counts_text, list_lines, list_objects, listed, ordered_lines, row_text, rows_of};
+ghost use Rattle.ill_show.specs.Listing.{between, counts_text, file_told, gap, heading, list_lines, list_objects, listed, listed_desk, ordered_lines, row_text, rows_of};
 
 use crate::counts::{Counts, count};
 use crate::list_objects::{push_counts_object, push_row_object};
+use crate::listed::{Listed, heading};
 use crate::row::{Columns, push_row};
 use crate::wanted::{Wanted, has_turn, is_wanted};
 use ill_core::Turn;
 use ill_saved::{Desk, Side, Sides, Store};
 use ill_text::fault::ToolFault;
+use ill_text::form::Form;
 use ill_text::output::write_whole;
 use ill_values::{Day, OutOfMemory};
 use ill_words::sides::all_of;
@@ -29,37 +31,56 @@ pub(crate) enum Rows<'a> {
     Objects(Option<&'a str>),
 }
 
-/// Writes `heading`, a line for each wanted loan of `desk`, and a line that counts all of its loans. The loans that
-/// wait for this library come first. Within a turn the most urgent loans come first.
+/// Writes a line or an object of JSON for each wanted loan of `desk`, and one that counts all of its loans. Lines stand
+/// after a heading with the path of the desk, if that is written; each object has it. The loans that wait for this
+/// library come first. Within a turn the most urgent loans come first.
 pub fn run_desk_list<S: Store, W: Write>(
     alloc: Global,
     desk: &Desk<S>,
-    heading: &[u8],
+    listed: &Listed<'_>,
     wanted: &Wanted,
     writer: &mut W,
 ) -> Result<(), ToolFault>
     ensures { WritesText (W.contents writer.old) (W.contents writer.new)
-        (heading.now ++ list_lines wanted.now (sides_held desk.now.live).sides) result }
+        (between listed.now.form listed.now.is_first ++ listed_desk listed.now.form listed.now.is_headed wanted.now
+        listed.now.path.now (sides_held desk.now.live).sides) result }
 {
-    let mut lines = Vec::from_slice(alloc, heading)?;
-    push_list(&mut lines, desk.sides(), wanted)?;
+    match listed.form {
+        Form::Lines => write_lines(alloc, desk.sides(), listed, wanted, writer),
+        Form::Json => write_objects(alloc, desk.sides(), listed, wanted, writer),
+    }
+}
+
+/// Writes the heading and all lines of a list of `sides`.
+fn write_lines<W: Write>(
+    alloc: Global,
+    sides: &Sides,
+    listed: &Listed<'_>,
+    wanted: &Wanted,
+    writer: &mut W,
+) -> Result<(), ToolFault>
+    ensures { WritesText (W.contents writer.old) (W.contents writer.new)
+        (gap listed.now.is_first ++ (heading listed.now.is_headed listed.now.path.now
+        ++ list_lines wanted.now sides.now.sides)) result }
+{
+    let mut lines = heading(alloc, listed)?;
+    push_list(&mut lines, sides, wanted)?;
     write_whole(writer, &lines)
 }
 
-/// Writes an object of JSON for each wanted loan of `desk`, in the order of `run_desk_list`. Then it writes one of the
-/// counts. Each object has the path `file` of the desk, if it is given.
-pub fn run_desk_list_objects<S: Store, W: Write>(
+/// Writes all objects of a list of `sides`.
+fn write_objects<W: Write>(
     alloc: Global,
-    desk: &Desk<S>,
-    file: Option<&str>,
+    sides: &Sides,
+    listed: &Listed<'_>,
     wanted: &Wanted,
     writer: &mut W,
 ) -> Result<(), ToolFault>
     ensures { WritesText (W.contents writer.old) (W.contents writer.new)
-        (list_objects (option_map (λ path. path.now) file.entry) wanted.now (sides_held desk.now.live).sides) result }
+        (list_objects (file_told listed.now.is_headed listed.now.path.now) wanted.now sides.now.sides) result }
 {
     let mut text = Vec::new(alloc);
-    push_list_objects(&mut text, file, desk.sides(), wanted)?;
+    push_list_objects(&mut text, listed.told(), sides, wanted)?;
     write_whole(writer, &text)
 }
 

@@ -4,6 +4,7 @@ ghost use Rattle.std.specs.Prelude.{◌≡◌, ◌++◌, option_map, IfOk};
 ghost use Rattle.ill_show.specs.Listing.{file_told, gap, heading, left_out_line, left_out_words, room_line};
 
 use ill_text::escape::push_escaped;
+use ill_text::form::Form;
 use ill_values::OutOfMemory;
 use std::alloc::Global;
 
@@ -16,6 +17,8 @@ pub struct Listed<'a> {
     pub is_headed: bool,
     /// Set if no desk is listed before it.
     pub is_first: bool,
+    /// The form of the list.
+    pub form: Form,
 }
 
 impl<'a> Listed<'a> {

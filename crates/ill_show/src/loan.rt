@@ -1,179 +1,118 @@
 //! The command `loan`.
 
-ghost use Rattle.std.specs.Prelude.{◌≡◌, ◌++◌, OnOk};
-ghost use Rattle.std.specs.List.{flat_map};
+ghost use Rattle.std.specs.Prelude.{◌≡◌, IfOk};
+ghost use Rattle.ill_saved.specs.Side.{txn_of};
 ghost use Rattle.ill_saved.specs.ManySides.{found_by, txn_held};
-ghost use Rattle.ill_text.specs.Output.{WritesText};
-ghost use Rattle.ill_words.specs.Possible.{request_of};
-ghost use Rattle.ill_show.specs.Loan.{RunsLoan, item_lines, loan_lines, marked_lines, message_lines, optional_number_line, request_lines, side_lines, taken_lines, turn_lines};
-ghost use Rattle.ill_core.specs.Words.{turn_name};
+ghost use Rattle.ill_show.specs.Loan.{RunsLoan, WritesLoan, loan_form, loan_text};
 
-use crate::status::{push_day_or_dash, push_status, push_words};
-use ill_saved::{Desk, Desk1, DeskFault, Side, Store};
+use crate::kept::{kept_of, push_kept_lines};
+use crate::objects::push_kept_object;
+use crate::picture::picture_of;
+use ill_saved::{Desk, DeskFault, Side, Store};
 use ill_text::fault::ToolFault;
-use ill_text::lines::{push_item, push_line, push_number, push_shown, push_whether};
+use ill_text::form::Form;
+use ill_text::input::apdus_in;
 use ill_text::output::write_whole;
-use ill_values::{Apdu, Body, Number, OutOfMemory, TxnId};
-use ill_words::names::names;
-use ill_words::possible::{possible_on, request};
+use ill_values::{Apdu, OutOfMemory, TxnId};
 use std::alloc::Global;
 use std::io::Write;
 
-/// Writes all that the record of `desk` has. The first lines are the seven of `status`. Then come the library that acts
-/// next, the actions that this side may do now, and the request. The last are the numbers of messages that were taken,
-/// and each message that the side has issued.
-pub fn run_loan<S: Store, W: Write>(
-    alloc: Global,
-    desk: &Desk1<S>,
-    writer: &mut W,
-) -> Result<(), ToolFault>
-    ensures { WritesText (W.contents writer.old) (W.contents writer.new)
-        (loan_lines desk.now.live.side desk.now.live.released) result }
-{
-    write_loan(alloc, desk.side(), desk.released(), writer)
+/// The form in which a loan is shown.
+#[derive(Clone, Copy)]
+pub enum LoanForm {
+    /// Lines.
+    Lines,
+    /// An object of JSON.
+    Object,
+    /// A sequence chart of its messages, in the language of Mermaid.
+    Picture,
 }
 
-/// Writes all that is known of the side of `txn` at `desk`, which must be held (else `NoSuchTransaction`).
+impl LoanForm {
+    /// Returns the form in which a loan is shown. A picture takes the place of lines alone.
+    pub fn of(form: Form, is_picture: bool) -> LoanForm
+        ensures { result ≡ loan_form form is_picture }
+    {
+        match (form, is_picture) {
+            (Form::Json, _) => LoanForm::Object,
+            (Form::Lines, true) => LoanForm::Picture,
+            (Form::Lines, false) => LoanForm::Lines,
+        }
+    }
+}
+
+/// A loan that is shown, and its form.
+#[derive(Clone, Copy)]
+pub struct LoanView<'a> {
+    /// The transaction.
+    pub txn: &'a TxnId,
+    /// The form.
+    pub form: LoanForm,
+}
+
+/// Writes all that is known of the loan in `view` at `desk`, which must be held (else `NoSuchTransaction`). Then it
+/// writes each message of the transaction in `came`, once. A picture has the messages alone.
+///
+/// The lines are the seven of `status`, the library that acts next, and the actions that this side may do now. After
+/// them come the request, the numbers of messages that were taken, and each message that the side has issued. `came`
+/// has the bytes that `take --keep` has kept. A part that is no message, and all bytes after it, are ignored.
 pub fn run_desk_loan<S: Store, W: Write>(
     alloc: Global,
     desk: &Desk<S>,
-    txn: &TxnId,
+    view: &LoanView<'_>,
+    came: &[u8],
     writer: &mut W,
 ) -> Result<(), ToolFault>
-    ensures { RunsLoan (found_by txn_held txn.now desk.now.live.held)
+    ensures { RunsLoan view.now.form (found_by txn_held view.now.txn.now desk.now.live.held) came.now
         (W.contents writer.old) (W.contents writer.new) result }
 {
-    match desk.sides().get(txn) {
-        Some(side) => write_loan(alloc, side, desk.released(txn), writer),
+    match desk.sides().get(view.txn) {
+        Some(side) => write_loan(
+            alloc,
+            view.form,
+            side,
+            desk.released(view.txn),
+            came,
+            writer,
+        ),
         None => Err(ToolFault::Desk(DeskFault::NoSuchTransaction)),
     }
 }
 
-/// Writes all that is known of `side`.
+/// Writes all that is known of `side`, and its messages in `came`.
 fn write_loan<W: Write>(
     alloc: Global,
+    form: LoanForm,
     side: &Side,
     released: u8,
+    came: &[u8],
     writer: &mut W,
 ) -> Result<(), ToolFault>
-    ensures { WritesText (W.contents writer.old) (W.contents writer.new)
-        (loan_lines side.now released) result }
+    ensures { WritesLoan (loan_text form (record { side = side.now; released = released })) (txn_of side.now) came.now
+        (W.contents writer.old) (W.contents writer.new) result }
 {
-    let mut lines = Vec::new(alloc);
-    push_loan(&mut lines, side, released)?;
-    write_whole(writer, &lines)
+    let came = apdus_in(alloc, came)?;
+    let kept = kept_of(alloc, side.txn(), &came)?;
+    let text = loan_text(alloc, form, side, released, kept)?;
+    write_whole(writer, &text)
 }
 
-/// Appends the lines of `side`, and of the messages that it has issued.
-#[tactic(auto, unfolding(crate::specs::Loan::loan_lines))]
-pub(crate) fn push_loan(lines: &mut Vec<u8>, side: &Side, released: u8) -> Result<(), OutOfMemory>
-    ensures { OnOk result (lines.new.items ≡ lines.old.items ++ loan_lines side.now released) }
+/// Returns the text of `side` and of the messages `kept` that came to it.
+fn loan_text(
+    alloc: Global,
+    form: LoanForm,
+    side: &Side,
+    released: u8,
+    kept: Vec<Apdu>,
+) -> Result<Vec<u8>, OutOfMemory>
+    ensures { IfOk result (λ text. text.items
+        ≡ loan_text form (record { side = side.now; released = released }) kept.items) }
 {
-    push_side(lines, side, released)?;
-    push_messages(lines, side.all_issued(), released)
-}
-
-/// Appends the lines of `side`, without its messages.
-fn push_side(lines: &mut Vec<u8>, side: &Side, released: u8) -> Result<(), OutOfMemory>
-    ensures { OnOk result (lines.new.items ≡ lines.old.items ++ side_lines side.now released) }
-{
-    push_status(lines, side, released)?;
-    push_turn(lines, side)?;
-    push_request(lines, side)?;
-    push_taken(lines, side)
-}
-
-/// Appends the lines of the library that acts next, and of the actions that the side may do on some day.
-fn push_turn(lines: &mut Vec<u8>, side: &Side) -> Result<(), OutOfMemory>
-    ensures { OnOk result (lines.new.items ≡ lines.old.items ++ turn_lines side.now) }
-{
-    push_line(lines, "next", side.turn().name().as_bytes())?;
-    let alloc = *lines.allocator();
-    let names = names(alloc, &possible_on(alloc, None, side)?)?;
-    push_words(lines, "now", &names)
-}
-
-/// Appends the lines of the request of a loan, if it has begun.
-fn push_request(lines: &mut Vec<u8>, side: &Side) -> Result<(), OutOfMemory>
-    ensures { OnOk result (lines.new.items ≡ lines.old.items
-        ++ request_lines (request_of side.now)) }
-{
-    match request(side) {
-        Some(apdu) => push_wanted(lines, &apdu.body),
-        None => Ok(()),
+    let mut text = Vec::new(alloc);
+    match form {
+        LoanForm::Lines => push_kept_lines(&mut text, side, released, &kept)?,
+        LoanForm::Object => push_kept_object(&mut text, side, released, &kept)?,
+        LoanForm::Picture => return picture_of(alloc, side, kept),
     }
-}
-
-/// Appends the lines of the item and the expiry day of a request.
-fn push_wanted(lines: &mut Vec<u8>, body: &Body) -> Result<(), OutOfMemory>
-    ensures { OnOk result (lines.new.items ≡ lines.old.items ++ item_lines body.now) }
-{
-    match body {
-        Body::IllRequest { expiry, item } => {
-            push_item(lines, item.text())?;
-            push_day_or_dash(lines, "expiry", *expiry)
-        }
-        _ => Ok(()),
-    }
-}
-
-/// Appends the lines of the message numbers that the record keeps of the other side.
-fn push_taken(lines: &mut Vec<u8>, side: &Side) -> Result<(), OutOfMemory>
-    ensures { OnOk result (lines.new.items ≡ lines.old.items ++ taken_lines side.now) }
-{
-    match side {
-        Side::Requester(requester) => push_optional_number(lines, "held", requester.held()),
-        Side::Responder(responder) => {
-            push_optional_number(lines, "accepted", responder.accepted())?;
-            push_optional_number(lines, "last-cancel", responder.last_cancel())?;
-            push_optional_number(lines, "last-renew", responder.last_renew())
-        }
-    }
-}
-
-/// Appends the line of the number of a message, or of a dash if there is none.
-fn push_optional_number(
-    lines: &mut Vec<u8>,
-    label: &str,
-    number: Option<Number>,
-) -> Result<(), OutOfMemory>
-    ensures { OnOk result (lines.new.items ≡ lines.old.items
-        ++ optional_number_line label.now number) }
-{
-    match number {
-        None => push_line(lines, label, b"-"),
-        Some(number) => push_number(lines, label, number),
-    }
-}
-
-/// Appends the lines of `apdus`, in their order.
-fn push_messages(lines: &mut Vec<u8>, apdus: &[Apdu], released: u8) -> Result<(), OutOfMemory>
-    ensures { OnOk result (lines.new.items ≡ lines.old.items
-        ++ flat_map (message_lines released) apdus.now) }
-{
-    for apdu in apdus {
-        push_message(lines, apdu, released)?;
-    }
-    Ok(())
-}
-
-/// Appends an empty line, the lines of `apdu`, and a line that says `yes` if it may be sent.
-fn push_message(lines: &mut Vec<u8>, apdu: &Apdu, released: u8) -> Result<(), OutOfMemory>
-    ensures { OnOk result (lines.new.items ≡ lines.old.items ++ message_lines released apdu.now) }
-{
-    push_marked(lines, "leaves", apdu.number.get() <= released, apdu)
-}
-
-/// Appends an empty line, the lines of `apdu`, and the line of `label` with `yes` or `no`.
-pub(crate) fn push_marked(
-    lines: &mut Vec<u8>,
-    label: &str,
-    is_so: bool,
-    apdu: &Apdu,
-) -> Result<(), OutOfMemory>
-    ensures { OnOk result (lines.new.items ≡ lines.old.items ++ marked_lines label.now is_so apdu.now) }
-{
-    lines.push(b'\n')?;
-    push_shown(lines, apdu)?;
-    push_whether(lines, label, is_so)
+    Ok(text)
 }

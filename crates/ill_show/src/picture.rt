@@ -1,62 +1,34 @@
 //! The picture of a loan, as `loan --picture` draws it.
 
 ghost use Rattle.std.specs.Prelude.{◌≡◌, ◌≤◌, ◌++◌, length, IfOk, OnOk};
-ghost use Rattle.ill_saved.specs.Side.{txn_of, issued_of};
-ghost use Rattle.ill_saved.specs.ManySides.{found_by, txn_held};
-ghost use Rattle.ill_show.specs.Kept.{RunsKeptLoan, WritesKept};
-ghost use Rattle.ill_show.specs.Picture.{answers, arrow, arrows, comes_before, drawn, drawn_byte, is_linked, is_plain, label_of, picture, picture_of, theirs_of, through, arrow_of, with_own, with_request};
+ghost use Rattle.ill_saved.specs.Side.{issued_of};
+ghost use Rattle.ill_show.specs.Picture.{answers, arrow, arrows, comes_before, drawn, drawn_byte, is_linked, is_plain, label_of, picture_of, theirs_of, through, arrow_of, with_own, with_request};
 
-use crate::kept::{is_among, kept_of};
-use ill_saved::{Desk, DeskFault, Side, Store};
-use ill_text::fault::ToolFault;
-use ill_text::input::apdus_in;
+use crate::kept::is_among;
+use ill_saved::Side;
 use ill_text::lines::{push_shown_fields, view};
-use ill_text::output::write_whole;
-use ill_values::{Apdu, Body, Number, OutOfMemory, TxnId};
+use ill_values::{Apdu, Body, Number, OutOfMemory};
 use itoa::Buffer;
 use std::alloc::Global;
-use std::io::Write;
-
-/// Writes a sequence chart of the messages of `txn`, in the language of Mermaid. The messages are the issued ones of
-/// its side, the request in a responder's record, and the ones in `came`.
-///
-/// Nobody knows the order of one side's messages and the other's in time. The picture keeps the order of each side. It
-/// draws a message of the other side as late as possible, but before a message that needs it. If it answers a message
-/// by its number, it is drawn directly after that one.
-pub fn run_desk_picture<S: Store, W: Write>(
-    alloc: Global,
-    desk: &Desk<S>,
-    txn: &TxnId,
-    came: &[u8],
-    writer: &mut W,
-) -> Result<(), ToolFault>
-    ensures { RunsKeptLoan picture (found_by txn_held txn.now desk.now.live.held) came.now
-        (W.contents writer.old) (W.contents writer.new) result }
-{
-    match desk.sides().get(txn) {
-        Some(side) => write_picture(alloc, side, came, writer),
-        None => Err(ToolFault::Desk(DeskFault::NoSuchTransaction)),
-    }
-}
 
 /// The first lines of a picture.
 const OPENING: &str = "sequenceDiagram\n  participant requester\n  participant responder\n";
 
-/// Writes the picture of `side`, with the messages in `came`.
-fn write_picture<W: Write>(
+/// Returns a sequence chart of the messages of `side`, in the language of Mermaid. The messages are its issued ones, the
+/// request in a responder's record, and `kept`, which came.
+///
+/// Nobody knows the order of one side's messages and the other's in time. The picture keeps the order of each side. It
+/// draws a message of the other side as late as possible, but before a message that needs it. If it answers a message
+/// by its number, it is drawn directly after that one.
+pub(crate) fn picture_of(
     alloc: Global,
     side: &Side,
-    came: &[u8],
-    writer: &mut W,
-) -> Result<(), ToolFault>
-    ensures { WritesKept (λ kept. picture_of (issued_of side.now) (theirs_of side.now kept)) (txn_of side.now) came.now
-        (W.contents writer.old) (W.contents writer.new) result }
+    kept: Vec<Apdu>,
+) -> Result<Vec<u8>, OutOfMemory>
+    ensures { IfOk result (λ lines. lines.items ≡ picture_of (issued_of side.now) (theirs_of side.now kept.items)) }
 {
-    let came = apdus_in(alloc, came)?;
-    let kept = kept_of(alloc, side.txn(), &came)?;
     let theirs = theirs_of(alloc, side, kept)?;
-    let lines = draw(alloc, side.all_issued(), &theirs)?;
-    write_whole(writer, &lines)
+    draw(alloc, side.all_issued(), &theirs)
 }
 
 /// Returns the messages `kept` that came. If they lack the request in a responder's record, it comes first.

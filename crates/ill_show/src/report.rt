@@ -1,15 +1,14 @@
 //! The command `report`: a page of HTML of the loans of desks.
 
-ghost use Rattle.std.specs.Prelude.{◌≡◌, ◌++◌, ℕ, List, [], ◌∷◌, Some, Ok, map, count_by, codes, OnOk};
+ghost use Rattle.std.specs.Prelude.{◌≡◌, ◌++◌, ℕ, List, [], ◌∷◌, Some, map, count_by, codes, OnOk};
 ghost use Rattle.std.specs.List.{flat_map};
 ghost use Rattle.std.specs.Fmt.{decimal};
 ghost use Rattle.ill_values.specs.Types.{type_name};
-ghost use Rattle.ill_saved.specs.ManySides.{sides_held};
 ghost use Rattle.ill_text.specs.Output.{WritesText};
 ghost use Rattle.ill_text.specs.Html.{html_escaped};
 ghost use Rattle.ill_words.specs.Possible.{possible_on, request_of, item_asked};
 ghost use Rattle.ill_show.specs.List.{title_text};
-ghost use Rattle.ill_show.specs.Report.{action_text, actor, day_text, desk_text, detail_text, field_text, is_on, loan_text, loans_text, message_text, page_end, page_head, report_page, section_text, sections_text, unread_text, value_text, verb_meaning};
+ghost use Rattle.ill_show.specs.Report.{action_text, actor, day_text, desk_text, detail_text, field_text, is_on, loan_text, loans_text, message_text, page_end, page_head, section_text, sections_text, unread_text, value_text, verb_meaning};
 
 use crate::report_parts::{
     ARROW, DESK, DESK_END, DESKS, END, FOLDED, Field, LOAN, LOANS, NAME, OPEN, OPENING, OVER, PAGE,
@@ -17,7 +16,7 @@ use crate::report_parts::{
 };
 use crate::row::push_title;
 use ill_core::{Turn, Verb};
-use ill_saved::{Desk, Side, Sides, Store};
+use ill_saved::{Side, Sides};
 use ill_text::fault::ToolFault;
 use ill_text::html::{push_html, push_text};
 use ill_text::output::write_whole;
@@ -25,25 +24,7 @@ use ill_values::{Apdu, Body, Day, OutOfMemory};
 use ill_words::possible::{expiry, possible_on};
 use ill_words::waiting::{most_urgent_first, turn_on};
 use itoa::Buffer;
-use std::alloc::Global;
 use std::io::Write;
-
-/// Writes a page of the loans of `desk` on the day `today`, with the name of its file.
-pub fn run_desk_report<S: Store, W: Write>(
-    alloc: Global,
-    desk: &Desk<S>,
-    file: &str,
-    today: Day,
-    writer: &mut W,
-) -> Result<(), ToolFault>
-    ensures { WritesText (W.contents writer.old) (W.contents writer.new)
-        (report_page today ((file.now, Ok (sides_held desk.now.live).sides) ∷ [])) result }
-{
-    let mut page = Vec::new(alloc);
-    push_head(&mut page, today)?;
-    push_desk(&mut page, today, file, desk.sides())?;
-    end_page(page, writer)
-}
 
 /// Appends the text before the desks of a page on the day `today`.
 pub fn push_head(page: &mut Vec<u8>, today: Day) -> Result<(), OutOfMemory>

@@ -10,7 +10,6 @@ ghost use Rattle.ill_words.specs.Shown.{due_text};
 ghost use Rattle.ill_text.specs.Lines.{line};
 ghost use Rattle.ill_show.specs.Objects.{status_of_desk, status_text, text_of_one};
 ghost use Rattle.ill_show.specs.Status.{status_lines, desk_lines, marks_of, counts_text, spaced_or_dash};
-ghost use Rattle.ill_saved.specs.Roles.{role_name};
 
 use crate::marks::marks;
 use crate::objects::push_status_object;

@@ -13,6 +13,9 @@ use Rattle.ill_core.specs.declared.state.State.{State}
 use Rattle.ill_saved.specs.declared.role.Role.{Role as Who}
 use Rattle.ill_words.specs.Words.{◌>>=◌, who_named, day_of, number_of}
 use Rattle.ill_text.specs.declared.fault.ToolFault.TheVariants.{Arguments, OutOfMemory}
+use Rattle.ill_desk.specs.declared.take.TakeForm.{TakeForm}
+use Rattle.ill_show.specs.Loan.{loan_form}
+use Rattle.ill_show.specs.declared.loan.LoanForm.{LoanForm}
 use Rattle.ill_text.specs.declared.form.Form.{Form}
 use Rattle.ill_text.specs.declared.form.Form.TheVariants as forms
 use Rattle.ill_desk.specs.declared.dates.Dates.{Dates}
@@ -162,14 +165,14 @@ pub data Asked : Type 0 where
   New : (file : List ℕ) → (role : Who) → Asked
   Act : (file : List ℕ) → (txn : Qualifiers) → (today : Option Date) → (is_new_group : Bool) → (words : List (List ℕ))
       → Asked
-  Take : (file : List ℕ) → (is_long is_kept : Bool) → Asked
+  Take : (file : List ℕ) → (form : TakeForm) → Asked
   Inbox : (file folder : List ℕ) → Asked
   Outbox : (file : List ℕ) → (folder : Option (List ℕ)) → Asked
   Exchange : (file incoming outgoing : List ℕ) → (dates : Option (Date × Dates)) → (copy beat : Option (List ℕ)) → Asked
   Send : (file : List ℕ) → (txn : Qualifiers) → (number : ℕ) → Asked
   Listing : (paths : List (List ℕ)) → (wanted : Wanted) → (form : Form) → Asked
   Status : (file : List ℕ) → (form : Form) → Asked
-  Loan : (file : List ℕ) → (txn : Qualifiers) → (form : Form) → (is_picture : Bool) → Asked
+  Loan : (file : List ℕ) → (txn : Qualifiers) → (form : LoanForm) → Asked
   Report : (paths : List (List ℕ)) → (today : Date) → Asked
   Retire : (file group : List ℕ) → Asked
   Verify : (file : List ℕ) → Asked
@@ -183,7 +186,7 @@ asked requests.SimulateDesks = SimulateDesks
 asked (requests.New file role) = New file.now role
 asked (requests.Act file txn today is_new_group words) =
     Act file.now txn today is_new_group (map (λ word. word.now) words.items)
-asked (requests.Take file is_long is_kept) = Take file.now is_long is_kept
+asked (requests.Take file form) = Take file.now form
 asked (requests.Inbox file folder) = Inbox file.now folder.now
 asked (requests.Outbox file folder) = Outbox file.now (option_map (λ text. text.now) folder)
 asked (requests.Exchange file night) =
@@ -192,7 +195,7 @@ asked (requests.Exchange file night) =
 asked (requests.Send file txn number) = Send file.now txn number
 asked (requests.List paths wanted form) = Listing (map (λ path. path.now) paths.items) wanted form
 asked (requests.Status file form) = Status file.now form
-asked (requests.Loan file txn form is_picture) = Loan file.now txn form is_picture
+asked (requests.Loan file txn form) = Loan file.now txn form
 asked (requests.Report paths today) = Report (map (λ path. path.now) paths.items) today
 asked (requests.Retire file group) = Retire file.now group.now
 asked (requests.Verify file) = Verify file.now
@@ -201,7 +204,7 @@ asked (requests.Verify file) = Verify file.now
 abbrev pub desk_at_stake : Asked → Option (List ℕ)
 desk_at_stake (New file role) = Some file
 desk_at_stake (Act file txn today is_new_group words) = Some file
-desk_at_stake (Take file is_long is_kept) = Some file
+desk_at_stake (Take file form) = Some file
 desk_at_stake (Inbox file folder) = Some file
 desk_at_stake (Outbox file folder) = Some file
 desk_at_stake (Exchange file incoming outgoing dates copy beat) = Some file
@@ -229,7 +232,7 @@ asked_of names.Act found = do
   Some (Act file txn today (is_set NewGroup found) words)
 asked_of names.Take found = do
   file ← text_of File found
-  Some (Take file (is_set Long found) (is_set Keep found))
+  Some (Take file (record { is_long = is_set Long found; is_kept = is_set Keep found }))
 asked_of names.Inbox found = do
   file ← text_of File found
   folder ← text_of Folder found
@@ -259,7 +262,7 @@ asked_of names.Status found = do
 asked_of names.Loan found = do
   file ← text_of File found
   txn ← loan_of found
-  Some (Loan file txn (form_of found) (is_set Picture found))
+  Some (Loan file txn (loan_form (form_of found) (is_set Picture found)))
 asked_of names.Report found = do
   paths ← texts_of Paths found
   today ← report_day_of found

@@ -27,8 +27,7 @@ Runs asks.SimulateDesks left rest before after result = GoesWell (PerformsDesks 
 Runs (asks.New file role) left rest before after result = (rest ≡ left) × NewAtFile before after result
 Runs (asks.Act file txn today is_new_group words) left rest before after result =
     (rest ≡ left) × ActsAtFile txn today words before after result
-Runs (asks.Take file is_long is_kept) left rest before after result =
-    TakesAtFile is_kept is_long left rest before after result
+Runs (asks.Take file form) left rest before after result = TakesAtFile form left rest before after result
 Runs (asks.Inbox file folder) left rest before after result = (rest ≡ left) × InboxAtFile before after result
 Runs (asks.Outbox file folder) left rest before after result =
     (rest ≡ left) × OutboxAtFile (is_some folder) before after result
@@ -39,8 +38,8 @@ Runs (asks.Send file txn number) left rest before after result =
 Runs (asks.Listing paths wanted form) left rest before after result =
     (rest ≡ left) × ListsPaths form wanted before after result
 Runs (asks.Status file form) left rest before after result = (rest ≡ left) × ShowsFile form before after result
-Runs (asks.Loan file txn form is_picture) left rest before after result =
-    (rest ≡ left) × LoanAtFile form is_picture txn before after result
+Runs (asks.Loan file txn form) left rest before after result =
+    (rest ≡ left) × LoanAtFile form txn before after result
 Runs (asks.Report paths today) left rest before after result = (rest ≡ left) × ReportsPaths today before after result
 Runs (asks.Verify file) left rest before after result = (rest ≡ left) × VerifiesFile before after result
 Runs (asks.Retire file group) left rest before after result =
@@ -70,12 +69,11 @@ abbrev pub RunsShelf : Asked → Option (List ℕ) → Option (List ℕ) → Opt
 RunsShelf (asks.New folder role) left rest before after result = (rest ≡ left) × NewAtFile before after result
 RunsShelf (asks.Act folder txn today is_new_group words) left rest before after result =
     (rest ≡ left) × ActsAtFile txn today words before after result
-RunsShelf (asks.Take folder is_long is_kept) left rest before after result =
-    TakesAtShelf is_kept is_long left rest before after result
+RunsShelf (asks.Take folder form) left rest before after result = TakesAtShelf form left rest before after result
 RunsShelf (asks.Send folder txn number) left rest before after result =
     (rest ≡ left) × SendsAtFile txn number before after result
-RunsShelf (asks.Loan folder txn form is_picture) left rest before after result =
-    (rest ≡ left) × LoanAtFile form is_picture txn before after result
+RunsShelf (asks.Loan folder txn form) left rest before after result =
+    (rest ≡ left) × LoanAtFile form txn before after result
 RunsShelf (asks.Status folder form) left rest before after result =
     (rest ≡ left) × VisitsShelf (is_lines form) (ShowsFile form) before after result
 RunsShelf (asks.Inbox folder incoming) left rest before after result =

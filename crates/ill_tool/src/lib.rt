@@ -20,17 +20,13 @@ pub use ill_desk::outbox::{run_desk_outbox, run_desk_outbox_stream};
 pub use ill_desk::outgoing::Outgoing;
 pub use ill_desk::retire::run_desk_retire;
 pub use ill_desk::send::{run_desk_send, run_send};
-pub use ill_desk::take::{
-    run_desk_kept_take, run_desk_long_take, run_desk_take, run_long_take, run_take,
-};
+pub use ill_desk::take::{TakeForm, run_desk_take, run_desk_take_as, run_take};
 pub use ill_desk::verdict::{Delay, Mail, Unfit, Verdict};
 pub use ill_files::shelf::{desk_name, groups_have_their_own_desks};
 pub use ill_saved::DeskFault;
-pub use ill_show::kept::run_desk_kept_loan;
-pub use ill_show::list::{run_desk_list, run_desk_list_objects};
-pub use ill_show::loan::{run_desk_loan, run_loan};
-pub use ill_show::picture::run_desk_picture;
-pub use ill_show::report::run_desk_report;
+pub use ill_show::list::run_desk_list;
+pub use ill_show::listed::Listed;
+pub use ill_show::loan::{LoanForm, LoanView, run_desk_loan};
 pub use ill_show::status::{run_desk_status, run_desk_status_as, run_status};
 pub use ill_show::verify::run_desk_verify;
 pub use ill_show::wanted::{Wanted, Which};

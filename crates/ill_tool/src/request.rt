@@ -15,8 +15,10 @@ use clap::error::ErrorKind;
 use clap::{ArgMatches, Command, Error};
 use ill_core::State;
 use ill_desk::dates::Dates;
+use ill_desk::take::TakeForm;
 use ill_files::paths::is_beside;
 use ill_mail::night::Night;
+use ill_show::loan::LoanForm;
 use ill_show::wanted::{Wanted, Which};
 use ill_text::fault::ToolFault;
 use ill_text::form::Form;
@@ -68,10 +70,8 @@ pub enum Request<'a> {
     Take {
         /// The path of the file.
         file: &'a str,
-        /// Set if the fields of each message are written too.
-        is_long: bool,
-        /// Set if each taken message is kept.
-        is_kept: bool,
+        /// The form of the command.
+        form: TakeForm,
     },
     /// Take the mails of a folder: `ill inbox`.
     Inbox {
@@ -126,9 +126,7 @@ pub enum Request<'a> {
         /// The transaction.
         txn: TxnId,
         /// The form of the loan that is shown.
-        form: Form,
-        /// Set if a picture of its messages is drawn instead.
-        is_picture: bool,
+        form: LoanForm,
     },
     /// Retire a group of a shelf: `ill shelf retire`.
     Retire {
@@ -371,13 +369,11 @@ fn take_request<'a>(alloc: Global, matches: &ArgMatches<'a>) -> Result<Request<'
     ensures { ReadsValue asked (asked_of names.Take (rows_of (found_of matches.now))) result }
 {
     let file = text(alloc, matches, Argument::File)?;
-    let is_long = is_set(matches, Argument::Long);
-    let is_kept = is_set(matches, Argument::Keep);
-    Ok(Request::Take {
-        file,
-        is_long,
-        is_kept,
-    })
+    let form = TakeForm {
+        is_long: is_set(matches, Argument::Long),
+        is_kept: is_set(matches, Argument::Keep),
+    };
+    Ok(Request::Take { file, form })
 }
 
 /// Returns the request of `ill inbox`.
@@ -501,14 +497,8 @@ fn loan_request<'a>(alloc: Global, matches: &ArgMatches<'a>) -> Result<Request<'
 {
     let file = text(alloc, matches, Argument::File)?;
     let txn = loan(alloc, matches)?;
-    let form = form(matches);
-    let is_picture = is_set(matches, Argument::Picture);
-    Ok(Request::Loan {
-        file,
-        txn,
-        form,
-        is_picture,
-    })
+    let form = LoanForm::of(form(matches), is_set(matches, Argument::Picture));
+    Ok(Request::Loan { file, txn, form })
 }
 
 /// Returns the request of `ill shelf retire`.

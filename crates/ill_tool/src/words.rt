@@ -16,12 +16,13 @@ use ill_files::machine::Machine;
 use ill_files::open::all_well;
 use ill_mail::exchange::{exchange, inbox, outbox};
 use ill_mail::mail::Incoming;
+use ill_saved::{DeskFault, LockFiles};
 use ill_shelf::on_shelf::{
     act_on_shelf, exchange_of_shelf, inbox_of_shelf, loan_on_shelf, new_shelf, outbox_of_shelf,
     retire, send_on_shelf, status_of_shelf,
 };
 use ill_shelf::take_home::take_on_shelf;
-use ill_saved::{DeskFault, LockFiles};
+use ill_show::loan::LoanView;
 use ill_text::check::run_check;
 use ill_text::fault::ToolFault;
 use ill_text::show::run_show_as;
@@ -194,11 +195,7 @@ fn run<T: LockFiles, R: Read, W: Write, E: Write>(
             words,
             ..
         } => act(machine, file, txn, *today, words),
-        Request::Take {
-            file,
-            is_long,
-            is_kept,
-        } => take(machine, file, *is_long, *is_kept, reader),
+        Request::Take { file, form } => take(machine, file, *form, reader),
         Request::Inbox { file, folder } => { inbox(machine, file, unsorted(folder)) }
         Request::Outbox { file, folder } => outbox(machine, file, *folder),
         Request::Exchange { file, night } => exchange(machine, file, night),
@@ -209,12 +206,7 @@ fn run<T: LockFiles, R: Read, W: Write, E: Write>(
             form,
         } => list(machine, paths, wanted, *form),
         Request::Status { file, form } => status(machine, file, *form),
-        Request::Loan {
-            file,
-            txn,
-            form,
-            is_picture,
-        } => loan(machine, file, txn, *form, *is_picture),
+        Request::Loan { file, txn, form } => loan(machine, file, &LoanView { txn, form: *form }),
         Request::Retire { .. } => Err(ToolFault::Arguments),
         Request::Verify { file } => verify(machine, file),
         Request::Report { paths, today } => { report(machine, paths, *today) }
@@ -247,18 +239,11 @@ fn run_on_shelf<T: LockFiles, R: Read, W: Write, E: Write>(
             is_new_group,
             words,
         } => act_on_shelf(machine, file, txn, *today, *is_new_group, words),
-        Request::Take {
-            file,
-            is_long,
-            is_kept,
-        } => take_on_shelf(machine, file, *is_long, *is_kept, reader),
+        Request::Take { file, form } => take_on_shelf(machine, file, *form, reader),
         Request::Send { file, txn, number } => { send_on_shelf(machine, file, txn, *number) }
-        Request::Loan {
-            file,
-            txn,
-            form,
-            is_picture,
-        } => loan_on_shelf(machine, file, txn, *form, *is_picture),
+        Request::Loan { file, txn, form } => {
+            loan_on_shelf(machine, file, &LoanView { txn, form: *form })
+        }
         Request::Status { file, form } => status_of_shelf(machine, file, *form),
         Request::Inbox { file, folder } => inbox_of_shelf(machine, file, folder),
         Request::Outbox { file, folder } => { outbox_of_shelf(machine, file, *folder) }

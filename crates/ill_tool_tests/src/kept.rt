@@ -6,9 +6,9 @@ use crate::words::{Word, texts};
 use ill_saved::{Desk, Desk1, DeskFault, MemoryStore, Store};
 use ill_test_kit::Page;
 use ill_tool::{
-    Dates, Mail, ToolFault, Verdict, run_act, run_desk_act, run_desk_copy, run_desk_dates,
-    run_desk_inbox, run_desk_kept_take, run_desk_loan, run_desk_long_take, run_desk_outbox,
-    run_desk_outbox_stream, run_desk_send, run_desk_status, run_desk_take, run_loan, run_long_take,
+    Dates, LoanForm, LoanView, Mail, TakeForm, ToolFault, Verdict, run_act, run_desk_act,
+    run_desk_copy, run_desk_dates, run_desk_inbox, run_desk_loan, run_desk_outbox,
+    run_desk_outbox_stream, run_desk_send, run_desk_status, run_desk_take, run_desk_take_as,
     run_send, run_status, run_take,
 };
 use ill_values::{Day, Number, TxnId};
@@ -22,8 +22,8 @@ pub trait Kept {
     /// Performs the action that the words spell, by its engine.
     fn act(&mut self, alloc: Global, call: &mut Call<'_>) -> Option<Result<bool, ToolFault>>;
 
-    /// Takes the APDUs of the input, by the engine. With `--long` it prints long lines, and with `--keep` a desk keeps
-    /// each message that came.
+    /// Takes the APDUs of the input, by the engine. At a desk it prints long lines with `--long`, and keeps each message
+    /// that came with `--keep`.
     fn take(&mut self, alloc: Global, call: &mut Call<'_>) -> Result<bool, ToolFault>;
 
     /// Takes mails, by the engine, which only a desk has. After them `WAITING` others wait.
@@ -69,7 +69,7 @@ pub trait Kept {
     /// Shows all sides, by the engine.
     fn status(&self, alloc: Global, call: &mut Call<'_>) -> Result<(), ToolFault>;
 
-    /// Shows all of the loan that the words name, by the engine.
+    /// Shows all of the loan that the words name, by the engine, which only a desk has.
     fn loan(&self, alloc: Global, call: &mut Call<'_>) -> Option<Result<(), ToolFault>>;
 
     /// Saves all sides.
@@ -96,13 +96,8 @@ impl<S: Store> Kept for Desk1<S> {
     }
 
     fn take(&mut self, alloc: Global, call: &mut Call<'_>) -> Result<bool, ToolFault> {
-        let is_long = has(call.words, "--long");
         call.begin(alloc);
-        let answer = if is_long {
-            run_long_take(alloc, self, &mut call.source, &mut call.output)
-        } else {
-            run_take(alloc, self, &mut call.source, &mut call.output)
-        };
+        let answer = run_take(alloc, self, &mut call.source, &mut call.output);
         call.end(alloc, answer)
     }
 
@@ -159,10 +154,8 @@ impl<S: Store> Kept for Desk1<S> {
         call.end(alloc, answer)
     }
 
-    fn loan(&self, alloc: Global, call: &mut Call<'_>) -> Option<Result<(), ToolFault>> {
-        call.begin(alloc);
-        let answer = run_loan(alloc, self, &mut call.output);
-        Some(call.end(alloc, answer))
+    fn loan(&self, _alloc: Global, _call: &mut Call<'_>) -> Option<Result<(), ToolFault>> {
+        None
     }
 
     fn save(&mut self, alloc: Global, call: &mut Call<'_>) -> Result<(), DeskFault> {
@@ -199,14 +192,14 @@ impl<S: Store> Kept for Desk<S> {
     }
 
     fn take(&mut self, alloc: Global, call: &mut Call<'_>) -> Result<bool, ToolFault> {
-        let is_long = has(call.words, "--long");
-        let is_kept = has(call.words, "--keep");
+        let form = TakeForm {
+            is_long: has(call.words, "--long"),
+            is_kept: has(call.words, "--keep"),
+        };
         call.begin(alloc);
         let (source, output) = (&mut call.source, &mut call.output);
-        let answer = if is_kept {
-            run_desk_kept_take(alloc, self, is_long, &mut call.errors, source, output)
-        } else if is_long {
-            run_desk_long_take(alloc, self, source, output)
+        let answer = if form.is_long || form.is_kept {
+            run_desk_take_as(alloc, self, form, &mut call.errors, source, output)
         } else {
             run_desk_take(alloc, self, source, output)
         };
@@ -288,7 +281,11 @@ impl<S: Store> Kept for Desk<S> {
     fn loan(&self, alloc: Global, call: &mut Call<'_>) -> Option<Result<(), ToolFault>> {
         let (txn, _) = txn_at_beginning(alloc, call.words)?;
         call.begin(alloc);
-        let answer = run_desk_loan(alloc, self, &txn, &mut call.output);
+        let view = LoanView {
+            txn: &txn,
+            form: LoanForm::Lines,
+        };
+        let answer = run_desk_loan(alloc, self, &view, b"", &mut call.output);
         Some(call.end(alloc, answer))
     }
 

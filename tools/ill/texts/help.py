@@ -188,7 +188,7 @@ def status_labels():
 
 def loan_labels():
     """Returns the labels of the lines of a loan that a status has not."""
-    sources = read(f"{SHOW}/loan.rt") + read(f"{SHOW}/kept.rt")
+    sources = read(f"{SHOW}/loan_lines.rt") + read(f"{SHOW}/kept.rt")
     return labels_in(sources + body("push_item", f"{TEXT}/lines.rt"))
 
 

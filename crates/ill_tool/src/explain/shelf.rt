@@ -5,8 +5,8 @@ use crate::explain::file::tell_fault_at;
 use crate::explain::shown::Shown;
 use clap::ArgMatches;
 use ill_files::shelf::Shelf;
-use ill_shelf::sorting::{Home, home_at};
 use ill_saved::{DeskFault, LockFiles};
+use ill_shelf::sorting::{Home, home_at};
 use ill_values::OutOfMemory;
 use std::alloc::Global;
 

@@ -2,7 +2,7 @@
 use Rattle.std.proofs.Common.{◌≡◌, ◌++◌, true, take}
 use Rattle.std.specs.Prelude.{codes}
 use Rattle.std.specs.List.{flat_map}
-use Rattle.ill_show.specs.Loan.{marked_lines}
+use Rattle.ill_show.specs.LoanLines.{marked_lines}
 use Rattle.ill_show.proofs.kept.push_kept.Given as goal
 
 -- The lines of the messages so far are appended.

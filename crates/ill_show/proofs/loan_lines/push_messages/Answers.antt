@@ -1,9 +1,9 @@
--- Answers the contract of `push_messages` (`src/loan.rt`).
+-- Answers the contract of `push_messages` (`src/loan_lines.rt`).
 use Rattle.std.proofs.Common.{◌+◌, ◌≤◌, ◌++◌, length, drop, ap, sym, ◌∙◌, arith}
 use Rattle.std.specs.List.{flat_map}
-use Rattle.ill_show.specs.Loan.{message_lines}
+use Rattle.ill_show.specs.LoanLines.{message_lines}
 use Rattle.ill_words.proofs.LoanLemmas.{one_shown, all_shown}
-use Rattle.ill_show.proofs.loan.push_messages.Goals as goal
+use Rattle.ill_show.proofs.loan_lines.push_messages.Goals as goal
 
 -- Proves the loop invariant of `push_messages` after one more message. By `one_shown` the later messages are left.
 pub loop-apdu-preserved : goal.loop-apdu-preserved

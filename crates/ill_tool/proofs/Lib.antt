@@ -1,2 +1,1 @@
-pub mod RequestLemmas
 pub mod SimulateLemmas

@@ -9,7 +9,8 @@ use Rattle.ill_world.specs.declared.fault.SimFault.TheVariants as simulation
 use Rattle.ill_world.specs.Play.{trace_from}
 use Rattle.ill_world.specs.Simulation.{Simulates, script}
 use Rattle.ill_text.specs.declared.fault.ToolFault.{ToolFault}
-use Rattle.ill_tool.specs.Simulate.{sim_fault, tool_answer, Performs, GivesId}
+use Rattle.ill_line.specs.Asked.{GivesId}
+use Rattle.ill_tool.specs.Simulate.{sim_fault, tool_answer, Performs}
 
 -- A simulation may end with `OutOfMemory` before it reads or writes anything.
 not_begun : (txn : Qualifiers) (old before : Option (List ℕ)) → Simulates txn old old before before (Err simulation.OutOfMemory)

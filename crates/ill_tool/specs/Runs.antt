@@ -6,8 +6,8 @@ use Rattle.ill_text.specs.declared.fault.ToolFault.TheVariants.{Arguments}
 use Rattle.ill_text.specs.Show.{RunsShow}
 use Rattle.ill_text.specs.Check.{Checks}
 use Rattle.ill_tool.specs.Simulate.{Performs, PerformsDesks}
-use Rattle.ill_tool.specs.Asked.{Asked, desk_at_stake}
-use Rattle.ill_tool.specs.Asked as asks
+use Rattle.ill_line.specs.Asked.{Asked, desk_at_stake}
+use Rattle.ill_line.specs.Asked as asks
 use Rattle.ill_files.specs.AtFile.{GoesWell, NewAtFile, ActsAtFile, TakesAtFile, SendsAtFile, ShowsFile, ListsPaths, LoanAtFile}
 use Rattle.ill_files.specs.AtFile.{VerifiesFile, ReportsPaths, IsOpenFault}
 use Rattle.ill_mail.specs.Nights.{InboxAtFile, OutboxAtFile, ExchangesAtFile}

@@ -40,11 +40,3 @@ Performs (Err fault) old new before after result =
 abbrev pub PerformsDesks : Option (List ℕ) → Option (List ℕ) → Option (List ℕ) → Option (List ℕ) →
     Result ℕ ToolFault → Type 0
 PerformsDesks old new before after result = GivesAnswerOf (SimulatesDesks old new before after) result
-
--- The second result is the transaction id of the first. If memory ran out, it is that fault. If there is no
--- id, it is the fault `Arguments`.
-abbrev pub GivesId : Result Qualifiers TextFault → Result Qualifiers ToolFault → Type 0
-GivesId (Ok txn) (Ok made) = made ≡ txn
-GivesId (Ok txn) (Err fault) = fault ≡ OutOfMemory
-GivesId (Err fault) (Ok made) = ⊥
-GivesId (Err fault) (Err tool) = tool ≡ Arguments

@@ -13,12 +13,12 @@ mod shelf;
 mod shown;
 mod verbs;
 
-use crate::command_line::{Name, SHELF, command};
-use crate::request::DASHES;
 use arguments::tell_arguments;
 use clap::ArgMatches;
 use file::tell_desk_fault;
 use ill_files::machine::Machine;
+use ill_line::command_line::{Name, SHELF, command};
+use ill_line::request::DASHES;
 use ill_saved::LockFiles;
 use ill_text::fault::ToolFault;
 use ill_values::OutOfMemory;

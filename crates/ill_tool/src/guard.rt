@@ -2,13 +2,13 @@
 //! one home, the desk of its group.
 
 ghost use Rattle.std.specs.Prelude.{IfErr};
-ghost use Rattle.ill_tool.specs.Asked.{asked, desk_at_stake};
+ghost use Rattle.ill_line.specs.Asked.{asked, desk_at_stake};
 ghost use Rattle.ill_files.specs.AtFile.{IsOpenFault};
 ghost use Rattle.ill_tool.specs.Runs.{IsGuarded, IsGuardedAt};
 
-use crate::request::Request;
 use ill_files::paths::{fault, folder_of};
 use ill_files::shelf::{is_named_on_shelf, is_shelf};
+use ill_line::request::Request;
 use ill_text::fault::ToolFault;
 use std::alloc::Global;
 use std::path::Path;

@@ -1,11 +1,8 @@
-//! The command line of `ill`: its words become a request, which is run, and an exit status.
+//! The commands of `ill`: a request is run, its faults are explained, and it ends with an exit status.
 #![tactic(auto)]
 
-mod command_line;
 mod explain;
 mod guard;
-mod help;
-mod request;
 mod simulate;
 mod words;
 

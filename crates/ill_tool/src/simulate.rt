@@ -2,10 +2,10 @@
 
 ghost use Rattle.std.specs.Prelude.{◌≡◌};
 ghost use Rattle.ill_values.specs.TxnId.{txn_id_of};
-ghost use Rattle.ill_tool.specs.Simulate.{GivesId, Performs, PerformsDesks, sim_fault};
+ghost use Rattle.ill_tool.specs.Simulate.{Performs, PerformsDesks, sim_fault};
 
+use ill_line::request::id;
 use ill_text::fault::ToolFault;
-use ill_values::{TextFault, TxnId};
 use ill_world::{SimFault, simulate, simulate_desks};
 use std::alloc::Global;
 use std::io::{Read, Write};
@@ -59,18 +59,5 @@ fn fault_of(fault: SimFault) -> ToolFault
         SimFault::Read => ToolFault::Read,
         SimFault::Write => ToolFault::Write,
         SimFault::OutOfMemory => ToolFault::OutOfMemory,
-    }
-}
-
-/// Returns the transaction id with these qualifiers.
-pub fn id(alloc: Global, group: &str, transaction: &str) -> Result<TxnId, ToolFault>
-    ensures { GivesId (txn_id_of group.now transaction.now) result }
-{
-    match TxnId::new(alloc, group.as_bytes(), transaction.as_bytes()) {
-        Ok(id) => Ok(id),
-        Err(TextFault::OutOfMemory) => Err(ToolFault::OutOfMemory),
-        Err(TextFault::Empty | TextFault::TooLong | TextFault::BadByte) => {
-            Err(ToolFault::Arguments)
-        }
     }
 }

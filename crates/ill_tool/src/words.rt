@@ -1,19 +1,19 @@
 //! One command line, from its words to its exit status.
 
 ghost use Rattle.std.specs.Prelude.{◌≡◌, ◌≤◌};
-ghost use Rattle.ill_tool.specs.Asked.{asked};
+ghost use Rattle.ill_line.specs.Asked.{asked};
 ghost use Rattle.ill_tool.specs.Runs.{Runs, RunsGuarded, RunsShelf};
 ghost use Rattle.ill_tool.specs.ExitStatus.{IsFlushed, desk_status, exit_status, status_of};
 
 use crate::explain::{Passed, Watched, explain, is_asked};
 use crate::guard::refuse_desk_of_shelf;
-use crate::request::{Call, Refusal, Request, read_words};
 use crate::simulate::{run_simulate, run_simulate_desks};
 use clap::Error;
 use clap::error::ErrorKind;
 use ill_files::file::{act, list, loan, new, report, send, status, take, verify};
 use ill_files::machine::Machine;
 use ill_files::open::all_well;
+use ill_line::request::{Call, Refusal, Request, read_words};
 use ill_mail::exchange::{exchange, inbox, outbox};
 use ill_mail::mail::Incoming;
 use ill_saved::{DeskFault, LockFiles};

@@ -1,7 +1,7 @@
 r"""Writes the words of the program into the man page and the completions, from the sources of its help.
 
-It reads commands, arguments and options in crates/ill_tool/src/command_line.rt, the tables of
-crates/ill_tool/src/help.rt, and the states. It writes completions/ill.bash, _ill and ill.fish whole, from the texts at
+It reads commands, arguments and options in crates/ill_line/src/command_line.rt, the tables of
+crates/ill_line/src/help.rt, and the states. It writes completions/ill.bash, _ill and ill.fish whole, from the texts at
 the end of this file. In man/ill.1 it writes the version, and what stands between `.\" words: PART` and `.\" end`. PART
 is
 
@@ -18,7 +18,7 @@ import textwrap
 from ill import repository
 from ill.repository import Unread, read
 
-HELP, LINE, MAN = "crates/ill_tool/src/help.rt", "crates/ill_tool/src/command_line.rt", "man/ill.1"
+HELP, LINE, MAN = "crates/ill_line/src/help.rt", "crates/ill_line/src/command_line.rt", "man/ill.1"
 STATES = "crates/ill_core/src/state.rt"
 BEGIN, END = '.\\" words: ', '.\\" end'
 # Words in capitals of the help that stand for others, beside the labels of arguments and values.

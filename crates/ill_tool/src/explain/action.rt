@@ -1,10 +1,10 @@
 //! The lines about an action whose words are wrong.
 
-use crate::command_line::Argument;
 use crate::explain::day::tell_no_day;
 use crate::explain::shown::Shown;
 use crate::explain::verbs::{Form, Parts, form_of, names_of, nearest};
 use clap::ArgMatches;
+use ill_line::command_line::Argument;
 use ill_saved::{Desk, FileStore, RECORD_LIMIT, Role};
 use ill_values::{Day, Item, OutOfMemory, TextFault};
 use std::alloc::Global;

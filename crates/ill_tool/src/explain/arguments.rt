@@ -1,6 +1,5 @@
 //! The lines about wrong arguments, with the right form of each.
 
-use crate::command_line::{Argument, Name};
 use crate::explain::action::tell_action;
 use crate::explain::day::tell_day;
 use crate::explain::file::tell_reserved;
@@ -8,6 +7,7 @@ use crate::explain::shown::Shown;
 use crate::explain::verbs::nearest;
 use clap::ArgMatches;
 use ill_core::{STATES, State};
+use ill_line::command_line::{Argument, Name};
 use ill_saved::LockFiles;
 use ill_values::{OutOfMemory, TextFault, TxnId};
 use ill_words::words::{number, who};

@@ -1,11 +1,11 @@
 //! The lines about a fault of a desk's file.
 
-use crate::command_line::Argument;
 use crate::explain::shown::Shown;
 use clap::ArgMatches;
 use ill_files::folder::desk_paths;
 use ill_files::open::open;
 use ill_files::paths::{BESIDE, CAME, folder_of};
+use ill_line::command_line::Argument;
 use ill_saved::{DeskFault, LockFiles, RECORD_LIMIT, RecordFault, StoreFault};
 use ill_values::OutOfMemory;
 use std::alloc::Global;

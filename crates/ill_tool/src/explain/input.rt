@@ -2,8 +2,8 @@
 
 ghost use Rattle.std.specs.Prelude.{None};
 
-use crate::command_line::Name;
 use ill_der::{DerFault, Feed, size};
+use ill_line::command_line::Name;
 use ill_values::OutOfMemory;
 use std::alloc::Global;
 use std::io;

@@ -1,11 +1,11 @@
 //! The lines about words that are refused before a file is opened: an option among those of an action, and the file of a
 //! desk of a shelf.
 
-use crate::command_line::{Argument, Name, is_option};
 use crate::explain::shown::Shown;
 use crate::guard::refuse_desk_of_shelf;
-use crate::request::{Call, has_option, read_words};
 use clap::ArgMatches;
+use ill_line::command_line::{Argument, Name, is_option};
+use ill_line::request::{Call, has_option, read_words};
 use ill_values::OutOfMemory;
 use std::alloc::Global;
 use std::rt::Files;

@@ -1,10 +1,10 @@
 //! The lines about a fault of a shelf, or of the desk of a group on it.
 
-use crate::command_line::Argument;
 use crate::explain::file::tell_fault_at;
 use crate::explain::shown::Shown;
 use clap::ArgMatches;
 use ill_files::shelf::Shelf;
+use ill_line::command_line::Argument;
 use ill_saved::{DeskFault, LockFiles};
 use ill_shelf::sorting::{Home, home_at};
 use ill_values::OutOfMemory;

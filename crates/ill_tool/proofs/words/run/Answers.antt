@@ -1,7 +1,7 @@
 -- Answers the contract of `run` (`src/words.rt`).
 use Rattle.std.proofs.Common.{refl, sym, subst}
-use Rattle.ill_tool.specs.declared.request.Request.{Request}
-use Rattle.ill_tool.specs.Asked.{asked}
+use Rattle.ill_line.specs.declared.request.Request.{Request}
+use Rattle.ill_line.specs.Asked.{asked}
 use Rattle.ill_tool.specs.Runs.{Runs}
 use Rattle.ill_tool.proofs.words.run.Goals as goal
 

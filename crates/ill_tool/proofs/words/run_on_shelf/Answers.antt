@@ -1,8 +1,8 @@
 -- Answers the contract of `run_on_shelf` (`src/words.rt`).
 use Rattle.std.proofs.Common.{◌≡◌, Bool, Option, Some, None, refl, sym, subst}
 use Rattle.std.specs.Prelude.{is_some, option_map}
-use Rattle.ill_tool.specs.declared.request.Request.{Request}
-use Rattle.ill_tool.specs.Asked.{asked}
+use Rattle.ill_line.specs.declared.request.Request.{Request}
+use Rattle.ill_line.specs.Asked.{asked}
 use Rattle.ill_mail.specs.Nights.{OutboxAtFile}
 use Rattle.ill_tool.specs.Runs.{RunsShelf}
 use Rattle.ill_shelf.specs.Shelf.{VisitsShelf}

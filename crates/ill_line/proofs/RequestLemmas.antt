@@ -1,0 +1,158 @@
+-- Relates the request of a command line to the arguments that the parser has found.
+use Rattle.std.proofs.Common.{rules, ◌≡◌, ℕ, ◌-◌, Bool, true, false, true≢false, Bor, List, [], ◌∷◌, length, map, take, Option}
+use Rattle.std.proofs.Common.{Some, None, Result, refl, sym, ap, subst, ◌∙◌}
+use Rattle.std.proofs.lemmas.List.{length-map, take-map}
+use Rattle.std.specs.Prelude.{is_none, not, ◌||◌, ◌&&◌, if◌then◌else◌, Box, option_map}
+use Rattle.std.specs.List.{list_any}
+use Rattle.std.specs.Box.{box_value}
+use Rattle.std.specs.Result.{result_ok}
+use Rattle.clap.specs.declared.parser.matches.ArgMatches.{ArgMatches}
+use Rattle.clap.specs.declared.parser.matches.SubCommand.{SubCommand}
+use Rattle.clap.specs.declared.parser.matches.ArgMatches.TheViews.{out-ArgMatches, out-SubCommand}
+use Rattle.clap.specs.Matches.{found_of, first_value, matched_of, raw_values, subcommand_name_of}
+use Rattle.clap.specs.Walk.{Row, Text, rows_of, first_of, all_of}
+use Rattle.clap.specs.Simple.{subcommand_rows, subcommand_rows_of}
+use Rattle.clap.proofs.WalkLemmas.{first_value-rows, raw_values-rows}
+use Rattle.ill_values.specs.Day.{Date, read_date}
+use Rattle.ill_values.specs.declared.fault.DayFault.{DayFault}
+use Rattle.ill_words.specs.Words.{◌>>=◌}
+use Rattle.ill_text.specs.declared.fault.ToolFault.TheVariants.{Arguments, OutOfMemory}
+use Rattle.ill_line.specs.declared.request.Refusal.{Refusal}
+use Rattle.ill_line.specs.declared.request.Refusal.TheVariants.{Usage, Fault}
+use Rattle.ill_line.specs.declared.command_line.Argument.{Argument}
+use Rattle.ill_line.specs.CommandLine.{id_of, is_option}
+use Rattle.ill_line.specs.declared.command_line.Argument.TheVariants.{InState}
+use Rattle.ill_line.specs.Asked.{Asked, Act, IsRefusal, text_of, texts_of, day_in, day_said, state_in, state_said}
+use Rattle.ill_line.specs.Asked.{end_with_dashes, has_option, said_free, unless_option}
+use Rattle.ill_core.specs.State.{state_named}
+use Rattle.ill_core.specs.declared.state.State.{State}
+
+-- `text_of` returns the first value that the parser has under the name of `argument`.
+pub text_said : (m : ArgMatches) (id : List ℕ) (argument : Argument) (said : Option (List ℕ)) → id ≡ id_of argument
+    → said ≡ first_value (found_of m) id
+    → text_of argument (rows_of (found_of m)) ≡ said
+text_said m id argument said named is =
+    ap (λ (id : List ℕ). first_of id (rows_of (found_of m))) (sym named) ∙ sym (first_value-rows (found_of m) id) ∙ sym is
+
+-- If the parser has no value of `argument`, a refusal of the missing text is right.
+pub none_said : (m : ArgMatches) (id : List ℕ) (argument : Argument) (refusal : Refusal) → id ≡ id_of argument
+    → None ≡ first_value (found_of m) id → IsRefusal true refusal
+    → IsRefusal (is_none (text_of argument (rows_of (found_of m)))) refusal
+none_said m id argument refusal named is right =
+    subst (λ (nothing : Bool). IsRefusal nothing refusal) (sym (ap is_none (text_said m id argument None named is))) right
+
+-- `day_in` returns the day that is read from the text `word` of `argument`.
+pub day_read : (m : ArgMatches) (id word bytes : List ℕ) (argument : Argument) (read : Result Date DayFault)
+    → id ≡ id_of argument → Some word ≡ first_value (found_of m) id → bytes ≡ word
+    → read ≡ read_date bytes → day_in argument (rows_of (found_of m)) ≡ option_map Some (result_ok read)
+day_read m id word bytes argument read named is same reads =
+    ap day_said (text_said m id argument (Some word) named is)
+    ∙ ap (λ (read : Result Date DayFault). option_map Some (result_ok read)) (sym (reads ∙ ap read_date same))
+
+-- `state_in` returns the state that is read from the text `word` of its argument.
+pub state_read : (m : ArgMatches) (id word bytes : List ℕ) (read : Option State) → id ≡ id_of InState
+    → Some word ≡ first_value (found_of m) id → bytes ≡ word
+    → read ≡ state_named bytes → state_in (rows_of (found_of m)) ≡ option_map Some read
+state_read m id word bytes read named is same reads =
+    ap state_said (text_said m id InState (Some word) named is)
+    ∙ ap (λ (read : Option State). option_map Some read) (sym (reads ∙ ap state_named same))
+
+-- `texts_of` returns all values that the parser has under the name of `argument`.
+pub texts_said : (m : ArgMatches) (id : List ℕ) (argument : Argument) (said : Option (List (List ℕ)))
+    → id ≡ id_of argument → said ≡ option_map raw_values (matched_of (found_of m) id)
+    → texts_of argument (rows_of (found_of m)) ≡ said
+texts_said m id argument said named is =
+    ap (λ (id : List ℕ). all_of id (rows_of (found_of m))) (sym named) ∙ sym (raw_values-rows (found_of m) id) ∙ sym is
+
+-- If the parser has no values of `argument`, a refusal of the missing texts is right.
+pub no_texts_said : (m : ArgMatches) (id : List ℕ) (argument : Argument) (refusal : Refusal) → id ≡ id_of argument
+    → None ≡ option_map raw_values (matched_of (found_of m) id) → IsRefusal true refusal
+    → IsRefusal (is_none (texts_of argument (rows_of (found_of m)))) refusal
+no_texts_said m id argument refusal named is right =
+    subst (λ (nothing : Bool). IsRefusal nothing refusal) (sym (ap is_none (texts_said m id argument None named is))) right
+
+-- If the parser met the subcommand `word` with `rows`, `subcommand_rows_of` returns both.
+pub met_with : (m : ArgMatches) (word : List ℕ) (rows : List Row) → Some word ≡ subcommand_name_of m
+    → Some rows ≡ option_map (λ (said : Text × List Row). said.1) (subcommand_rows_of m)
+    → subcommand_rows_of m ≡ Some (word, rows)
+met_with m word rows named has = go (out-ArgMatches m).subcommand named has
+  where
+    go : {Z : Type 0} (sub : Option (Box SubCommand Z))
+        → Some word ≡ option_map (λ b. (out-SubCommand (box_value b)).name.now) sub
+        → Some rows ≡ option_map (λ (said : Text × List Row). said.1) (subcommand_rows sub)
+        → subcommand_rows sub ≡ Some (word, rows)
+    go None named has = cc
+    go (Some sub) named has = cc
+
+-- A right refusal of the first argument is a right refusal of the request.
+pub refused_on : {A B : Type 0} (said : Option A) (next : A → Option B) (refusal : Refusal)
+    → IsRefusal (is_none said) refusal → IsRefusal (is_none (said >>= next)) refusal
+refused_on None next refusal right = right
+refused_on (Some value) next (Usage error) right = search rules
+refused_on (Some value) next (Fault Arguments) right = search rules
+refused_on (Some value) next (Fault OutOfMemory) right = right
+refused_on (Some value) next (Fault other) right = search rules
+
+-- If the first argument is read, a right refusal of the second is a right refusal of the request.
+pub refused_after : {A B C : Type 0} (first : Option A) (value : A) (second : Option B) (next : A → B → Option C)
+    (refusal : Refusal)
+    → first ≡ Some value
+    → IsRefusal (is_none second) refusal → IsRefusal (is_none (first >>= λ value. second >>= next value)) refusal
+refused_after {A} first value second next refusal is right =
+    subst (λ (first : Option A). IsRefusal (is_none (first >>= λ value. second >>= next value)) refusal) (sym is)
+    (refused_on second (next value) refusal right)
+
+-- If the first two arguments are read, a right refusal of the third is a right refusal of the request.
+pub refused_third : {A B C D : Type 0} (first : Option A) (a : A) (second : Option B) (b : B) (third : Option C)
+    (next : A → B → C → Option D) (refusal : Refusal)
+    → first ≡ Some a
+    → second ≡ Some b → IsRefusal (is_none third) refusal
+    → IsRefusal (is_none (first >>= λ a. second >>= λ b. third >>= next a b)) refusal
+refused_third {A} first a second b third next refusal is also right =
+    subst (λ (first : Option A). IsRefusal (is_none (first >>= λ a. second >>= λ b. third >>= next a b)) refusal) (sym is)
+    (refused_after second b third (next a) refusal also right)
+
+-- The words before an action end with `--` if and only if their texts do.
+dashes_met : (words action : List (Bor (List ℕ))) (first : ℕ) (met : Bool) → first ≡ length words - length action
+    → met ≡ end_with_dashes (map (λ word. word.now) (take first words))
+    → end_with_dashes (take (length (map (λ word. word.now) words) - length (map (λ word. word.now) action))
+    (map (λ word. word.now) words)) ≡ met
+dashes_met words action first met is ends =
+    let text : Bor (List ℕ) → List ℕ = λ word. word.now in
+    ap (λ (size : ℕ). end_with_dashes (take (size - length (map text action)) (map text words))) (length-map words text)
+    ∙ ap (λ (size : ℕ). end_with_dashes (take (length words - size) (map text words))) (length-map action text)
+    ∙ ap (λ (first : ℕ). end_with_dashes (take first (map text words))) (sym is) ∙ ap end_with_dashes (take-map text first words)
+    ∙ sym ends
+
+-- A test passes for one of the words if and only if it does for one of their texts.
+any_text : (test : List ℕ → Bool) (words : List (Bor (List ℕ)))
+    → list_any test (map (λ word. word.now) words) ≡ list_any (λ (word : Bor (List ℕ)). test word.now) words
+any_text test [] = refl
+any_text test (word ∷ words) = ap (λ (rest : Bool). test word.now || rest) (any_text test words)
+
+-- `has_option` returns true if no `--` was met before the action, and an option was met in it.
+pub options_met : (words action : List (Bor (List ℕ))) (first : ℕ) (met : Bool) → first ≡ length words - length action
+    → met ≡ end_with_dashes (map (λ word. word.now) (take first words))
+    → has_option (map (λ word. word.now) words) (map (λ word. word.now) action)
+    ≡ (not met && list_any (λ (word : Bor (List ℕ)). is_option word.now) action)
+options_met words action first met is ends =
+    let text : Bor (List ℕ) → List ℕ = λ word. word.now in
+    ap (λ (met : Bool). not met && list_any is_option (map text action)) (dashes_met words action first met is ends)
+    ∙ ap (λ (any : Bool). not met && any) (any_text is_option action)
+
+-- A request that `unless_option` returns is the request that it was given.
+let_through : (words : List (List ℕ)) (asked : Asked) → is_none (unless_option words asked) ≡ false
+    → unless_option words asked ≡ Some asked
+let_through words (Act file txn today is_new_group action) is = go (has_option words action) is
+  where
+    go : (has : Bool) → is_none (if has then None else Some (Act file txn today is_new_group action)) ≡ false
+        → (if has then None else Some (Act file txn today is_new_group action)) ≡ Some (Act file txn today is_new_group action)
+    go true is = absurd (true≢false is)
+    go false is = refl
+let_through words other is = refl
+
+-- If no option is among the words of an action, the request is read as it is.
+pub read_whole : (words : List (List ℕ)) (said : Option Asked) (asked : Asked) → said ≡ Some asked
+    → is_none (unless_option words asked) ≡ false → said_free words said ≡ Some asked
+read_whole words said asked is free =
+    ap (said_free words) is ∙ let_through words asked free

@@ -1,0 +1,337 @@
+-- The requests of command lines: each is read from the words after the word of a command (this profile's
+-- own).
+use Rattle.std.specs.Prelude.{◌≡◌, ℕ, Bool, true, false, ◌||◌, if◌then◌else◌, List, map, codes, Option, None, Some, option_map}
+use Rattle.std.specs.Prelude.{is_none, Result, Ok, Err, is_ok, ◌-◌, ◌&&◌, not, length, slice_get, take}
+use Rattle.std.specs.List.{list_any}
+use Rattle.std.specs.Result.{result_ok}
+use Rattle.std.specs.Str.{bytes_eq}
+use Rattle.clap.specs.Words.{Row, Text, first_of, all_of}
+use Rattle.ill_values.specs.Day.{Date}
+use Rattle.ill_values.specs.Text.{qualifier_check}
+use Rattle.ill_values.specs.TxnId.{Qualifiers, txn_id_of}
+use Rattle.ill_core.specs.declared.state.State.{State}
+use Rattle.ill_saved.specs.declared.role.Role.{Role as Who}
+use Rattle.ill_words.specs.Words.{◌>>=◌, who_named, day_of, number_of}
+use Rattle.ill_values.specs.declared.fault.TextFault.{TextFault}
+use Rattle.ill_text.specs.declared.fault.ToolFault.{ToolFault}
+use Rattle.ill_text.specs.declared.fault.ToolFault.TheVariants.{Arguments, OutOfMemory}
+use Rattle.ill_desk.specs.declared.take.TakeForm.{TakeForm}
+use Rattle.ill_show.specs.Loan.{loan_form}
+use Rattle.ill_show.specs.declared.loan.LoanForm.{LoanForm}
+use Rattle.ill_text.specs.declared.form.Form.{Form}
+use Rattle.ill_text.specs.declared.form.Form.TheVariants as forms
+use Rattle.ill_desk.specs.declared.dates.Dates.{Dates}
+use Rattle.ill_show.specs.declared.wanted.Which.{Which}
+use Rattle.ill_show.specs.declared.wanted.Which.TheVariants as loans
+use Rattle.ill_show.specs.declared.wanted.Wanted.{Wanted}
+use Rattle.ill_line.specs.declared.request.Refusal.{Refusal}
+use Rattle.ill_line.specs.declared.request.Refusal.TheVariants.{Usage, Fault}
+use Rattle.ill_line.specs.declared.request.Request.{Request}
+use Rattle.ill_line.specs.declared.request.Request.TheVariants as requests
+use Rattle.ill_line.specs.declared.command_line.Name.{Name}
+use Rattle.ill_line.specs.declared.command_line.Name.TheVariants as names
+use Rattle.ill_line.specs.declared.command_line.Argument.{Argument}
+use Rattle.ill_line.specs.declared.command_line.Argument.TheVariants.{NewFile, File, Folder, Role, Group, Transaction, Today}
+use Rattle.ill_line.specs.declared.command_line.Argument.TheVariants.{Words, Number, Long, Keep, Picture, Open, Mine, Json, Paths}
+use Rattle.ill_line.specs.declared.command_line.Argument.TheVariants.{OnDay, DueBefore, InState, ReportDay, OutFolder, Stream, In}
+use Rattle.ill_line.specs.declared.command_line.Argument.TheVariants.{Out, NightDay, Overdue, Expire, Copy, Beat, NewGroup}
+use Rattle.ill_line.specs.CommandLine.{name_read, id_of, is_option}
+use Rattle.ill_files.specs.Paths.{is_beside}
+use Rattle.ill_core.specs.State.{state_named}
+
+-- ---- the arguments
+
+-- The arguments that `clap` found after the word of a command.
+abbrev pub Found : Type 0
+Found = List Row
+
+-- Returns the text of `argument`, if the line has one.
+abbrev pub text_of : Argument → Found → Option (List ℕ)
+text_of argument found = first_of (id_of argument) found
+
+-- Returns the role in the arguments, if it is one.
+abbrev pub role_of : Found → Option Who
+role_of found = text_of Role found >>= who_named
+
+-- Returns the transaction in the arguments, if both qualifiers are valid.
+abbrev pub loan_of : Found → Option Qualifiers
+loan_of found = do
+  group ← text_of Group found
+  transaction ← text_of Transaction found
+  result_ok (txn_id_of group transaction)
+
+-- Returns `text` if the Bool is true.
+abbrev pub text_if : Bool → List ℕ → Option (List ℕ)
+text_if true text = Some text
+text_if false text = None
+
+-- Returns the group in the arguments, if it is a valid qualifier.
+abbrev pub group_of : Found → Option (List ℕ)
+group_of found = text_of Group found >>= λ group. text_if (is_ok (qualifier_check group)) group
+
+-- Returns the path of a new desk or shelf, if it has no ending of a file beside a desk.
+abbrev pub new_file_of : Found → Option (List ℕ)
+new_file_of found = text_of NewFile found >>= λ file. text_if (not (is_beside file)) file
+
+-- Returns the texts of an argument that may have several.
+abbrev pub texts_of : Argument → Found → Option (List (List ℕ))
+texts_of argument found = all_of (id_of argument) found
+
+-- Returns the day that an optional word spells. It is Some None without a word, and None if the word is no
+-- day.
+abbrev pub day_said : Option (List ℕ) → Option (Option Date)
+day_said None = Some None
+day_said (Some word) = option_map Some (day_of word)
+
+-- Returns the day of the optional argument `argument`, as `day_said` does.
+abbrev pub day_in : Argument → Found → Option (Option Date)
+day_in argument found = day_said (text_of argument found)
+
+-- Returns the day of a report, if it is one.
+abbrev pub report_day_of : Found → Option Date
+report_day_of found = text_of ReportDay found >>= day_of
+
+-- Returns the state that an optional word names. It is Some None without a word, and None if the word is no
+-- state.
+abbrev pub state_said : Option (List ℕ) → Option (Option State)
+state_said None = Some None
+state_said (Some word) = option_map Some (state_named word)
+
+-- Returns the state of the option `--state`, as `state_said` does.
+abbrev pub state_in : Found → Option (Option State)
+state_in found = state_said (text_of InState found)
+
+-- Returns the number of a message in the arguments, if it is one.
+abbrev pub number_of_message : Found → Option ℕ
+number_of_message found = text_of Number found >>= number_of
+
+-- Returns true if the text of a flag is `true`. `clap` gives this text to a flag in the command line.
+abbrev pub is_true : Option (List ℕ) → Bool
+is_true None = false
+is_true (Some text) = bytes_eq text (codes "true")
+
+-- Returns true if `flag` is in the command line.
+abbrev pub is_set : Argument → Found → Bool
+is_set flag found = is_true (text_of flag found)
+
+-- Returns the turns of the loans to list. If both flags are set, `--mine` decides.
+abbrev pub which_of : Found → Which
+which_of found =
+    if is_set Mine found then loans.Mine else (if is_set Open found then loans.Open else loans.All)
+
+-- Returns the conditions on the loans to list, if each argument is valid. A listed loan meets all of them.
+abbrev pub wanted_of : Found → Option Wanted
+wanted_of found = do
+  today ← day_in OnDay found
+  due_before ← day_in DueBefore found
+  state ← state_in found
+  Some (record { which = which_of found; today = today; due_before = due_before; state = state })
+
+-- Returns the form of the output.
+abbrev pub form_of : Found → Form
+form_of found = if is_set Json found then forms.Json else forms.Lines
+
+-- Returns the outlet of messages: a folder, or None for the output. Exactly one of the flag and the folder
+-- must be given.
+abbrev pub outlet : Bool → Option (List ℕ) → Option (Option (List ℕ))
+outlet false (Some folder) = Some (Some folder)
+outlet true None = Some None
+outlet is_stream folder = None
+
+-- Returns the outlet in the arguments, if there is exactly one.
+abbrev pub outlet_of : Found → Option (Option (List ℕ))
+outlet_of found = outlet (is_set Stream found) (text_of OutFolder found)
+
+-- Returns the deeds that the flags ask of a responder.
+abbrev pub wanted_dates : Found → Dates
+wanted_dates found = record { overdue = is_set Overdue found; expire = is_set Expire found }
+
+-- Returns the day and the deeds. It is Some None if no deed is wanted, and None if a deed is wanted without a
+-- day.
+abbrev pub dates_on : Dates → Option Date → Option (Option (Date × Dates))
+dates_on dates None = if dates.overdue || dates.expire then None else Some None
+dates_on dates (Some today) = if dates.overdue || dates.expire then Some (Some (today, dates)) else Some None
+
+-- Returns the day and the deeds in the arguments, as `dates_on` does.
+abbrev pub dates_of : Found → Option (Option (Date × Dates))
+dates_of found = day_in NightDay found >>= dates_on (wanted_dates found)
+
+-- ---- the commands
+
+-- The request of a command line, with its arguments as texts and values.
+pub data Asked : Type 0 where
+  Show : (form : Form) → Asked
+  Check : Asked
+  Simulate : (group transaction : List ℕ) → Asked
+  SimulateDesks : Asked
+  New : (file : List ℕ) → (role : Who) → Asked
+  Act : (file : List ℕ) → (txn : Qualifiers) → (today : Option Date) → (is_new_group : Bool) → (words : List (List ℕ))
+      → Asked
+  Take : (file : List ℕ) → (form : TakeForm) → Asked
+  Inbox : (file folder : List ℕ) → Asked
+  Outbox : (file : List ℕ) → (folder : Option (List ℕ)) → Asked
+  Exchange : (file incoming outgoing : List ℕ) → (dates : Option (Date × Dates)) → (copy beat : Option (List ℕ)) → Asked
+  Send : (file : List ℕ) → (txn : Qualifiers) → (number : ℕ) → Asked
+  Listing : (paths : List (List ℕ)) → (wanted : Wanted) → (form : Form) → Asked
+  Status : (file : List ℕ) → (form : Form) → Asked
+  Loan : (file : List ℕ) → (txn : Qualifiers) → (form : LoanForm) → Asked
+  Report : (paths : List (List ℕ)) → (today : Date) → Asked
+  Retire : (file group : List ℕ) → Asked
+  Verify : (file : List ℕ) → Asked
+
+-- Returns the request that a `Request` of the code holds.
+abbrev pub asked : Request → Asked
+asked (requests.Show form) = Show form
+asked requests.Check = Check
+asked (requests.Simulate group transaction) = Simulate group.now transaction.now
+asked requests.SimulateDesks = SimulateDesks
+asked (requests.New file role) = New file.now role
+asked (requests.Act file txn today is_new_group words) =
+    Act file.now txn today is_new_group (map (λ word. word.now) words.items)
+asked (requests.Take file form) = Take file.now form
+asked (requests.Inbox file folder) = Inbox file.now folder.now
+asked (requests.Outbox file folder) = Outbox file.now (option_map (λ text. text.now) folder)
+asked (requests.Exchange file night) =
+    Exchange file.now night.incoming.now night.outgoing.now night.dates (option_map (λ text. text.now) night.copy)
+    (option_map (λ text. text.now) night.beat)
+asked (requests.Send file txn number) = Send file.now txn number
+asked (requests.List paths wanted form) = Listing (map (λ path. path.now) paths.items) wanted form
+asked (requests.Status file form) = Status file.now form
+asked (requests.Loan file txn form) = Loan file.now txn form
+asked (requests.Report paths today) = Report (map (λ path. path.now) paths.items) today
+asked (requests.Retire file group) = Retire file.now group.now
+asked (requests.Verify file) = Verify file.now
+
+-- Returns the file of the desk that a request may change, or from which it sends.
+abbrev pub desk_at_stake : Asked → Option (List ℕ)
+desk_at_stake (New file role) = Some file
+desk_at_stake (Act file txn today is_new_group words) = Some file
+desk_at_stake (Take file form) = Some file
+desk_at_stake (Inbox file folder) = Some file
+desk_at_stake (Outbox file folder) = Some file
+desk_at_stake (Exchange file incoming outgoing dates copy beat) = Some file
+desk_at_stake (Send file txn number) = Some file
+desk_at_stake other = None
+
+-- Returns the request of the command with these arguments, if each of them is valid.
+abbrev pub asked_of : Name → Found → Option Asked
+asked_of names.Show found = Some (Show (form_of found))
+asked_of names.Check found = Some Check
+asked_of names.Simulate found = do
+  group ← text_of Group found
+  transaction ← text_of Transaction found
+  Some (Simulate group transaction)
+asked_of names.SimulateDesks found = Some SimulateDesks
+asked_of names.New found = do
+  file ← new_file_of found
+  role ← role_of found
+  Some (New file role)
+asked_of names.Act found = do
+  file ← text_of File found
+  today ← day_in Today found
+  txn ← loan_of found
+  words ← texts_of Words found
+  Some (Act file txn today (is_set NewGroup found) words)
+asked_of names.Take found = do
+  file ← text_of File found
+  Some (Take file (record { is_long = is_set Long found; is_kept = is_set Keep found }))
+asked_of names.Inbox found = do
+  file ← text_of File found
+  folder ← text_of Folder found
+  Some (Inbox file folder)
+asked_of names.Outbox found = do
+  file ← text_of File found
+  folder ← outlet_of found
+  Some (Outbox file folder)
+asked_of names.Exchange found = do
+  file ← text_of File found
+  incoming ← text_of In found
+  outgoing ← text_of Out found
+  dates ← dates_of found
+  Some (Exchange file incoming outgoing dates (text_of Copy found) (text_of Beat found))
+asked_of names.Send found = do
+  file ← text_of File found
+  txn ← loan_of found
+  number ← number_of_message found
+  Some (Send file txn number)
+asked_of names.List found = do
+  paths ← texts_of Paths found
+  wanted ← wanted_of found
+  Some (Listing paths wanted (form_of found))
+asked_of names.Status found = do
+  file ← text_of File found
+  Some (Status file (form_of found))
+asked_of names.Loan found = do
+  file ← text_of File found
+  txn ← loan_of found
+  Some (Loan file txn (loan_form (form_of found) (is_set Picture found)))
+asked_of names.Report found = do
+  paths ← texts_of Paths found
+  today ← report_day_of found
+  Some (Report paths today)
+asked_of names.Retire found = do
+  file ← text_of File found
+  group ← group_of found
+  Some (Retire file group)
+asked_of names.Verify found = do
+  file ← text_of File found
+  Some (Verify file)
+
+-- Returns the request of the command with the word `word` and these arguments.
+abbrev pub asked_by : List ℕ → Found → Option Asked
+asked_by word found = name_read word >>= λ name. asked_of name found
+
+-- Returns the request of a word with its arguments, if there is a word.
+abbrev pub asked_in : Option (Text × Found) → Option Asked
+asked_in None = None
+asked_in (Some said) = asked_by said.0 said.1
+
+-- ---- options among the words of an action
+
+-- Returns true if `word` is `--`, after which no word is an option.
+abbrev pub is_dashes : Option (List ℕ) → Bool
+is_dashes None = false
+is_dashes (Some word) = bytes_eq word (codes "--")
+
+-- Returns true if the last of `words` is `--`.
+abbrev pub end_with_dashes : List (List ℕ) → Bool
+end_with_dashes words = is_dashes (slice_get words (length words - 1))
+
+-- Returns true if an option of the program is among the words of an action, with which the command line `words` ends.
+-- If `--` stands right before them, none is an option.
+abbrev pub has_option : (words action : List (List ℕ)) → Bool
+has_option words action =
+    not (end_with_dashes (take (length words - length action) words)) && list_any is_option action
+
+-- Returns the request of the command line `words`, unless an option is among the words of its action.
+abbrev pub unless_option : (words : List (List ℕ)) → Asked → Option Asked
+unless_option words (Act file txn today is_new_group action) =
+    if has_option words action then None else Some (Act file txn today is_new_group action)
+unless_option words other = Some other
+
+-- Returns the request `said`, if there is one, unless an option is among the words of its action.
+abbrev pub said_free : (words : List (List ℕ)) → Option Asked → Option Asked
+said_free words said = said >>= unless_option words
+
+-- ---- the reading of the words
+
+-- The refusal is justified: the words have no request (`is_nothing`), or memory ran out.
+abbrev pub IsRefusal : Bool → Refusal → Type 0
+IsRefusal is_nothing (Usage error) = is_nothing ≡ true
+IsRefusal is_nothing (Fault Arguments) = is_nothing ≡ true
+IsRefusal is_nothing (Fault OutOfMemory) = Unit {0}
+IsRefusal is_nothing (Fault other) = ⊥
+
+-- The result holds the value `said` of the arguments. If they have none, or memory ran out, it is a justified
+-- refusal.
+abbrev pub ReadsValue : {A B : Type 0} → (B → A) → Option A → Result B Refusal → Type 0
+ReadsValue value said (Ok read) = said ≡ Some (value read)
+ReadsValue value said (Err refusal) = IsRefusal (is_none said) refusal
+
+-- The second result is the transaction id of the first. If memory ran out, it is that fault. If there is no
+-- id, it is the fault `Arguments`.
+abbrev pub GivesId : Result Qualifiers TextFault → Result Qualifiers ToolFault → Type 0
+GivesId (Ok txn) (Ok made) = made ≡ txn
+GivesId (Ok txn) (Err fault) = fault ≡ OutOfMemory
+GivesId (Err fault) (Ok made) = ⊥
+GivesId (Err fault) (Err tool) = tool ≡ Arguments

@@ -1,0 +1,569 @@
+//! The command line of `ill`: its commands and their arguments, as `clap` has them.
+
+ghost use Rattle.std.specs.Prelude.{◌≡◌, bytes_eq};
+ghost use Rattle.std.specs.List.{list_any};
+ghost use Rattle.ill_line.specs.CommandLine.{word_of, name_read, id_of, is_option, name_in};
+
+use crate::help;
+use clap::{Arg, ArgAction, Command, Error};
+use std::alloc::Global;
+
+/// A command of `ill`.
+#[derive(Clone, Copy)]
+pub enum Name {
+    New,
+    Act,
+    Take,
+    Inbox,
+    Outbox,
+    Exchange,
+    Send,
+    List,
+    Status,
+    Loan,
+    Report,
+    Retire,
+    Verify,
+    Show,
+    Check,
+    Simulate,
+    SimulateDesks,
+}
+
+/// The word before the commands on a shelf.
+pub const SHELF: &str = "shelf";
+
+/// All commands, in the order of the help. First come the commands for staff, then the commands for the exchange with
+/// other libraries. The last are for looking inside, and one is for shelves alone. `clap` has these and no others.
+const NAMES: [Name; 17] = [
+    Name::New,
+    Name::Act,
+    Name::List,
+    Name::Loan,
+    Name::Status,
+    Name::Report,
+    Name::Take,
+    Name::Send,
+    Name::Inbox,
+    Name::Outbox,
+    Name::Exchange,
+    Name::Verify,
+    Name::Show,
+    Name::Check,
+    Name::Simulate,
+    Name::SimulateDesks,
+    Name::Retire,
+];
+
+/// The commands on a shelf.
+const SHELF_NAMES: [Name; 10] = [
+    Name::New,
+    Name::Act,
+    Name::Loan,
+    Name::Status,
+    Name::Take,
+    Name::Send,
+    Name::Inbox,
+    Name::Outbox,
+    Name::Exchange,
+    Name::Retire,
+];
+
+impl Name {
+    /// Returns the word of the command.
+    pub fn word<'a>(self) -> &'a str
+        ensures { result.now ≡ word_of self }
+    {
+        match self {
+            Name::New => "new",
+            Name::Act => "act",
+            Name::Take => "take",
+            Name::Inbox => "inbox",
+            Name::Outbox => "outbox",
+            Name::Exchange => "exchange",
+            Name::Send => "send",
+            Name::List => "list",
+            Name::Status => "status",
+            Name::Loan => "loan",
+            Name::Report => "report",
+            Name::Retire => "retire",
+            Name::Verify => "verify",
+            Name::Show => "show",
+            Name::Check => "check",
+            Name::Simulate => "simulate",
+            Name::SimulateDesks => "simulate-desks",
+        }
+    }
+
+    /// Returns the line of its purpose.
+    fn about<'a>(self) -> &'a str {
+        match self {
+            Name::New => "Begin a desk of one role, in a file",
+            Name::Act => "Perform one action in a loan, and save it",
+            Name::Take => "Take the APDUs on standard input, and save what they change",
+            Name::Inbox => "Take the mails of a folder, and save what they change once",
+            Name::Outbox => "Put the messages that want sending into a folder of mails",
+            Name::Exchange => "Take the mails of a folder, and send into another",
+            Name::Send => "Write the bytes of one message of a loan",
+            Name::List => "List the loans of desks, a line for each",
+            Name::Status => "Show how each loan in a file stands",
+            Name::Loan => "Show all of one loan: request, messages, what may be done",
+            Name::Report => "Write a page for a browser of the loans of desks",
+            Name::Retire => "Replace a desk whose loans are over by a mark of its group",
+            Name::Verify => "Read a desk, and tell what it has or what is wrong with it",
+            Name::Show => "Show each APDU on standard input",
+            Name::Check => "Check the APDUs on standard input and count them",
+            Name::Simulate => "Perform a script of both sides of a loan, from standard input",
+            Name::SimulateDesks => "Perform a script of two desks, from standard input",
+        }
+    }
+
+    /// Returns the text of its help.
+    fn help<'a>(self) -> &'a str {
+        match self {
+            Name::New => help::NEW,
+            Name::Act => help::ACT,
+            Name::Take => help::TAKE,
+            Name::Inbox => help::INBOX,
+            Name::Outbox => help::OUTBOX,
+            Name::Exchange => help::EXCHANGE,
+            Name::Send => help::SEND,
+            Name::List => help::LIST,
+            Name::Status => help::STATUS,
+            Name::Loan => help::LOAN,
+            Name::Report => help::REPORT,
+            Name::Retire => help::RETIRE,
+            Name::Verify => help::VERIFY,
+            Name::Show => help::SHOW,
+            Name::Check => help::CHECK,
+            Name::Simulate => help::SIMULATE,
+            Name::SimulateDesks => help::SIMULATE_DESKS,
+        }
+    }
+
+    /// Returns the example below its help.
+    fn example<'a>(self) -> &'a str {
+        match self {
+            Name::New => help::NEW_EXAMPLE,
+            Name::Act => help::ACT_EXAMPLE,
+            Name::Take => help::TAKE_EXAMPLE,
+            Name::Inbox => help::INBOX_EXAMPLE,
+            Name::Outbox => help::OUTBOX_EXAMPLE,
+            Name::Exchange => help::EXCHANGE_EXAMPLE,
+            Name::Send => help::SEND_EXAMPLE,
+            Name::List => help::LIST_EXAMPLE,
+            Name::Status => help::STATUS_EXAMPLE,
+            Name::Loan => help::LOAN_EXAMPLE,
+            Name::Report => help::REPORT_EXAMPLE,
+            Name::Retire => help::RETIRE_EXAMPLE,
+            Name::Verify => help::VERIFY_EXAMPLE,
+            Name::Show => help::SHOW_EXAMPLE,
+            Name::Check => help::CHECK_EXAMPLE,
+            Name::Simulate => help::SIMULATE_EXAMPLE,
+            Name::SimulateDesks => help::SIMULATE_DESKS_EXAMPLE,
+        }
+    }
+
+    /// Returns its arguments, in their order.
+    pub fn arguments<'a>(self) -> &'a [Argument] {
+        match self {
+            Name::New => &[Argument::NewFile, Argument::Role],
+            Name::Act => &[
+                Argument::File,
+                Argument::Group,
+                Argument::Transaction,
+                Argument::Today,
+                Argument::Words,
+            ],
+            Name::Take => &[Argument::File, Argument::Long, Argument::Keep],
+            Name::Inbox => &[Argument::File, Argument::Folder],
+            Name::Outbox => &[Argument::File, Argument::OutFolder, Argument::Stream],
+            Name::Exchange => &[
+                Argument::File,
+                Argument::In,
+                Argument::Out,
+                Argument::NightDay,
+                Argument::Overdue,
+                Argument::Expire,
+                Argument::Copy,
+                Argument::Beat,
+            ],
+            Name::Status => &[Argument::File, Argument::Json],
+            Name::Retire => &[Argument::File, Argument::Group],
+            Name::Verify => &[Argument::File],
+            Name::Send => &[
+                Argument::File,
+                Argument::Group,
+                Argument::Transaction,
+                Argument::Number,
+            ],
+            Name::Loan => &[
+                Argument::File,
+                Argument::Group,
+                Argument::Transaction,
+                Argument::Picture,
+                Argument::Json,
+            ],
+            Name::Report => &[Argument::Paths, Argument::ReportDay],
+            Name::List => &[
+                Argument::Paths,
+                Argument::Open,
+                Argument::Mine,
+                Argument::OnDay,
+                Argument::DueBefore,
+                Argument::InState,
+                Argument::Json,
+            ],
+            Name::Simulate => &[Argument::Group, Argument::Transaction],
+            Name::Show => &[Argument::Json],
+            Name::Check | Name::SimulateDesks => &[],
+        }
+    }
+
+    /// Returns true if the command is only for shelves.
+    fn is_of_shelves(self) -> bool {
+        matches!(self, Name::Retire)
+    }
+
+    /// Returns the line of its purpose on a shelf.
+    fn about_shelf<'a>(self) -> &'a str {
+        match self {
+            Name::New => "Begin a shelf of one role, in a folder",
+            Name::Act => "Perform one action in a loan, at the desk of its group",
+            Name::Take => "Take the APDUs on standard input, each at the desk of its group",
+            Name::Status => "Show how each loan stands, desk by desk",
+            Name::Inbox => "Take the mails of a folder, each at the desk of its group",
+            Name::Outbox => "Put the messages of all desks that want sending into a folder",
+            Name::Exchange => "Take the mails of a folder, and send into another",
+            other => other.about(),
+        }
+    }
+
+    /// Returns the text of its help on a shelf.
+    fn help_on_shelf<'a>(self) -> &'a str {
+        match self {
+            Name::New => help::SHELF_NEW,
+            Name::Act => help::SHELF_ACT,
+            Name::Loan => help::SHELF_LOAN,
+            Name::Status => help::SHELF_STATUS,
+            Name::Take => help::SHELF_TAKE,
+            Name::Send => help::SHELF_SEND,
+            Name::Inbox => help::SHELF_INBOX,
+            Name::Outbox => help::SHELF_OUTBOX,
+            Name::Exchange => help::SHELF_EXCHANGE,
+            other => other.help(),
+        }
+    }
+
+    /// Returns the command that has the word `word`.
+    pub fn read(word: &str) -> Option<Name>
+        ensures { result ≡ name_read word.now }
+    {
+        NAMES.iter().copied().find(|name| name.word() == word)
+    }
+}
+
+/// An argument of a command.
+#[derive(Clone, Copy)]
+pub enum Argument {
+    /// The file of a desk that begins.
+    NewFile,
+    /// The file of a desk.
+    File,
+    /// A folder of mails.
+    Folder,
+    /// A folder into which mails are put, which may be left out.
+    OutFolder,
+    /// Set if messages are written to the output instead of a folder.
+    Stream,
+    /// The folder of the mails that have come.
+    In,
+    /// The folder of the mails that are to go.
+    Out,
+    /// The day of an exchange.
+    NightDay,
+    /// Set if a responder says of each overdue loan that it is overdue.
+    Overdue,
+    /// Set if a responder ends each request whose expiry date is past.
+    Expire,
+    /// The file of a copy.
+    Copy,
+    /// The file that is written anew at the end of a run, as a sign of life.
+    Beat,
+    Role,
+    Group,
+    Transaction,
+    /// The day of an action.
+    Today,
+    /// The words of an action.
+    Words,
+    /// The number of a message.
+    Number,
+    /// Set if `take` writes the fields of each message too.
+    Long,
+    /// Set if `take` keeps each message that was taken.
+    Keep,
+    /// Set if `loan` draws a loan.
+    Picture,
+    /// Set if the loans that are over are left out.
+    Open,
+    /// Set if the loans that wait for the other library are left out too.
+    Mine,
+    /// Set if objects of JSON are written.
+    Json,
+    /// The paths of desks, or of folders of them.
+    Paths,
+    /// The day on which loans past their deadlines wait for this library.
+    OnDay,
+    /// The day before which the listed loans are due.
+    DueBefore,
+    /// The state of the listed loans.
+    InState,
+    /// The day of a report.
+    ReportDay,
+    /// Set if a shelf may begin a desk for the group of a loan.
+    NewGroup,
+}
+
+impl Argument {
+    /// Returns its name for `clap`.
+    pub fn id<'a>(self) -> &'a str
+        ensures { result.now ≡ id_of self }
+    {
+        match self {
+            Argument::NewFile | Argument::File => "FILE",
+            Argument::Folder | Argument::OutFolder => "FOLDER",
+            Argument::In => "IN",
+            Argument::Out => "OUT",
+            Argument::Stream => "stream",
+            Argument::Overdue => "overdue",
+            Argument::Expire => "expire",
+            Argument::Copy => "copy",
+            Argument::Beat => "beat",
+            Argument::Role => "ROLE",
+            Argument::Group => "GROUP",
+            Argument::Transaction => "TRANSACTION",
+            Argument::Today | Argument::OnDay | Argument::ReportDay | Argument::NightDay => "today",
+            Argument::Words => "WORDS",
+            Argument::Number => "NUMBER",
+            Argument::Long => "long",
+            Argument::Keep => "keep",
+            Argument::Picture => "picture",
+            Argument::Open => "open",
+            Argument::Mine => "mine",
+            Argument::Json => "json",
+            Argument::Paths => "PATH",
+            Argument::DueBefore => "due-before",
+            Argument::InState => "state",
+            Argument::NewGroup => "new-group",
+        }
+    }
+
+    /// Returns its line in the help.
+    fn help<'a>(self) -> &'a str {
+        match self {
+            Argument::NewFile => "The file of the desk, which must not be there yet",
+            Argument::File => "The file of the desk",
+            Argument::Folder | Argument::OutFolder => "The folder of the mails",
+            Argument::Stream => "Write the messages to standard output",
+            Argument::In => "The folder of the mails that have come",
+            Argument::Out => "The folder of the mails that are to go",
+            Argument::NightDay => "The day of the run, as 20250301",
+            Argument::Overdue => "Say of each loan that is past its due date that it is",
+            Argument::Expire => "End each request that is past its last day",
+            Argument::Copy => "Copy the desk to this file before anything is sent",
+            Argument::Beat => "Make this file anew when the run has ended",
+            Argument::Role => "requester or responder",
+            Argument::Group => "The group qualifier of the loan",
+            Argument::Transaction => "The transaction qualifier of the loan",
+            Argument::Today => "The day of the action, as 20250301; a responder needs it",
+            Argument::Words => "The words of the action",
+            Argument::Number => "The number of the message, 1 to 255",
+            Argument::Long => "Tell which message each was, and what it said",
+            Argument::Keep => "Keep each message that is taken, in FILE.came",
+            Argument::Picture => "Draw the messages of the loan, for Mermaid",
+            Argument::Open => "Leave out the loans that are over",
+            Argument::Mine => "List only the loans that wait for this library",
+            Argument::Json => "Write objects of JSON, one on a line",
+            Argument::Paths => "The file of a desk, or a folder of them",
+            Argument::OnDay => "The day, as 20250301: what is past its last day waits then",
+            Argument::DueBefore => "List only the loans that are due before this day",
+            Argument::InState => "List only the loans in this state, as SHIPPED",
+            Argument::ReportDay => "The day of the report, as 20250301",
+            Argument::NewGroup => "Begin the group of the loan, if the shelf has none",
+        }
+    }
+
+    /// Returns the argument for `clap`. All but the options and the flags are required.
+    fn arg<'a>(self, alloc: Global) -> Arg<'a> {
+        let arg = Arg::new(alloc, self.id()).help(self.help());
+        match self {
+            Argument::Today | Argument::OnDay | Argument::NightDay => valued(arg, "today", "DAY"),
+            Argument::Copy => arg.long("copy").value_name("FILE"),
+            Argument::Beat => arg.long("beat").value_name("FILE"),
+            Argument::OutFolder => arg,
+            Argument::Stream => arg.long("stream").action(ArgAction::SetTrue),
+            Argument::Overdue => arg.long("overdue").action(ArgAction::SetTrue),
+            Argument::Expire => arg.long("expire").action(ArgAction::SetTrue),
+            Argument::DueBefore => valued(arg, "due-before", "DAY"),
+            Argument::InState => valued(arg, "state", "STATE"),
+            Argument::ReportDay => valued(arg, "today", "DAY").required(true),
+            Argument::Paths => arg.required(true).action(ArgAction::Append).num_args(1..),
+            Argument::Words => arg
+                .required(true)
+                .action(ArgAction::Append)
+                .num_args(1..)
+                .allow_hyphen_values(true)
+                .trailing_var_arg(true),
+            Argument::Number => arg.required(true).allow_hyphen_values(true),
+            Argument::Long => arg.long("long").action(ArgAction::SetTrue),
+            Argument::Keep => arg.long("keep").action(ArgAction::SetTrue),
+            Argument::Picture => arg.long("picture").action(ArgAction::SetTrue),
+            Argument::Open => arg.long("open").action(ArgAction::SetTrue),
+            Argument::Mine => arg.long("mine").action(ArgAction::SetTrue),
+            Argument::Json => arg.long("json").action(ArgAction::SetTrue),
+            Argument::NewGroup => arg.long("new-group").action(ArgAction::SetTrue),
+            _ => arg.required(true),
+        }
+    }
+}
+
+impl Argument {
+    /// Returns the argument for `clap` in a command on a shelf.
+    fn arg_on_shelf<'a>(self, alloc: Global) -> Arg<'a> {
+        match self {
+            Argument::NewFile => Arg::new(alloc, self.id())
+                .value_name("DIR")
+                .help("The folder of the shelf, which is made if it is missing")
+                .required(true),
+            Argument::File => Arg::new(alloc, self.id())
+                .value_name("DIR")
+                .help("The folder of the shelf")
+                .required(true),
+            Argument::Copy => self
+                .arg(alloc)
+                .value_name("FOLDER")
+                .help("Copy each desk into this folder before it sends"),
+            _ => self.arg(alloc),
+        }
+    }
+}
+
+/// Returns an option with a value.
+fn valued<'a>(arg: Arg<'a>, name: &'a str, value: &'a str) -> Arg<'a> {
+    arg.long(name).value_name(value).allow_hyphen_values(true)
+}
+
+/// All options of the program, also those that `clap` adds.
+const OPTIONS: [&str; 20] = [
+    "--today",
+    "--due-before",
+    "--state",
+    "--copy",
+    "--beat",
+    "--stream",
+    "--overdue",
+    "--expire",
+    "--long",
+    "--keep",
+    "--picture",
+    "--open",
+    "--mine",
+    "--json",
+    "--new-group",
+    "--explain",
+    "--help",
+    "--version",
+    "-h",
+    "-V",
+];
+
+/// Returns true if `word` is an option of the program, also with a value after `=`.
+pub fn is_option(word: &str) -> bool
+    ensures { result ≡ is_option word.now }
+{
+    is_among(name_in(word), &OPTIONS)
+}
+
+/// Returns `word` before its first `=`.
+fn name_in(word: &str) -> &str
+    ensures { result.now ≡ name_in word.now }
+{
+    match word.split_once('=') {
+        Some((name, _)) => name,
+        None => word,
+    }
+}
+
+/// Returns true if `name` is one of `names`.
+fn is_among(name: &str, names: &[&str]) -> bool
+    ensures { result ≡ list_any (λ other. bytes_eq other.now name.now) names.now }
+{
+    names.iter().any(|other| *other == name)
+}
+
+/// Returns the command line of `ill`.
+pub fn command<'a>(alloc: Global) -> Result<Command<'a>, Error> {
+    let mut command = Command::new(alloc, "ill")
+        .about("Interlibrary loan by store-and-forward messages")
+        .version(help::VERSION)
+        .subcommand_required(true)
+        .after_long_help(help::ILL)
+        .arg(explain(alloc))?;
+    for name in NAMES.iter().filter(|name| !name.is_of_shelves()) {
+        command = command.subcommand(subcommand(alloc, *name)?)?;
+    }
+    Ok(command.subcommand(shelf(alloc)?)?)
+}
+
+/// Returns the option `--explain`, which asks for more lines on a fault. Each command has it, and it is no global option
+/// of `clap`: of matches with one the contracts of `clap` say nothing.
+fn explain<'a>(alloc: Global) -> Arg<'a> {
+    Arg::new(alloc, "explain")
+        .long("explain")
+        .help("Say more of what is wrong")
+        .action(ArgAction::SetTrue)
+}
+
+/// Returns the command line of the command `name`.
+fn subcommand<'a>(alloc: Global, name: Name) -> Result<Command<'a>, Error> {
+    let mut command = Command::new(alloc, name.word())
+        .about(name.about())
+        .long_about(name.help())
+        .after_long_help(name.example());
+    for argument in name.arguments() {
+        command = command.arg(argument.arg(alloc))?;
+    }
+    Ok(command.arg(explain(alloc))?)
+}
+
+/// Returns the command line of the commands on a shelf.
+fn shelf<'a>(alloc: Global) -> Result<Command<'a>, Error> {
+    let mut command = Command::new(alloc, SHELF)
+        .about("Keep a folder of desks, one for each group of loans")
+        .subcommand_required(true)
+        .long_about(help::SHELF)
+        .after_long_help(help::SHELF_EXAMPLE)
+        .arg(explain(alloc))?;
+    for name in &SHELF_NAMES {
+        command = command.subcommand(shelf_subcommand(alloc, *name)?)?;
+    }
+    Ok(command)
+}
+
+/// Returns the command line of the command `name` on a shelf. It takes the folder of the shelf instead of the file of a
+/// desk.
+fn shelf_subcommand<'a>(alloc: Global, name: Name) -> Result<Command<'a>, Error> {
+    let mut command = Command::new(alloc, name.word())
+        .about(name.about_shelf())
+        .long_about(name.help_on_shelf());
+    for argument in name.arguments() {
+        command = command.arg(argument.arg_on_shelf(alloc))?;
+    }
+    command = match name {
+        Name::Act => command.arg(Argument::NewGroup.arg(alloc))?,
+        Name::Retire => command.after_long_help(name.example()),
+        _ => command,
+    };
+    Ok(command.arg(explain(alloc))?)
+}

@@ -1,0 +1,6 @@
+//! The command line: its words become a request. It has the commands, their arguments and the texts of their help.
+#![tactic(auto)]
+
+pub mod command_line;
+mod help;
+pub mod request;

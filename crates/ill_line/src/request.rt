@@ -1,0 +1,731 @@
+//! The requests of command lines, which are read before any file is opened.
+
+ghost use Rattle.std.specs.Prelude.{◌≡◌, true, is_none, map, option_map};
+ghost use Rattle.std.specs.List.{list_any};
+ghost use Rattle.ill_values.specs.TxnId.{txn_id_of};
+ghost use Rattle.clap.specs.Words.{found_of, rows_of, subcommand_rows_of};
+ghost use Rattle.ill_line.specs.CommandLine.{is_option};
+ghost use Rattle.ill_line.specs.declared.request.Refusal.TheVariants.{Usage, Fault};
+ghost use Rattle.ill_text.specs.declared.fault.ToolFault.TheVariants.{OutOfMemory};
+ghost use Rattle.ill_line.specs.declared.command_line.Name.TheVariants as names;
+ghost use Rattle.ill_line.specs.Asked.{GivesId, ReadsValue, IsRefusal, asked_by, asked_in, asked_of, text_of, texts_of, role_of, loan_of, group_of, new_file_of, day_in, state_in, number_of_message, dates_of, outlet_of, is_set, which_of, form_of, wanted_of, report_day_of, asked, desk_at_stake, end_with_dashes, has_option, said_free, unless_option};
+
+use crate::command_line::{Argument, Name, SHELF, command, is_option};
+use clap::error::ErrorKind;
+use clap::{ArgMatches, Command, Error};
+use ill_core::State;
+use ill_desk::dates::Dates;
+use ill_desk::take::TakeForm;
+use ill_files::paths::is_beside;
+use ill_mail::night::Night;
+use ill_show::loan::LoanForm;
+use ill_show::wanted::{Wanted, Which};
+use ill_text::fault::ToolFault;
+use ill_text::form::Form;
+use ill_values::{Day, Number, TextFault, TxnId};
+use ill_words::Who;
+use ill_words::words::{number, who};
+use std::alloc::{AllocError, Global};
+
+/// The request of a command line.
+#[derive(Drop)]
+pub enum Request<'a> {
+    /// Show each APDU of the input: `ill show`.
+    Show {
+        /// The form of the APDUs that are shown.
+        form: Form,
+    },
+    /// Check the input and count its APDUs: `ill check`.
+    Check,
+    /// Perform a script of both sides of a transaction: `ill simulate`.
+    Simulate {
+        /// The group qualifier, not validated yet.
+        group: &'a str,
+        /// The transaction qualifier, not validated yet.
+        transaction: &'a str,
+    },
+    /// Perform a script of two desks: `ill simulate-desks`.
+    SimulateDesks,
+    /// Begin a desk in a file: `ill new`.
+    New {
+        /// The path of the file.
+        file: &'a str,
+        /// The role of the desk.
+        role: Who,
+    },
+    /// Perform one action in a transaction: `ill act`.
+    Act {
+        /// The path of the file.
+        file: &'a str,
+        /// The transaction.
+        txn: TxnId,
+        /// The day of the action, if it is given.
+        today: Option<Day>,
+        /// Set if a shelf may begin a desk for the group of the transaction.
+        is_new_group: bool,
+        /// The words of the action.
+        words: Vec<&'a str>,
+    },
+    /// Take the APDUs of the input: `ill take`.
+    Take {
+        /// The path of the file.
+        file: &'a str,
+        /// The form of the command.
+        form: TakeForm,
+    },
+    /// Take the mails of a folder: `ill inbox`.
+    Inbox {
+        /// The path of the file.
+        file: &'a str,
+        /// The path of the folder.
+        folder: &'a str,
+    },
+    /// Send the messages of the loans that want sending: `ill outbox`.
+    Outbox {
+        /// The path of the file.
+        file: &'a str,
+        /// The path of the folder, or none for the output.
+        folder: Option<&'a str>,
+    },
+    /// Exchange the mail of a desk: `ill exchange`.
+    Exchange {
+        /// The path of the file.
+        file: &'a str,
+        /// The arguments of the night.
+        night: Night<'a>,
+    },
+    /// Give the bytes of a message: `ill send`.
+    Send {
+        /// The path of the file.
+        file: &'a str,
+        /// The transaction.
+        txn: TxnId,
+        /// The number of the message.
+        number: Number,
+    },
+    /// List the loans of desks: `ill list`.
+    List {
+        /// The paths of the desks, or of folders of them.
+        paths: Vec<&'a str>,
+        /// The loans that are listed.
+        wanted: Wanted,
+        /// The form of the list.
+        form: Form,
+    },
+    /// Show the sides in a file: `ill status`.
+    Status {
+        /// The path of the file.
+        file: &'a str,
+        /// The form of the sides that are shown.
+        form: Form,
+    },
+    /// Show all that is known of a transaction: `ill loan`.
+    Loan {
+        /// The path of the file.
+        file: &'a str,
+        /// The transaction.
+        txn: TxnId,
+        /// The form of the loan that is shown.
+        form: LoanForm,
+    },
+    /// Retire a group of a shelf: `ill shelf retire`.
+    Retire {
+        /// The path of the shelf's folder.
+        file: &'a str,
+        /// The group.
+        group: &'a str,
+    },
+    /// Check the record in a file: `ill verify`.
+    Verify {
+        /// The path of the file.
+        file: &'a str,
+    },
+    /// Write a page of the loans of desks: `ill report`.
+    Report {
+        /// The paths of the desks, or of folders of them.
+        paths: Vec<&'a str>,
+        /// The day of the report.
+        today: Day,
+    },
+}
+
+impl<'a> Request<'a> {
+    /// Returns the file of the desk that the request may change, or from which it sends.
+    pub fn desk_at_stake(&self) -> Option<&'a str>
+        ensures { option_map (λ file. file.now) result ≡ desk_at_stake (asked self.now) }
+    {
+        match self {
+            Request::New { file, .. }
+            | Request::Act { file, .. }
+            | Request::Take { file, .. }
+            | Request::Inbox { file, .. }
+            | Request::Outbox { file, .. }
+            | Request::Exchange { file, .. }
+            | Request::Send { file, .. } => Some(*file),
+            _ => None,
+        }
+    }
+}
+
+/// The reason why words are no request.
+#[derive(Drop)]
+pub enum Refusal {
+    /// The words are no command, or ask for help. `clap` has the text.
+    Usage(Error),
+    /// An argument is invalid, or memory ran out.
+    Fault(ToolFault),
+}
+
+impl From<Error> for Refusal {
+    ghost from_gives = { λ error refusal. refusal ≡ Usage error };
+
+    fn from(error: Error) -> Refusal {
+        Refusal::Usage(error)
+    }
+}
+
+impl From<ToolFault> for Refusal {
+    ghost from_gives = { λ fault refusal. refusal ≡ Fault fault };
+
+    fn from(fault: ToolFault) -> Refusal {
+        Refusal::Fault(fault)
+    }
+}
+
+impl From<AllocError> for Refusal {
+    ghost from_gives = { λ _ refusal. refusal ≡ Fault OutOfMemory };
+
+    fn from(_error: AllocError) -> Refusal {
+        Refusal::Fault(ToolFault::OutOfMemory)
+    }
+}
+
+/// The request of a command line, for one desk or for a shelf.
+#[derive(Drop)]
+pub enum Call<'a> {
+    /// A request to one desk, or to none.
+    Desk(Request<'a>),
+    /// A request to a shelf: `ill shelf`.
+    Shelf(Request<'a>),
+}
+
+/// The word after which no word is an option.
+pub const DASHES: &str = "--";
+
+/// Reads the words of a command line. The first word is the name of the program.
+pub fn read_words<'a>(alloc: Global, words: &'a [&'a str]) -> Result<Call<'a>, Refusal> {
+    let matches = command(alloc)?.try_get_matches_from(words)?;
+    match matches.subcommand() {
+        Some((word, matches)) if word == SHELF => Ok(Call::Shelf(read(alloc, words, matches)?)),
+        _ => Ok(Call::Desk(read(alloc, words, &matches)?)),
+    }
+}
+
+/// Returns the request of the command in `matches`. `words` are the whole command line. An action may have no option of
+/// the program among its words.
+fn read<'a>(alloc: Global, words: &[&str], matches: &ArgMatches<'a>) -> Result<Request<'a>, Refusal>
+    ensures { ReadsValue asked (said_free (map (λ word. word.now) words.now) (asked_in (subcommand_rows_of matches.now))) result }
+{
+    let request = match found(alloc, matches) {
+        Ok(request) => request,
+        Err(refusal) => return Err(refusal),
+    };
+    if has_option_of(words, &request) {
+        return Err(Refusal::Fault(ToolFault::Arguments));
+    }
+    Ok(request)
+}
+
+/// Returns true if an option of the program is among the words of an action, with which `words` end.
+fn has_option_of(words: &[&str], request: &Request<'_>) -> bool
+    ensures { result ≡ is_none (unless_option (map (λ word. word.now) words.now) (asked request.now)) }
+{
+    match request {
+        Request::Act { words: action, .. } => has_option(words, action),
+        _ => false,
+    }
+}
+
+/// Returns true if an option of the program is in `action`, with which `words` end. If `--` stands right before `action`,
+/// none is an option.
+pub fn has_option(words: &[&str], action: &[&str]) -> bool
+    ensures { result ≡ has_option (map (λ word. word.now) words.now) (map (λ word. word.now) action.now) }
+{
+    let first = words.len().saturating_sub(action.len());
+    !end_with_dashes(&words[..first]) && is_any_option(action)
+}
+
+/// Returns true if an option of the program is one of `words`.
+fn is_any_option(words: &[&str]) -> bool
+    ensures { result ≡ list_any (λ word. is_option word.now) words.now }
+{
+    words.iter().any(|word| is_option(word))
+}
+
+/// Returns true if the last of `words` is `--`.
+fn end_with_dashes(words: &[&str]) -> bool
+    ensures { result ≡ end_with_dashes (map (λ word. word.now) words.now) }
+{
+    match words.last() {
+        Some(word) => *word == DASHES,
+        None => false,
+    }
+}
+
+/// Returns the request of the command in `matches`.
+fn found<'a>(alloc: Global, matches: &ArgMatches<'a>) -> Result<Request<'a>, Refusal>
+    ensures { ReadsValue asked (asked_in (subcommand_rows_of matches.now)) result }
+{
+    match matches.subcommand() {
+        Some((word, matches)) => named(alloc, word, matches),
+        None => Err(unknown(alloc)),
+    }
+}
+
+/// Returns the request of the command with the word `word`, by the matches of the words after it.
+fn named<'a>(alloc: Global, word: &str, matches: &ArgMatches<'a>) -> Result<Request<'a>, Refusal>
+    ensures { ReadsValue asked (asked_by word.now (rows_of (found_of matches.now))) result }
+{
+    match Name::read(word) {
+        Some(name) => requested(alloc, name, matches),
+        None => Err(unknown(alloc)),
+    }
+}
+
+/// Returns the request of the command `name`, by its matches.
+fn requested<'a>(
+    alloc: Global,
+    name: Name,
+    matches: &ArgMatches<'a>,
+) -> Result<Request<'a>, Refusal>
+    ensures { ReadsValue asked (asked_of name (rows_of (found_of matches.now))) result }
+{
+    match name {
+        Name::New => new_request(alloc, matches),
+        Name::Act => act_request(alloc, matches),
+        Name::Take => take_request(alloc, matches),
+        Name::Inbox => inbox_request(alloc, matches),
+        Name::Outbox => outbox_request(alloc, matches),
+        Name::Exchange => exchange_request(alloc, matches),
+        Name::Send => send_request(alloc, matches),
+        Name::List => list_request(alloc, matches),
+        Name::Status => status_request(alloc, matches),
+        Name::Loan => loan_request(alloc, matches),
+        Name::Retire => retire_request(alloc, matches),
+        Name::Verify => verify_request(alloc, matches),
+        Name::Report => report_request(alloc, matches),
+        Name::Show => Ok(Request::Show {
+            form: form(matches),
+        }),
+        Name::Check => Ok(Request::Check),
+        Name::Simulate => simulate_request(alloc, matches),
+        Name::SimulateDesks => Ok(Request::SimulateDesks),
+    }
+}
+
+/// Returns the request of `ill new`.
+fn new_request<'a>(alloc: Global, matches: &ArgMatches<'a>) -> Result<Request<'a>, Refusal>
+    ensures { ReadsValue asked (asked_of names.New (rows_of (found_of matches.now))) result }
+{
+    let file = match new_file(alloc, matches) {
+        Ok(file) => file,
+        Err(refusal) => return Err(refusal),
+    };
+    let role = role(alloc, matches)?;
+    Ok(Request::New { file, role })
+}
+
+/// Returns the path of a new desk or shelf. None may have the ending of a file beside a desk.
+fn new_file<'a>(alloc: Global, matches: &ArgMatches<'a>) -> Result<&'a str, Refusal>
+    ensures { ReadsValue (λ file. file.now) (new_file_of (rows_of (found_of matches.now))) result }
+{
+    let file = text(alloc, matches, Argument::NewFile)?;
+    if is_beside(file) {
+        return Err(Refusal::Fault(ToolFault::Arguments));
+    }
+    Ok(file)
+}
+
+/// Returns the request of `ill act`.
+fn act_request<'a>(alloc: Global, matches: &ArgMatches<'a>) -> Result<Request<'a>, Refusal>
+    ensures { ReadsValue asked (asked_of names.Act (rows_of (found_of matches.now))) result }
+{
+    let file = text(alloc, matches, Argument::File)?;
+    let today = day(matches, Argument::Today)?;
+    let txn = loan(alloc, matches)?;
+    let is_new_group = is_set(matches, Argument::NewGroup);
+    let words = texts(alloc, matches, Argument::Words)?;
+    Ok(Request::Act {
+        file,
+        txn,
+        today,
+        is_new_group,
+        words,
+    })
+}
+
+/// Returns the request of `ill take`.
+fn take_request<'a>(alloc: Global, matches: &ArgMatches<'a>) -> Result<Request<'a>, Refusal>
+    ensures { ReadsValue asked (asked_of names.Take (rows_of (found_of matches.now))) result }
+{
+    let file = text(alloc, matches, Argument::File)?;
+    let form = TakeForm {
+        is_long: is_set(matches, Argument::Long),
+        is_kept: is_set(matches, Argument::Keep),
+    };
+    Ok(Request::Take { file, form })
+}
+
+/// Returns the request of `ill inbox`.
+fn inbox_request<'a>(alloc: Global, matches: &ArgMatches<'a>) -> Result<Request<'a>, Refusal>
+    ensures { ReadsValue asked (asked_of names.Inbox (rows_of (found_of matches.now))) result }
+{
+    let file = text(alloc, matches, Argument::File)?;
+    let folder = text(alloc, matches, Argument::Folder)?;
+    Ok(Request::Inbox { file, folder })
+}
+
+/// Returns the request of `ill outbox`.
+fn outbox_request<'a>(alloc: Global, matches: &ArgMatches<'a>) -> Result<Request<'a>, Refusal>
+    ensures { ReadsValue asked (asked_of names.Outbox (rows_of (found_of matches.now))) result }
+{
+    let file = text(alloc, matches, Argument::File)?;
+    let folder = outlet(matches)?;
+    Ok(Request::Outbox { file, folder })
+}
+
+/// Returns the folder into which an outbox sends, or none for the output. Exactly one of the flag and the folder must
+/// be given.
+fn outlet<'a>(matches: &ArgMatches<'a>) -> Result<Option<&'a str>, Refusal>
+    ensures { ReadsValue (λ folder. option_map (λ text. text.now) folder) (outlet_of (rows_of (found_of matches.now))) result }
+{
+    let folder = said(matches, Argument::OutFolder);
+    match (is_set(matches, Argument::Stream), folder) {
+        (false, Some(folder)) => Ok(Some(folder)),
+        (true, None) => Ok(None),
+        (false, None) | (true, Some(_)) => Err(Refusal::Fault(ToolFault::Arguments)),
+    }
+}
+
+/// Returns the text of an optional argument.
+fn said<'a>(matches: &ArgMatches<'a>, argument: Argument) -> Option<&'a str>
+    ensures { option_map (λ text. text.now) result ≡ text_of argument (rows_of (found_of matches.now)) }
+{
+    match matches.get_str(argument.id()) {
+        Some(text) => Some(text),
+        None => None,
+    }
+}
+
+/// Returns the request of `ill exchange`.
+fn exchange_request<'a>(alloc: Global, matches: &ArgMatches<'a>) -> Result<Request<'a>, Refusal>
+    ensures { ReadsValue asked (asked_of names.Exchange (rows_of (found_of matches.now))) result }
+{
+    let file = text(alloc, matches, Argument::File)?;
+    let incoming = text(alloc, matches, Argument::In)?;
+    let outgoing = text(alloc, matches, Argument::Out)?;
+    let dates = dates(matches)?;
+    let copy = said(matches, Argument::Copy);
+    let beat = said(matches, Argument::Beat);
+    Ok(Request::Exchange {
+        file,
+        night: Night {
+            incoming,
+            outgoing,
+            dates,
+            copy,
+            beat,
+            is_on_shelf: false,
+        },
+    })
+}
+
+/// Returns the day of a night and the wanted deeds, if any deed is wanted. Then the day must be given.
+fn dates(matches: &ArgMatches<'_>) -> Result<Option<(Day, Dates)>, Refusal>
+    ensures { ReadsValue (λ dates. dates) (dates_of (rows_of (found_of matches.now))) result }
+{
+    let today = day(matches, Argument::NightDay)?;
+    let overdue = is_set(matches, Argument::Overdue);
+    let expire = is_set(matches, Argument::Expire);
+    if !overdue && !expire {
+        return Ok(None);
+    }
+    match today {
+        Some(today) => Ok(Some((today, Dates { overdue, expire }))),
+        None => Err(Refusal::Fault(ToolFault::Arguments)),
+    }
+}
+
+/// Returns the request of `ill send`.
+fn send_request<'a>(alloc: Global, matches: &ArgMatches<'a>) -> Result<Request<'a>, Refusal>
+    ensures { ReadsValue asked (asked_of names.Send (rows_of (found_of matches.now))) result }
+{
+    let file = text(alloc, matches, Argument::File)?;
+    let txn = loan(alloc, matches)?;
+    let number = message_number(alloc, matches)?;
+    Ok(Request::Send { file, txn, number })
+}
+
+/// Returns the request of `ill list`.
+fn list_request<'a>(alloc: Global, matches: &ArgMatches<'a>) -> Result<Request<'a>, Refusal>
+    ensures { ReadsValue asked (asked_of names.List (rows_of (found_of matches.now))) result }
+{
+    let paths = texts(alloc, matches, Argument::Paths)?;
+    let wanted = match wanted(matches) {
+        Ok(wanted) => wanted,
+        Err(refusal) => return Err(refusal),
+    };
+    Ok(Request::List {
+        paths,
+        wanted,
+        form: form(matches),
+    })
+}
+
+/// Returns the request of `ill status`.
+fn status_request<'a>(alloc: Global, matches: &ArgMatches<'a>) -> Result<Request<'a>, Refusal>
+    ensures { ReadsValue asked (asked_of names.Status (rows_of (found_of matches.now))) result }
+{
+    let file = text(alloc, matches, Argument::File)?;
+    let form = form(matches);
+    Ok(Request::Status { file, form })
+}
+
+/// Returns the request of `ill loan`.
+fn loan_request<'a>(alloc: Global, matches: &ArgMatches<'a>) -> Result<Request<'a>, Refusal>
+    ensures { ReadsValue asked (asked_of names.Loan (rows_of (found_of matches.now))) result }
+{
+    let file = text(alloc, matches, Argument::File)?;
+    let txn = loan(alloc, matches)?;
+    let form = LoanForm::of(form(matches), is_set(matches, Argument::Picture));
+    Ok(Request::Loan { file, txn, form })
+}
+
+/// Returns the request of `ill shelf retire`.
+fn retire_request<'a>(alloc: Global, matches: &ArgMatches<'a>) -> Result<Request<'a>, Refusal>
+    ensures { ReadsValue asked (asked_of names.Retire (rows_of (found_of matches.now))) result }
+{
+    let file = text(alloc, matches, Argument::File)?;
+    let group = group(alloc, matches)?;
+    Ok(Request::Retire { file, group })
+}
+
+/// Returns the group in the arguments.
+fn group<'a>(alloc: Global, matches: &ArgMatches<'a>) -> Result<&'a str, Refusal>
+    ensures { ReadsValue (λ group. group.now) (group_of (rows_of (found_of matches.now))) result }
+{
+    let group = text(alloc, matches, Argument::Group)?;
+    if TxnId::is_qualifier(group.as_bytes()) {
+        Ok(group)
+    } else {
+        Err(Refusal::Fault(ToolFault::Arguments))
+    }
+}
+
+/// Returns the request of `ill verify`.
+fn verify_request<'a>(alloc: Global, matches: &ArgMatches<'a>) -> Result<Request<'a>, Refusal>
+    ensures { ReadsValue asked (asked_of names.Verify (rows_of (found_of matches.now))) result }
+{
+    let file = text(alloc, matches, Argument::File)?;
+    Ok(Request::Verify { file })
+}
+
+/// Returns the request of `ill report`.
+fn report_request<'a>(alloc: Global, matches: &ArgMatches<'a>) -> Result<Request<'a>, Refusal>
+    ensures { ReadsValue asked (asked_of names.Report (rows_of (found_of matches.now))) result }
+{
+    let paths = texts(alloc, matches, Argument::Paths)?;
+    let today = report_day(alloc, matches)?;
+    Ok(Request::Report { paths, today })
+}
+
+/// Returns the request of `ill simulate`.
+fn simulate_request<'a>(alloc: Global, matches: &ArgMatches<'a>) -> Result<Request<'a>, Refusal>
+    ensures { ReadsValue asked (asked_of names.Simulate (rows_of (found_of matches.now))) result }
+{
+    let group = text(alloc, matches, Argument::Group)?;
+    let transaction = text(alloc, matches, Argument::Transaction)?;
+    Ok(Request::Simulate { group, transaction })
+}
+
+/// Returns the role in the arguments.
+fn role(alloc: Global, matches: &ArgMatches<'_>) -> Result<Who, Refusal>
+    ensures { ReadsValue (λ role. role) (role_of (rows_of (found_of matches.now))) result }
+{
+    let word = text(alloc, matches, Argument::Role)?;
+    match who(word.as_bytes()) {
+        Some(role) => Ok(role),
+        None => Err(Refusal::Fault(ToolFault::Arguments)),
+    }
+}
+
+/// Returns the transaction in the arguments.
+fn loan(alloc: Global, matches: &ArgMatches<'_>) -> Result<TxnId, Refusal>
+    ensures { ReadsValue (λ txn. txn) (loan_of (rows_of (found_of matches.now))) result }
+{
+    let group = text(alloc, matches, Argument::Group)?;
+    let transaction = text(alloc, matches, Argument::Transaction)?;
+    match id(alloc, group, transaction) {
+        Ok(txn) => Ok(txn),
+        Err(fault) => Err(Refusal::Fault(fault)),
+    }
+}
+
+/// Returns the conditions on the loans to list.
+fn wanted(matches: &ArgMatches<'_>) -> Result<Wanted, Refusal>
+    ensures { ReadsValue (λ wanted. wanted) (wanted_of (rows_of (found_of matches.now))) result }
+{
+    let which = which(matches);
+    let today = day(matches, Argument::OnDay)?;
+    let due_before = match day(matches, Argument::DueBefore) {
+        Ok(day) => day,
+        Err(refusal) => return Err(refusal),
+    };
+    let state = match state(matches) {
+        Ok(state) => state,
+        Err(refusal) => return Err(refusal),
+    };
+    Ok(Wanted {
+        which,
+        today,
+        due_before,
+        state,
+    })
+}
+
+/// Returns the state of the option `--state`, if it is given.
+fn state(matches: &ArgMatches<'_>) -> Result<Option<State>, Refusal>
+    ensures { ReadsValue (λ state. state) (state_in (rows_of (found_of matches.now))) result }
+{
+    match matches.get_str(Argument::InState.id()) {
+        Some(word) => match State::read(word.as_bytes()) {
+            Some(state) => Ok(Some(state)),
+            None => Err(Refusal::Fault(ToolFault::Arguments)),
+        },
+        None => Ok(None),
+    }
+}
+
+/// Returns the day of an option, if it is given.
+fn day(matches: &ArgMatches<'_>, argument: Argument) -> Result<Option<Day>, Refusal>
+    ensures { ReadsValue (λ day. day) (day_in argument (rows_of (found_of matches.now))) result }
+{
+    match matches.get_str(argument.id()) {
+        Some(word) => match Day::read(word.as_bytes()) {
+            Ok(day) => Ok(Some(day)),
+            Err(_) => Err(Refusal::Fault(ToolFault::Arguments)),
+        },
+        None => Ok(None),
+    }
+}
+
+/// Returns the day of a report.
+fn report_day(alloc: Global, matches: &ArgMatches<'_>) -> Result<Day, Refusal>
+    ensures { ReadsValue (λ today. today) (report_day_of (rows_of (found_of matches.now))) result }
+{
+    let word = text(alloc, matches, Argument::ReportDay)?;
+    match Day::read(word.as_bytes()) {
+        Ok(day) => Ok(day),
+        Err(_) => Err(Refusal::Fault(ToolFault::Arguments)),
+    }
+}
+
+/// Returns the turns of the loans to list.
+fn which(matches: &ArgMatches<'_>) -> Which
+    ensures { result ≡ which_of (rows_of (found_of matches.now)) }
+{
+    if is_set(matches, Argument::Mine) {
+        return Which::Mine;
+    }
+    if is_set(matches, Argument::Open) {
+        return Which::Open;
+    }
+    Which::All
+}
+
+/// Returns the form of the output.
+fn form(matches: &ArgMatches<'_>) -> Form
+    ensures { result ≡ form_of (rows_of (found_of matches.now)) }
+{
+    if is_set(matches, Argument::Json) {
+        Form::Json
+    } else {
+        Form::Lines
+    }
+}
+
+/// Returns true if `flag` is in the command line. `clap` then gives it the text `true`.
+fn is_set(matches: &ArgMatches<'_>, flag: Argument) -> bool
+    ensures { result ≡ is_set flag (rows_of (found_of matches.now)) }
+{
+    match matches.get_str(flag.id()) {
+        Some(text) => text == "true",
+        None => false,
+    }
+}
+
+/// Returns the number of a message.
+fn message_number(alloc: Global, matches: &ArgMatches<'_>) -> Result<Number, Refusal>
+    ensures { ReadsValue (λ number. number) (number_of_message (rows_of (found_of matches.now))) result }
+{
+    let word = text(alloc, matches, Argument::Number)?;
+    match number(word.as_bytes()) {
+        Some(number) => Ok(number),
+        None => Err(Refusal::Fault(ToolFault::Arguments)),
+    }
+}
+
+/// Returns the texts of an argument that may have several.
+fn texts<'a>(
+    alloc: Global,
+    matches: &ArgMatches<'a>,
+    argument: Argument,
+) -> Result<Vec<&'a str>, Refusal>
+    ensures { ReadsValue (λ texts. map (λ text. text.now) texts.items)
+        (texts_of argument (rows_of (found_of matches.now))) result }
+{
+    match matches.get_strs(argument.id()) {
+        Some(texts) => match Vec::from_slice(alloc, texts) {
+            Ok(texts) => Ok(texts),
+            Err(_) => Err(Refusal::Fault(ToolFault::OutOfMemory)),
+        },
+        None => Err(unknown(alloc)),
+    }
+}
+
+/// Returns the text of a required argument.
+fn text<'a>(alloc: Global, matches: &ArgMatches<'a>, argument: Argument) -> Result<&'a str, Refusal>
+    ensures { ReadsValue (λ text. text.now) (text_of argument (rows_of (found_of matches.now))) result }
+{
+    match matches.get_str(argument.id()) {
+        Some(text) => Ok(text),
+        None => Err(unknown(alloc)),
+    }
+}
+
+/// Returns the refusal of matches that lack a required argument. `clap` lets no such matches through.
+fn unknown(alloc: Global) -> Refusal
+    ensures { IsRefusal true result }
+{
+    let error = Command::new(alloc, "ill").error(
+        ErrorKind::MissingRequiredArgument,
+        "the words are no command",
+    );
+    match error {
+        Ok(error) => Refusal::Usage(error),
+        Err(_) => Refusal::Fault(ToolFault::OutOfMemory),
+    }
+}
+
+/// Returns the transaction id with these qualifiers.
+pub fn id(alloc: Global, group: &str, transaction: &str) -> Result<TxnId, ToolFault>
+    ensures { GivesId (txn_id_of group.now transaction.now) result }
+{
+    match TxnId::new(alloc, group.as_bytes(), transaction.as_bytes()) {
+        Ok(id) => Ok(id),
+        Err(TextFault::OutOfMemory) => Err(ToolFault::OutOfMemory),
+        Err(TextFault::Empty | TextFault::TooLong | TextFault::BadByte) => {
+            Err(ToolFault::Arguments)
+        }
+    }
+}

@@ -1,6 +1,0 @@
--- Answers the contract of `list_request` (`src/request.rt`).
-use Rattle.ill_tool.proofs.RequestLemmas.{refused_after}
-use Rattle.ill_tool.proofs.request.list_request.Goals as goal
-
-pub returns-in-Err : goal.returns-in-Err
-returns-in-Err c = refused_after _ _ _ _ _ c.in_ok-paths.ensures c.in-Err.ensures

@@ -1,6 +1,0 @@
--- Answers the contract of `new_request` (`src/request.rt`).
-use Rattle.ill_tool.proofs.RequestLemmas.{refused_on}
-use Rattle.ill_tool.proofs.request.new_request.Goals as goal
-
-pub returns-in-Err : goal.returns-in-Err
-returns-in-Err c = refused_on _ _ _ c.in-Err.ensures

@@ -1,0 +1,11 @@
+-- How a store in a database counts its failures.
+use Rattle.std.specs.Prelude.{◌≡◌, ℕ, Result, Err}
+use Rattle.ill_saved.specs.declared.store.StoreFault.{StoreFault}
+use Rattle.ill_saved.specs.declared.store.StoreFault.TheVariants.{Failed, TooLarge, OutOfMemory}
+use Rattle.ill_saved.specs.Store.{one_more}
+
+-- Each call that answers `Failed` is counted, and no other. No call answers `TooLarge`.
+abbrev pub CountsEach : {X : Type 0} → ℕ → Result X StoreFault → ℕ → Type 0
+CountsEach old (Err Failed) new = new ≡ one_more old
+CountsEach old (Err TooLarge) new = ⊥
+CountsEach old answer new = new ≡ old

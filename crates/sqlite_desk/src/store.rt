@@ -1,0 +1,88 @@
+//! A store in a SQLite database.
+
+ghost use Rattle.std.specs.Prelude.{◌≡◌, ℕ, false, None, Err};
+ghost use Rattle.sqlite_desk.specs.Counting.{CountsEach};
+
+use ill_saved::{Store, StoreFault};
+use sqlite::{Alter, Connection, Error, ErrorCode, params};
+use std::alloc::Global;
+
+/// Makes the table of the record, unless it is there.
+const CREATE: &str =
+    "CREATE TABLE IF NOT EXISTS record (id INTEGER PRIMARY KEY, bytes BLOB NOT NULL) STRICT";
+
+/// Reads the record.
+const LOAD: &str = "SELECT bytes FROM record";
+
+/// Replaces the record. One statement is committed whole, or not at all.
+const SAVE: &str = "INSERT OR REPLACE INTO record (id, bytes) VALUES (1, ?1)";
+
+/// A store of one record, in a table of a SQLite database.
+#[derive(Drop)]
+pub struct SqliteStore<S: Alter> {
+    conn: Connection<S>,
+    failures: u64,
+}
+
+impl<S: Alter + Drop> SqliteStore<S> {
+    /// Returns the store in the database of `conn`. Makes the table of the record, unless it is there.
+    pub fn over(mut conn: Connection<S>) -> Result<SqliteStore<S>, Error> {
+        conn.execute(CREATE, &[])?;
+        Ok(SqliteStore { conn, failures: 0 })
+    }
+
+    /// Returns the database.
+    pub fn into_connection(self) -> Connection<S> {
+        self.conn
+    }
+
+    /// Returns the bytes in the table, or `None` if it has no row.
+    fn read(&mut self) -> Result<Option<Vec<u8>>, Error>
+        ensures { self.new.failures ≡ self.old.failures }
+    {
+        match self.conn.query_all(LOAD, &[])?.first() {
+            Some(row) => Ok(Some(row.get(0)?)),
+            None => Ok(None),
+        }
+    }
+
+    /// Returns the store's fault for `error`. Counts each failure.
+    fn fault(&mut self, error: Error) -> StoreFault
+        ensures { CountsEach {X = ℕ} self.old.failures (Err result) self.new.failures }
+    {
+        if error == Error::SqliteFailure(ErrorCode::OutOfMemory) {
+            return StoreFault::OutOfMemory;
+        }
+        self.failures = self.failures.saturating_add(1);
+        StoreFault::Failed
+    }
+}
+
+/// Its state is not honest, and its landed bytes are not stated. What `sqlite` says of a value holds only as long as the
+/// disk is clean, which may end at any call. An honest store is honest for good. Each failed call is counted.
+impl<S: Alter + Drop> Store for SqliteStore<S> {
+    ghost state = { λ s. record {
+      landed = None;
+      failures = s.failures;
+      is_honest = false;
+      plan = None;
+    } };
+
+    fn load(&mut self, _alloc: Global) -> Result<Option<Vec<u8>>, StoreFault>
+        ensures { CountsEach self.old.failures result self.new.failures }
+    {
+        match self.read() {
+            Ok(found) => Ok(found),
+            Err(error) => Err(self.fault(error)),
+        }
+    }
+
+    fn save(&mut self, _alloc: Global, bytes: &[u8]) -> Result<(), StoreFault>
+        ensures { CountsEach self.old.failures result self.new.failures }
+    {
+        match self.conn.execute(SAVE, params![bytes]) {
+            Ok(_) => Ok(()),
+            Err(error) => Err(self.fault(error)),
+        }
+    }
+}

@@ -4,13 +4,11 @@
 
 mod store;
 
-use anyhow::{Context, Result, bail};
-use ill_core::{Taking, Wish};
-use ill_der::encode;
-use ill_saved::{Action, Desk, DeskFault, Role, Side, Store};
-use ill_values::{Apdu, Body, Day, Item, Number, TxnId};
+use anyhow::{Context, Result};
+use ill_core::Wish;
+use ill_saved::{Action, Desk, DeskFault, Role, Store};
+use ill_values::{Item, TxnId};
 use sqlite::{Connection, File, FileStore};
-use std::alloc::Global;
 use std::fs;
 use store::SqliteStore;
 
@@ -29,7 +27,7 @@ fn main(rt: HostRuntime) -> Result<()> {
     Ok(fs::remove_file(&rt, LOG_PATH)?)
 }
 
-/// Asks for a book, like the first run of a program, and takes the answer, like the second.
+/// Asks for a book, like the first run of a program, and looks at the loan, like the second.
 fn lend(rt: &HostRuntime) -> Result<()> {
     let loan = TxnId::new(rt.alloc(), b"North-2025", b"17")?;
     begin(rt, &loan)?;
@@ -44,12 +42,12 @@ fn begin(rt: &HostRuntime, loan: &TxnId) -> Result<()> {
     asked
 }
 
-/// Opens the desk again, and takes the answer.
+/// Opens the desk again, and looks at the loan.
 fn go_on(rt: &HostRuntime, loan: &TxnId) -> Result<()> {
-    let mut desk = Desk::start(rt.alloc(), open(rt)?).map_err(DeskFault::from)?;
-    let taken = take(rt, &mut desk, loan);
+    let desk = Desk::start(rt.alloc(), open(rt)?).map_err(DeskFault::from)?;
+    let shown = show(rt, &desk, loan);
     close(desk)?;
-    taken
+    shown
 }
 
 /// Opens the SQLite file, or makes it, and returns the store in it.
@@ -62,56 +60,17 @@ fn close(desk: SqliteDesk) -> Result<()> {
     Ok(desk.close().into_connection().close()?)
 }
 
-/// Asks for the book. The desk gives the message only after the save.
+/// Asks for the book, and saves the desk.
 fn ask<S: Store>(rt: &HostRuntime, desk: &mut Desk<S>, loan: &TxnId) -> Result<()> {
     let item = Item::new(rt.alloc(), b"A History of Maps")?;
     let request = Action::Wish(Wish::Request { expiry: None, item });
     desk.act(rt.alloc(), loan, &request)?;
-    let number = last_number(side_of(desk, loan)?)?;
-    if let Err(fault) = desk.message(rt.alloc(), loan, number) {
-        println!(rt; "message {} before the save: {fault}", number.get())?;
-    }
-    desk.save(rt.alloc())?;
-    let bytes = desk.message(rt.alloc(), loan, number)?.len();
-    println!(rt; "message {} after it: {bytes} bytes to send", number.get())?;
-    show(rt, desk, loan)
+    Ok(desk.save(rt.alloc())?)
 }
 
-/// Takes the answer, and saves the change. A repeat changes nothing, and a person should see a conflict.
-fn take<S: Store>(rt: &HostRuntime, desk: &mut Desk<S>, loan: &TxnId) -> Result<()> {
-    let answer = shipped(rt.alloc(), loan)?;
-    if let Taking::Conflict(state) = desk.take_bytes(rt.alloc(), &answer)? {
-        bail!("the message has no place in the state {state}");
-    }
-    desk.save(rt.alloc())?;
-    show(rt, desk, loan)
-}
-
-/// Returns the answer of the other library, as mail would bring it. The book is shipped, and due on 15 March.
-fn shipped(alloc: Global, loan: &TxnId) -> Result<Vec<u8>> {
-    let due = Day::new(2025, 3, 15)?;
-    let number = Number::new(1).context("no number")?;
-    let txn = loan.copy(alloc)?;
-    let body = Body::Shipped { due };
-    Ok(encode(alloc, &Apdu { txn, number, body })?)
-}
-
-/// Returns the side of `loan`.
-fn side_of<'a, S: Store>(desk: &'a Desk<S>, loan: &TxnId) -> Result<&'a Side> {
-    desk.sides().get(loan).context("the desk has no such loan")
-}
-
-/// Returns the number of the last issued message.
-fn last_number(side: &Side) -> Result<Number> {
-    Number::new(side.issued_count()).context("no message was issued")
-}
-
-/// Prints the state of `loan`, and the due date of the book.
+/// Prints the state of `loan`.
 fn show<S: Store>(rt: &HostRuntime, desk: &Desk<S>, loan: &TxnId) -> Result<()> {
-    let side = side_of(desk, loan)?;
-    match side.due() {
-        Some(due) => println!(rt; "{}, due {due}", side.state())?,
-        None => println!(rt; "{}", side.state())?,
-    }
+    let side = desk.sides().get(loan).context("the desk has no such loan")?;
+    println!(rt; "{} {}", loan.transaction_str(), side.state())?;
     Ok(())
 }

@@ -28,6 +28,24 @@ pub struct Bench {
 /// letter of the answer. The second text is the letter of the answer to a second copy of a taken message.
 type Cell = (&'static str, &'static str);
 
+/// The fields of a row.
+#[derive(Clone, Copy)]
+struct Row<'a> {
+    /// The words of the parts of the side. Three dots stand for the side of the row before.
+    past: &'a str,
+    /// The event that happens to the side.
+    event: &'a Event,
+    /// The words of the parts that the event changes.
+    effect: &'a str,
+}
+
+impl Row<'_> {
+    /// Returns true if the event happens to a new side.
+    fn is_new(&self) -> bool {
+        self.past != "..."
+    }
+}
+
 /// The body is written out instead of derived, so that each owner of a bench calls it.
 impl Drop for Bench {
     fn drop(self) {
@@ -78,8 +96,13 @@ impl Bench {
             return;
         }
         let event = Event::read(self.alloc, event.trim());
+        let row = Row {
+            past,
+            event: &event,
+            effect,
+        };
         let columns = mem::replace(&mut self.columns, Vec::new(self.alloc));
-        self.push_cells(page, &columns, past, &event, effect);
+        self.push_cells(page, &columns, &row);
         self.columns = columns;
     }
 
@@ -94,16 +117,9 @@ impl Bench {
     }
 
     /// Adds the cell of each column, and the bar that ends the answer.
-    fn push_cells(
-        &mut self,
-        page: &mut Page,
-        columns: &[State],
-        past: &str,
-        event: &Event,
-        effect: &str,
-    ) {
+    fn push_cells(&mut self, page: &mut Page, columns: &[State], row: &Row<'_>) {
         for state in columns {
-            let (letters, second) = self.cell(*state, past, event, effect);
+            let (letters, second) = self.cell(*state, row);
             page.text(" ");
             page.text_to(2, letters);
             page.text_to(1, second);
@@ -111,18 +127,16 @@ impl Bench {
         page.text("|");
     }
 
-    /// Returns the outcome of the event in `state`. If `past` is three dots, the event happens to the side of the row
-    /// before.
-    fn cell(&mut self, state: State, past: &str, event: &Event, effect: &str) -> Cell {
-        let is_new = past != "...";
-        if is_new {
-            self.record = Record::of(self.alloc, self.role, state, past);
-            self.side = Side::of(self.alloc, self.role, state, past);
+    /// Returns the outcome of a row in `state`.
+    fn cell(&mut self, state: State, row: &Row<'_>) -> Cell {
+        if row.is_new() {
+            self.record = Record::of(self.alloc, self.role, state, row.past);
+            self.side = Side::of(self.alloc, self.role, state, row.past);
         }
         match &mut self.side {
-            Some(side) => happen(self.alloc, side, &mut self.record, event, effect, is_new),
-            None if self.record.is_readable => (event.absent(), ""),
-            None => (event.absent(), "!"),
+            Some(side) => happen(self.alloc, side, &mut self.record, row),
+            None if self.record.is_readable => (row.event.absent(), ""),
+            None => (row.event.absent(), "!"),
         }
     }
 }
@@ -159,23 +173,16 @@ fn without_answer(line: &str) -> &str {
     }
 }
 
-/// Performs the event on `side`, and brings `record` up to date. If `is_twice`, a message that is taken is delivered a
-/// second time.
-fn happen(
-    alloc: Global,
-    side: &mut Side,
-    record: &mut Record,
-    event: &Event,
-    effect: &str,
-    is_twice: bool,
-) -> Cell {
-    let (mut letters, mut second) = (answer(alloc, side, record, event), "");
+/// Performs the event of a row on `side`, and brings `record` up to date. A new side gets a taken message a second
+/// time.
+fn happen(alloc: Global, side: &mut Side, record: &mut Record, row: &Row<'_>) -> Cell {
+    let (mut letters, mut second) = (answer(alloc, side, record, row.event), "");
     if letters == "T" {
-        record.add(alloc, effect);
+        record.add(alloc, row.effect);
         record.readings.state = side.state();
         letters = letters_of(side.state());
-        if is_twice && matches!(event, Event::Delivery(_)) {
-            second = answer(alloc, side, record, event);
+        if row.is_new() && matches!(row.event, Event::Delivery(_)) {
+            second = answer(alloc, side, record, row.event);
         }
     }
     if !side.shows(alloc, record) {

@@ -30,6 +30,17 @@ pub enum DeskCall<'a> {
     Message(&'a TxnId, Number),
 }
 
+/// A call of a desk whose answer is written.
+#[derive(Clone, Copy)]
+pub struct WrittenCall<'a> {
+    /// The call that is made.
+    pub call: DeskCall<'a>,
+    /// The answer shows the side of this transaction, if there is one.
+    pub txn: Option<&'a TxnId>,
+    /// The word that is the answer if the call has no other.
+    pub word: &'a str,
+}
+
 /// The answer of a call that did not fail.
 #[derive(Drop)]
 pub enum Answer {
@@ -104,20 +115,18 @@ pub fn is_memory(answer: &Result<Answer, DeskFault>) -> bool {
     matches!(answer, Err(DeskFault::OutOfMemory))
 }
 
-/// Makes a call, and writes its answer, or `word` if it has no other. Returns true if the call succeeded.
+/// Makes a call, and writes its answer. Returns true if the call succeeded.
 pub fn perform<H: DeskKind, S: Store>(
     alloc: Global,
     line: &mut Line,
     desk: &mut AnyDesk<H, S>,
-    call: &DeskCall<'_>,
-    txn: Option<&TxnId>,
-    word: &str,
+    written: &WrittenCall<'_>,
 ) -> bool {
-    let before = DeskView::of(alloc, desk, txn);
-    let answer = answer_again(alloc, desk, call, &before);
+    let before = DeskView::of(alloc, desk, written.txn);
+    let answer = answer_again(alloc, desk, &written.call, &before);
     let is_done = answer.is_ok();
-    let after = DeskView::of(alloc, desk, txn);
-    write_answer(line, word, answer, &before, &after);
+    let after = DeskView::of(alloc, desk, written.txn);
+    write_answer(line, written.word, answer, &before, &after);
     is_done
 }
 
@@ -203,8 +212,12 @@ pub fn act<H: DeskKind, S: Store>(
 ) -> Option<()> {
     let (txn, words) = txn_in(alloc, desk, words)?;
     let action = action(alloc, words)?;
-    let call = DeskCall::Act(&txn, &action);
-    perform(alloc, line, desk, &call, Some(&txn), "done");
+    let written = WrittenCall {
+        call: DeskCall::Act(&txn, &action),
+        txn: Some(&txn),
+        word: "done",
+    };
+    perform(alloc, line, desk, &written);
     Some(())
 }
 
@@ -236,7 +249,12 @@ pub fn restart<H: DeskKind, S: Store>(
     desk: &mut AnyDesk<H, S>,
     word: &str,
 ) -> bool {
-    perform(alloc, line, desk, &DeskCall::Restart, None, word)
+    let written = WrittenCall {
+        call: DeskCall::Restart,
+        txn: None,
+        word,
+    };
+    perform(alloc, line, desk, &written)
 }
 
 /// Performs `take BYTES`: the desk takes a message in bytes.
@@ -247,8 +265,12 @@ fn take<H: DeskKind, S: Store>(
     bytes: &[u8],
 ) {
     let first = decode(alloc, bytes).ok();
-    let txn = first.as_ref().map(|(apdu, _)| &apdu.txn);
-    perform(alloc, line, desk, &DeskCall::TakeBytes(bytes), txn, "");
+    let written = WrittenCall {
+        call: DeskCall::TakeBytes(bytes),
+        txn: first.as_ref().map(|(apdu, _)| &apdu.txn),
+        word: "",
+    };
+    perform(alloc, line, desk, &written);
 }
 
 /// Performs `hand BYTES`: a message is read from the bytes, and the desk takes it.
@@ -259,8 +281,12 @@ fn hand<H: DeskKind, S: Store>(
     bytes: &[u8],
 ) -> Option<()> {
     let (apdu, _) = decode(alloc, bytes).ok()?;
-    let call = DeskCall::Take(&apdu);
-    perform(alloc, line, desk, &call, Some(&apdu.txn), "");
+    let written = WrittenCall {
+        call: DeskCall::Take(&apdu),
+        txn: Some(&apdu.txn),
+        word: "",
+    };
+    perform(alloc, line, desk, &written);
     Some(())
 }
 
@@ -274,8 +300,12 @@ fn message<H: DeskKind, S: Store>(
 ) -> Option<()> {
     let (txn, words) = txn_in(alloc, desk, words)?;
     let number = Number::new(words.parse::<u8>().ok()?)?;
-    let call = DeskCall::Message(&txn, number);
-    perform(alloc, line, desk, &call, Some(&txn), "");
+    let written = WrittenCall {
+        call: DeskCall::Message(&txn, number),
+        txn: Some(&txn),
+        word: "",
+    };
+    perform(alloc, line, desk, &written);
     Some(())
 }
 

@@ -35,6 +35,17 @@ pub struct Folder<'a> {
     store: Option<FileStore<'a, HostRuntime>>,
 }
 
+/// A call on a file.
+#[derive(Clone, Copy)]
+struct FileCall<'a> {
+    /// The word that names the call.
+    word: &'a str,
+    /// The path of the file.
+    path: &'a str,
+    /// The words after the name of the file.
+    words: &'a str,
+}
+
 impl<'a> Folder<'a> {
     /// Returns the folder at `path`, without a store.
     pub fn new(rt: &'a HostRuntime, alloc: Global, path: &'a str) -> Folder<'a> {
@@ -60,55 +71,46 @@ impl<'a> Folder<'a> {
         &mut self,
         line: &mut Line,
         names: &Names,
-        call: &str,
+        word: &str,
         words: &str,
     ) -> Option<()> {
         let (name, words) = words.split_once(' ').unwrap_or((words, ""));
         let path = self.path(name)?;
-        self.call_at(line, names, call, path.as_str(), words)
+        let call = FileCall {
+            word,
+            path: path.as_str(),
+            words,
+        };
+        self.call_at(line, names, &call)
     }
 
-    /// Performs a call on the file at `path`.
-    fn call_at(
-        &mut self,
-        line: &mut Line,
-        names: &Names,
-        call: &str,
-        path: &str,
-        words: &str,
-    ) -> Option<()> {
-        match call {
-            "at" => self.lay(line, path, words),
-            "failing" => self.failing(line, names, path, words),
-            "desk" => self.desk::<OneSide>(line, path),
-            "desk-many" => self.desk::<ManySides>(line, path),
-            "making" => self.making(line, names, path, words),
-            "swapped" => self.swapped(line, path, words),
-            "owned" => self.owned(line, names, path, words),
-            "damaged" => self.damaged::<OneSide>(line, names, path, words),
-            "damaged-many" => self.damaged::<ManySides>(line, names, path, words),
-            "longest" => longest::write(self.rt, self.alloc, line, path),
-            _ => self.call_system(line, names, call, path, words),
+    /// Performs a call on a file.
+    fn call_at(&mut self, line: &mut Line, names: &Names, call: &FileCall<'_>) -> Option<()> {
+        match call.word {
+            "at" => self.lay(line, call.path, call.words),
+            "failing" => self.failing(line, names, call),
+            "desk" => self.desk::<OneSide>(line, call.path),
+            "desk-many" => self.desk::<ManySides>(line, call.path),
+            "making" => self.making(line, names, call),
+            "swapped" => self.swapped(line, call.path, call.words),
+            "owned" => self.owned(line, names, call),
+            "damaged" => self.damaged::<OneSide>(line, names, call),
+            "damaged-many" => self.damaged::<ManySides>(line, names, call),
+            "longest" => longest::write(self.rt, self.alloc, line, call.path),
+            _ => self.call_system(line, names, call),
         }
     }
 
     /// Performs a call of the system.
-    fn call_system(
-        &self,
-        line: &mut Line,
-        names: &Names,
-        call: &str,
-        path: &str,
-        words: &str,
-    ) -> Option<()> {
-        match call {
-            "put" => self.put(line, names, path, words),
-            "folder" => write_done(line, "made", fs::create_dir(self.rt, path)),
-            "link" => write_done(line, "linked", self.rt.symlink(words, path)),
-            "shows" => self.shows(line, path),
-            "lock" => self.lock(line, path),
-            "mode" => self.mode(line, path),
-            "change" => self.change_mode(line, path, words),
+    fn call_system(&self, line: &mut Line, names: &Names, call: &FileCall<'_>) -> Option<()> {
+        match call.word {
+            "put" => self.put(line, names, call),
+            "folder" => write_done(line, "made", fs::create_dir(self.rt, call.path)),
+            "link" => write_done(line, "linked", self.rt.symlink(call.words, call.path)),
+            "shows" => self.shows(line, call.path),
+            "lock" => self.lock(line, call.path),
+            "mode" => self.mode(line, call.path),
+            "change" => self.change_mode(line, call.path, call.words),
             _ => None,
         }
     }
@@ -159,12 +161,16 @@ impl<'a> Folder<'a> {
 
     /// Performs `failing NAME COUNT FAULT load` or `failing NAME COUNT FAULT save BYTES`. The call has a new store,
     /// over files of which one call fails with this fault, after COUNT others.
-    fn failing(&self, line: &mut Line, names: &Names, path: &str, words: &str) -> Option<()> {
-        let (count, words) = words.split_once(' ')?;
+    fn failing(&self, line: &mut Line, names: &Names, call: &FileCall<'_>) -> Option<()> {
+        let (count, words) = call.words.split_once(' ')?;
         let (fault, words) = words.split_once(' ')?;
-        let (call, bytes) = words.split_once(' ').unwrap_or((words, ""));
+        let (word, bytes) = words.split_once(' ').unwrap_or((words, ""));
         let files = self.failing_files(count, fault)?;
-        self.call_failing(line, &files, path, call, &names.bytes(bytes, 0)?)
+        match word {
+            "load" => self.load_over(line, &files, call.path),
+            "save" => self.save_over(line, &files, call.path, &names.bytes(bytes, 0)?),
+            _ => None,
+        }
     }
 
     /// Returns files of which one call fails, by the words for its count and its fault.
@@ -173,17 +179,24 @@ impl<'a> Folder<'a> {
         Failing::after(self.rt, self.alloc, count, fault).ok()
     }
 
-    /// Performs `load`, or `save` of `bytes`, on a store over these files.
-    fn call_failing(
+    /// Loads from a new store over `files`, and writes the answer.
+    fn load_over(&self, line: &mut Line, files: &Failing<'a>, path: &str) -> Option<()> {
+        let mut store = FileStore::at(files, self.alloc, path, 100).ok()?;
+        write_loaded(line, load(&mut store, self.alloc));
+        Some(())
+    }
+
+    /// Saves `bytes` in a new store over `files`, and writes the answer.
+    fn save_over(
         &self,
         line: &mut Line,
         files: &Failing<'a>,
         path: &str,
-        call: &str,
         bytes: &[u8],
     ) -> Option<()> {
         let mut store = FileStore::at(files, self.alloc, path, 100).ok()?;
-        call_store(self.alloc, line, &mut store, call, bytes)
+        write_saved(line, save(&mut store, self.alloc, bytes));
+        Some(())
     }
 
     /// Performs `desk NAME`: a requester asks and is saved in the file, and a new desk starts from its record. In
@@ -193,9 +206,9 @@ impl<'a> Folder<'a> {
     }
 
     /// Performs `put NAME BYTES`: writes a file with these bytes.
-    fn put(&self, line: &mut Line, names: &Names, path: &str, words: &str) -> Option<()> {
-        let bytes = names.bytes(words, 0)?;
-        write_done(line, "put", fs::write(self.rt, path, bytes.as_slice()))
+    fn put(&self, line: &mut Line, names: &Names, call: &FileCall<'_>) -> Option<()> {
+        let bytes = names.bytes(call.words, 0)?;
+        write_done(line, "put", fs::write(self.rt, call.path, bytes.as_slice()))
     }
 
     /// Performs `shows NAME`: tells what the path names, without following a link.
@@ -233,9 +246,9 @@ impl<'a> Folder<'a> {
     }
 
     /// Performs `making NAME BYTES`: saves, and writes the permissions of the new file at its making.
-    fn making(&self, line: &mut Line, names: &Names, path: &str, words: &str) -> Option<()> {
+    fn making(&self, line: &mut Line, names: &Names, call: &FileCall<'_>) -> Option<()> {
         let files = Failing::after(self.rt, self.alloc, u32::MAX, ErrorKind::Other).ok()?;
-        self.call_failing(line, &files, path, "save", &names.bytes(words, 0)?)?;
+        self.save_over(line, &files, call.path, &names.bytes(call.words, 0)?)?;
         line.text(", made ");
         write_octal(self.alloc, line, files.made())
     }
@@ -243,19 +256,15 @@ impl<'a> Folder<'a> {
     /// Performs `swapped NAME TARGET`: loads a record that becomes a link to TARGET right after the lookup.
     fn swapped(&self, line: &mut Line, path: &str, target: &str) -> Option<()> {
         let files = Failing::deceiving(self.rt, self.alloc, Deceit::Swapped(target)).ok()?;
-        let mut store = FileStore::at(&files, self.alloc, path, 100).ok()?;
-        write_loaded(line, load(&mut store, self.alloc));
-        Some(())
+        self.load_over(line, &files, path)
     }
 
     /// Performs `owned NAME OTHER BYTES`: saves over a record whose lookup tells of the file OTHER. Then writes the
     /// owner to whom the new file was given.
-    fn owned(&self, line: &mut Line, names: &Names, path: &str, words: &str) -> Option<()> {
-        let (other, bytes) = words.split_once(' ')?;
-        let bytes = names.bytes(bytes, 0)?;
+    fn owned(&self, line: &mut Line, names: &Names, call: &FileCall<'_>) -> Option<()> {
+        let (other, bytes) = call.words.split_once(' ')?;
         let files = Failing::deceiving(self.rt, self.alloc, Deceit::TellsOf(other)).ok()?;
-        let mut store = FileStore::at(&files, self.alloc, path, 100).ok()?;
-        write_saved(line, save(&mut store, self.alloc, &bytes));
+        self.save_over(line, &files, call.path, &names.bytes(bytes, 0)?)?;
         line.text(", given to ");
         write_owner(line, files.given());
         Some(())
@@ -267,13 +276,12 @@ impl<'a> Folder<'a> {
         &self,
         line: &mut Line,
         names: &Names,
-        path: &str,
-        words: &str,
+        call: &FileCall<'_>,
     ) -> Option<()> {
-        let (limit, words) = words.split_once(' ').unwrap_or((words, ""));
+        let (limit, words) = call.words.split_once(' ').unwrap_or((call.words, ""));
         let limit = limit.parse::<u32>().ok()?;
         let damage = damage_of(names, words)?;
-        Restarts::new(self.rt, self.alloc, path, limit).write_damaged::<H>(line, &damage)
+        Restarts::new(self.rt, self.alloc, call.path, limit).write_damaged::<H>(line, &damage)
     }
 }
 
@@ -338,22 +346,6 @@ fn save_quietly(
     let saved = save(store, alloc, bytes);
     marks::end_quiet(alloc);
     saved
-}
-
-/// Performs `load`, or `save` of `bytes`, and writes the answer.
-fn call_store<R: Files>(
-    alloc: Global,
-    line: &mut Line,
-    store: &mut FileStore<'_, R>,
-    call: &str,
-    bytes: &[u8],
-) -> Option<()> {
-    match call {
-        "load" => write_loaded(line, load(store, alloc)),
-        "save" => write_saved(line, save(store, alloc, bytes)),
-        _ => return None,
-    }
-    Some(())
 }
 
 /// Loads. The contract proves that a failure only raises the count of failures.

@@ -4,7 +4,7 @@ use crate::actions::action;
 use crate::beginnings::MemoryDesk;
 use crate::desk_kind::DeskKind;
 use crate::desk_view::DeskView;
-use crate::desks::{DeskCall, answer_of, is_memory, perform, write_answer};
+use crate::desks::{DeskCall, WrittenCall, answer_of, is_memory, perform, write_answer};
 use crate::held::role_of;
 use crate::line::Line;
 use crate::tries::TRIES;
@@ -66,14 +66,12 @@ fn save<H: DeskKind>(
         &DeskView::of(alloc, desk, Some(txn)),
     );
     line.text(", ");
-    perform(
-        alloc,
-        line,
-        desk,
-        &DeskCall::Restart,
-        Some(txn),
-        "restarted",
-    );
+    let written = WrittenCall {
+        call: DeskCall::Restart,
+        txn: Some(txn),
+        word: "restarted",
+    };
+    perform(alloc, line, desk, &written);
     Some(false)
 }
 

@@ -13,13 +13,15 @@ use ill_values::TxnId;
 use ill_world::words::who;
 use std::alloc::Global;
 
+/// The new memory, or the fault and the store that was handed back.
+type Begun = Result<Memory, (ToolFault, MemoryStore)>;
+
 /// Performs `ROLE STORE`: begins a side or a desk of this role, and prints the answer. Then prints the state of the new
 /// sides, or the landed bytes of the store that was handed back. STORE is the plan of a new store: `works`, `fails-old`
 /// or `fails-new`. Or it is `again`, which takes the store of the old memory.
 pub fn begin(
     alloc: Global,
     page: &mut Page,
-    names: &Names,
     memory: &mut Option<Memory>,
     beginning: Beginning,
     call: &mut Call<'_>,
@@ -28,18 +30,17 @@ pub fn begin(
         return None;
     };
     let role = who(role.text.as_bytes())?;
-    let txn = TxnId::new(alloc, b"G1", b"T1").ok()?;
     let store = store_of(alloc, memory, store)?;
-    match begin_over(alloc, store, beginning, role, txn, &mut call.output) {
+    match begin_over(alloc, store, beginning, role, &mut call.output) {
         Ok(begun) => {
-            call.tell_answer(page, names, &Ok::<(), ToolFault>(()));
+            call.tell_answer(page, &Ok::<(), ToolFault>(()));
             begun.tell_begun(page);
             drop(memory.replace(begun));
             Some(())
         }
         Err((fault, mut store)) => {
-            call.tell_answer(page, names, &Err::<(), ToolFault>(fault));
-            tell_landed(alloc, page, names, &mut store)
+            call.tell_answer(page, &Err::<(), ToolFault>(fault));
+            tell_landed(alloc, page, call.names, &mut store)
         }
     }
 }
@@ -69,21 +70,25 @@ fn begin_over(
     store: MemoryStore,
     beginning: Beginning,
     role: Role,
-    txn: TxnId,
     output: &mut TestWriter,
-) -> Result<Memory, (ToolFault, MemoryStore)> {
+) -> Begun {
     match beginning {
-        Beginning::Side => match run_new(alloc, store, role, txn, output) {
+        Beginning::Side => begin_side(alloc, store, role, output),
+        Beginning::Desk => match run_desk_new(alloc, store, role, output) {
+            Ok(desk) => Ok(Memory::Desk(desk)),
+            Err(refused) => Err(refused),
+        },
+    }
+}
+
+/// Returns the answer of the engine that begins the side of transaction G1, T1 over `store`.
+fn begin_side(alloc: Global, store: MemoryStore, role: Role, output: &mut TestWriter) -> Begun {
+    match TxnId::new(alloc, b"G1", b"T1") {
+        Ok(txn) => match run_new(alloc, store, role, txn, output) {
             Ok(desk) => Ok(Memory::Side(desk)),
             Err(refused) => Err(refused),
         },
-        Beginning::Desk => {
-            drop(txn);
-            match run_desk_new(alloc, store, role, output) {
-                Ok(desk) => Ok(Memory::Desk(desk)),
-                Err(refused) => Err(refused),
-            }
-        }
+        Err(_) => Err((ToolFault::OutOfMemory, store)),
     }
 }
 

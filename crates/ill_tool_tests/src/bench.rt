@@ -5,7 +5,7 @@ use crate::engines;
 use crate::engines::Engine;
 use crate::folder::{FileCall, Folder};
 use crate::memory::{Beginning, MemoryCall};
-use crate::names::Names;
+use crate::names::{Names, Phrase};
 use crate::past::{LineCall, Past};
 use crate::texts::tell_texts;
 use crate::words::Word;
@@ -98,11 +98,11 @@ impl<'a, R: LockFiles> Bench<'a, R> {
     }
 
     /// Performs a call that has streams.
-    fn call(&mut self, page: &mut Page, names: &Names, kind: Kind, words: &[Word]) -> Option<()> {
-        let mut call = Call::of(self.alloc, names, words)?;
+    fn call(&mut self, page: &mut Page, kind: Kind, phrase: Phrase<'_>) -> Option<()> {
+        let mut call = Call::of(self.alloc, phrase)?;
         match kind {
-            Kind::Ill => self.folder.command(page, names, &mut call),
-            Kind::Watched => self.folder.watched_command(page, names, &mut call),
+            Kind::Ill => self.folder.command(page, &mut call),
+            Kind::Watched => self.folder.watched_command(page, &mut call),
             _ => None,
         }
     }
@@ -116,15 +116,19 @@ impl<'a, R: LockFiles> Performs for Bench<'a, R> {
 
     fn perform(&mut self, page: &mut Page, names: &Names, words: &[Word]) -> Option<()> {
         let (first, others) = words.split_first()?;
+        let phrase = Phrase {
+            words: others,
+            names,
+        };
         match named(&KINDS, first.text.as_str())? {
-            Kind::File(kind) => self.folder.perform(page, names, kind, others),
-            Kind::Engine(engine) => engines::perform(self.alloc, page, names, engine, others),
-            Kind::Line(kind) => self.past.perform(page, names, kind, others),
+            Kind::File(kind) => self.folder.perform(page, kind, phrase),
+            Kind::Engine(engine) => engines::perform(self.alloc, page, engine, phrase),
+            Kind::Line(kind) => self.past.perform(page, kind, phrase),
             Kind::Texts => {
                 tell_texts(page);
                 Some(())
             }
-            kind => self.call(page, names, kind, others),
+            kind => self.call(page, kind, phrase),
         }
     }
 

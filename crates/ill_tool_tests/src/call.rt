@@ -2,7 +2,7 @@
 
 use crate::letters::Letters;
 use crate::memory::MemoryCall;
-use crate::names::Names;
+use crate::names::{Names, Phrase};
 use crate::streams::{bytes_of, reader_of, writer_of};
 use crate::telling::{Telling, begin, tell_reader, tell_writer};
 use crate::words::{Word, cut};
@@ -21,6 +21,8 @@ const ROOM: usize = 65_536;
 pub struct Call<'a> {
     /// The words of the call.
     pub words: &'a [Word],
+    /// The names that the words use.
+    pub names: &'a Names,
     /// The reader of the call.
     pub source: TestReader,
     /// The writer for the output.
@@ -103,14 +105,15 @@ impl<'a> Parts<'a> {
 
 impl<'a> Call<'a> {
     /// Returns the call that `WORDS [< READER] [> WRITER] [2> WRITER]` spells.
-    pub fn of(alloc: Global, names: &Names, words: &'a [Word]) -> Option<Call<'a>> {
-        let parts = Parts::of(words);
-        let source = reader_of(alloc, names, parts.input.unwrap_or(&[]));
-        let output = writer_of(alloc, names, parts.output);
-        let errors = writer_of(alloc, names, parts.errors);
+    pub fn of(alloc: Global, phrase: Phrase<'a>) -> Option<Call<'a>> {
+        let parts = Parts::of(phrase.words);
+        let source = reader_of(alloc, phrase.names, parts.input.unwrap_or(&[]));
+        let output = writer_of(alloc, phrase.names, parts.output);
+        let errors = writer_of(alloc, phrase.names, parts.errors);
         match (source, output, errors) {
             (Some(source), Some((output, told)), Some((errors, told_errors))) => Some(Call {
                 words: parts.words,
+                names: phrase.names,
                 source,
                 output,
                 errors,
@@ -156,16 +159,10 @@ impl<'a> Call<'a> {
     }
 
     /// Reduces the call to the first `count` of its messages or mails.
-    pub fn shorten(
-        &mut self,
-        alloc: Global,
-        names: &Names,
-        on: MemoryCall,
-        count: usize,
-    ) -> Option<()> {
+    pub fn shorten(&mut self, alloc: Global, on: MemoryCall, count: usize) -> Option<()> {
         match on {
             MemoryCall::Take => {
-                let bytes = bytes_of(names, self.input)?;
+                let bytes = bytes_of(self.names, self.input)?;
                 let prefix = bytes.get(..ends(alloc, &bytes)?.get(count).copied()?)?;
                 let prefix = Vec::from_slice(alloc, prefix).ok()?;
                 self.source = TestReader::new(prefix, Failure::NEVER, Vec::new(alloc));
@@ -176,10 +173,10 @@ impl<'a> Call<'a> {
     }
 
     /// Prints the output, the faults and the rest of the input.
-    pub fn tell(&self, page: &mut Page, names: &Names) {
-        tell_writer(page, names, ">", &self.output, &self.tellings.0);
-        tell_writer(page, names, "!", &self.errors, &self.tellings.1);
-        tell_reader(page, names, &self.source);
+    pub fn tell(&self, page: &mut Page) {
+        tell_writer(page, self.names, ">", &self.output, &self.tellings.0);
+        tell_writer(page, self.names, "!", &self.errors, &self.tellings.1);
+        tell_reader(page, self.names, &self.source);
     }
 
     /// Returns true if the call has written nothing.
@@ -188,24 +185,24 @@ impl<'a> Call<'a> {
     }
 
     /// Prints the output, the faults, the rest of the input, and `answer`.
-    pub fn tell_answer<T: Debug>(&self, page: &mut Page, names: &Names, answer: &T) {
-        self.tell(page, names);
+    pub fn tell_answer<T: Debug>(&self, page: &mut Page, answer: &T) {
+        self.tell(page);
         tell_value(page, answer);
     }
 }
 
 /// Returns the bytes of the input in `WORDS < READER` that come before a failure.
-pub fn input_of(names: &Names, words: &[Word]) -> Option<Vec<u8>> {
-    bytes_of(names, Parts::of(words).input.unwrap_or(&[]))
+pub fn input_of(phrase: Phrase<'_>) -> Option<Vec<u8>> {
+    bytes_of(phrase.names, Parts::of(phrase.words).input.unwrap_or(&[]))
 }
 
 /// Returns the count of prefixes of the messages or mails of a call. Other calls have none.
-pub fn prefix_count(alloc: Global, names: &Names, on: MemoryCall, words: &[Word]) -> usize {
+pub fn prefix_count(alloc: Global, on: MemoryCall, phrase: Phrase<'_>) -> usize {
     match on {
-        MemoryCall::Take => input_of(names, words)
+        MemoryCall::Take => input_of(phrase)
             .and_then(|bytes| ends(alloc, &bytes))
             .map_or(0, |ends| ends.len()),
-        MemoryCall::Inbox => Parts::of(words).words.len(),
+        MemoryCall::Inbox => Parts::of(phrase.words).words.len(),
         _ => 0,
     }
 }

@@ -1,11 +1,10 @@
 //! Calls that have no memory: reading and writing APDUs, and the engines of the commands on streams.
 
 use crate::call::{Call, tell_value};
-use crate::names::Names;
+use crate::names::{Names, Phrase};
 use crate::past::is_short;
 use crate::telling::{tell_bytes, tell_line, tell_reader};
-use crate::tries::CallResult;
-use crate::words::Word;
+use crate::tries::{CallResult, tell_fault};
 use ill_der::{ReadFault, decode, encode, read_apdu, write_apdu};
 use ill_test_kit::Page;
 use ill_test_kit::marks::TRIES;
@@ -31,15 +30,9 @@ pub enum Engine {
 }
 
 /// Performs a call between marks, repeats it while a growth is refused, and prints the answer.
-pub fn perform(
-    alloc: Global,
-    page: &mut Page,
-    names: &Names,
-    engine: Engine,
-    words: &[Word],
-) -> Option<()> {
+pub fn perform(alloc: Global, page: &mut Page, engine: Engine, phrase: Phrase<'_>) -> Option<()> {
     let mut tries = Vec::new(alloc);
-    let done = try_often(alloc, page, names, engine, words, &mut tries);
+    let done = try_often(alloc, page, engine, phrase, &mut tries);
     drop(tries);
     done
 }
@@ -48,14 +41,13 @@ pub fn perform(
 fn try_often<'a>(
     alloc: Global,
     page: &mut Page,
-    names: &Names,
     engine: Engine,
-    words: &'a [Word],
+    phrase: Phrase<'a>,
     tries: &mut Vec<CallResult<'a>>,
 ) -> Option<()> {
     for _ in 0..TRIES {
-        let mut seen = CallResult::new(alloc, Call::of(alloc, names, words)?);
-        let done = perform_once(alloc, names, engine, words, &mut seen);
+        let mut seen = CallResult::new(alloc, Call::of(alloc, phrase)?);
+        let done = perform_once(alloc, engine, phrase, &mut seen);
         if !seen.call.was_refused {
             page.page(&seen.answer);
             tell_faults(page, tries, &seen);
@@ -70,15 +62,14 @@ fn try_often<'a>(
 /// Performs a call. Marks surround it if its input is short enough for many tries.
 fn perform_once(
     alloc: Global,
-    names: &Names,
     engine: Engine,
-    words: &[Word],
+    phrase: Phrase<'_>,
     seen: &mut CallResult<'_>,
 ) -> Option<()> {
-    if is_short(names, words) {
+    if is_short(phrase) {
         seen.call.mark(alloc)?;
     }
-    answer_of(alloc, &mut seen.answer, names, engine, &mut seen.call)
+    answer_of(alloc, &mut seen.answer, engine, &mut seen.call)
 }
 
 /// Prints each refused try with a wrong result. A try must write only whole lines and answer out of memory, or give the
@@ -91,7 +82,7 @@ fn tell_faults(page: &mut Page, tries: &[CallResult<'_>], last: &CallResult<'_>)
             seen.answer.bytes() == last.answer.bytes()
         };
         if !is_fine {
-            page.line("  = a refused try: its answer");
+            tell_fault(page, "its answer");
         }
     }
 }
@@ -103,43 +94,37 @@ fn is_prefix(prefix: &[u8], whole: &[u8]) -> bool {
 }
 
 /// Performs a call, and prints its answer.
-fn answer_of(
-    alloc: Global,
-    page: &mut Page,
-    names: &Names,
-    engine: Engine,
-    call: &mut Call<'_>,
-) -> Option<()> {
+fn answer_of(alloc: Global, page: &mut Page, engine: Engine, call: &mut Call<'_>) -> Option<()> {
     match engine {
         Engine::Show => {
             call.begin(alloc);
             let answer = run_show(alloc, &mut call.source, &mut call.output);
             let answer = call.end(alloc, answer);
-            call.tell_answer(page, names, &answer);
+            call.tell_answer(page, &answer);
             Some(())
         }
         Engine::Check => {
             call.begin(alloc);
             let answer = run_check(alloc, &mut call.source, &mut call.output);
             let answer = call.end(alloc, answer);
-            call.tell_answer(page, names, &answer);
+            call.tell_answer(page, &answer);
             Some(())
         }
-        Engine::Simulate => simulate(alloc, page, names, call),
+        Engine::Simulate => simulate(alloc, page, call),
         Engine::SimulateDesks => {
             call.begin(alloc);
             let answer = run_simulate_desks(alloc, &mut call.source, &mut call.output);
             let answer = call.end(alloc, answer);
-            call.tell_answer(page, names, &answer);
+            call.tell_answer(page, &answer);
             Some(())
         }
-        Engine::Read => read(alloc, page, names, call),
-        Engine::Write => write(alloc, page, names, call),
+        Engine::Read => read(alloc, page, call),
+        Engine::Write => write(alloc, page, call),
     }
 }
 
 /// Performs `simulate GROUP TRANSACTION`.
-fn simulate(alloc: Global, page: &mut Page, names: &Names, call: &mut Call<'_>) -> Option<()> {
+fn simulate(alloc: Global, page: &mut Page, call: &mut Call<'_>) -> Option<()> {
     let [group, transaction] = call.words else {
         return None;
     };
@@ -152,19 +137,19 @@ fn simulate(alloc: Global, page: &mut Page, names: &Names, call: &mut Call<'_>) 
         &mut call.output,
     );
     let answer = call.end(alloc, answer);
-    call.tell_answer(page, names, &answer);
+    call.tell_answer(page, &answer);
     Some(())
 }
 
 /// Performs `read TIMES`: reads one APDU after another, each in its own call.
-fn read(alloc: Global, page: &mut Page, names: &Names, call: &mut Call<'_>) -> Option<()> {
+fn read(alloc: Global, page: &mut Page, call: &mut Call<'_>) -> Option<()> {
     let times = call.words.first()?.text.parse::<u32>().ok()?;
     for _ in 0..times {
         call.source.forgive();
         let answer = read_apdu(alloc, &mut call.source);
-        tell_read(alloc, page, names, answer)?;
+        tell_read(alloc, page, call.names, answer)?;
     }
-    tell_reader(page, names, &call.source);
+    tell_reader(page, call.names, &call.source);
     Some(())
 }
 
@@ -184,10 +169,10 @@ fn tell_read(
 }
 
 /// Performs `write BYTES`: writes the APDU that the bytes encode.
-fn write(alloc: Global, page: &mut Page, names: &Names, call: &mut Call<'_>) -> Option<()> {
-    let bytes = names.bytes(call.words)?;
+fn write(alloc: Global, page: &mut Page, call: &mut Call<'_>) -> Option<()> {
+    let bytes = call.names.bytes(call.words)?;
     let (apdu, _) = decode(alloc, &bytes).ok()?;
     let answer = write_apdu(alloc, &mut call.output, &apdu);
-    call.tell_answer(page, names, &answer);
+    call.tell_answer(page, &answer);
     Some(())
 }

@@ -1,7 +1,7 @@
 //! Performs command lines on the files of a folder.
 
 use crate::call::{Call, tell_value};
-use crate::names::Names;
+use crate::names::{Names, Phrase};
 use crate::telling::{begin, tell_bytes, tell_compared, tell_line};
 use crate::watched::{Seen, Watched};
 use crate::words::Word;
@@ -67,19 +67,15 @@ impl<'a, R: LockFiles> Folder<'a, R> {
     }
 
     /// Performs a call on a file, and prints its answer.
-    pub fn perform(
-        &self,
-        page: &mut Page,
-        names: &Names,
-        kind: FileCall,
-        words: &[Word],
-    ) -> Option<()> {
-        let (name, others) = words.split_first()?;
+    pub fn perform(&self, page: &mut Page, kind: FileCall, phrase: Phrase<'_>) -> Option<()> {
+        let (name, others) = phrase.words.split_first()?;
         let path = self.path_of(name.text.as_str())?;
         let path = path.as_str();
         match kind {
-            FileCall::Put => fs::write(self.rt, path, names.bytes(others)?.as_slice()).ok(),
-            FileCall::Show => self.show(page, names, path, others),
+            FileCall::Put => {
+                fs::write(self.rt, path, phrase.names.bytes(others)?.as_slice()).ok()
+            }
+            FileCall::Show => self.show(page, phrase.names, path, others),
             FileCall::Folder => fs::create_dir(self.rt, path).ok(),
             FileCall::Remove => fs::remove_file(self.rt, path).ok(),
         }
@@ -98,11 +94,11 @@ impl<'a, R: LockFiles> Folder<'a, R> {
     }
 
     /// Performs a command line, and prints its output and its exit status.
-    pub fn command(&self, page: &mut Page, names: &Names, call: &mut Call<'_>) -> Option<()> {
+    pub fn command(&self, page: &mut Page, call: &mut Call<'_>) -> Option<()> {
         let line = self.command_line(call.words)?;
         let status = run(self.rt, self.alloc, &line, call)?;
         self.hide_path(call);
-        call.tell(page, names);
+        call.tell(page);
         if status != 0 || call.has_written_nothing() {
             tell_value(page, &status);
         }
@@ -111,12 +107,7 @@ impl<'a, R: LockFiles> Folder<'a, R> {
 
     /// Performs a command line on files that observe the record of its second word. The first word is the count of
     /// tries of the lock that fail. Prints the output, the exit status and the observations.
-    pub fn watched_command(
-        &self,
-        page: &mut Page,
-        names: &Names,
-        call: &mut Call<'_>,
-    ) -> Option<()> {
+    pub fn watched_command(&self, page: &mut Page, call: &mut Call<'_>) -> Option<()> {
         let (held, words) = call.words.split_first()?;
         let held = held.text.as_str().parse::<u32>().ok()?;
         let line = self.command_line(words)?;
@@ -125,7 +116,7 @@ impl<'a, R: LockFiles> Folder<'a, R> {
         let watched = Watched::new(self.rt, record, lock.as_str(), held);
         let status = run(&watched, self.alloc, &line, call)?;
         self.hide_path(call);
-        call.tell_answer(page, names, &status);
+        call.tell_answer(page, &status);
         tell_seen(page, &watched.seen());
         Some(())
     }

@@ -110,15 +110,14 @@ impl Memory {
         &mut self,
         alloc: Global,
         page: &mut Page,
-        names: &Names,
         kind: MemoryCall,
         call: &mut Call<'_>,
     ) -> Option<()> {
         match self {
-            Memory::Side(desk) => perform_on(alloc, page, names, desk, kind, call),
-            Memory::LimitedSide(desk) => perform_on(alloc, page, names, desk, kind, call),
-            Memory::Desk(desk) => perform_on(alloc, page, names, desk, kind, call),
-            Memory::LimitedDesk(desk) => perform_on(alloc, page, names, desk, kind, call),
+            Memory::Side(desk) => perform_on(alloc, page, desk, kind, call),
+            Memory::LimitedSide(desk) => perform_on(alloc, page, desk, kind, call),
+            Memory::Desk(desk) => perform_on(alloc, page, desk, kind, call),
+            Memory::LimitedDesk(desk) => perform_on(alloc, page, desk, kind, call),
         }
     }
 
@@ -202,13 +201,12 @@ fn limited(alloc: Global, beginning: Beginning, role: Role, saves: u32) -> Optio
 fn perform_on<K: Kept>(
     alloc: Global,
     page: &mut Page,
-    names: &Names,
     kept: &mut K,
     kind: MemoryCall,
     call: &mut Call<'_>,
 ) -> Option<()> {
     let before = kept.view(alloc)?;
-    answer(alloc, page, names, kept, kind, call)?;
+    answer(alloc, page, kept, kind, call)?;
     let after = kept.view(alloc)?;
     begin(page, if after.is(&before) { "stays" } else { "stands" });
     kept.tell(page);
@@ -219,7 +217,6 @@ fn perform_on<K: Kept>(
 fn answer<K: Kept>(
     alloc: Global,
     page: &mut Page,
-    names: &Names,
     kept: &mut K,
     kind: MemoryCall,
     call: &mut Call<'_>,
@@ -227,91 +224,89 @@ fn answer<K: Kept>(
     match kind {
         MemoryCall::Save => {
             let answer = kept.save(alloc, call);
-            call.tell_answer(page, names, &answer);
+            call.tell_answer(page, &answer);
         }
         MemoryCall::Restart => {
             let answer = kept.restart(alloc, call);
-            call.tell_answer(page, names, &answer);
+            call.tell_answer(page, &answer);
         }
         MemoryCall::Act => {
             let answer = kept.act(alloc, call)?;
-            call.tell_answer(page, names, &answer);
+            call.tell_answer(page, &answer);
         }
         MemoryCall::Take => {
             let answer = kept.take(alloc, call);
-            call.tell_answer(page, names, &answer);
+            call.tell_answer(page, &answer);
         }
-        MemoryCall::Inbox => {
-            let mails = mails_of(alloc, names, call.words)?;
-            let answer = kept.inbox(alloc, call, &mails)?;
-            call.tell_answer(page, names, &answer);
-        }
+        MemoryCall::Inbox => return inbox(alloc, page, kept, call),
         MemoryCall::Dates => {
             let answer = kept.dates(alloc, call)?;
-            call.tell_answer(page, names, &answer);
+            call.tell_answer(page, &answer);
         }
-        MemoryCall::Outbox => return outbox(alloc, page, names, kept, call),
-        MemoryCall::Stream => {
-            let asking = names.bytes(call.words)?;
-            let answer = kept.stream(alloc, call, &asking)?;
-            call.tell_answer(page, names, &answer);
-        }
-        MemoryCall::Copy => return copy(alloc, page, names, kept, call),
+        MemoryCall::Outbox => return outbox(alloc, page, kept, call),
+        MemoryCall::Stream => return stream(alloc, page, kept, call),
+        MemoryCall::Copy => return copy(alloc, page, kept, call),
         MemoryCall::Send => {
             let answer = kept.send(alloc, call)?;
-            call.tell_answer(page, names, &answer);
+            call.tell_answer(page, &answer);
         }
         MemoryCall::Status => {
             let answer = kept.status(alloc, call);
-            call.tell_answer(page, names, &answer);
+            call.tell_answer(page, &answer);
         }
         MemoryCall::Loan => {
             let answer = kept.loan(alloc, call)?;
-            call.tell_answer(page, names, &answer);
+            call.tell_answer(page, &answer);
         }
     }
     Some(())
 }
 
+/// Performs `MAILS`: takes these mails, and prints the answer.
+fn inbox<K: Kept>(alloc: Global, page: &mut Page, kept: &mut K, call: &mut Call<'_>) -> Option<()> {
+    let mails = mails_of(alloc, call.names, call.words)?;
+    let answer = kept.inbox(alloc, call, &mails)?;
+    call.tell_answer(page, &answer);
+    Some(())
+}
+
+/// Performs `ASKING`: writes all messages that are due to be sent, and prints the answer.
+fn stream<K: Kept>(alloc: Global, page: &mut Page, kept: &K, call: &mut Call<'_>) -> Option<()> {
+    let asking = call.names.bytes(call.words)?;
+    let answer = kept.stream(alloc, call, &asking)?;
+    call.tell_answer(page, &answer);
+    Some(())
+}
+
 /// Performs `[lasting N] ASKING`: sends all messages that are due to be sent, with room for N mails. Prints the mails,
 /// and then the answer.
-fn outbox<K: Kept>(
-    alloc: Global,
-    page: &mut Page,
-    names: &Names,
-    kept: &K,
-    call: &mut Call<'_>,
-) -> Option<()> {
+fn outbox<K: Kept>(alloc: Global, page: &mut Page, kept: &K, call: &mut Call<'_>) -> Option<()> {
     let (room, asking) = match call.words {
         [word, room, asking @ ..] if word.is("lasting") => {
             (room.text.parse::<usize>().ok()?, asking)
         }
         asking => (usize::MAX, asking),
     };
+    let asking = call.names.bytes(asking)?;
     call.letters = Letters::new(alloc, room);
-    let answer = kept.outbox(alloc, call, &names.bytes(asking)?)?;
-    call.letters.tell(page, names);
-    call.tell_answer(page, names, &answer);
+    let answer = kept.outbox(alloc, call, &asking)?;
+    call.letters.tell(page, call.names);
+    call.tell_answer(page, &answer);
     Some(())
 }
 
 /// Performs `PLAN [BYTES]`: copies all sides to a store with this plan, in which BYTES have landed. Prints the answer,
 /// and then the bytes that have landed there.
-fn copy<K: Kept>(
-    alloc: Global,
-    page: &mut Page,
-    names: &Names,
-    kept: &K,
-    call: &mut Call<'_>,
-) -> Option<()> {
+fn copy<K: Kept>(alloc: Global, page: &mut Page, kept: &K, call: &mut Call<'_>) -> Option<()> {
     let (plan, before) = call.words.split_first()?;
-    let mut store = store_with(alloc, names, plan, before)?;
+    let mut store = store_with(alloc, call.names, plan, before)?;
     let answer = kept.copy(alloc, call, &mut store)?;
-    call.tell_answer(page, names, &answer);
+    call.tell_answer(page, &answer);
     store.set_next(NextCall::Works); // A copy that is refused memory leaves the plan.
     let landed = store.load(alloc).ok()?.unwrap_or(Vec::new(alloc));
-    call.spoils_copy = call.says_memory && landed.as_slice() != names.bytes(before)?.as_slice();
-    tell_landed(alloc, page, names, &mut store)
+    call.spoils_copy = call.says_memory
+        && landed.as_slice() != call.names.bytes(before)?.as_slice();
+    tell_landed(alloc, page, call.names, &mut store)
 }
 
 /// Returns a store in which these bytes have landed, if there are any, and whose next call is planned.

@@ -18,6 +18,15 @@ pub struct Names {
     shared: Option<usize>,
 }
 
+/// Words, and the names that they use.
+#[derive(Clone, Copy)]
+pub struct Phrase<'a> {
+    /// The words.
+    pub words: &'a [Word],
+    /// The names that the words use.
+    pub names: &'a Names,
+}
+
 /// A name, and the bytes that it stands for.
 #[derive(Drop)]
 struct Name {

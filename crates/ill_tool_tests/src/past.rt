@@ -6,8 +6,8 @@
 use crate::beginning::begin;
 use crate::call::{Call, input_of, prefix_count};
 use crate::memory::{Beginning, Memory, MemoryCall};
-use crate::names::Names;
-use crate::tries::{CallResult, Extent, fault};
+use crate::names::{Names, Phrase};
+use crate::tries::{CallResult, Extent, fault, tell_fault};
 use crate::words::{Word, copied};
 use ill_test_kit::Page;
 use ill_test_kit::marks::TRIES;
@@ -70,36 +70,29 @@ impl Past {
     }
 
     /// Performs a line, and prints its answer.
-    pub fn perform(
-        &mut self,
-        page: &mut Page,
-        names: &Names,
-        kind: LineCall,
-        words: &[Word],
-    ) -> Option<()> {
-        let is_short = is_short(names, words);
+    pub fn perform(&mut self, page: &mut Page, kind: LineCall, phrase: Phrase<'_>) -> Option<()> {
+        let is_short = is_short(phrase);
         match kind {
             LineCall::On(on) if is_short && self.lines.is_some() => {
-                self.perform_marked(page, names, on, words)?;
+                self.perform_marked(page, on, phrase)?;
             }
-            _ => perform_line(self.alloc, page, names, &mut self.memory, kind, words)?,
+            _ => perform_line(self.alloc, page, &mut self.memory, kind, phrase)?,
         }
-        self.remember(kind, words, is_short)
+        self.remember(kind, phrase.words, is_short)
     }
 
     /// Performs a call between marks, and repeats it while a growth is refused. Then judges the refused tries.
     fn perform_marked(
         &mut self,
         page: &mut Page,
-        names: &Names,
         on: MemoryCall,
-        words: &[Word],
+        phrase: Phrase<'_>,
     ) -> Option<()> {
         let mut tries = Vec::new(self.alloc);
         let mut prefixes = Vec::new(self.alloc);
-        let mut done = self.try_often(page, names, on, words, &mut tries);
+        let mut done = self.try_often(page, on, phrase, &mut tries);
         if !tries.is_empty() {
-            done = done.and(self.push_prefixes(names, on, words, &mut prefixes));
+            done = done.and(self.push_prefixes(on, phrase, &mut prefixes));
             tell_faults(page, on, &tries, &prefixes);
         }
         drop(tries);
@@ -111,14 +104,13 @@ impl Past {
     fn try_often<'a>(
         &mut self,
         page: &mut Page,
-        names: &Names,
         on: MemoryCall,
-        words: &'a [Word],
+        phrase: Phrase<'a>,
         tries: &mut Vec<CallResult<'a>>,
     ) -> Option<()> {
         for _ in 0..TRIES {
             let memory = &mut self.memory;
-            let mut seen = CallResult::of(self.alloc, names, on, words, Extent::Marked, memory)?;
+            let mut seen = CallResult::of(self.alloc, on, phrase, Extent::Marked, memory)?;
             if !seen.call.was_refused {
                 page.page(&seen.answer);
                 drop(seen);
@@ -126,7 +118,7 @@ impl Past {
             }
             let looked = seen.look(self.alloc, memory);
             tries.push(seen).ok().and(looked)?;
-            again(self.alloc, names, self.lines.as_ref()?, memory)?;
+            again(self.alloc, phrase.names, self.lines.as_ref()?, memory)?;
         }
         None
     }
@@ -134,15 +126,14 @@ impl Past {
     /// Adds the results of no call, of the whole call, and of the call with each prefix of its messages.
     fn push_prefixes<'a>(
         &mut self,
-        names: &Names,
         on: MemoryCall,
-        words: &'a [Word],
+        phrase: Phrase<'a>,
         prefixes: &mut Vec<CallResult<'a>>,
     ) -> Option<()> {
-        self.push_extent(names, on, words, Extent::Nothing, prefixes)?;
-        self.push_extent(names, on, words, Extent::Whole, prefixes)?;
-        for count in 0..prefix_count(self.alloc, names, on, words) {
-            self.push_extent(names, on, words, Extent::First(count), prefixes)?;
+        self.push_extent(on, phrase, Extent::Nothing, prefixes)?;
+        self.push_extent(on, phrase, Extent::Whole, prefixes)?;
+        for count in 0..prefix_count(self.alloc, on, phrase) {
+            self.push_extent(on, phrase, Extent::First(count), prefixes)?;
         }
         Some(())
     }
@@ -150,15 +141,14 @@ impl Past {
     /// Adds the result of this extent of the call.
     fn push_extent<'a>(
         &mut self,
-        names: &Names,
         on: MemoryCall,
-        words: &'a [Word],
+        phrase: Phrase<'a>,
         extent: Extent,
         prefixes: &mut Vec<CallResult<'a>>,
     ) -> Option<()> {
         let memory = &mut self.ample;
-        again(self.alloc, names, self.lines.as_ref()?, memory)?;
-        let mut seen = CallResult::of(self.alloc, names, on, words, extent, memory)?;
+        again(self.alloc, phrase.names, self.lines.as_ref()?, memory)?;
+        let mut seen = CallResult::of(self.alloc, on, phrase, extent, memory)?;
         let looked = seen.look(self.alloc, memory);
         prefixes.push(seen).ok().and(looked)
     }
@@ -190,8 +180,7 @@ fn tell_faults(
 ) {
     for seen in tries {
         if let Some(words) = fault(on, seen, prefixes) {
-            page.text("  = a refused try: ");
-            page.line(words);
+            tell_fault(page, words);
         }
     }
 }
@@ -201,7 +190,11 @@ fn again(alloc: Global, names: &Names, lines: &[Line], memory: &mut Option<Memor
     drop(memory.take());
     let mut page = Page::new(alloc);
     for line in lines {
-        perform_line(alloc, &mut page, names, memory, line.kind, &line.words)?;
+        let phrase = Phrase {
+            words: &line.words,
+            names,
+        };
+        perform_line(alloc, &mut page, memory, line.kind, phrase)?;
     }
     Some(())
 }
@@ -210,22 +203,20 @@ fn again(alloc: Global, names: &Names, lines: &[Line], memory: &mut Option<Memor
 fn perform_line(
     alloc: Global,
     page: &mut Page,
-    names: &Names,
     memory: &mut Option<Memory>,
     kind: LineCall,
-    words: &[Word],
+    phrase: Phrase<'_>,
 ) -> Option<()> {
-    let mut call = Call::of(alloc, names, words)?;
-    let done = perform_on(alloc, page, names, memory, kind, &mut call);
+    let mut call = Call::of(alloc, phrase)?;
+    let done = perform_call(alloc, page, memory, kind, &mut call);
     drop(call);
     done
 }
 
 /// Performs a call on the memory, and prints its answer.
-fn perform_on(
+fn perform_call(
     alloc: Global,
     page: &mut Page,
-    names: &Names,
     memory: &mut Option<Memory>,
     kind: LineCall,
     call: &mut Call<'_>,
@@ -236,9 +227,9 @@ fn perform_on(
             drop(memory.replace(begun));
             Some(())
         }
-        LineCall::New(beginning) => begin(alloc, page, names, memory, beginning, call),
+        LineCall::New(beginning) => begin(alloc, page, memory, beginning, call),
         LineCall::Next => memory.as_mut()?.plan(call.words),
-        LineCall::On(on) => memory.as_mut()?.perform(alloc, page, names, on, call),
+        LineCall::On(on) => memory.as_mut()?.perform(alloc, page, on, call),
     }
 }
 
@@ -252,6 +243,6 @@ fn begins_anew(kind: LineCall, words: &[Word]) -> bool {
 }
 
 /// Returns true if the input of the call is short enough for many tries.
-pub fn is_short(names: &Names, words: &[Word]) -> bool {
-    input_of(names, words).is_some_and(|bytes| bytes.len() <= SHORT)
+pub fn is_short(phrase: Phrase<'_>) -> bool {
+    input_of(phrase).is_some_and(|bytes| bytes.len() <= SHORT)
 }

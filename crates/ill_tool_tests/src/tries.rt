@@ -6,9 +6,8 @@
 
 use crate::call::Call;
 use crate::memory::{Memory, MemoryCall};
-use crate::names::Names;
+use crate::names::Phrase;
 use crate::view::View;
-use crate::words::Word;
 use ill_test_kit::Page;
 use std::alloc::Global;
 
@@ -73,14 +72,13 @@ impl<'a> CallResult<'a> {
     /// Makes this extent of the call on the memory, and returns the result.
     pub fn of(
         alloc: Global,
-        names: &Names,
         on: MemoryCall,
-        words: &'a [Word],
+        phrase: Phrase<'a>,
         extent: Extent,
         memory: &mut Option<Memory>,
     ) -> Option<CallResult<'a>> {
-        let mut seen = CallResult::new(alloc, Call::of(alloc, names, words)?);
-        let made = seen.make(alloc, names, on, extent, memory);
+        let mut seen = CallResult::new(alloc, Call::of(alloc, phrase)?);
+        let made = seen.make(alloc, on, extent, memory);
         if made.is_none() {
             drop(seen);
             return None;
@@ -92,19 +90,18 @@ impl<'a> CallResult<'a> {
     fn make(
         &mut self,
         alloc: Global,
-        names: &Names,
         on: MemoryCall,
         extent: Extent,
         memory: &mut Option<Memory>,
     ) -> Option<()> {
         match extent {
             Extent::Nothing => return Some(()),
-            Extent::First(count) => self.call.shorten(alloc, names, on, count)?,
+            Extent::First(count) => self.call.shorten(alloc, on, count)?,
             Extent::Whole => {}
             Extent::Marked => self.call.mark(alloc)?,
         }
         let (answer, call) = (&mut self.answer, &mut self.call);
-        memory.as_mut()?.perform(alloc, answer, names, on, call)
+        memory.as_mut()?.perform(alloc, answer, on, call)
     }
 
     /// Views the live sides, and then the landed sides. The memory is restarted for that.
@@ -133,6 +130,12 @@ impl<'a> CallResult<'a> {
             && self.live.is(&other.live)
             && self.landed.is(&other.landed)
     }
+}
+
+/// Prints the words of the wrong part of a refused try.
+pub fn tell_fault(page: &mut Page, words: &str) {
+    page.text("  = a refused try: ");
+    page.line(words);
 }
 
 /// Returns the words of the first wrong part of a refused call, if there is one. The first two `prefixes` are the

@@ -3,7 +3,7 @@ use Rattle.std.proofs.Common.{arith, rules, ◌≡◌, ℕ, List, [], ◌∷◌,
 use Rattle.std.proofs.Common.{append_assoc, length-append}
 use Rattle.ill_saved.specs.Side.{IsPrefix}
 use Rattle.ill_world.specs.declared.fault.SimFault.TheVariants.{Write, OutOfMemory}
-use Rattle.ill_world.specs.Play.{Play, end_reading, reading_from, trace_from, Plays}
+use Rattle.ill_world.specs.Play.{Play, Progress, Streams, reading_on, trace_on, Plays}
 use Rattle.ill_world.specs.BadTraces.{Leaves, IsOfNoPrefix, goes_on, differs}
 
 -- Equal lists have equal first bytes.
@@ -32,21 +32,28 @@ no_events : {E : Type 0} (trace_of : List E → List ℕ) (events : List E) (wri
     → (prefix : List E) × IsPrefix prefix events × (written ≡ trace_of prefix) → ⊥
 no_events trace_of events written none (prefix, (more, is), shown) = none prefix more is shown
 
-module _ {W E C : Type 0} (play : Play W E C) (c : C) (w : W) (text left written : List ℕ) where
+module _ {W E C : Type 0} (play : Play W E C) (from : Progress W C) (text left written : List ℕ) where
+  -- Returns the streams before a simulation that reads `text`.
+  abbrev before : Streams
+  before = record { left = Some text; written = Some [] }
+
+  -- Returns the streams after a simulation that has left and written these bytes.
+  abbrev after : Streams
+  after = record { left = Some left; written = Some written }
+
   -- If the writer fails, the bytes written do not leave the trace.
-  pub none_leaves : Leaves written (trace_from play 1 w (reading_from play (end_reading play) c 1 text).events)
-      → Plays play c 1 w 0 (Some text) (Some left) (Some []) (Some written) (Err Write) → ⊥
+  pub none_leaves : Leaves written (trace_on play from (reading_on play from text).events)
+      → Plays play from before (Err Write) after → ⊥
   none_leaves leaves (read, trace, consumed, appended, answers) =
-      no_prefix written (trace_from play 1 w (reading_from play (end_reading play) c 1 text).events) leaves
-      (subst (λ t. IsPrefix written (trace_from play 1 w (reading_from play (end_reading play) c 1 t).events)) (sym consumed)
-      (subst (λ l. IsPrefix l (trace_from play 1 w (reading_from play (end_reading play) c 1 (read ++ left)).events))
-      (sym appended)
+      no_prefix written (trace_on play from (reading_on play from text).events) leaves
+      (subst (λ t. IsPrefix written (trace_on play from (reading_on play from t).events)) (sym consumed)
+      (subst (λ l. IsPrefix l (trace_on play from (reading_on play from (read ++ left)).events)) (sym appended)
       (answers left refl)))
 
   -- If memory runs out, the bytes written are the trace of a prefix of the events.
-  pub some_prefix : IsOfNoPrefix (trace_from play 1 w) (reading_from play (end_reading play) c 1 text).events written
-      → Plays play c 1 w 0 (Some text) (Some left) (Some []) (Some written) (Err OutOfMemory) → ⊥
+  pub some_prefix : IsOfNoPrefix (trace_on play from) (reading_on play from text).events written
+      → Plays play from before (Err OutOfMemory) after → ⊥
   some_prefix none (read, trace, consumed, appended, answers) =
-      no_events (trace_from play 1 w) (reading_from play (end_reading play) c 1 (read ++ left)).events trace
-      (λ prefix more is shown. none prefix more (ap (λ t. (reading_from play (end_reading play) c 1 t).events) consumed ∙ is)
+      no_events (trace_on play from) (reading_on play from (read ++ left)).events trace
+      (λ prefix more is shown. none prefix more (ap (λ t. (reading_on play from t).events) consumed ∙ is)
       (appended ∙ shown)) (answers left refl)

@@ -1,6 +1,6 @@
 -- A map has the messages that a desk has sent, by transaction. It agrees with the list of the model.
 use Rattle.std.proofs.Common.{◌≡◌, ℕ, Bool, true, false, cond, List, [], ◌∷◌, ◌++◌, Option, Some, None, is_some, Result, Ok, Err}
-use Rattle.std.proofs.Common.{OnOk, refl, sym, ap, ◌∙◌, true≢false}
+use Rattle.std.proofs.Common.{OnOk, option_map, refl, sym, ap, ◌∙◌, true≢false}
 use Rattle.std.specs.Map.{lookup, set_value}
 use Rattle.std.proofs.lemmas.List.{map-append}
 use Rattle.ill_values.specs.TxnId.{Qualifiers}
@@ -104,7 +104,7 @@ put_new txn n a entries none =
 -- If the entry of `txn` becomes one with message n added, message n was sent in `txn`.
 pub becomes_put : (txn : Qualifiers) (n : ℕ) (a : Apdu) (entries new : Entries) (found : Option (List (Option Apdu)))
     → lookup (is_same_txn txn) entries ≡ found
-    → BecomesAmong txn (λ sent. with_sent sent n a) entries found None a new
+    → BecomesAmong txn entries (option_map (λ sent. with_sent sent n a) found) None a new
     → sendings_of new ≡ with_sent_for txn (sendings_of entries) n a
 becomes_put txn n a entries new (Some sent) e becomes = ap sendings_of becomes.1 ∙ put_there txn n a sent entries e
 becomes_put txn n a entries new None e becomes = absurd (true≢false (sym (ap is_some becomes.0)))
@@ -112,7 +112,7 @@ becomes_put txn n a entries new None e becomes = absurd (true≢false (sym (ap i
 -- If `a` comes back, `txn` has no entry, and nothing has changed.
 pub becomes_none : (txn : Qualifiers) (next : List (Option Apdu) → List (Option Apdu)) (a back : Apdu) (entries new : Entries)
     (found : Option (List (Option Apdu)))
-    → BecomesAmong txn next entries found (Some back) a new → (found ≡ None) × (a ≡ back) × (new ≡ entries)
+    → BecomesAmong txn entries (option_map next found) (Some back) a new → (found ≡ None) × (a ≡ back) × (new ≡ entries)
 becomes_none txn next a back entries new None becomes = (refl, sym (some_is back a becomes.0), becomes.1)
 becomes_none txn next a back entries new (Some sent) becomes = absurd (true≢false (ap is_some becomes.0))
 

@@ -1,6 +1,6 @@
 -- A trace grows by one text with each event. A simulation may go on after each line.
-use Rattle.std.proofs.Common.{arith, ◌≡◌, ℕ, ◌+◌, true, List, [], ◌∷◌, ◌++◌, length, Option, Some, Result, Ok, Err, refl, sym, ap}
-use Rattle.std.proofs.Common.{◌∙◌, subst, append_assoc, append-nil, length-append}
+use Rattle.std.proofs.Common.{arith, ◌≡◌, ℕ, ◌+◌, Bool, true, false, List, [], ◌∷◌, ◌++◌, length, Option, Some, Result, Ok, Err}
+use Rattle.std.proofs.Common.{refl, sym, ap, ◌∙◌, subst, append_assoc, append-nil, length-append, true≢false}
 use Rattle.std.specs.Io.KnownBytes.{Consumes, Appends}
 use Rattle.std.proofs.KnownBytes.{Consumes-trans, Appends-trans}
 use Rattle.ill_values.specs.TxnId.{Qualifiers}
@@ -12,10 +12,10 @@ use Rattle.ill_world.specs.declared.fault.SimFault.{SimFault}
 use Rattle.ill_world.specs.declared.fault.SimFault.TheVariants.{Script, Read, Write, OutOfMemory}
 use Rattle.ill_world.specs.World.{Parties, first_world, happens, run_by, run_of}
 use Rattle.ill_world.specs.Trace.{line}
-use Rattle.ill_world.specs.Play.{Play, Said, line_at, then_says, end_reading, broken_reading, reading_from, trace_from, Answers}
-use Rattle.ill_world.specs.Play.{Plays}
+use Rattle.ill_world.specs.Play.{Play, Progress, Streams, Said, line_at, then_says, end_reading, broken_reading, reading_from}
+use Rattle.ill_world.specs.Play.{trace_from, reading_on, broken_on, trace_on, Answers, Plays}
 use Rattle.ill_world.specs.Simulation.{two_sides, trace_of, line_after}
-use Rattle.ill_world.specs.Simulating.{IsLine, PerformsLine, StepsLine}
+use Rattle.ill_world.specs.Simulating.{IsLine, PerformsLine, history_at, StepsLine}
 use Rattle.ill_world.proofs.Scripts.{says_line}
 
 -- ---- the trace of a play
@@ -117,134 +117,128 @@ sides_prefix txn events more = trace_prefix two_sides run_of run_of_none run_of_
 abbrev pub with_events : {E : Type 0} → List E → Said E → Said E
 with_events events more = record { events = events ++ more.events; bad = more.bad }
 
--- The text `prefix` has the events `events`, and `shown` is their trace. A result that fits the rest of the text fits
--- the whole. For each result, the equations carry what `answers` says of the rest over to the whole: for Ok, the events
--- and their count; for a bad line, the events before it; for Read, the events of a text that breaks off; for Write, a
--- trace that is written in part; for OutOfMemory, the trace of some first events.
-answers_on : {E : Type 0}
-    → (whole broken rest rest_broken : List ℕ → Said E) (trace trace_on : List E → List ℕ) (count next_count : ℕ)
-    (prefix shown : List ℕ) (events : List E)
-    → ((text : List ℕ) → whole (prefix ++ text) ≡ with_events events (rest text))
-    → ((text : List ℕ) → broken (prefix ++ text) ≡ with_events events (rest_broken text))
-    → ((more : List E) → trace (events ++ more) ≡ shown ++ trace_on more) → next_count ≡ count + length events
-    → (result : Result ℕ SimFault) (text : List ℕ) (left : Option (List ℕ)) (written : List ℕ)
-    → Answers rest rest_broken trace_on next_count result text left written
-    → Answers whole broken trace count result (prefix ++ text) left (shown ++ written)
-answers_on whole broken rest rest_broken trace trace_on count next_count prefix shown events says breaks shows counts (Ok total)
-    text left written answers =
-    let es = (rest text).events in
-    let sum : total ≡ count + length (events ++ es) = omega (arith, answers.3, counts, length-append events es) in (
-      answers.0,
-      ap (λ (s : Said _). s.bad) (says text) ∙ answers.1,
-      ap (λ t. shown ++ t) answers.2 ∙ sym (shows es) ∙ ap (λ (s : Said _). trace s.events) (sym (says text)),
-      sum ∙ ap (λ (s : Said _). count + length s.events) (sym (says text)),
-    )
-answers_on whole broken rest rest_broken trace trace_on count next_count prefix shown events says breaks shows counts
-    (Err (Script m)) text left written answers =
-    λ more e.
-    let answered = answers more e in
-    let said = ap whole (append_assoc prefix text more) ∙ says (text ++ more) in
-    subst (λ (s : Said _). (s.bad ≡ Some m) × (shown ++ written ≡ trace s.events)) (sym said)
-    (answered.0, ap (λ t. shown ++ t) answered.1 ∙ sym (shows (rest (text ++ more)).events))
-answers_on whole broken rest rest_broken trace trace_on count next_count prefix shown events says breaks shows counts (Err Read)
-    text left written answers = (
-      ap (λ (s : Said _). s.bad) (breaks text) ∙ answers.0,
-      ap (λ t. shown ++ t) answers.1 ∙ sym (shows (rest_broken text).events)
-          ∙ ap (λ (s : Said _). trace s.events) (sym (breaks text)),
-    )
-answers_on whole broken rest rest_broken trace trace_on count next_count prefix shown events says breaks shows counts (Err Write)
-    text left written answers =
-    λ more e.
-    let answered = answers more e in
-    let said = ap whole (append_assoc prefix text more) ∙ says (text ++ more) in
-    subst (λ (s : Said _). IsPrefix (shown ++ written) (trace s.events)) (sym said) (
-      answered.0,
-      shows (rest (text ++ more)).events ∙ ap (λ t. shown ++ t) answered.1
-          ∙ sym (append_assoc shown written answered.0),
-    )
-answers_on whole broken rest rest_broken trace trace_on count next_count prefix shown events says breaks shows counts
-    (Err OutOfMemory) text left written answers =
-    λ more e.
-    let answered = answers more e in
-    let first = answered.0 in
-    let begins = answered.1 in
-    let said = ap whole (append_assoc prefix text more) ∙ says (text ++ more) in
-    subst (λ (s : Said _). (es : List _) × IsPrefix es s.events × (shown ++ written ≡ trace es)) (sym said) (
-      events ++ first,
-      (begins.0, ap (λ es. events ++ es) begins.1 ∙ sym (append_assoc events first begins.0)),
-      ap (λ t. shown ++ t) answered.2 ∙ sym (shows first),
-    )
-
--- ---- a line, and the rest of the script after it
-
 module _ {W E C : Type 0} (play : Play W E C) where
-  -- If `prefix` was read, and its events were shown, the rest of the script performs the whole.
-  plays_after : (c kept : C) (n m : ℕ) (w next : W) (count next_count : ℕ) (prefix shown : List ℕ) (events : List E)
-      (old middle new before between after : Option (List ℕ)) (result : Result ℕ SimFault)
-      → ((end : C → ℕ → List ℕ → Said E) (text : List ℕ)
-      → reading_from play end c n (prefix ++ text) ≡ with_events events (reading_from play end kept m text))
-      → ((more : List E) → trace_from play (count + 1) w (events ++ more) ≡ shown ++ trace_from play (next_count + 1) next more)
-      → next_count ≡ count + length events
-      → Consumes old middle prefix → Appends before between shown
-      → Plays play kept m next next_count middle new between after result → Plays play c n w count old new before after result
-  plays_after c kept n m w next count next_count prefix shown events old middle new before between after result says shows counts
-      read written rest = (
-        prefix ++ rest.0,
-        shown ++ rest.1,
-        Consumes-trans old middle new prefix rest.0 read rest.2,
-        Appends-trans before between after shown rest.1 written rest.3,
-        answers_on (reading_from play (end_reading play) c n) (reading_from play broken_reading c n)
-            (reading_from play (end_reading play) kept m)
-            (reading_from play broken_reading kept m) (trace_from play (count + 1) w) (trace_from play (next_count + 1) next)
-            count
-            next_count
-            prefix shown events (says (end_reading play)) (says broken_reading) shows counts result rest.0 new rest.1 rest.4,
+  -- The text `prefix` has the events `events`, and `shown` is their trace. A result that fits the rest of the text, from
+  -- `now` on, fits the whole. For each result, the equations carry what `answers` says of the rest over to the whole: for
+  -- Ok, the events and their count; for a bad line, the events before it; for Read, the events of a text that breaks off;
+  -- for Write, a trace that is written in part; for OutOfMemory, the trace of some first events.
+  answers_on : (from now : Progress W C) (prefix shown : List ℕ) (events : List E)
+      → ((text : List ℕ) → reading_on play from (prefix ++ text) ≡ with_events events (reading_on play now text))
+      → ((text : List ℕ) → broken_on play from (prefix ++ text) ≡ with_events events (broken_on play now text))
+      → ((more : List E) → trace_on play from (events ++ more) ≡ shown ++ trace_on play now more)
+      → now.count ≡ from.count + length events
+      → (result : Result ℕ SimFault) (text : List ℕ) (left : Option (List ℕ)) (written : List ℕ)
+      → Answers play now result text left written → Answers play from result (prefix ++ text) left (shown ++ written)
+  answers_on from now prefix shown events says breaks shows counts (Ok total) text left written answers =
+      let es = (reading_on play now text).events in
+      let sum : total ≡ from.count + length (events ++ es) = omega (arith, answers.3, counts, length-append events es) in (
+        answers.0,
+        ap (λ (s : Said E). s.bad) (says text) ∙ answers.1,
+        ap (λ t. shown ++ t) answers.2 ∙ sym (shows es) ∙ ap (λ (s : Said E). trace_on play from s.events) (sym (says text)),
+        sum ∙ ap (λ (s : Said E). from.count + length s.events) (sym (says text)),
+      )
+  answers_on from now prefix shown events says breaks shows counts (Err (Script m)) text left written answers =
+      λ more e.
+      let answered = answers more e in
+      let said = ap (reading_on play from) (append_assoc prefix text more) ∙ says (text ++ more) in
+      subst (λ (s : Said E). (s.bad ≡ Some m) × (shown ++ written ≡ trace_on play from s.events)) (sym said)
+      (answered.0, ap (λ t. shown ++ t) answered.1 ∙ sym (shows (reading_on play now (text ++ more)).events))
+  answers_on from now prefix shown events says breaks shows counts (Err Read) text left written answers = (
+    ap (λ (s : Said E). s.bad) (breaks text) ∙ answers.0,
+    ap (λ t. shown ++ t) answers.1 ∙ sym (shows (broken_on play now text).events)
+        ∙ ap (λ (s : Said E). trace_on play from s.events) (sym (breaks text)),
+  )
+  answers_on from now prefix shown events says breaks shows counts (Err Write) text left written answers =
+      λ more e.
+      let answered = answers more e in
+      let said = ap (reading_on play from) (append_assoc prefix text more) ∙ says (text ++ more) in
+      subst (λ (s : Said E). IsPrefix (shown ++ written) (trace_on play from s.events)) (sym said) (
+        answered.0,
+        shows (reading_on play now (text ++ more)).events ∙ ap (λ t. shown ++ t) answered.1
+            ∙ sym (append_assoc shown written answered.0),
+      )
+  answers_on from now prefix shown events says breaks shows counts (Err OutOfMemory) text left written answers =
+      λ more e.
+      let answered = answers more e in
+      let first = answered.0 in
+      let begins = answered.1 in
+      let said = ap (reading_on play from) (append_assoc prefix text more) ∙ says (text ++ more) in
+      subst (λ (s : Said E). (es : List E) × IsPrefix es s.events × (shown ++ written ≡ trace_on play from es)) (sym said) (
+        events ++ first,
+        (begins.0, ap (λ es. events ++ es) begins.1 ∙ sym (append_assoc events first begins.0)),
+        ap (λ t. shown ++ t) answered.2 ∙ sym (shows first),
       )
 
-  -- If an LF closes line n, the reading is that of the line, and then that of the rest.
-  says_closed : (c kept : C) (n : ℕ) (bytes : List ℕ) (says : ScriptLine E) → IsLine bytes → (line_at play c n bytes).0 ≡ says
-      → kept ≡ (line_at play c n bytes).1 → (end : C → ℕ → List ℕ → Said E) (text : List ℕ)
-      → reading_from play end c n ((bytes ++ 10 ∷ []) ++ text) ≡ then_says says n (reading_from play end kept (n + 1) text)
-  says_closed c kept n bytes says is e leaves end text =
-      ap (reading_from play end c n) (append_assoc bytes (10 ∷ []) text) ∙ says_line play end c n bytes text is.0
-      ∙ ap (λ line. then_says line n (reading_from play end (line_at play c n bytes).1 (n + 1) text)) e
-      ∙ ap (λ l. then_says says n (reading_from play end l (n + 1) text)) (sym leaves)
+  -- ---- a line, and the rest of the script after it
 
-  -- If line n was performed, and then the rest of the script, the script was performed from line n on.
-  line_first : (c kept : C) (n : ℕ) (w next : W) (count next_count : ℕ) (bytes : List ℕ) (says : ScriptLine E)
-      (old middle new before between after : Option (List ℕ)) (result : Result ℕ SimFault)
-      → IsLine bytes → (line_at play c n bytes).0 ≡ says → kept ≡ (line_at play c n bytes).1
-      → Consumes old middle (bytes ++ 10 ∷ []) → PerformsLine play says n w count before between (Ok tt) next next_count
-      → Plays play kept (n + 1) next next_count middle new between after result
-      → Plays play c n w count old new before after result
-  line_first c kept n w next count next_count bytes lines.Skipped old middle new before between after result is e leaves read done
-      rest =
-      let stays : (more : List E) → trace_from play (count + 1) w more ≡ trace_from play (next_count + 1) next more =
-      λ more. ap (λ k. trace_from play (k + 1) w more) (sym done.1)
-      ∙ ap (λ v. trace_from play (next_count + 1) v more) (sym done.0) in
-      plays_after c kept n (n + 1) w next count next_count (bytes ++ 10 ∷ []) [] [] old middle new before between after result
-      (says_closed c kept n bytes lines.Skipped is e leaves) stays
-      (omega (arith, done.1)) read done.2 rest
-  line_first c kept n w next count next_count bytes (lines.Event event) old middle new before between after result is e leaves
-      read done rest =
-      let text = play.text (count + 1) w event in
-      let shows : (more : List E) → trace_from play (count + 1) w (event ∷ more)
-      ≡ text ++ trace_from play (next_count + 1) next more =
-      λ more. trace_next play (count + 1) w event more
-      ∙ ap (λ k. text ++ trace_from play (k + 1) (play.next w event) more) (sym done.1)
-      ∙ ap (λ v. text ++ trace_from play (next_count + 1) v more) (sym done.0) in
-      plays_after c kept n (n + 1) w next count next_count (bytes ++ 10 ∷ []) text (event ∷ []) old middle new before between
-      after result (says_closed c kept n bytes (lines.Event event) is e leaves) shows
-      (omega (arith, done.1)) read done.2 rest
-  line_first c kept n w next count next_count bytes lines.Bad old middle new before between after result is e leaves read done
-      rest = absurd done
-
-  -- If `StepsLine` holds of line n, and `Plays` of the rest, `Plays` holds of the script from n on.
-  pub goes_on : (c kept : C) (n : ℕ) (w next : W) (count next_count : ℕ) (old middle new before between after : Option (List ℕ))
+  -- If `prefix` was read, and its events were shown, the rest of the script performs the whole.
+  plays_after : (from now : Progress W C) (prefix shown : List ℕ) (events : List E) (old middle new : Streams)
       (result : Result ℕ SimFault)
-      → StepsLine play c n w count old middle before between (Ok true) kept next next_count
-      → Plays play kept (n + 1) next next_count middle new between after result
-      → Plays play c n w count old new before after result
-  goes_on c kept n w next count next_count old middle new before between after result step rest =
-      line_first c kept n w next count next_count step.0 (line_at play c n step.0).0 old middle new before between after result
-      step.1 refl step.4 step.2 step.3 rest
+      → ((end : C → ℕ → List ℕ → Said E) (text : List ℕ)
+      → reading_from play end from.carried from.number (prefix ++ text)
+      ≡ with_events events (reading_from play end now.carried now.number text))
+      → ((more : List E) → trace_on play from (events ++ more) ≡ shown ++ trace_on play now more)
+      → now.count ≡ from.count + length events
+      → Consumes old.left middle.left prefix → Appends old.written middle.written shown
+      → Plays play now middle result new → Plays play from old result new
+  plays_after from now prefix shown events old middle new result says shows counts read written rest = (
+    prefix ++ rest.0,
+    shown ++ rest.1,
+    Consumes-trans old.left middle.left new.left prefix rest.0 read rest.2,
+    Appends-trans old.written middle.written new.written shown rest.1 written rest.3,
+    answers_on from now prefix shown events (says (end_reading play)) (says broken_reading) shows counts result rest.0 new.left
+        rest.1 rest.4,
+  )
+
+  -- If an LF closes the next line, the reading is that of the line, and then that of the rest.
+  says_closed : (from now : Progress W C) (bytes : List ℕ) (says : ScriptLine E) → IsLine bytes
+      → (line_at play from.carried from.number bytes).0 ≡ says → now.carried ≡ (line_at play from.carried from.number bytes).1
+      → now.number ≡ from.number + 1 → (end : C → ℕ → List ℕ → Said E) (text : List ℕ)
+      → reading_from play end from.carried from.number ((bytes ++ 10 ∷ []) ++ text)
+      ≡ then_says says from.number (reading_from play end now.carried now.number text)
+  says_closed from now bytes says is e leaves next end text =
+      let line = line_at play from.carried from.number bytes in
+      ap (reading_from play end from.carried from.number) (append_assoc bytes (10 ∷ []) text)
+      ∙ says_line play end from.carried from.number bytes text is.0
+      ∙ ap (λ meaning. then_says meaning from.number (reading_from play end line.1 (from.number + 1) text)) e
+      ∙ ap (λ l. then_says says from.number (reading_from play end l (from.number + 1) text)) (sym leaves)
+      ∙ ap (λ n. then_says says from.number (reading_from play end now.carried n text)) (sym next)
+
+  -- If the next line was performed, and then the rest of the script, the script was performed.
+  line_first : (from now : Progress W C) (bytes : List ℕ) (says : ScriptLine E) (old middle new : Streams)
+      (result : Result ℕ SimFault)
+      → IsLine bytes → (line_at play from.carried from.number bytes).0 ≡ says
+      → now.carried ≡ (line_at play from.carried from.number bytes).1 → now.number ≡ from.number + 1
+      → Consumes old.left middle.left (bytes ++ 10 ∷ [])
+      → PerformsLine play says from.number (history_at from old) (Ok tt) (history_at now middle)
+      → Plays play now middle result new → Plays play from old result new
+  line_first from now bytes lines.Skipped old middle new result is e leaves next read done rest =
+      let stays : (more : List E) → trace_on play from more ≡ trace_on play now more =
+      λ more. ap (λ k. trace_from play (k + 1) from.world more) (sym done.1)
+      ∙ ap (λ v. trace_from play (now.count + 1) v more) (sym done.0) in
+      plays_after from now (bytes ++ 10 ∷ []) [] [] old middle new result
+      (says_closed from now bytes lines.Skipped is e leaves next) stays (omega (arith, done.1)) read done.2 rest
+  line_first from now bytes (lines.Event event) old middle new result is e leaves next read done rest =
+      let text = play.text (from.count + 1) from.world event in
+      let shows : (more : List E) → trace_on play from (event ∷ more) ≡ text ++ trace_on play now more =
+      λ more. trace_next play (from.count + 1) from.world event more
+      ∙ ap (λ k. text ++ trace_from play (k + 1) (play.next from.world event) more) (sym done.1)
+      ∙ ap (λ v. text ++ trace_from play (now.count + 1) v more) (sym done.0) in
+      plays_after from now (bytes ++ 10 ∷ []) text (event ∷ []) old middle new result
+      (says_closed from now bytes (lines.Event event) is e leaves next) shows (omega (arith, done.1)) read done.2 rest
+  line_first from now bytes lines.Bad old middle new result is e leaves next read done rest = absurd done
+
+  -- If the next line was performed, and more may follow, the rest of the script performs the whole.
+  pub goes_on : (from now : Progress W C) (old middle new : Streams) (more : Bool) (result : Result ℕ SimFault)
+      → more ≡ true → StepsLine play from old (Ok more) now middle → Plays play now middle result new
+      → Plays play from old result new
+  goes_on from now old middle new true result follows step rest =
+      line_first from now step.0 (line_at play from.carried from.number step.0).0 old middle new result step.1 refl step.4 step.5
+      step.2 step.3 rest
+  goes_on from now old middle new false result follows step rest = absurd (true≢false (sym follows))
+
+  -- If the next line was performed, and none may follow, the script was performed.
+  pub ends_here : (from now : Progress W C) (old new : Streams) (more : Bool)
+      → more ≡ false → StepsLine play from old (Ok more) now new → Plays play from old (Ok now.count) new
+  ends_here from now old new false ends step = step
+  ends_here from now old new true ends step = absurd (true≢false ends)

@@ -11,9 +11,10 @@ use Rattle.ill_world.specs.declared.script.ScriptLine.{ScriptLine}
 use Rattle.ill_world.specs.declared.script.ScriptLine.TheVariants as lines
 use Rattle.ill_world.specs.declared.fault.SimFault.{SimFault}
 use Rattle.ill_world.specs.declared.fault.SimFault.TheVariants.{Script, Read, Write, OutOfMemory}
-use Rattle.ill_world.specs.Play.{Play, Said, empty_reading, line_at, then_says, end_reading, broken_reading, says_from}
-use Rattle.ill_world.specs.Play.{reading_from, trace_from, OfAll, Answers, Plays}
-use Rattle.ill_world.specs.Simulating.{IsLine, ReadsLine, PerformsLine, StepsLine, IsBeforeEnd, FindsEnd, IsUsedUp}
+use Rattle.ill_world.specs.Play.{Play, Progress, Streams, Said, empty_reading, line_at, then_says, end_reading, broken_reading}
+use Rattle.ill_world.specs.Play.{says_from, reading_from, trace_from, reading_on, broken_on, trace_on, OfAll, Answers, Plays}
+use Rattle.ill_world.specs.Simulating.{IsLine, ReadsLine, History, PerformsLine, history_at, StepsLine, IsBeforeEnd, FindsEnd}
+use Rattle.ill_world.specs.Simulating.{IsUsedUp}
 use Rattle.ill_world.proofs.Scripts.{within, line_within, says_line, says_rest, ends_line, breaks_nothing, says_too_long}
 use Rattle.ill_world.proofs.Scripts.{says_too_many, only_bad}
 use Rattle.ill_world.proofs.Simulations.{trace_of_none, trace_next, trace_of_one}
@@ -53,204 +54,188 @@ module _ {W E C : Type 0} (play : Play W E C) where
 
   -- ---- a line that ends the script with a fault
 
-  -- The result and `trace` fit the rest of a script, from line n on.
-  abbrev pub AnswersFrom : C → ℕ → W → ℕ → Result ℕ SimFault → List ℕ → Option (List ℕ) → List ℕ → Type 0
-  AnswersFrom c n w count result text left trace =
-      Answers (reading_from play (end_reading play) c n) (reading_from play broken_reading c n) (trace_from play (count + 1) w)
-      count result text left
-      trace
+  -- The trace of no events is empty.
+  none_yet : (from : Progress W C) → [] ≡ trace_on play from []
+  none_yet from = sym (trace_of_none play (from.count + 1) from.world)
 
-  -- The rest of a script ends with `fault`. The trace that was written, from `before` to `after`, fits it.
-  abbrev pub Fails : C → ℕ → W → ℕ → SimFault → List ℕ → Option (List ℕ) → Option (List ℕ) → Option (List ℕ) → Type 0
-  Fails c n w count fault text left before after =
-      (trace : List ℕ) × Appends before after trace × AnswersFrom c n w count (Err fault) text left trace
+  -- If a reading has no events, its trace is empty.
+  no_trace : (from : Progress W C) (reading : Said E) (bad : Option ℕ) → reading ≡ record { events = []; bad = bad }
+      → [] ≡ trace_on play from reading.events
+  no_trace from reading bad said = none_yet from ∙ ap (λ (s : Said E). trace_on play from s.events) (sym said)
+
+  -- The rest of a script ends with `fault`. The trace that was written fits it.
+  abbrev pub Fails : Progress W C → SimFault → List ℕ → Streams → Streams → Type 0
+  Fails from fault text old new =
+      (trace : List ℕ) × Appends old.written new.written trace × Answers play from (Err fault) text new.left trace
 
   -- If memory ran out and nothing was written, `Fails` holds of the rest of the script.
-  no_memory : (c : C) (n : ℕ) (w : W) (count : ℕ) (text : List ℕ) (left before after : Option (List ℕ)) → Appends before after []
-      → Fails c n w count OutOfMemory text left before after
-  no_memory c n w count text left before after nothing = (
-    [],
-    nothing,
-    λ more e. (
-      [],
-      ((reading_from play (end_reading play) c n (text ++ more)).events, refl),
-      sym (trace_of_none play (count + 1) w),
-    ),
-  )
+  no_memory : (from : Progress W C) (text : List ℕ) (old new : Streams) → Appends old.written new.written []
+      → Fails from OutOfMemory text old new
+  no_memory from text old new nothing =
+      ([], nothing, λ more e. ([], ((reading_on play from (text ++ more)).events, refl), none_yet from))
 
   -- A prefix of the text of an event is a prefix of the trace that begins with the event.
-  prefix_of : (w : W) (count size : ℕ) (event : E) (events : List E)
-      → IsPrefix (take size (play.text (count + 1) w event)) (trace_from play (count + 1) w (event ∷ events))
-  prefix_of w count size event events =
-      let shown = play.text (count + 1) w event in
-      let rest = trace_from play (count + 1 + 1) (play.next w event) events in (
+  prefix_of : (from : Progress W C) (size : ℕ) (event : E) (events : List E)
+      → IsPrefix (take size (play.text (from.count + 1) from.world event)) (trace_on play from (event ∷ events))
+  prefix_of from size event events =
+      let shown = play.text (from.count + 1) from.world event in
+      let rest = trace_from play (from.count + 1 + 1) (play.next from.world event) events in (
         drop size shown ++ rest,
-        trace_next play (count + 1) w event events ∙ ap (λ t. t ++ rest) (sym (take-append-drop size shown))
+        trace_next play (from.count + 1) from.world event events ∙ ap (λ t. t ++ rest) (sym (take-append-drop size shown))
             ∙ append_assoc (take size shown) (drop size shown) rest,
       )
 
-  -- If line n ends with a fault, the rest of the script ends with it.
-  line_fails : (c : C) (n : ℕ) (w next : W) (count next_count : ℕ) (bytes text : List ℕ) (left before after : Option (List ℕ))
-      (says : ScriptLine E) (fault : SimFault) → (line_at play c n bytes).0 ≡ says
-      → Begins c n bytes text left → PerformsLine play says n w count before after (Err fault) next next_count
-      → Fails c n w count fault text left before after
-  line_fails c n w next count next_count bytes text left before after lines.Skipped OutOfMemory is begins fails =
-      no_memory c n w count text left before after fails
-  line_fails c n w next count next_count bytes text left before after (lines.Event event) OutOfMemory is begins fails =
-      no_memory c n w count text left before after fails
-  line_fails c n w next count next_count bytes text left before after lines.Bad OutOfMemory is begins fails =
-      no_memory c n w count text left before after fails
-  line_fails c n w next count next_count bytes text left before after (lines.Event event) Write is begins fails = (
-    take fails.0 (play.text (count + 1) w event),
-    fails.1,
-    λ more e.
-        let said = begins more e in
-        subst (λ (s : Said E). IsPrefix (take fails.0 (play.text (count + 1) w event)) (trace_from play (count + 1) w s.events))
-        (sym (said.1 ∙ ap (λ l. then_says l n said.0) is))
-        (prefix_of w count fails.0 event said.0.events),
-  )
-  line_fails c n w next count next_count bytes text left before after lines.Bad (Script m) is begins fails = (
+  -- If the next line ends with a fault, the rest of the script ends with it.
+  line_fails : (from : Progress W C) (bytes text : List ℕ) (old : Streams) (left : Option (List ℕ)) (says : ScriptLine E)
+      (fault : SimFault) (now : History W) → (line_at play from.carried from.number bytes).0 ≡ says
+      → Begins from.carried from.number bytes text left → PerformsLine play says from.number (history_at from old) (Err fault) now
+      → Fails from fault text old (record { left = left; written = now.written })
+  line_fails from bytes text old left lines.Skipped OutOfMemory now is begins fails = no_memory from text old _ fails
+  line_fails from bytes text old left (lines.Event event) OutOfMemory now is begins fails = no_memory from text old _ fails
+  line_fails from bytes text old left lines.Bad OutOfMemory now is begins fails = no_memory from text old _ fails
+  line_fails from bytes text old left (lines.Event event) Write now is begins fails =
+      let shown = take fails.0 (play.text (from.count + 1) from.world event) in (
+        shown,
+        fails.1,
+        λ more e.
+            let said = begins more e in
+            subst (λ (s : Said E). IsPrefix shown (trace_on play from s.events))
+            (sym (said.1 ∙ ap (λ l. then_says l from.number said.0) is))
+            (prefix_of from fails.0 event said.0.events),
+      )
+  line_fails from bytes text old left lines.Bad (Script m) now is begins fails = (
     [],
     fails.1,
     λ more e.
         let said = begins more e in
-        subst (λ (s : Said E). (s.bad ≡ Some m) × ([] ≡ trace_from play (count + 1) w s.events))
-        (sym (said.1 ∙ ap (λ l. then_says l n said.0) is))
-        (ap Some (sym fails.0), sym (trace_of_none play (count + 1) w)),
+        subst (λ (s : Said E). (s.bad ≡ Some m) × ([] ≡ trace_on play from s.events))
+        (sym (said.1 ∙ ap (λ l. then_says l from.number said.0) is))
+        (ap Some (sym fails.0), none_yet from),
   )
-  line_fails c n w next count next_count bytes text left before after lines.Bad Read is begins fails = absurd fails
-  line_fails c n w next count next_count bytes text left before after lines.Bad Write is begins fails = absurd fails
-  line_fails c n w next count next_count bytes text left before after (lines.Event event) (Script m) is begins fails =
-      absurd fails
-  line_fails c n w next count next_count bytes text left before after (lines.Event event) Read is begins fails = absurd fails
-  line_fails c n w next count next_count bytes text left before after lines.Skipped (Script m) is begins fails = absurd fails
-  line_fails c n w next count next_count bytes text left before after lines.Skipped Read is begins fails = absurd fails
-  line_fails c n w next count next_count bytes text left before after lines.Skipped Write is begins fails = absurd fails
+  line_fails from bytes text old left lines.Bad Read now is begins fails = absurd fails
+  line_fails from bytes text old left lines.Bad Write now is begins fails = absurd fails
+  line_fails from bytes text old left (lines.Event event) (Script m) now is begins fails = absurd fails
+  line_fails from bytes text old left (lines.Event event) Read now is begins fails = absurd fails
+  line_fails from bytes text old left lines.Skipped (Script m) now is begins fails = absurd fails
+  line_fails from bytes text old left lines.Skipped Read now is begins fails = absurd fails
+  line_fails from bytes text old left lines.Skipped Write now is begins fails = absurd fails
 
-  -- If a line within the limits was performed by its meaning, it was performed as line n.
-  pub performs_at : (c : C) (n : ℕ) (w next : W) (count next_count : ℕ) (bytes : List ℕ) (before after : Option (List ℕ))
-      (result : Result (Unit {0}) SimFault) → n ≤ 100000 → IsLine bytes
-      → PerformsLine play (play.says c bytes).0 n w count before after result next next_count
-      → PerformsLine play (line_at play c n bytes).0 n w count before after result next next_count
-  performs_at c n w next count next_count bytes before after result few is performs =
-      subst (λ (line : ScriptLine E × C). PerformsLine play line.0 n w count before after result next next_count)
-      (sym (line_within play c n bytes few is.1)) performs
+  -- If a line within the limits was performed by its meaning, it was performed as the next line.
+  performs_at : (from : Progress W C) (bytes : List ℕ) (old new : History W) (result : Result (Unit {0}) SimFault)
+      → from.number ≤ 100000 → IsLine bytes
+      → PerformsLine play (play.says from.carried bytes).0 from.number old result new
+      → PerformsLine play (line_at play from.carried from.number bytes).0 from.number old result new
+  performs_at from bytes old new result few is performs =
+      subst (λ (line : ScriptLine E × C). PerformsLine play line.0 from.number old result new)
+      (sym (line_within play from.carried from.number bytes few is.1)) performs
 
   -- ---- the result of `StepsLine`
 
   -- If the rest of a script ends with a fault, `StepsLine` holds with this fault.
-  pub fault_ends_step : (c kept : C) (n : ℕ) (w next : W) (count next_count : ℕ) (old new before after : Option (List ℕ))
-      (result : Result Bool SimFault) (fault : SimFault)
-      → IsErrAnd result (λ f. f ≡ fault) → Plays play c n w count old new before after (Err fault)
-      → StepsLine play c n w count old new before after result kept next next_count
-  fault_ends_step c kept n w next count next_count old new before after (Ok more) fault is plays = absurd is
-  fault_ends_step c kept n w next count next_count old new before after (Err f) fault is plays =
-      subst (λ f. Plays play c n w count old new before after (Err f)) (sym is) plays
+  pub fault_ends_step : (from now : Progress W C) (old new : Streams) (result : Result Bool SimFault) (fault : SimFault)
+      → IsErrAnd result (λ f. f ≡ fault) → Plays play from old (Err fault) new → StepsLine play from old result now new
+  fault_ends_step from now old new (Ok more) fault is plays = absurd is
+  fault_ends_step from now old new (Err f) fault is plays = subst (λ f. Plays play from old (Err f) new) (sym is) plays
 
-  -- If line n cannot be read because of a fault, the rest of the script ends with this fault.
-  pub not_read : (c : C) (n : ℕ) (w : W) (count : ℕ) (old new before : Option (List ℕ)) (bytes : List ℕ) (fault : SimFault)
-      → n ≤ 100000 → ReadsLine old new bytes (Err fault)
-      → Plays play c n w count old new before before (Err fault)
-  not_read c n w count old new before bytes Read few read =
+  -- If the next line cannot be read because of a fault, the rest of the script ends with this fault.
+  pub not_read : (from : Progress W C) (old new written : Option (List ℕ)) (bytes : List ℕ) (fault : SimFault)
+      → from.number ≤ 100000 → ReadsLine old new bytes (Err fault)
+      → Plays play from (record { left = old; written = written }) (Err fault) (record { left = new; written = written })
+  not_read from old new written bytes Read few read =
       let line = read.0 in
-      let said : reading_from play broken_reading c n bytes ≡ empty_reading =
-      says_rest play broken_reading c n bytes line.0 ∙ breaks_nothing c n bytes (within n bytes few line.1) in (
-        bytes,
-        [],
-        read.1,
-        Appends-nil before,
-        (
-          ap (λ (s : Said E). s.bad) said,
-          sym (trace_of_none play (count + 1) w) ∙ ap (λ (s : Said E). trace_from play (count + 1) w s.events) (sym said),
-        ),
-      )
-  not_read c n w count old new before bytes OutOfMemory few read =
-      let fails = no_memory c n w count read.0 new before before (Appends-nil before) in
+      let said : broken_on play from bytes ≡ empty_reading =
+      says_rest play broken_reading from.carried from.number bytes line.0
+      ∙ breaks_nothing from.carried from.number bytes (within from.number bytes few line.1) in
+      (bytes, [], read.1, Appends-nil written, (ap (λ (s : Said E). s.bad) said, no_trace from _ None said))
+  not_read from old new written bytes OutOfMemory few read =
+      let fails = no_memory from read.0 (record { left = old; written = written }) (record { left = new; written = written })
+      (Appends-nil written) in
       (read.0, fails.0, read.1, fails.1, fails.2)
-  not_read c n w count old new before bytes (Script m) few read = absurd read
-  not_read c n w count old new before bytes Write few read = absurd read
+  not_read from old new written bytes (Script m) few read = absurd read
+  not_read from old new written bytes Write few read = absurd read
 
   -- If a line was read whole, and its performance ends with a fault, the script ends with this fault.
-  pub line_stops : (c : C) (n : ℕ) (w next : W) (count next_count : ℕ) (old new before after : Option (List ℕ))
-      (bytes text : List ℕ) (fault : SimFault) → n ≤ 100000 → IsLine bytes
-      → Consumes old new text → Begins c n bytes text new
-      → PerformsLine play (play.says c bytes).0 n w count before after (Err fault) next next_count
-      → Plays play c n w count old new before after (Err fault)
-  line_stops c n w next count next_count old new before after bytes text fault few is read begins fails =
-      let partner_sent =
-      line_fails c n w next count next_count bytes text new before after (line_at play c n bytes).0 fault refl begins
-      (performs_at c n w next count next_count bytes before after (Err fault) few is fails) in
-      (text, partner_sent.0, read, partner_sent.1, partner_sent.2)
+  pub line_stops : (from : Progress W C) (old : Streams) (left : Option (List ℕ)) (bytes text : List ℕ) (fault : SimFault)
+      (now : History W) → from.number ≤ 100000 → IsLine bytes → Consumes old.left left text
+      → Begins from.carried from.number bytes text left
+      → PerformsLine play (play.says from.carried bytes).0 from.number (history_at from old) (Err fault) now
+      → Plays play from old (Err fault) (record { left = left; written = now.written })
+  line_stops from old left bytes text fault now few is read begins fails =
+      let ends =
+      line_fails from bytes text old left (line_at play from.carried from.number bytes).0 fault now refl begins
+      (performs_at from bytes (history_at from old) now (Err fault) few is fails) in
+      (text, ends.0, read, ends.1, ends.2)
 
   -- If no byte follows the last LF, the rest of the script ends well, with no more events.
-  pub nothing_follows : (c : C) (n : ℕ) (w : W) (count : ℕ) (old new before : Option (List ℕ)) (bytes : List ℕ) → length bytes ≡ 0
+  pub nothing_follows : (from : Progress W C) (old new written : Option (List ℕ)) (bytes : List ℕ) → length bytes ≡ 0
       → Consumes old new bytes → IsAtEnd new
-      → Plays play c n w count old new before before (Ok count)
+      → Plays play from (record { left = old; written = written }) (Ok from.count) (record { left = new; written = written })
   unfolding says_from
-  nothing_follows c n w count old new before [] none read at_end =
-      ([], [], read, Appends-nil before, (at_end, refl, sym (trace_of_none play (count + 1) w), omega arith))
-  nothing_follows c n w count old new before (byte ∷ bytes) none read at_end = absurd (omega (arith, none))
+  nothing_follows from old new written [] none read at_end =
+      ([], [], read, Appends-nil written, (at_end, refl, none_yet from, omega arith))
+  nothing_follows from old new written (byte ∷ bytes) none read at_end = absurd (omega (arith, none))
 
   -- If no LF closes the last line, and it was performed, the rest of the script ends well.
-  last_performed : (c : C) (n : ℕ) (w next : W) (count next_count : ℕ) (old new before after : Option (List ℕ)) (bytes : List ℕ)
-      (says : ScriptLine E) → Consumes old new bytes → IsAtEnd new
-      → reading_from play (end_reading play) c n bytes ≡ then_says says n empty_reading
-      → PerformsLine play says n w count before after (Ok tt) next next_count
-      → Plays play c n w count old new before after (Ok next_count)
-  last_performed c n w next count next_count old new before after bytes lines.Skipped read at_end said done = (
-    bytes,
-    [],
-    read,
-    done.2,
-    (
-      at_end,
-      ap (λ (s : Said E). s.bad) said,
-      sym (trace_of_none play (count + 1) w) ∙ ap (λ (s : Said E). trace_from play (count + 1) w s.events) (sym said),
-      (let zero : next_count ≡ count + length (then_says {E = E} lines.Skipped n empty_reading).events = omega (arith, done.1) in
-          zero) ∙ ap (λ (s : Said E). count + length s.events) (sym said),
-    ),
-  )
-  last_performed c n w next count next_count old new before after bytes (lines.Event event) read at_end said done = (
-    bytes,
-    play.text (count + 1) w event,
-    read,
-    done.2,
-    (
-      at_end,
-      ap (λ (s : Said E). s.bad) said,
-      sym (trace_of_one play (count + 1) w event) ∙ ap (λ (s : Said E). trace_from play (count + 1) w s.events) (sym said),
-      (let one : next_count ≡ count + length (then_says (lines.Event event) n empty_reading).events = omega (arith, done.1) in
-          one)
-          ∙ ap (λ (s : Said E). count + length s.events) (sym said),
-    ),
-  )
-  last_performed c n w next count next_count old new before after bytes lines.Bad read at_end said done = absurd done
+  last_performed : (from : Progress W C) (old : Streams) (left : Option (List ℕ)) (bytes : List ℕ) (says : ScriptLine E)
+      (now : History W) → Consumes old.left left bytes → IsAtEnd left
+      → reading_on play from bytes ≡ then_says says from.number empty_reading
+      → PerformsLine play says from.number (history_at from old) (Ok tt) now
+      → Plays play from old (Ok now.count) (record { left = left; written = now.written })
+  last_performed from old left bytes lines.Skipped now read at_end said done =
+      let zero : now.count ≡ from.count + length (then_says {E = E} lines.Skipped from.number empty_reading).events =
+      omega (arith, done.1) in (
+        bytes,
+        [],
+        read,
+        done.2,
+        (
+          at_end,
+          ap (λ (s : Said E). s.bad) said,
+          no_trace from _ None said,
+          zero ∙ ap (λ (s : Said E). from.count + length s.events) (sym said),
+        ),
+      )
+  last_performed from old left bytes (lines.Event event) now read at_end said done =
+      let one : now.count ≡ from.count + length (then_says (lines.Event event) from.number empty_reading).events =
+      omega (arith, done.1) in (
+        bytes,
+        play.text (from.count + 1) from.world event,
+        read,
+        done.2,
+        (
+          at_end,
+          ap (λ (s : Said E). s.bad) said,
+          sym (trace_of_one play (from.count + 1) from.world event)
+              ∙ ap (λ (s : Said E). trace_on play from s.events) (sym said),
+          one ∙ ap (λ (s : Said E). from.count + length s.events) (sym said),
+        ),
+      )
+  last_performed from old left bytes lines.Bad now read at_end said done = absurd done
 
   -- If the last bytes are a line within the limits, and were performed, the rest of the script ends well.
-  pub ended_with_line : (c : C) (n : ℕ) (w next : W) (count next_count : ℕ) (old new before after : Option (List ℕ))
-      (bytes : List ℕ) → n ≤ 100000 → IsLine bytes → 1 ≤ length bytes
-      → Consumes old new bytes → IsAtEnd new
-      → PerformsLine play (play.says c bytes).0 n w count before after (Ok tt) next next_count
-      → Plays play c n w count old new before after (Ok next_count)
-  ended_with_line c n w next count next_count old new before after bytes few is some read at_end done =
-      last_performed c n w next count next_count old new before after bytes (line_at play c n bytes).0 read at_end
-      (says_rest play (end_reading play) c n bytes is.0 ∙ ends_line play c n bytes some)
-      (performs_at c n w next count next_count bytes before after (Ok tt) few is done)
+  pub ended_with_line : (from : Progress W C) (old : Streams) (left : Option (List ℕ)) (bytes : List ℕ) (now : History W)
+      → from.number ≤ 100000 → IsLine bytes → 1 ≤ length bytes → Consumes old.left left bytes → IsAtEnd left
+      → PerformsLine play (play.says from.carried bytes).0 from.number (history_at from old) (Ok tt) now
+      → Plays play from old (Ok now.count) (record { left = left; written = now.written })
+  ended_with_line from old left bytes now few is some read at_end done =
+      last_performed from old left bytes (line_at play from.carried from.number bytes).0 now read at_end
+      (says_rest play (end_reading play) from.carried from.number bytes is.0
+      ∙ ends_line play from.carried from.number bytes some)
+      (performs_at from bytes (history_at from old) now (Ok tt) few is done)
 
-  -- If line n is too long, the rest of the script ends with line n as the bad line.
-  pub too_long_stops : (c : C) (n : ℕ) (w : W) (count : ℕ) (old new before : Option (List ℕ)) (bytes : List ℕ)
+  -- If the next line is too long, the rest of the script ends with it as the bad line.
+  pub too_long_stops : (from : Progress W C) (old new written : Option (List ℕ)) (bytes : List ℕ)
       → ReadsLine old new bytes (Ok found.TooLong)
-      → Plays play c n w count old new before before (Err (Script n))
-  too_long_stops c n w count old new before bytes read = (
+      → Plays play from (record { left = old; written = written }) (Err (Script from.number))
+      (record { left = new; written = written })
+  too_long_stops from old new written bytes read = (
     read.0,
     [],
     read.3,
-    Appends-nil before,
+    Appends-nil written,
     λ more e.
-        let said = says_too_long play c n read.0 more read.1 (omega (arith, read.2)) in (
-          ap (λ (s : Said E). s.bad) said,
-          sym (trace_of_none play (count + 1) w) ∙ ap (λ (s : Said E). trace_from play (count + 1) w s.events) (sym said),
-        ),
+        let said = says_too_long play from.carried from.number read.0 more read.1 (omega (arith, read.2)) in
+        (ap (λ (s : Said E). s.bad) said, no_trace from _ _ said),
   )
 
   -- ---- the end
@@ -262,41 +247,51 @@ module _ {W E C : Type 0} (play : Play W E C) where
   too_many_follow c (byte ∷ text) some = says_too_many play c 100001 byte text (omega arith)
 
   -- After line 100,000 the rest of the script ends as `FindsEnd` says.
-  end_found : (c : C) (w : W) (count : ℕ) (old new before : Option (List ℕ)) (result : Result ℕ SimFault)
-      → FindsEnd count old new result → Plays play c 100001 w count old new before before result
+  end_found : (c : C) (w : W) (count : ℕ) (old new written : Option (List ℕ)) (result : Result ℕ SimFault)
+      → FindsEnd count old new result
+      → Plays play (record { number = 100001; carried = c; world = w; count = count })
+      (record { left = old; written = written }) result (record { left = new; written = written })
   unfolding says_from
-  end_found c w count old new before (Ok total) finds =
-      ([], [], finds.1, Appends-nil before, (finds.2, refl, sym (trace_of_none play (count + 1) w), omega (arith, finds.0)))
-  end_found c w count old new before (Err (Script n)) finds = (
+  end_found c w count old new written (Ok total) finds = (
     [],
     [],
     finds.1,
-    Appends-nil before,
+    Appends-nil written,
+    (finds.2, refl, sym (trace_of_none play (count + 1) w), omega (arith, finds.0)),
+  )
+  end_found c w count old new written (Err (Script n)) finds = (
+    [],
+    [],
+    finds.1,
+    Appends-nil written,
     λ more e.
         let said = too_many_follow c more (subst IsBeforeEnd e finds.2) in (
           ap (λ (s : Said E). s.bad) said ∙ ap Some (sym finds.0),
           sym (trace_of_none play (count + 1) w) ∙ ap (λ (s : Said E). trace_from play (count + 1) w s.events) (sym said),
         ),
   )
-  end_found c w count old new before (Err Read) finds =
-      ([], [], finds, Appends-nil before, (refl, sym (trace_of_none play (count + 1) w)))
-  end_found c w count old new before (Err Write) finds = absurd finds
-  end_found c w count old new before (Err OutOfMemory) finds = absurd finds
+  end_found c w count old new written (Err Read) finds =
+      ([], [], finds, Appends-nil written, (refl, sym (trace_of_none play (count + 1) w)))
+  end_found c w count old new written (Err Write) finds = absurd finds
+  end_found c w count old new written (Err OutOfMemory) finds = absurd finds
 
-  -- If n is 100,001, the rest of the script ends as `FindsEnd` says.
-  pub finds_end : (c : C) (n : ℕ) (w : W) (count : ℕ) (old new before : Option (List ℕ)) (result : Result ℕ SimFault) → n ≡ 100001
-      → FindsEnd count old new result
-      → Plays play c n w count old new before before result
-  finds_end c n w count old new before result all finds =
-      subst (λ m. Plays play c m w count old new before before result) (sym all) (end_found c w count old new before result finds)
+  -- If the next line is line 100,001, the rest of the script ends as `FindsEnd` says.
+  pub finds_end : (from : Progress W C) (old new written : Option (List ℕ)) (result : Result ℕ SimFault)
+      → from.number ≡ 100001 → FindsEnd from.count old new result
+      → Plays play from (record { left = old; written = written }) result (record { left = new; written = written })
+  finds_end from old new written result all finds =
+      subst (λ n. Plays play (record from { number = n }) (record { left = old; written = written }) result
+      (record { left = new; written = written })) (sym all)
+      (end_found from.carried from.world from.count old new written result finds)
 
   -- If memory runs out before line 1, the script ends with `OutOfMemory`, and no byte is read or written.
-  pub not_begun : (c : C) (w : W) (old before : Option (List ℕ)) (result : Result ℕ SimFault)
-      → IsErrAnd result (λ f. f ≡ OutOfMemory) → Plays play c 1 w 0 old old before before result
-  not_begun c w old before (Ok count) failed = absurd failed
-  not_begun c w old before (Err fault) failed =
-      let fails = no_memory c 1 w 0 [] old before before (Appends-nil before) in
-      subst (λ f. Plays play c 1 w 0 old old before before (Err f)) (sym failed) ([], fails.0, Consumes-nil old, fails.1, fails.2)
+  pub not_begun : (from : Progress W C) (streams : Streams) (result : Result ℕ SimFault)
+      → IsErrAnd result (λ f. f ≡ OutOfMemory) → Plays play from streams result streams
+  not_begun from streams (Ok count) failed = absurd failed
+  not_begun from streams (Err fault) failed =
+      let fails = no_memory from [] streams streams (Appends-nil streams.written) in
+      subst (λ f. Plays play from streams (Err f) streams) (sym failed)
+      ([], fails.0, Consumes-nil streams.left, fails.1, fails.2)
 
 -- ---- bytes that were read ahead
 
@@ -317,55 +312,53 @@ consumes_ahead : (old : Option (List ℕ)) (text ahead rest : List ℕ)
 consumes_ahead None text ahead rest read = tt
 consumes_ahead (Some bytes) text ahead rest read = read ∙ sym (append_assoc text ahead rest)
 
-module _ {E : Type 0} (whole broken : List ℕ → Said E) (trace_of : List E → List ℕ) (before : ℕ) where
+module _ {W E C : Type 0} (play : Play W E C) (from : Progress W C) where
   -- If no byte is ahead, a result that fits `text` fits `text` with the bytes ahead.
   read_whole : (text ahead rest trace : List ℕ) (result : Result ℕ SimFault) → ahead ≡ []
-      → Answers whole broken trace_of before result text (Some rest) trace
-      → Answers whole broken trace_of before result (text ++ ahead) (Some rest) trace
+      → Answers play from result text (Some rest) trace → Answers play from result (text ++ ahead) (Some rest) trace
   read_whole text ahead rest trace result none answers =
-      subst (λ t. Answers whole broken trace_of before result t (Some rest) trace)
-      (sym (ap (λ l. text ++ l) none ∙ append-nil text)) answers
+      subst (λ t. Answers play from result t (Some rest) trace) (sym (ap (λ l. text ++ l) none ∙ append-nil text)) answers
 
   -- If a result fits with bytes ahead, it fits if these count as read. After a reader's fault no byte is ahead.
   answers_of_all : (text ahead rest trace : List ℕ) (result : Result ℕ SimFault) → IsUsedUp ahead result
-      → Answers whole broken trace_of before result text (Some (ahead ++ rest)) trace
-      → Answers whole broken trace_of before result (text ++ ahead) (Some rest) trace
+      → Answers play from result text (Some (ahead ++ rest)) trace → Answers play from result (text ++ ahead) (Some rest) trace
   answers_of_all text ahead rest trace (Ok count) used answers =
       let none = none_ahead ahead rest answers.0 in
       read_whole text ahead rest trace (Ok count) none.0 (none.1, answers.1, answers.2, answers.3)
   answers_of_all text ahead rest trace (Err (Script n)) used answers =
-      read_of_all text ahead rest (λ t. ((whole t).bad ≡ Some n) × (trace ≡ trace_of (whole t).events)) answers
+      read_of_all text ahead rest
+      (λ t. ((reading_on play from t).bad ≡ Some n) × (trace ≡ trace_on play from (reading_on play from t).events)) answers
   answers_of_all text ahead rest trace (Err Read) used answers = read_whole text ahead rest trace (Err Read) used answers
   answers_of_all text ahead rest trace (Err Write) used answers =
-      read_of_all text ahead rest (λ t. IsPrefix trace (trace_of (whole t).events)) answers
+      read_of_all text ahead rest (λ t. IsPrefix trace (trace_on play from (reading_on play from t).events)) answers
   answers_of_all text ahead rest trace (Err OutOfMemory) used answers =
-      read_of_all text ahead rest (λ t. (events : List E) × IsPrefix events (whole t).events × (trace ≡ trace_of events)) answers
+      read_of_all text ahead rest
+      (λ t. (events : List E) × IsPrefix events (reading_on play from t).events × (trace ≡ trace_on play from events)) answers
 
-module _ {W E C : Type 0} (play : Play W E C) where
   -- If a script was performed with bytes ahead, it was performed if these count as read.
-  all_read : (c : C) (n : ℕ) (w : W) (count : ℕ) (ahead : List ℕ) (old new before after : Option (List ℕ))
-      (result : Result ℕ SimFault) → IsUsedUp ahead result
-      → Plays play c n w count (prepend_known [] old) (prepend_known ahead new) before after result
-      → Plays play c n w count old new before after result
-  all_read c n w count ahead None None before after result used plays = plays
-  all_read c n w count ahead (Some bytes) None before after result used plays = absurd plays.2
-  all_read c n w count ahead old (Some rest) before after result used plays =
+  all_read : (ahead : List ℕ) (old new before after : Option (List ℕ)) (result : Result ℕ SimFault) → IsUsedUp ahead result
+      → Plays play from (record { left = prepend_known [] old; written = before }) result
+      (record { left = prepend_known ahead new; written = after })
+      → Plays play from (record { left = old; written = before }) result (record { left = new; written = after })
+  all_read ahead None None before after result used plays = plays
+  all_read ahead (Some bytes) None before after result used plays = absurd plays.2
+  all_read ahead old (Some rest) before after result used plays =
       let text = plays.0 in
       let trace = plays.1 in (
         text ++ ahead,
         trace,
         consumes_ahead old text ahead rest plays.2,
         plays.3,
-        answers_of_all (reading_from play (end_reading play) c n) (reading_from play broken_reading c n)
-            (trace_from play (count + 1) w) count text
-            ahead rest trace result used plays.4,
+        answers_of_all text ahead rest trace result used plays.4,
       )
 
   -- If no byte was ahead at first, the script was performed on the reader. Bytes that are ahead now count as read.
-  pub counts_as_read : (c : C) (n : ℕ) (w : W) (count : ℕ) (first ahead : List ℕ) (old new before after : Option (List ℕ))
-      (result : Result ℕ SimFault) → first ≡ [] → IsUsedUp ahead result
-      → Plays play c n w count (prepend_known first old) (prepend_known ahead new) before after result
-      → Plays play c n w count old new before after result
-  counts_as_read c n w count first ahead old new before after result none used plays =
-      all_read c n w count ahead old new before after result used
-      (subst (λ l. Plays play c n w count (prepend_known l old) (prepend_known ahead new) before after result) none plays)
+  pub counts_as_read : (first ahead : List ℕ) (old new before after : Option (List ℕ)) (result : Result ℕ SimFault)
+      → first ≡ [] → IsUsedUp ahead result
+      → Plays play from (record { left = prepend_known first old; written = before }) result
+      (record { left = prepend_known ahead new; written = after })
+      → Plays play from (record { left = old; written = before }) result (record { left = new; written = after })
+  counts_as_read first ahead old new before after result none used plays =
+      all_read ahead old new before after result used
+      (subst (λ l. Plays play from (record { left = prepend_known l old; written = before }) result
+      (record { left = prepend_known ahead new; written = after })) none plays)

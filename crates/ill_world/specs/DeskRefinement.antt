@@ -22,11 +22,11 @@ use Rattle.ill_world.specs.Desks.{Sending, DeskParty, fault_seen}
 abbrev pub sendings_of : List (Qualifiers × List (Option Apdu)) → List Sending
 sendings_of entries = map (λ e. record { txn = e.0; sent = e.1 }) entries
 
--- If a message was sent in `txn`, its entry becomes `next` of it. Else `a` comes back, and nothing changes.
-abbrev pub BecomesAmong : Qualifiers → (List (Option Apdu) → List (Option Apdu)) → List (Qualifiers × List (Option Apdu)) →
-    Option (List (Option Apdu)) → Option Apdu → Apdu → List (Qualifiers × List (Option Apdu)) → Type 0
-BecomesAmong txn next old None back a new = (back ≡ Some a) × (new ≡ old)
-BecomesAmong txn next old (Some sent) back a new = (back ≡ None) × (new ≡ set_value (is_same_txn txn) old (next sent))
+-- If there is a changed entry, it takes the place of the entry of `txn`. Else `a` comes back, and nothing changes.
+abbrev pub BecomesAmong : Qualifiers → List (Qualifiers × List (Option Apdu)) → Option (List (Option Apdu)) →
+    Option Apdu → Apdu → List (Qualifiers × List (Option Apdu)) → Type 0
+BecomesAmong txn old None back a new = (back ≡ Some a) × (new ≡ old)
+BecomesAmong txn old (Some changed) back a new = (back ≡ None) × (new ≡ set_value (is_same_txn txn) old changed)
 
 -- ---- desks
 

@@ -6,7 +6,7 @@ use Rattle.ill_world.specs.declared.fault.SimFault.{SimFault}
 use Rattle.ill_world.specs.Desks.{DeskParties, first_desks, desks_happen, desks_run}
 use Rattle.ill_world.specs.DeskScript.{EventIn, desk_meaning, says_in}
 use Rattle.ill_world.specs.DeskTrace.{desk_line}
-use Rattle.ill_world.specs.Play.{Play, Said, end_reading, reading_from, trace_from, Plays}
+use Rattle.ill_world.specs.Play.{Play, before_first, Said, end_reading, reading_from, trace_from, Plays}
 
 -- In the play of two desks each line has its meaning in the transaction in use. This transaction is carried from line
 -- to line.
@@ -40,4 +40,6 @@ desk_line_after events event =
 -- A simulation has this result. The reader went from `old` to `new`, and the writer from `before` to `after`.
 abbrev pub SimulatesDesks : Option (List ℕ) → Option (List ℕ) → Option (List ℕ) → Option (List ℕ) →
     Result ℕ SimFault → Type 0
-SimulatesDesks old new before after result = Plays two_desks None 1 first_desks 0 old new before after result
+SimulatesDesks old new before after result =
+    Plays two_desks (before_first None first_desks) (record { left = old; written = before }) result
+    (record { left = new; written = after })

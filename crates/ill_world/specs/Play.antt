@@ -16,6 +16,23 @@ pub record Play (W E C : Type 0) : Type 0 where
   pub next : W → E → W
   pub text : ℕ → W → E → List ℕ
 
+-- A script in its midst has this progress. `number` is the number of its next line. `carried` and `world` are the value
+-- and the world before that line. `count` events have happened.
+pub record Progress (W C : Type 0) : Type 0 where
+  pub number : ℕ
+  pub carried : C
+  pub world : W
+  pub count : ℕ
+
+-- Returns the progress before line 1, with this value and this world. No event has happened.
+abbrev pub before_first : {W C : Type 0} → C → W → Progress W C
+before_first carried world = record { number = 1; carried = carried; world = world; count = 0 }
+
+-- Streams have the bytes `left` in a reader, and the bytes `written` by a writer. Either is `None` if it is not known.
+pub record Streams : Type 0 where
+  pub left : Option (List ℕ)
+  pub written : Option (List ℕ)
+
 -- ---- the reading of a script
 
 -- A reading has the events of a script before its first bad line. It also has the number of this line, if there is one.
@@ -78,32 +95,41 @@ trace_from play n w (event ∷ events) = play.text n w event ++ trace_from play 
 
 -- ---- performing a script
 
+-- Returns the reading of a whole text, from the next line of `from` on.
+abbrev pub reading_on : {W E C : Type 0} → Play W E C → Progress W C → List ℕ → Said E
+reading_on play from text = reading_from play (end_reading play) from.carried from.number text
+
+-- Returns the reading of a text at whose end the reader fails, from the next line of `from` on.
+abbrev pub broken_on : {W E C : Type 0} → Play W E C → Progress W C → List ℕ → Said E
+broken_on play from text = reading_from play broken_reading from.carried from.number text
+
+-- Returns the trace of `events`, which follow those before the next line of `from`.
+abbrev pub trace_on : {W E C : Type 0} → Play W E C → Progress W C → List E → List ℕ
+trace_on play from events = trace_from play (from.count + 1) from.world events
+
 -- `P` holds of the whole text: of `text` and all bytes that the reader has left, if these are known.
 abbrev pub OfAll : List ℕ → Option (List ℕ) → (List ℕ → Type 0) → Type 0
 OfAll text left P = (more : List ℕ) → left ≡ Some more → P (text ++ more)
 
--- The result and `trace` fit the `text` that was read and the bytes `left` in the reader. `whole` reads a whole text,
--- and `broken` one at whose end the reader fails. `count` events had happened before.
-abbrev pub Answers : {E : Type 0} → (List ℕ → Said E) → (List ℕ → Said E) → (List E → List ℕ) → ℕ →
-    Result ℕ SimFault → List ℕ → Option (List ℕ) → List ℕ → Type 0
-Answers whole broken trace_of count (Ok total) text left trace =
-    IsAtEnd left × ((whole text).bad ≡ None) × (trace ≡ trace_of (whole text).events)
-    × (total ≡ count + length (whole text).events)
-Answers whole broken trace_of count (Err (Script m)) text left trace =
-    OfAll text left (λ t. ((whole t).bad ≡ Some m) × (trace ≡ trace_of (whole t).events))
-Answers whole broken trace_of count (Err Read) text left trace =
-    ((broken text).bad ≡ None) × (trace ≡ trace_of (broken text).events)
-Answers whole broken trace_of count (Err Write) text left trace =
-    OfAll text left (λ t. IsPrefix trace (trace_of (whole t).events))
-Answers {E = E} whole broken trace_of count (Err OutOfMemory) text left trace =
-    OfAll text left (λ t. (events : List E) × IsPrefix events (whole t).events × (trace ≡ trace_of events))
+-- A script was performed from the next line of `from` on. The result and `trace` fit the `text` that was read, and the
+-- bytes `left` in the reader.
+abbrev pub Answers : {W E C : Type 0} → Play W E C → Progress W C → Result ℕ SimFault → List ℕ →
+    Option (List ℕ) → List ℕ → Type 0
+Answers play from (Ok total) text left trace =
+    IsAtEnd left × ((reading_on play from text).bad ≡ None) × (trace ≡ trace_on play from (reading_on play from text).events)
+    × (total ≡ from.count + length (reading_on play from text).events)
+Answers play from (Err (Script m)) text left trace =
+    OfAll text left (λ t. ((reading_on play from t).bad ≡ Some m) × (trace ≡ trace_on play from (reading_on play from t).events))
+Answers play from (Err Read) text left trace =
+    ((broken_on play from text).bad ≡ None) × (trace ≡ trace_on play from (broken_on play from text).events)
+Answers play from (Err Write) text left trace =
+    OfAll text left (λ t. IsPrefix trace (trace_on play from (reading_on play from t).events))
+Answers {E = E} play from (Err OutOfMemory) text left trace =
+    OfAll text left (λ t. (events : List E) × IsPrefix events (reading_on play from t).events
+    × (trace ≡ trace_on play from events))
 
--- A script was performed from line n on, after `count` events. The reader went from `old` to `new`, and the writer
--- from `before` to `after`.
-abbrev pub Plays : {W E C : Type 0} → Play W E C → C → ℕ → W → ℕ → Option (List ℕ) → Option (List ℕ) →
-    Option (List ℕ) → Option (List ℕ) → Result ℕ SimFault → Type 0
-Plays play c n w count old new before after result =
-    (text : List ℕ) × (trace : List ℕ) × Consumes old new text × Appends before after trace
-    × Answers (reading_from play (end_reading play) c n) (reading_from play broken_reading c n) (trace_from play (count + 1) w)
-    count
-    result text new trace
+-- A script was performed from the next line of `from` on. The streams were `old` before, and are `new` after.
+abbrev pub Plays : {W E C : Type 0} → Play W E C → Progress W C → Streams → Result ℕ SimFault → Streams → Type 0
+Plays play from old result new =
+    (text : List ℕ) × (trace : List ℕ) × Consumes old.left new.left text × Appends old.written new.written trace
+    × Answers play from result text new.left trace

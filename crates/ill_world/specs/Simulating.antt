@@ -12,7 +12,7 @@ use Rattle.ill_world.specs.declared.lines.Found.{Found}
 use Rattle.ill_world.specs.declared.lines.Found.TheVariants as found
 use Rattle.ill_world.specs.declared.fault.SimFault.{SimFault}
 use Rattle.ill_world.specs.declared.fault.SimFault.TheVariants.{Script, Read, Write, OutOfMemory}
-use Rattle.ill_world.specs.Play.{Play, line_at, Plays}
+use Rattle.ill_world.specs.Play.{Play, Progress, Streams, line_at, Plays}
 
 -- ---- reading ahead
 
@@ -72,50 +72,65 @@ ReadsLine old new bytes (Err other) = ⊥
 
 -- ---- performing one line
 
+-- A performer has this stage: its world, the value that it carries to the next line, and the text that it has shown.
+pub record Stage (W C : Type 0) : Type 0 where
+  pub world : W
+  pub carried : C
+  pub shown : List ℕ
+
 -- The effect fits a line with this meaning. A skipped line changes nothing. The event of a line has happened, and its
 -- text was appended. Or the line is bad.
-abbrev pub PerformsOne : {W E C : Type 0} → Play W E C → ScriptLine E → ℕ → W → List ℕ → LineEffect → W → List ℕ → Type 0
-PerformsOne play lines.Skipped number w shown effects.Nothing new new_shown = new ≡ w
-PerformsOne play (lines.Event event) number w shown effects.Event new new_shown =
-    (new ≡ play.next w event) × (new_shown ≡ shown ++ play.text number w event)
-PerformsOne play lines.Bad number w shown effects.BadLine new new_shown = Unit {0}
-PerformsOne play says number w shown effect new new_shown = ⊥
+abbrev pub PerformsOne : {W E C : Type 0} → Play W E C → ScriptLine E → ℕ → Stage W C → LineEffect → Stage W C → Type 0
+PerformsOne play lines.Skipped number old effects.Nothing new = new.world ≡ old.world
+PerformsOne play (lines.Event event) number old effects.Event new =
+    (new.world ≡ play.next old.world event) × (new.shown ≡ old.shown ++ play.text number old.world event)
+PerformsOne play lines.Bad number old effects.BadLine new = Unit {0}
+PerformsOne play says number old effect new = ⊥
 
 -- The effect fits the line, and the value for the next line is that of the play. If memory ran out, nothing is claimed.
-abbrev pub TellsLine : {W E C M : Type 0} → Play W E C → ScriptLine E × C → ℕ → W → List ℕ → Result LineEffect M → W → C →
-    List ℕ → Type 0
-TellsLine play says number w shown (Ok effect) new carried new_shown =
-    PerformsOne play says.0 number w shown effect new new_shown × (carried ≡ says.1)
-TellsLine play says number w shown (Err memory) new carried new_shown = Unit {0}
+abbrev pub TellsLine : {W E C M : Type 0} → Play W E C → List ℕ → ℕ → Stage W C → Result LineEffect M → Stage W C → Type 0
+TellsLine play line number old (Ok effect) new =
+    PerformsOne play (play.says old.carried line).0 number old effect new × (new.carried ≡ (play.says old.carried line).1)
+TellsLine play line number old (Err memory) new = Unit {0}
 
--- A line with this meaning was performed after `count` events, and its text was written. If the writer failed, a prefix
--- of the text was written. If memory ran out, no byte was written.
-abbrev pub PerformsLine : {W E C : Type 0} → Play W E C → ScriptLine E → ℕ → W → ℕ → Option (List ℕ) →
-    Option (List ℕ) → Result (Unit {0}) SimFault → W → ℕ → Type 0
-PerformsLine play says n w count before after (Err OutOfMemory) new new_count = Appends before after []
-PerformsLine play lines.Skipped n w count before after (Ok done) new new_count =
-    (new ≡ w) × (new_count ≡ count) × Appends before after []
-PerformsLine play (lines.Event event) n w count before after (Ok done) new new_count =
-    (new ≡ play.next w event) × (new_count ≡ count + 1) × Appends before after (play.text (count + 1) w event)
-PerformsLine play (lines.Event event) n w count before after (Err Write) new new_count =
-    (size : ℕ) × Appends before after (take size (play.text (count + 1) w event))
-PerformsLine play lines.Bad n w count before after (Err (Script m)) new new_count =
-    (m ≡ n) × Appends before after []
-PerformsLine play says n w count before after result new new_count = ⊥
+-- The events of a script so far have this history: the world after them, their count, and the bytes that were written.
+pub record History (W : Type 0) : Type 0 where
+  pub world : W
+  pub count : ℕ
+  pub written : Option (List ℕ)
+
+-- A line with this meaning was performed as line n, and its text was written. If the writer failed, a prefix of the
+-- text was written. If memory ran out, no byte was written.
+abbrev pub PerformsLine : {W E C : Type 0} → Play W E C → ScriptLine E → ℕ → History W →
+    Result (Unit {0}) SimFault → History W → Type 0
+PerformsLine play says n old (Err OutOfMemory) new = Appends old.written new.written []
+PerformsLine play lines.Skipped n old (Ok done) new =
+    (new.world ≡ old.world) × (new.count ≡ old.count) × Appends old.written new.written []
+PerformsLine play (lines.Event event) n old (Ok done) new =
+    (new.world ≡ play.next old.world event) × (new.count ≡ old.count + 1)
+    × Appends old.written new.written (play.text (old.count + 1) old.world event)
+PerformsLine play (lines.Event event) n old (Err Write) new =
+    (size : ℕ) × Appends old.written new.written (take size (play.text (old.count + 1) old.world event))
+PerformsLine play lines.Bad n old (Err (Script m)) new = (m ≡ n) × Appends old.written new.written []
+PerformsLine play says n old result new = ⊥
 
 -- ---- the rest of a script
 
--- Line n was performed. If the result is true, more lines may follow. Else the simulation has ended with it.
-abbrev pub StepsLine : {W E C : Type 0} → Play W E C → C → ℕ → W → ℕ → Option (List ℕ) → Option (List ℕ) →
-    Option (List ℕ) → Option (List ℕ) → Result Bool SimFault → C → W → ℕ → Type 0
-StepsLine play c n w count old new before after (Ok true) carried next next_count =
-    (bytes : List ℕ) × IsLine bytes × Consumes old new (bytes ++ 10 ∷ [])
-    × PerformsLine play (line_at play c n bytes).0 n w count before after (Ok tt) next next_count
-    × (carried ≡ (line_at play c n bytes).1)
-StepsLine play c n w count old new before after (Ok false) carried next next_count =
-    Plays play c n w count old new before after (Ok next_count)
-StepsLine play c n w count old new before after (Err fault) carried next next_count =
-    Plays play c n w count old new before after (Err fault)
+-- Returns the history of a script with this progress and these streams.
+abbrev pub history_at : {W C : Type 0} → Progress W C → Streams → History W
+history_at progress streams = record { world = progress.world; count = progress.count; written = streams.written }
+
+-- The next line of `from` was performed. If the result is true, more lines may follow from `now` on. Else the simulation
+-- has ended with it.
+abbrev pub StepsLine : {W E C : Type 0} → Play W E C → Progress W C → Streams → Result Bool SimFault →
+    Progress W C → Streams → Type 0
+StepsLine play from old (Ok true) now new =
+    (bytes : List ℕ) × IsLine bytes × Consumes old.left new.left (bytes ++ 10 ∷ [])
+    × PerformsLine play (line_at play from.carried from.number bytes).0 from.number (history_at from old) (Ok tt)
+    (history_at now new)
+    × (now.carried ≡ (line_at play from.carried from.number bytes).1) × (now.number ≡ from.number + 1)
+StepsLine play from old (Ok false) now new = Plays play from old (Ok now.count) new
+StepsLine play from old (Err fault) now new = Plays play from old (Err fault) new
 
 -- At least one byte is left, if the bytes left are known.
 abbrev pub IsBeforeEnd : Option (List ℕ) → Type 0

@@ -6,7 +6,7 @@ use Rattle.ill_world.specs.declared.fault.SimFault.{SimFault}
 use Rattle.ill_world.specs.World.{Parties, first_world, happens, run_of}
 use Rattle.ill_world.specs.Script.{meaning}
 use Rattle.ill_world.specs.Trace.{line}
-use Rattle.ill_world.specs.Play.{Play, Said, end_reading, broken_reading, reading_from, trace_from, Plays}
+use Rattle.ill_world.specs.Play.{Play, before_first, Said, end_reading, broken_reading, reading_from, trace_from, Plays}
 
 -- In the play of two sides each line has its own meaning. No value is carried from line to line.
 abbrev pub two_sides : Play Parties Event (Unit {0})
@@ -38,4 +38,5 @@ line_after txn events event =
 abbrev pub Simulates : Qualifiers → Option (List ℕ) → Option (List ℕ) → Option (List ℕ) →
     Option (List ℕ) → Result ℕ SimFault → Type 0
 Simulates txn old new before after result =
-    Plays two_sides tt 1 (first_world txn) 0 old new before after result
+    Plays two_sides (before_first tt (first_world txn)) (record { left = old; written = before }) result
+    (record { left = new; written = after })

@@ -77,8 +77,9 @@ fn put_among(
     number: Number,
     message: Message,
 ) -> Option<Message>
-    ensures { BecomesAmong txn.now (λ sent. with_sent sent number message) map.old.entries
-        (lookup (is_same_txn txn.now) map.old.entries) result message map.new.entries }
+    ensures { BecomesAmong txn.now map.old.entries
+        (option_map (λ sent. with_sent sent number message) (lookup (is_same_txn txn.now) map.old.entries))
+        result message map.new.entries }
 {
     match map.get_mut(txn) {
         Some(sent) => {

@@ -16,6 +16,7 @@ use crate::fault::SimFault;
 use crate::performer::{LineEffect, Performer};
 use crate::script::ScriptLine;
 use crate::simulation::Simulation;
+use crate::trace::TraceLine;
 use ill_values::{OutOfMemory, TxnId};
 use std::alloc::Global;
 use std::io::{Read, Write};
@@ -58,8 +59,7 @@ impl Performer for DeskWorld {
         alloc: Global,
         in_use: &mut Option<TxnId>,
         line: &[u8],
-        number: u32,
-        shown: &mut Vec<u8>,
+        shown: &mut TraceLine,
     ) -> Result<LineEffect, OutOfMemory> {
         match read_desk_line(alloc, line)? {
             DeskLine::Use(txn) => {
@@ -69,7 +69,7 @@ impl Performer for DeskWorld {
             DeskLine::Plain(ScriptLine::Skipped) => Ok(LineEffect::Nothing),
             DeskLine::Plain(ScriptLine::Event(event)) => match in_use {
                 Some(txn) => {
-                    self.perform_in(alloc, txn, event, number, shown)?;
+                    self.perform_in(alloc, txn, event, shown)?;
                     Ok(LineEffect::Event)
                 }
                 None => Ok(LineEffect::BadLine),
@@ -80,22 +80,21 @@ impl Performer for DeskWorld {
 }
 
 impl DeskWorld {
-    /// Performs an event, and appends its line of the trace. An event of one transaction is one of `txn`.
+    /// Performs an event, and appends its line of the trace to `shown`. An event of one transaction is one of `txn`.
     fn perform_in(
         &mut self,
         alloc: Global,
         txn: &TxnId,
         event: Event,
-        number: u32,
-        shown: &mut Vec<u8>,
+        shown: &mut TraceLine,
     ) -> Result<(), OutOfMemory>
         ensures { OnOk result (
             let after = desks_happen self.old (in_txn txn.now event) in
             (self.new ≡ after.1)
-            × (shown.new.items ≡ shown.old.items ++ desk_line number txn.now after.0 after.1)) }
+            × (shown.new.text.items ≡ shown.old.text.items ++ desk_line shown.old.number txn.now after.0 after.1)) }
     {
         let event = event.in_txn(alloc, txn)?;
         let outcome = self.step(alloc, &event)?;
-        self.push_line(shown, number, txn, outcome)
+        self.push_line(&mut shown.text, shown.number, txn, outcome)
     }
 }

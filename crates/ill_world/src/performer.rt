@@ -3,6 +3,7 @@
 ghost use Rattle.ill_world.specs.Play.{Play};
 ghost use Rattle.ill_world.specs.Simulating.{TellsLine};
 
+use crate::trace::TraceLine;
 use ill_values::OutOfMemory;
 use std::alloc::Global;
 
@@ -28,15 +29,15 @@ pub(crate) trait Performer: Drop {
     /// The play: the meaning of lines, the worlds to which events lead, and the texts that show them.
     ghost play: { Play Self Self.Event Self.Carried };
 
-    /// Performs a line, and appends the text of its event, if it has one. The event has this number.
+    /// Performs a line. If it has an event, this has the number in `shown`, and its text is appended there.
     fn perform_line(
         &mut self,
         alloc: Global,
         carried: &mut Self::Carried,
         line: &[u8],
-        number: u32,
-        shown: &mut Vec<u8>,
+        shown: &mut TraceLine,
     ) -> Result<LineEffect, OutOfMemory>
-        ensures { TellsLine Self.play (Self.play.says carried.old line.now) number self.old shown.old.items
-            result self.new carried.new shown.new.items };
+        ensures { TellsLine Self.play line.now shown.old.number
+            (record { world = self.old; carried = carried.old; shown = shown.old.text.items }) result
+            (record { world = self.new; carried = carried.new; shown = shown.new.text.items }) };
 }

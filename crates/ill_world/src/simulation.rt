@@ -6,7 +6,7 @@ ghost use Rattle.ill_world.specs.declared.event.Event.{Event};
 ghost use Rattle.ill_world.specs.World.{first_world};
 ghost use Rattle.ill_world.specs.Safety.{IsSafeRun};
 ghost use Rattle.ill_world.specs.Agreement.{IsAgreeingRun};
-ghost use Rattle.ill_world.specs.Play.{Plays};
+ghost use Rattle.ill_world.specs.Play.{Plays, before_first};
 ghost use Rattle.ill_world.specs.Simulation.{Simulates, two_sides};
 ghost use Rattle.ill_world.specs.Simulating.{PerformsLine, StepsLine, FindsEnd, IsUsedUp};
 
@@ -16,6 +16,7 @@ use crate::laws;
 use crate::lines::{Found, next_line};
 use crate::performer::{LineEffect, Performer};
 use crate::script::{ScriptLine, read_line};
+use crate::trace::TraceLine;
 use crate::world::World;
 use ill_der::write_bytes;
 use ill_values::{OutOfMemory, TxnId};
@@ -63,14 +64,13 @@ impl Performer for World {
         alloc: Global,
         _carried: &mut (),
         line: &[u8],
-        number: u32,
-        shown: &mut Vec<u8>,
+        shown: &mut TraceLine,
     ) -> Result<LineEffect, OutOfMemory> {
         match read_line(alloc, line)? {
             ScriptLine::Skipped => Ok(LineEffect::Nothing),
             ScriptLine::Event(event) => {
                 let outcome = self.step(alloc, &event)?;
-                self.push_line(shown, number, outcome)?;
+                self.push_line(&mut shown.text, shown.number, outcome)?;
                 Ok(LineEffect::Event)
             }
             ScriptLine::Bad => Ok(LineEffect::BadLine),
@@ -91,8 +91,8 @@ pub(crate) struct Simulation<T: Performer> {
     line: Vec<u8>,
     /// The bytes that were read of the script after that line.
     ahead: Ahead,
-    /// The text of the line that was performed last.
-    shown: Vec<u8>,
+    /// The line of the trace for the line that was performed last.
+    shown: TraceLine,
 }
 
 impl<T: Performer> Simulation<T> {
@@ -108,7 +108,10 @@ impl<T: Performer> Simulation<T> {
             count: 0,
             line: Vec::new(alloc),
             ahead: Ahead::new(),
-            shown: Vec::new(alloc),
+            shown: TraceLine {
+                number: 0,
+                text: Vec::new(alloc),
+            },
         }
     }
 
@@ -121,9 +124,9 @@ impl<T: Performer> Simulation<T> {
     ) -> Result<u32, SimFault>
         requires begins { self.count ≡ 0 }
         requires unread { self.ahead ≡ [] }
-        ensures { Plays T.play self.carried 1 self.performer 0
-            (R.remaining reader.old) (R.remaining reader.new)
-            (W.contents writer.old) (W.contents writer.new) result }
+        ensures { Plays T.play (before_first self.carried self.performer)
+            (record { left = R.remaining reader.old; written = W.contents writer.old }) result
+            (record { left = R.remaining reader.new; written = W.contents writer.new }) }
     {
         for before in 0..MAX_LINES {
             match self.step(alloc, reader, writer, before + 1) {
@@ -145,11 +148,12 @@ impl<T: Performer> Simulation<T> {
     ) -> Result<bool, SimFault>
         requires few { self.old.count + 1 ≤ number }
         requires number { number ≤ 100000 }
-        ensures steps { StepsLine T.play self.old.carried number self.old.performer self.old.count
-            (prepend_known self.old.ahead (R.remaining reader.old))
-            (prepend_known self.new.ahead (R.remaining reader.new))
-            (W.contents writer.old) (W.contents writer.new)
-            result self.new.carried self.new.performer self.new.count }
+        ensures steps { StepsLine T.play
+            (record { number = number; carried = self.old.carried; world = self.old.performer; count = self.old.count })
+            (record { left = prepend_known self.old.ahead (R.remaining reader.old); written = W.contents writer.old })
+            result
+            (record { number = number + 1; carried = self.new.carried; world = self.new.performer; count = self.new.count })
+            (record { left = prepend_known self.new.ahead (R.remaining reader.new); written = W.contents writer.new }) }
         ensures used { IsUsedUp self.new.ahead result }
         ensures few { self.new.count ≤ self.old.count + 1 }
     {
@@ -176,26 +180,25 @@ impl<T: Performer> Simulation<T> {
     ) -> Result<(), SimFault>
         requires few { self.old.count ≤ 100000 }
         ensures performs { PerformsLine T.play (T.play.says self.old.carried self.old.line.items).0 number
-            self.old.performer self.old.count (W.contents writer.old) (W.contents writer.new)
-            result self.new.performer self.new.count }
+            (record { world = self.old.performer; count = self.old.count; written = W.contents writer.old })
+            result
+            (record { world = self.new.performer; count = self.new.count; written = W.contents writer.new }) }
         ensures carried { IfOk result (λ done.
             self.new.carried ≡ (T.play.says self.old.carried self.old.line.items).1) }
         ensures ahead { self.new.ahead ≡ self.old.ahead }
         ensures few { self.new.count ≤ self.old.count + 1 }
     {
-        self.shown.clear();
         let next = self.count + 1;
-        match self.performer.perform_line(
-            alloc,
-            &mut self.carried,
-            &self.line,
-            next,
-            &mut self.shown,
-        )? {
+        self.shown.number = next;
+        self.shown.text.clear();
+        match self
+            .performer
+            .perform_line(alloc, &mut self.carried, &self.line, &mut self.shown)?
+        {
             LineEffect::Nothing => Ok(()),
             LineEffect::Event => {
                 self.count = next;
-                match write_bytes(writer, &self.shown) {
+                match write_bytes(writer, &self.shown.text) {
                     Ok(()) => Ok(()),
                     Err(_) => Err(SimFault::Write),
                 }

@@ -2,12 +2,13 @@
 -- play, by the lemmas of `BadTraces`.
 use Rattle.std.proofs.Common.{None}
 use Rattle.ill_world.specs.Desks.{first_desks}
+use Rattle.ill_world.specs.Play.{before_first}
 use Rattle.ill_world.specs.DeskSimulation.{two_desks}
 use Rattle.ill_world.proofs.BadTraces.{none_leaves, some_prefix}
 use Rattle.ill_world.proofs.desk_laws.no_bad_desk_trace_is_written.Goals as goal
 
 pub returns-clause-write : goal.returns-clause-write
-returns-clause-write c = none_leaves two_desks None first_desks
+returns-clause-write c = none_leaves two_desks (before_first None first_desks)
 
 pub returns-clause-memory : goal.returns-clause-memory
-returns-clause-memory c = some_prefix two_desks None first_desks
+returns-clause-memory c = some_prefix two_desks (before_first None first_desks)

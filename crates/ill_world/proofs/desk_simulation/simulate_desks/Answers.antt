@@ -1,7 +1,11 @@
 -- Answers the contract of `simulate_desks` (`src/desk_simulation.rt`).
+use Rattle.std.proofs.Common.{None}
+use Rattle.ill_world.specs.Desks.{first_desks}
+use Rattle.ill_world.specs.Play.{before_first}
 use Rattle.ill_world.specs.DeskSimulation.{two_desks}
 use Rattle.ill_world.proofs.Steps.{not_begun}
 use Rattle.ill_world.proofs.desk_simulation.simulate_desks.Goals as goal
 
 pub returns-in_err-new-clause-simulates : goal.returns-in_err-new-clause-simulates
-returns-in_err-new-clause-simulates g c = not_begun two_desks _ _ _ _ c.from_residual.result c.from_residual.ensures.1
+returns-in_err-new-clause-simulates g c =
+    not_begun two_desks (before_first None first_desks) _ c.from_residual.result c.from_residual.ensures.1

@@ -1,7 +1,10 @@
 -- Answers the contract of `simulate` (`src/simulation.rt`).
+use Rattle.ill_world.specs.World.{first_world}
+use Rattle.ill_world.specs.Play.{before_first}
 use Rattle.ill_world.specs.Simulation.{two_sides}
 use Rattle.ill_world.proofs.Steps.{not_begun}
 use Rattle.ill_world.proofs.simulation.simulate.Goals as goal
 
 pub returns-in_err-new-clause-simulates : goal.returns-in_err-new-clause-simulates
-returns-in_err-new-clause-simulates g c = not_begun two_sides _ _ _ _ c.from_residual.result c.from_residual.ensures.1
+returns-in_err-new-clause-simulates g c =
+    not_begun two_sides (before_first tt (first_world c.args.txn.now)) _ c.from_residual.result c.from_residual.ensures.1

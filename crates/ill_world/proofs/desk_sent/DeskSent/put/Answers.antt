@@ -1,6 +1,6 @@
 -- Proves the clause `put` of `DeskSent::put` (`src/desk_sent.rt`), if `txn` has an entry and if it has none. The
 -- changed or added entry is that of the model, by `DeskMaps`.
-use Rattle.std.proofs.Common.{◌≡◌, OnOk, refl, ap, sym, ◌∙◌, subst}
+use Rattle.std.proofs.Common.{◌≡◌, OnOk, option_map, refl, ap, sym, ◌∙◌, subst}
 use Rattle.std.specs.Map.{lookup}
 use Rattle.ill_core.specs.Issued.{is_same_txn}
 use Rattle.ill_world.specs.World.{with_sent}
@@ -18,7 +18,8 @@ returns-in-None-clause-put c =
     let new = c.put_among.new.map.entries in
     let found = lookup (is_same_txn txn) old in
     becomes_put txn n a old new found refl
-    (subst (λ back. BecomesAmong txn (λ sent. with_sent sent n a) old found back a new) c.in-None.is c.put_among.ensures)
+    (subst (λ back. BecomesAmong txn old (option_map (λ sent. with_sent sent n a) found) back a new) c.in-None.is
+    c.put_among.ensures)
     ∙ ap (λ all. with_sent_for txn all n a) c.self.view_is
 
 pub returns-in_ok-copy-in-Some-clause-put : goal.returns-in_ok-copy-in-Some-clause-put
@@ -30,7 +31,8 @@ returns-in_ok-copy-in-Some-clause-put c =
     let among = c.put_among.new.map.entries in
     let found = lookup (is_same_txn txn) old in
     let none = becomes_none txn (λ sent. with_sent sent n a) a c.in-Some.message old among found
-    (subst (λ back. BecomesAmong txn (λ sent. with_sent sent n a) old found back a among) c.in-Some.is c.put_among.ensures) in
+    (subst (λ back. BecomesAmong txn old (option_map (λ sent. with_sent sent n a) found) back a among) c.in-Some.is
+    c.put_among.ensures) in
     let sent = c.put.ensures ∙ ap (λ s. with_sent s n c.in-Some.message) c.in_ok-sent-in-Some.ensures
     ∙ ap (with_sent _ n) (sym none.1) in
     subst (λ all. OnOk c.insert_new.result (sendings_of c.insert_new.new.map.entries ≡ with_sent_for txn all n a)) c.self.view_is

@@ -10,10 +10,9 @@ use Rattle.ill_world.proofs.simulation.Simulation.step.Goals as goal
 
 pub returns-in_err-next_line-clause-steps : goal.returns-in_err-next_line-clause-steps
 returns-in_err-next_line-clause-steps g c =
-    fault_ends_step g.T.Performer.play c.args.self.now.carried _ c.args.number _ _ _ _ _ _ _ _ c.from_residual.result
-    c.in_err-next_line.field-0.0 c.from_residual.ensures.1
-    (not_read g.T.Performer.play c.args.self.now.carried c.args.number _ _ _ _ _ c.next_line.new.line.items
-    c.in_err-next_line.field-0.0 c.requires.number c.in_err-next_line.ensures.line)
+    fault_ends_step g.T.Performer.play _ _ _ _ c.from_residual.result c.in_err-next_line.field-0.0 c.from_residual.ensures.1
+    (not_read g.T.Performer.play _ _ _ _ c.next_line.new.line.items c.in_err-next_line.field-0.0 c.requires.number
+    c.in_err-next_line.ensures.line)
 
 pub returns-in_err-perform_line-in-Line-clause-steps : goal.returns-in_err-perform_line-in-Line-clause-steps
 returns-in_err-perform_line-in-Line-clause-steps g c =
@@ -24,12 +23,11 @@ returns-in_err-perform_line-in-Line-clause-steps g c =
     c.in_ok-next_line.ensures.line in
     let read = subst (λ ahead. ReadsLine (prepend_known c.args.self.now.ahead (remaining c.args.reader.now))
     (prepend_known ahead (remaining c.next_line.new.reader)) bytes (Ok found.Line)) (sym c.perform_line.ensures.ahead) was in
-    fault_ends_step g.T.Performer.play c.args.self.now.carried _ c.args.number _ _ _ _ _ _ _ _
+    fault_ends_step g.T.Performer.play _ _ _ _
     c.from_residual-in_err-perform_line-in-Line.result c.in_err-perform_line-in-Line.field-0.0
     c.from_residual-in_err-perform_line-in-Line.ensures.1
-    (line_stops g.T.Performer.play c.args.self.now.carried c.args.number _ _ _ _ _ _ _ _ bytes _
-    c.in_err-perform_line-in-Line.field-0.0 c.requires.number read.0 read.1
-    (begins_closed g.T.Performer.play c.args.self.now.carried c.args.number bytes _ read.0)
+    (line_stops g.T.Performer.play _ _ _ bytes _ c.in_err-perform_line-in-Line.field-0.0 _ c.requires.number read.0 read.1
+    (begins_closed g.T.Performer.play _ _ bytes _ read.0)
     c.in_err-perform_line-in-Line.ensures.performs)
 
 pub returns-in_err-perform_line-in-Rest-2-clause-steps : goal.returns-in_err-perform_line-in-Rest-2-clause-steps
@@ -43,12 +41,11 @@ returns-in_err-perform_line-in-Rest-2-clause-steps g c =
     (prepend_known ahead (remaining c.next_line.new.reader)) bytes (Ok found.Rest))
     (sym c.perform_line-in-Rest-2.ensures.ahead) was in
     let some : 1 ≤ length bytes = grind arith in
-    fault_ends_step g.T.Performer.play c.args.self.now.carried _ c.args.number _ _ _ _ _ _ _ _
+    fault_ends_step g.T.Performer.play _ _ _ _
     c.from_residual-in_err-perform_line-in-Rest-2.result c.in_err-perform_line-in-Rest-2.field-0.0
     c.from_residual-in_err-perform_line-in-Rest-2.ensures.1
-    (line_stops g.T.Performer.play c.args.self.now.carried c.args.number _ _ _ _ _ _ _ _ bytes _
-    c.in_err-perform_line-in-Rest-2.field-0.0 c.requires.number read.0 read.1
-    (begins_last g.T.Performer.play c.args.self.now.carried c.args.number bytes _ read.0 some read.2)
+    (line_stops g.T.Performer.play _ _ _ bytes _ c.in_err-perform_line-in-Rest-2.field-0.0 _ c.requires.number read.0 read.1
+    (begins_last g.T.Performer.play _ _ bytes _ read.0 some read.2)
     c.in_err-perform_line-in-Rest-2.ensures.performs)
 
 pub returns-in-Rest-clause-steps : goal.returns-in-Rest-clause-steps
@@ -59,7 +56,7 @@ returns-in-Rest-clause-steps g c =
     (prepend_known c.next_line.new.ahead (remaining c.next_line.new.reader)) bytes (Ok f)) c.in-Rest.is
     c.in_ok-next_line.ensures.line in
     let none : length bytes ≡ 0 = grind arith in
-    nothing_follows g.T.Performer.play c.args.self.now.carried c.args.number _ _ _ _ _ bytes none read.1 read.2
+    nothing_follows g.T.Performer.play _ _ _ _ bytes none read.1 read.2
 
 pub returns-in_ok-perform_line-in-Rest-2-clause-steps : goal.returns-in_ok-perform_line-in-Rest-2-clause-steps
 returns-in_ok-perform_line-in-Rest-2-clause-steps g c =
@@ -72,7 +69,7 @@ returns-in_ok-perform_line-in-Rest-2-clause-steps g c =
     (prepend_known ahead (remaining c.next_line.new.reader)) bytes (Ok found.Rest))
     (sym c.perform_line-in-Rest-2.ensures.ahead) was in
     let some : 1 ≤ length bytes = grind arith in
-    ended_with_line g.T.Performer.play c.args.self.now.carried c.args.number _ _ _ _ _ _ _ _ bytes c.requires.number read.0 some
+    ended_with_line g.T.Performer.play _ _ _ bytes _ c.requires.number read.0 some
     read.1 read.2 c.in_ok-perform_line-in-Rest-2.ensures.performs
 
 pub returns-in-TooLong-clause-steps : goal.returns-in-TooLong-clause-steps
@@ -82,4 +79,4 @@ returns-in-TooLong-clause-steps g c =
     let read = subst (λ f. ReadsLine (prepend_known c.args.self.now.ahead (remaining c.args.reader.now))
     (prepend_known c.next_line.new.ahead (remaining c.next_line.new.reader)) bytes (Ok f)) c.in-TooLong.is
     c.in_ok-next_line.ensures.line in
-    too_long_stops g.T.Performer.play c.args.self.now.carried c.args.number _ _ _ _ _ bytes read
+    too_long_stops g.T.Performer.play _ _ _ _ bytes read

@@ -316,8 +316,8 @@ goes_on_from handles again old new piece size filled end before now fills is fir
 on_after : {S F : Type 0} (handles : Handles S F) (held piece later : List ℕ) (apdu : Apdu) (before now after : S)
     (result : Result (Option DerFault) F) (new : FeedState)
     → Begins (held ++ piece) (apdu ∷ []) later → handles before apdu (Ok tt) now
-    → HandlesRest handles (Ok held) later now result new after
-    → HandlesEach handles (Ok held) piece before result new after
+    → HandlesRest handles (Ok held, now) later result (new, after)
+    → HandlesEach handles (Ok held, before) piece result (new, after)
 on_after handles held piece later apdu before now after (Ok fault) new begins first on =
     let others = on.1 in
     let feeds = others.1 in (
@@ -338,9 +338,9 @@ pub goes_on_after : {S F : Type 0} (handles : Handles S F) → AgainLaw
     (feed : FeedState)
     → Fills old new size piece filled → Holds size old → was ≡ Ok (take size old)
     → HandlesFirst handles (take filled new) before (Ok (Ok end)) now
-    → HandlesRest handles (Ok (take size new)) (take (length piece - (end - size)) (drop (end - size) piece)) now result feed
-    after
-    → HandlesEach handles was piece before result feed after
+    → HandlesRest handles (Ok (take size new), now) (take (length piece - (end - size)) (drop (end - size) piece)) result
+    (feed, after)
+    → HandlesEach handles (was, before) piece result (feed, after)
 goes_on_after handles again old new piece size filled end before now after was result feed fills is opened first on =
     let held = take size old in
     let there = goes_on_from handles again old new piece size filled end before now fills is first in
@@ -350,20 +350,21 @@ goes_on_after handles again old new piece size filled end before now after was r
     let apdu = first.2 in
     let begins = begins_held held piece (take filled new) (filled - size) end apdu.0 few fills.parts later first.1 apdu.1 in
     let begun = subst (λ (n : ℕ). Begins (held ++ piece) (apdu.0 ∷ []) (drop (end - n) piece)) long begins in
-    let on_rest = subst (λ (x : List ℕ). HandlesRest handles (Ok (take size new)) x now result feed after)
+    let on_rest = subst (λ (x : List ℕ). HandlesRest handles (Ok (take size new), now) x result (feed, after))
     (take_rest piece (end - size)) on in
-    let on_held = subst (λ (x : List ℕ). HandlesRest handles (Ok x) (drop (end - size) piece) now result feed after)
+    let on_held = subst (λ (x : List ℕ). HandlesRest handles (Ok x, now) (drop (end - size) piece) result (feed, after))
     (still_held old new piece size filled fills) on_rest in
-    subst (λ (h : FeedState). HandlesEach handles h piece before result feed after) (sym opened)
+    subst (λ (h : FeedState). HandlesEach handles (h, before) piece result (feed, after)) (sym opened)
     (on_after handles held piece (drop (end - size) piece) apdu.0 before now after result feed begun apdu.2 on_held)
 
 -- If nothing was held, handling `piece` has the outcome of a push of `piece`.
 on_alone : {S F : Type 0} (handles : Handles S F) (held piece : List ℕ) (before after : S) (result : Result (Option DerFault) F)
     (new : FeedState)
     → held ≡ []
-    → HandlesRest handles (Ok held) piece before result new after → HandlesEach handles (Ok held) piece before result new after
+    → HandlesRest handles (Ok held, before) piece result (new, after)
+    → HandlesEach handles (Ok held, before) piece result (new, after)
 on_alone handles held piece before after (Ok fault) new none on =
-    subst (λ (x : List ℕ). HandlesEach handles (Ok x) piece before (Ok fault) new after) (sym none) on
+    subst (λ (x : List ℕ). HandlesEach handles (Ok x, before) piece (Ok fault) (new, after)) (sym none) on
 on_alone handles held piece before after (Err fault) new none on =
     (on.0, subst (λ (x : List ℕ). FailsIn handles (x ++ piece) before fault after) (sym none) on.1)
 
@@ -371,18 +372,18 @@ on_alone handles held piece before after (Err fault) new none on =
 pub goes_on_alone : {S F : Type 0} (handles : Handles S F) (held piece : List ℕ) (before after : S) (was : FeedState)
     (result : Result (Option DerFault) F) (new : FeedState)
     → was ≡ Ok held → held ≡ []
-    → HandlesRest handles was piece before result new after → HandlesEach handles was piece before result new after
+    → HandlesRest handles (was, before) piece result (new, after) → HandlesEach handles (was, before) piece result (new, after)
 goes_on_alone handles held piece before after was result new opened none on =
-    subst (λ (h : FeedState). HandlesEach handles h piece before result new after) (sym opened)
+    subst (λ (h : FeedState). HandlesEach handles (h, before) piece result (new, after)) (sym opened)
     (on_alone handles held piece before after result new none
-    (subst (λ (h : FeedState). HandlesRest handles h piece before result new after) opened on))
+    (subst (λ (h : FeedState). HandlesRest handles (h, before) piece result (new, after)) opened on))
 
 -- If `held ++ piece` begins with no APDU and leaves `new`, a push of `piece` handles no APDU and keeps the state.
 pub all_left : {S F : Type 0} (handles : Handles S F) (held piece : List ℕ) (before after : S) (was new : FeedState)
     → was ≡ Ok held → Leaves (held ++ piece) new → after ≡ before
-    → HandlesEach handles was piece before (Ok (fault_of new)) new after
+    → HandlesEach handles (was, before) piece (Ok (fault_of new)) (new, after)
 all_left handles held piece before after was new opened leaves same =
-    subst (λ (h : FeedState). HandlesEach handles h piece before (Ok (fault_of new)) new after) (sym opened)
+    subst (λ (h : FeedState). HandlesEach handles (h, before) piece (Ok (fault_of new)) (new, after)) (sym opened)
     (refl, ([], (held ++ piece, begins_none (held ++ piece), leaves), same))
 
 -- A fault of the filled bytes other than Short is the fault of the held bytes followed by all of `piece`.

@@ -53,11 +53,11 @@ HandlesAll handles bytes before (Ok (at, fault)) after =
 HandlesAll handles bytes before (Err fault) after = FailsIn handles bytes before fault after
 
 -- `bytes`, the rest of a piece after the APDU that the held bytes began, were handled as by an empty feed.
-abbrev pub HandlesRest : {S F : Type 0} → Handles S F → FeedState → List ℕ → S → Result (Option DerFault) F → FeedState → S
-    → Type 0
-HandlesRest handles old bytes before (Ok fault) new after =
-    HandlesEach handles (Ok []) bytes before (Ok fault) new after
-HandlesRest handles old bytes before (Err fault) new after =
+abbrev pub HandlesRest : {S F : Type 0} → Handles S F → FeedState × S → List ℕ → Result (Option DerFault) F →
+    FeedState × S → Type 0
+HandlesRest handles (old, before) bytes (Ok fault) (new, after) =
+    HandlesEach handles (Ok [], before) bytes (Ok fault) (new, after)
+HandlesRest handles (old, before) bytes (Err fault) (new, after) =
     (new ≡ old) × FailsIn handles bytes before fault after
 
 -- If the collector handles an APDU with success, the APDU is appended to its list.

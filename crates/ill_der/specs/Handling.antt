@@ -26,12 +26,12 @@ abbrev pub FailsAt : {S F : Type 0} → Handles S F → FeedState → List ℕ �
 FailsAt handles (Ok held) piece before fault after = FailsIn handles (held ++ piece) before fault after
 FailsAt handles (Err closed) piece before fault after = ⊥
 
--- `piece` was pushed and its APDUs were handled, which led to the feed `new` and the state `after`.
--- If handling failed, the feed is unchanged.
-abbrev pub HandlesEach : {S F : Type 0} → Handles S F → FeedState → List ℕ → S → Result (Option DerFault) F → FeedState → S
-    → Type 0
-HandlesEach handles old piece before (Ok fault) new after =
+-- `piece` was pushed and its APDUs were handled. This led from the feed `old` and the state `before` to the feed
+-- `new` and the state `after`. If handling failed, the feed is unchanged.
+abbrev pub HandlesEach : {S F : Type 0} → Handles S F → FeedState × S → List ℕ → Result (Option DerFault) F →
+    FeedState × S → Type 0
+HandlesEach handles (old, before) piece (Ok fault) (new, after) =
     (fault ≡ fault_of new)
     × ((apdus : List Apdu) × Feeds old piece apdus new × Handled handles before apdus after)
-HandlesEach handles old piece before (Err fault) new after =
+HandlesEach handles (old, before) piece (Err fault) (new, after) =
     (new ≡ old) × FailsAt handles old piece before fault after

@@ -89,8 +89,9 @@ impl Feed {
         context: &mut C,
         handler: &mut H,
     ) -> Result<Option<DerFault>, H::Fault>
-        ensures { HandlesEach H.handles self.old piece.now (handler.old, context.old) result self.new
-            (handler.new, context.new) }
+        ensures { HandlesEach H.handles
+            (self.old, (handler.old, context.old)) piece.now result
+            (self.new, (handler.new, context.new)) }
     {
         match self.closed {
             None => self.complete(piece, context, handler),
@@ -120,8 +121,9 @@ impl Feed {
         handler: &mut H,
     ) -> Result<Option<DerFault>, H::Fault>
         requires { IsOk self.old }
-        ensures { HandlesEach H.handles self.old piece.now (handler.old, context.old) result self.new
-            (handler.new, context.new) }
+        ensures { HandlesEach H.handles
+            (self.old, (handler.old, context.old)) piece.now result
+            (self.new, (handler.new, context.new)) }
     {
         laws::read_again();
         laws::short_has_the_size();
@@ -157,8 +159,9 @@ impl Feed {
         handler: &mut H,
     ) -> Result<Option<DerFault>, H::Fault>
         requires { IsOk self.old }
-        ensures { HandlesRest H.handles self.old bytes.now (handler.old, context.old) result self.new
-            (handler.new, context.new) }
+        ensures { HandlesRest H.handles
+            (self.old, (handler.old, context.old)) bytes.now result
+            (self.new, (handler.new, context.new)) }
     {
         match handle_all(self.alloc, bytes, context, handler) {
             Ok((at, fault)) => Ok(self.leave(&bytes[at..], fault)),

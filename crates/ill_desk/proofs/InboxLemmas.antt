@@ -1,5 +1,5 @@
 -- Proves how the command `inbox` reads the message of a mail and ends a run.
-use Rattle.std.proofs.Common.{◌≡◌, ℕ, ◌+◌, ◌≤◌, List, [], ◌∷◌, ◌++◌, Option, Result, Ok, Err, IfOk, length, drop, refl, ap, sym}
+use Rattle.std.proofs.Common.{◌≡◌, ℕ, ◌+◌, ◌≤◌, List, [], ◌∷◌, ◌++◌, Result, Ok, Err, IfOk, length, drop, refl, ap, sym}
 use Rattle.std.proofs.Common.{arith, ◌∙◌}
 use Rattle.std.proofs.lemmas.List.{length-drop}
 use Rattle.ill_values.specs.declared.apdu.Apdu.{Apdu}
@@ -10,7 +10,7 @@ use Rattle.ill_saved.specs.ManySides.{DeskContents, many_sides}
 use Rattle.ill_desk.specs.declared.verdict.Mail.{Mail}
 use Rattle.ill_desk.specs.declared.verdict.Verdict.{Verdict}
 use Rattle.ill_desk.specs.declared.tally.Tally.{Tally}
-use Rattle.ill_desk.specs.Performing.{HeldAndLanded}
+use Rattle.ill_desk.specs.Performing.{CommandState}
 use Rattle.ill_text.specs.declared.fault.ToolFault.{ToolFault}
 use Rattle.ill_desk.specs.Inbox.{EndedWell, RunsInbox, Sorting, answered_with, concluded, inbox_text, one_message, tally_line}
 use Rattle.ill_desk.specs.Inbox.{tally_of}
@@ -39,11 +39,10 @@ concluded_is waiting sorted end verdicts tally told is all counted text =
     ∙ ap (concluded waiting) is
 
 -- If a run of `inbox` over `mails` returns verdicts, it has ended well.
-pub ended_if_ok : {X : Type 0} (items : X → List Verdict) (mails : List Mail) (waiting : ℕ)
-    (kept_before kept_after before after : Option (List ℕ)) (old new : HeldAndLanded DeskContents) (result : Result X ToolFault)
-    → RunsInbox many_sides mails waiting kept_before kept_after before after old (answered_with items result) new
-    → IfOk result (λ verdicts. EndedWell mails (items verdicts) new)
+pub ended_if_ok : {X : Type 0} (items : X → List Verdict) (mails : List Mail) (waiting : ℕ) (old new : CommandState DeskContents)
+    (result : Result X ToolFault)
+    → RunsInbox many_sides mails waiting old (answered_with items result) new
+    → IfOk result (λ verdicts. EndedWell mails (items verdicts) new.desk)
 unfolding EndedWell
-ended_if_ok items mails waiting kept_before kept_after before after old new (Ok verdicts) runs =
-    (waiting, kept_before, kept_after, before, after, old, runs)
-ended_if_ok items mails waiting kept_before kept_after before after old new (Err fault) runs = tt
+ended_if_ok items mails waiting old new (Ok verdicts) runs = (waiting, old, new, runs, refl)
+ended_if_ok items mails waiting old new (Err fault) runs = tt

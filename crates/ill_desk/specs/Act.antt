@@ -6,8 +6,8 @@ use Rattle.ill_words.specs.declared.outcome.DeskOutcome.{DeskOutcome}
 use Rattle.ill_text.specs.declared.fault.ToolFault.{ToolFault}
 use Rattle.ill_text.specs.declared.fault.ToolFault.TheVariants.{Arguments, OutOfMemory}
 use Rattle.ill_saved.specs.Holdings.{Effects}
-use Rattle.ill_desk.specs.Performing.{HeldAndLanded, acted, Performs}
-use Rattle.ill_desk.specs.Telling.{side_line, Reports}
+use Rattle.ill_desk.specs.Performing.{HeldAndLanded, CommandState, acted, Performs}
+use Rattle.ill_desk.specs.Telling.{shown_at, side_line, Reports}
 
 -- An action on the side `key` leads from `old` to `new`, with this result. It was done and saved. Or it was
 -- refused, and nothing changed. Or it was done, and the save failed. Or memory ran out before it was done or
@@ -17,13 +17,17 @@ abbrev pub ActsAndSaves : {L K : Type 0} → Effects L K → K → HeldAndLanded
 ActsAndSaves effects key old action result new =
     Performs effects (Unit {0}) old (acted old.live (effects.acts old.live key action)) result new
 
+-- The fault of words that name no action, or of want of memory to read them.
+abbrev pub NamesNone : Option Action → ToolFault → Type 0
+NamesNone named fault = ((fault ≡ Arguments) × (named ≡ None)) ⊎ (fault ≡ OutOfMemory)
+
 -- The command `act`. If the words name an action, it was performed, and its line written. If they name none,
 -- nothing changed. The fault `OutOfMemory` is possible in both cases.
-abbrev pub RunsAct : {L K : Type 0} → Effects L K → K → Option Action → HeldAndLanded L → Option (List ℕ) →
-    Option (List ℕ) → Result Bool ToolFault → HeldAndLanded L → Type 0
-RunsAct effects key (Some action) old before after result new =
+abbrev pub RunsAct : {L K : Type 0} → Effects L K → K → Option Action → CommandState L → Result Bool ToolFault →
+    CommandState L → Type 0
+RunsAct effects key (Some action) old result new =
     (performed : Result DeskOutcome ToolFault) × (text : List ℕ)
-    × ActsAndSaves effects key old action performed new × Appends before after text
-    × Reports side_line performed (effects.side_for key new.live) text result
-RunsAct effects key None old before after result new =
-    ((result ≡ Err Arguments) ⊎ (result ≡ Err OutOfMemory)) × (new ≡ old) × Appends before after []
+    × ActsAndSaves effects key old.desk action performed new.desk × Appends old.written new.written text
+    × Reports side_line performed (shown_at effects key new.desk.live) text result
+RunsAct effects key None old result new =
+    ((result ≡ Err Arguments) ⊎ (result ≡ Err OutOfMemory)) × (new.desk ≡ old.desk) × Appends old.written new.written []

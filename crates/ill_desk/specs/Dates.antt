@@ -1,6 +1,6 @@
 -- The deeds that a date makes due for a responder (this profile's own). They are Overdue in an overdue loan,
 -- and Expire of a request whose last day is past.
-use Rattle.std.specs.Prelude.{ℕ, Bool, true, ◌&&◌, if◌then◌else◌, List, [], ◌∷◌, ◌++◌, fold, Option, None, Some, option_map}
+use Rattle.std.specs.Prelude.{ℕ, Bool, ◌&&◌, if◌then◌else◌, List, [], ◌∷◌, ◌++◌, fold, Option, None, Some, option_map}
 use Rattle.std.specs.Prelude.{Result, Ok, Err}
 use Rattle.std.specs.List.{filter_map, flat_map}
 use Rattle.ill_values.specs.Day.{Date}
@@ -23,8 +23,8 @@ use Rattle.ill_desk.specs.declared.dates.Dates.{Dates}
 use Rattle.ill_desk.specs.declared.dates.Due.{Due}
 use Rattle.ill_saved.specs.Holdings.{Effects}
 use Rattle.ill_text.specs.LongLines.{word}
-use Rattle.ill_desk.specs.Performing.{HeldAndLanded, has_any, Run, EndsRun}
-use Rattle.ill_desk.specs.Telling.{as_told, done_line}
+use Rattle.ill_desk.specs.Performing.{CommandState, has_any, Run, EndsRun}
+use Rattle.ill_desk.specs.Telling.{done_line, once_saved, shown_at}
 use Rattle.ill_words.specs.Waiting.{is_sooner}
 
 -- ---- the deed of a loan
@@ -101,7 +101,7 @@ after_deeds effects today live dues = fold (after_deed effects today) (doing liv
 abbrev pub deed_line : {L : Type 0} → Effects L Qualifiers → L → Due → List ℕ
 deed_line effects live due =
     word due.txn.group ++ (word due.txn.transaction ++ (word (verb_name (deed_verb due.deed))
-    ++ done_line (as_told true (effects.side_for due.txn live))))
+    ++ done_line (once_saved (shown_at effects due.txn live))))
 
 -- Returns the lines of all deeds of `done`.
 abbrev pub deed_lines : {L : Type 0} → Effects L Qualifiers → L → List Due → List ℕ
@@ -119,14 +119,14 @@ deeds_run effects end = record {
 }
 
 -- The deeds `dues` were attempted on the day `today`, saved at once, and the lines of the done ones written.
--- The output grew from `before` to `after`, and the desk went from `old` to `new`.
-abbrev pub RunsDeeds : {L : Type 0} → Effects L Qualifiers → Date → List Due → Option (List ℕ) → Option (List ℕ) →
-    HeldAndLanded L → Result (Unit {0}) ToolFault → HeldAndLanded L → Type 0
-RunsDeeds effects today dues before after old result new =
-    EndsRun effects (deeds_run effects (after_deeds effects today old.live dues)) before after old result new
+-- The state of the command went from `old` to `new`.
+abbrev pub RunsDeeds : {L : Type 0} → Effects L Qualifiers → Date → List Due → CommandState L →
+    Result (Unit {0}) ToolFault → CommandState L → Type 0
+RunsDeeds effects today dues old result new =
+    EndsRun effects (deeds_run effects (after_deeds effects today old.desk.live dues)) old result new
 
 -- All deeds that are due on the day `today` were attempted at a desk, as `RunsDeeds` says.
-abbrev pub RunsDates : Dates → Date → Option (List ℕ) → Option (List ℕ) → HeldAndLanded DeskContents →
-    Result (Unit {0}) ToolFault → HeldAndLanded DeskContents → Type 0
-RunsDates which today before after old result new =
-    RunsDeeds many_sides today (all_due which today (sides_held old.live).sides) before after old result new
+abbrev pub RunsDates : Dates → Date → CommandState DeskContents → Result (Unit {0}) ToolFault →
+    CommandState DeskContents → Type 0
+RunsDates which today old result new =
+    RunsDeeds many_sides today (all_due which today (sides_held old.desk.live).sides) old result new

@@ -32,9 +32,9 @@ use Rattle.ill_desk.specs.declared.tally.Tally.{Tally}
 use Rattle.ill_desk.specs.declared.inbox.Sorted.{Sorted}
 use Rattle.ill_text.specs.Escape.{escaped}
 use Rattle.ill_saved.specs.Holdings.{Effects}
-use Rattle.ill_desk.specs.Performing.{HeldAndLanded, handed, is_change, has_any, Run, EndsRun}
+use Rattle.ill_desk.specs.Performing.{HeldAndLanded, CommandState, handed, is_change, has_any, Run, EndsRun}
 use Rattle.ill_desk.specs.Take.{KeepsBefore}
-use Rattle.ill_desk.specs.Telling.{as_told, long}
+use Rattle.ill_desk.specs.Telling.{long, once_saved, shown_at}
 
 -- ---- the message of a mail
 
@@ -163,7 +163,7 @@ abbrev pub with_message : {L K : Type 0} → Effects L K → List ℕ → Apdu �
 with_message effects bytes a outcome live old = record {
   live = live;
   verdicts = old.verdicts;
-  told = old.told ++ long a outcome (as_told true (effects.side_for (effects.key_of a) live));
+  told = old.told ++ long a outcome (once_saved (shown_at effects (effects.key_of a) live));
   kept = old.kept ++ kept_bytes outcome bytes;
 }
 
@@ -285,20 +285,20 @@ abbrev pub answered_with : {X Y : Type 0} → (X → Y) → Result X ToolFault �
 answered_with value (Ok answer) = Ok (value answer)
 answered_with value (Err fault) = Err fault
 
--- A run took `mails`, with `waiting` further mails left. The kept bytes, the output and the desk went from
--- before to after it. Taken messages are kept before they are saved.
-abbrev pub RunsInbox : {L K : Type 0} → Effects L K → List Mail → ℕ → Option (List ℕ) → Option (List ℕ) →
-    Option (List ℕ) → Option (List ℕ) → HeldAndLanded L → Result (List Verdict) ToolFault → HeldAndLanded L → Type 0
-RunsInbox effects mails waiting kept_before kept_after before after old result new =
-    KeepsBefore (after_mails effects old.live mails).kept result kept_before kept_after old new
-    × EndsRun effects (inbox_run (after_mails effects old.live mails) waiting) before after old result new
+-- A run took `mails`, with `waiting` further mails left. The state of the command went from `old` to `new`. Taken
+-- messages are kept before they are saved.
+abbrev pub RunsInbox : {L K : Type 0} → Effects L K → List Mail → ℕ → CommandState L →
+    Result (List Verdict) ToolFault → CommandState L → Type 0
+RunsInbox effects mails waiting old result new =
+    KeepsBefore (after_mails effects old.desk.live mails).kept result old new
+    × EndsRun effects (inbox_run (after_mails effects old.desk.live mails) waiting) old result new
 
 -- A run over `mails` ended without a fault and with these verdicts, at a desk that is `new` now. So all its
 -- changes are saved.
 unfoldable pub EndedWell : List Mail → List Verdict → HeldAndLanded DeskContents → Type 0
 EndedWell mails verdicts new =
-    (waiting : ℕ) × (kept_before kept_after before after : Option (List ℕ)) × (old : HeldAndLanded DeskContents)
-    × RunsInbox many_sides mails waiting kept_before kept_after before after old (Ok verdicts) new
+    (waiting : ℕ) × (old end : CommandState DeskContents)
+    × RunsInbox many_sides mails waiting old (Ok verdicts) end × (end.desk ≡ new)
 
 -- ---- the answer
 

@@ -14,15 +14,14 @@ use Rattle.ill_der.specs.ShortForm.{spelling}
 use Rattle.ill_core.specs.Issued.{is_same_txn}
 use Rattle.ill_saved.specs.declared.role.Role.{Role}
 use Rattle.ill_saved.specs.declared.side.Side.{Side}
-use Rattle.ill_saved.specs.declared.fault.DeskFault.TheVariants.{Store}
-use Rattle.ill_saved.specs.declared.store.StoreFault.TheVariants.{Failed}
 use Rattle.ill_saved.specs.Side.{role_of, issued_of, txn_of}
 use Rattle.ill_words.specs.Sending.{is_over, wants_sending}
 use Rattle.ill_saved.specs.Sides.{side_with}
 use Rattle.ill_saved.specs.Holdings.{DeskEntry}
 use Rattle.ill_saved.specs.ManySides.{DeskContents, sides_held}
 use Rattle.ill_text.specs.declared.fault.ToolFault.{ToolFault}
-use Rattle.ill_text.specs.declared.fault.ToolFault.TheVariants.{Desk, OutOfMemory}
+use Rattle.ill_text.specs.declared.fault.ToolFault.TheVariants.{OutOfMemory}
+use Rattle.ill_text.specs.Fault.{IsFileFault}
 use Rattle.ill_desk.specs.declared.verdict.Mail.{Mail}
 use Rattle.ill_desk.specs.declared.verdict.Verdict.{Verdict}
 use Rattle.ill_desk.specs.declared.verdict.Verdict.TheVariants.{Done}
@@ -111,10 +110,6 @@ abbrev pub issue_of : Leaving → Issue
 issue_of leaving = record { side = leaving.side.now; apdu = leaving.apdu.now }
 
 -- ---- the outlets
-
--- The fault is a failure of a folder or a stream, or a lack of memory.
-abbrev pub IsFileFault : ToolFault → Type 0
-IsFileFault fault = (fault ≡ Desk (Store Failed)) ⊎ (fault ≡ OutOfMemory)
 
 -- Returns the content of an outlet after one more mail, if the content is known.
 abbrev pub after_one : {M : Type 0} → (M → Letter → M) → Option M → Letter → Option M

@@ -38,6 +38,26 @@ known store = known_if store.is_honest store.landed
 abbrev pub view_of : {L S : Type 0} → (S → StoreState) → DeskOf L S → HeldAndLanded L
 view_of state desk = record { live = desk.live; landed = known (state desk.store) }
 
+-- The state of a command: the desk, what is left of its input, what it keeps of the messages that came, and its output.
+-- A stream whose bytes are not known, or that the command does not have, is `None`.
+pub record CommandState (L : Type 0) : Type 0 where
+  pub desk : HeldAndLanded L
+  pub unread : Option (List ℕ)
+  pub kept : Option (List ℕ)
+  pub written : Option (List ℕ)
+
+-- Returns the state of a command that reads no input and keeps nothing.
+abbrev pub command_state : {L : Type 0} → HeldAndLanded L → Option (List ℕ) → CommandState L
+command_state desk written = record { desk = desk; unread = None; kept = None; written = written }
+
+-- Returns `state` with the kept bytes `kept`.
+abbrev pub with_kept : {L : Type 0} → Option (List ℕ) → CommandState L → CommandState L
+with_kept kept state = record state { kept = kept }
+
+-- Returns `state` with the input `unread`.
+abbrev pub with_input : {L : Type 0} → Option (List ℕ) → CommandState L → CommandState L
+with_input unread state = record state { unread = unread }
+
 -- Returns the state in which the desk holds `live`, which is not saved yet.
 abbrev pub with_sides : {L : Type 0} → HeldAndLanded L → L → HeldAndLanded L
 with_sides old live = record old { live = live }
@@ -129,13 +149,14 @@ after_run effects old run =
 -- lines written. After the fault `Write` all is saved, and a prefix of the lines written. If the save failed,
 -- the store has the old record or the new one, and nothing is written. If memory ran out, the store has the
 -- old record, and nothing is written.
-abbrev pub EndsRun : {L K A : Type 0} → Effects L K → Run L A → Option (List ℕ) → Option (List ℕ) → HeldAndLanded L →
-    Result A ToolFault → HeldAndLanded L → Type 0
-EndsRun effects run before after old (Ok answer) new =
-    (answer ≡ run.answer) × Appends before after run.told × (new ≡ after_run effects old run)
-EndsRun effects run before after old (Err Write) new =
-    ((size : ℕ) × Appends before after (take size run.told)) × (new ≡ after_run effects old run)
-EndsRun effects run before after old (Err (Desk (desks.Store Failed))) new =
-    (after ≡ before) × (run.has_changed ≡ true) × IsFaulted effects (with_sides old run.live) new
-EndsRun effects run before after old (Err OutOfMemory) new = (after ≡ before) × (new.landed ≡ old.landed)
-EndsRun effects run before after old (Err other) new = ⊥
+abbrev pub EndsRun : {L K A : Type 0} → Effects L K → Run L A → CommandState L → Result A ToolFault → CommandState L →
+    Type 0
+EndsRun effects run old (Ok answer) new =
+    (answer ≡ run.answer) × Appends old.written new.written run.told × (new.desk ≡ after_run effects old.desk run)
+EndsRun effects run old (Err Write) new =
+    ((size : ℕ) × Appends old.written new.written (take size run.told)) × (new.desk ≡ after_run effects old.desk run)
+EndsRun effects run old (Err (Desk (desks.Store Failed))) new =
+    (new.written ≡ old.written) × (run.has_changed ≡ true) × IsFaulted effects (with_sides old.desk run.live) new.desk
+EndsRun effects run old (Err OutOfMemory) new =
+    (new.written ≡ old.written) × (new.desk.landed ≡ old.desk.landed)
+EndsRun effects run old (Err other) new = ⊥

@@ -1,5 +1,6 @@
 -- The command `take`: it hands each APDU of an input to its side, and saves if the APDU was taken.
 use Rattle.std.specs.Prelude.{◌≡◌, ◌⊎◌, ℕ, ◌≤◌, Bool, true, false, ◌&&◌, List, [], take, Option, None, Result, Ok, Err}
+use Rattle.std.specs.Borrow.{GName}
 use Rattle.std.specs.Io.KnownBytes.{Appends}
 use Rattle.ill_values.specs.declared.apdu.Apdu.{Apdu}
 use Rattle.ill_words.specs.declared.outcome.DeskOutcome.{DeskOutcome}
@@ -11,9 +12,10 @@ use Rattle.ill_der.specs.ShortForm.{spelling}
 use Rattle.ill_der.specs.Handling.{Handles}
 use Rattle.ill_text.specs.Input.{ReadsInput}
 use Rattle.ill_saved.specs.Holdings.{Effects, WantsMemory}
-use Rattle.ill_desk.specs.Performing.{HeldAndLanded, handed, is_change, saved, IsFaulted, Performs}
+use Rattle.ill_desk.specs.Performing.{HeldAndLanded, CommandState, with_input, handed, is_change, saved}
+use Rattle.ill_desk.specs.Performing.{IsFaulted, Performs}
 use Rattle.ill_text.specs.Fault.{ToolFailsCounted}
-use Rattle.ill_desk.specs.Telling.{is_fine, Wording, Reports}
+use Rattle.ill_desk.specs.Telling.{is_fine, shown_at, Wording, Reports}
 
 -- ---- one message
 
@@ -42,21 +44,19 @@ KeepsPrefix text before after (Err other) = ⊥
 
 -- `text` is kept before the store changes. If it was kept only in part, the content of the store is
 -- unchanged.
-abbrev pub KeepsBefore : {L X : Type 0} → List ℕ → Result X ToolFault → Option (List ℕ) → Option (List ℕ) →
-    HeldAndLanded L → HeldAndLanded L → Type 0
-KeepsBefore text (Ok done) before after old new = Appends before after text
-KeepsBefore text (Err fault) before after old new =
-    Appends before after text
-    ⊎ ((size : ℕ) × Appends before after (take size text) × (new.landed ≡ old.landed))
+abbrev pub KeepsBefore : {L X : Type 0} → List ℕ → Result X ToolFault → CommandState L → CommandState L → Type 0
+KeepsBefore text (Ok done) old new = Appends old.kept new.kept text
+KeepsBefore text (Err fault) old new =
+    Appends old.kept new.kept text
+    ⊎ ((size : ℕ) × Appends old.kept new.kept (take size text) × (new.desk.landed ≡ old.desk.landed))
 
 -- The message `a` is kept if it was taken and `is_kept` is true. After a fault it is kept before the store
 -- changes.
-abbrev pub KeepsTaken : {L : Type 0} → Bool → Apdu → Result DeskOutcome ToolFault → Option (List ℕ) →
-    Option (List ℕ) → HeldAndLanded L → HeldAndLanded L → Type 0
-KeepsTaken is_kept a (Ok outcome) before after old new =
-    Appends before after (kept_text (is_change outcome && is_kept) a)
-KeepsTaken is_kept a (Err fault) before after old new =
-    KeepsBefore {X = Unit {0}} (kept_text is_kept a) (Err fault) before after old new
+abbrev pub KeepsTaken : {L : Type 0} → Bool → Apdu → Result DeskOutcome ToolFault → CommandState L → CommandState L →
+    Type 0
+KeepsTaken is_kept a (Ok outcome) old new =
+    Appends old.kept new.kept (kept_text (is_change outcome && is_kept) a)
+KeepsTaken is_kept a (Err fault) old new = KeepsBefore {X = Unit {0}} (kept_text is_kept a) (Err fault) old new
 
 -- The save of a taken message leads from `old` to `new`. It succeeded, or it failed, or memory ran out and
 -- nothing changed.
@@ -73,56 +73,63 @@ CountsTaking is_kept answer old new = (old ≤ new) × (is_kept ≡ false → To
 
 -- ---- the command
 
--- The state of the command: the desk, the kept bytes, the output, and true if all went well so far.
+-- The progress of the command: its state, and true if all went well so far.
 pub record Progress (L : Type 0) : Type 0 where
-  pub view : HeldAndLanded L
-  pub came : Option (List ℕ)
-  pub written : Option (List ℕ)
+  pub state : CommandState L
   pub fine : Bool
 
--- Returns the state with these four parts.
-abbrev pub progress : {L : Type 0} → HeldAndLanded L → Option (List ℕ) → Option (List ℕ) → Bool → Progress L
-progress view came written fine = record { view = view; came = came; written = written; fine = fine }
+-- Returns the progress of these two parts. The input, which is read between the messages, is left out.
+abbrev pub progress : {L : Type 0} → CommandState L → Bool → Progress L
+progress state fine = record { state = with_input None state; fine = fine }
 
 -- The message `a` was handed to its side, kept and saved if it was taken, and its outcome written. If memory
 -- ran out to read it, nothing changed. After any other fault this was done up to the fault.
 abbrev pub TakesMessage : {L K : Type 0} → Bool → Wording → Effects L K → Handles (Progress L) ToolFault
 TakesMessage is_kept told effects old a (Ok done) new =
-    (outcome : DeskOutcome) × TakesAndSaves effects old.view a (Ok outcome) new.view
-    × KeepsTaken is_kept a (Ok outcome) old.came new.came old.view new.view
-    × Appends old.written new.written (told a outcome (effects.side_for (effects.key_of a) new.view.live))
+    (outcome : DeskOutcome) × TakesAndSaves effects old.state.desk a (Ok outcome) new.state.desk
+    × KeepsTaken is_kept a (Ok outcome) old.state new.state
+    × Appends old.state.written new.state.written
+    (told a outcome (shown_at effects (effects.key_of a) new.state.desk.live))
     × (new.fine ≡ old.fine && is_fine outcome)
 TakesMessage is_kept told effects old a (Err fault) new =
     ((fault ≡ OutOfMemory) × (new ≡ old))
     ⊎ ((performed : Result DeskOutcome ToolFault) × (text : List ℕ)
-    × TakesAndSaves effects old.view a performed new.view
-    × KeepsTaken is_kept a performed old.came new.came old.view new.view
-    × Appends old.written new.written text
-    × Reports (told a) performed (effects.side_for (effects.key_of a) new.view.live) text (Err fault))
+    × TakesAndSaves effects old.state.desk a performed new.state.desk
+    × KeepsTaken is_kept a performed old.state new.state
+    × Appends old.state.written new.state.written text
+    × Reports (told a) performed (shown_at effects (effects.key_of a) new.state.desk.live) text (Err fault))
 
 -- Returns the answer of the command: its fault, or the flag `fine`.
 abbrev pub answer_of : Result ℕ ToolFault → Bool → Result Bool ToolFault
 answer_of (Ok count) fine = Ok fine
 answer_of (Err fault) fine = Err fault
 
--- The command `take`, which writes texts by `told`. The input went from `old` to `new`, and the desk from
--- `from` to `to`. The kept bytes went from `kept_before` to `kept_after`, and the output from `before` to
--- `after`. If the input was read to its end, the answer is true if all went well.
-abbrev pub RunsTaking : {L K : Type 0} → Bool → Wording → Effects L K → Option (List ℕ) → Option (List ℕ) →
-    Option (List ℕ) → Option (List ℕ) → Option (List ℕ) → Option (List ℕ) → HeldAndLanded L → Result Bool ToolFault →
-    HeldAndLanded L → Type 0
-RunsTaking is_kept told effects old new kept_before kept_after before after from result to =
+-- The command `take`, which writes texts by `told`, and keeps the messages if `is_kept` is true. Its state went
+-- from `old` to `new`. If the input was read to its end, the answer is true if all went well.
+abbrev pub RunsTaking : {L K : Type 0} → Bool → Wording → Effects L K → CommandState L → Result Bool ToolFault →
+    CommandState L → Type 0
+RunsTaking is_kept told effects old result new =
     (ended : Result ℕ ToolFault) × (fine : Bool) × (result ≡ answer_of ended fine)
-    × ReadsInput (TakesMessage is_kept told effects) old new (progress from kept_before before true) ended
-    (progress to kept_after after fine)
+    × ReadsInput (TakesMessage is_kept told effects) old.unread new.unread (progress old true) ended (progress new fine)
 
 -- The command `take`, which keeps no message.
-abbrev pub RunsTake : {L K : Type 0} → Wording → Effects L K → Option (List ℕ) → Option (List ℕ) →
-    Option (List ℕ) → Option (List ℕ) → HeldAndLanded L → Result Bool ToolFault → HeldAndLanded L → Type 0
-RunsTake told effects old new before after from result to =
-    RunsTaking false told effects old new None None before after from result to
+abbrev pub RunsTake : {L K : Type 0} → Wording → Effects L K → CommandState L → Result Bool ToolFault →
+    CommandState L → Type 0
+RunsTake told effects old result new = RunsTaking false told effects old result new
 
--- The lent desk and file are unchanged, and the failures of the store are counted.
-abbrev pub KeepsDesk : {X N M : Type 0} → Bool → Result X ToolFault → N → N → M → M → ℕ → ℕ → Type 0
-KeepsDesk is_kept result old new old_came new_came before after =
-    ((new ≡ old) × (new_came ≡ old_came)) × CountsTaking is_kept result before after
+-- ---- the borrowed desk and file
+
+-- The desk and the file that the command has borrowed, by their names, and the number of the store's failures.
+pub record BorrowedParts : Type 0 where
+  pub desk : GName
+  pub file : GName
+  pub failures : ℕ
+
+-- Returns these three parts.
+abbrev pub borrowed_parts : GName → GName → ℕ → BorrowedParts
+borrowed_parts desk file failures = record { desk = desk; file = file; failures = failures }
+
+-- The borrowed desk and file are unchanged, and the failures of the store are counted.
+abbrev pub KeepsBorrowed : {X : Type 0} → Bool → Result X ToolFault → BorrowedParts → BorrowedParts → Type 0
+KeepsBorrowed is_kept result old new =
+    ((new.desk ≡ old.desk) × (new.file ≡ old.file)) × CountsTaking is_kept result old.failures new.failures

@@ -1,17 +1,17 @@
 //! The command `act`.
 
-ghost use Rattle.std.specs.Prelude.{map};
+ghost use Rattle.std.specs.Prelude.{◌≡◌, map, Some, IfOk, IfErr};
 ghost use Rattle.ill_saved.specs.Side.{role_of};
 ghost use Rattle.ill_desk.specs.Actions.{action_named};
 ghost use Rattle.ill_saved.specs.OneSide.{one_side};
 ghost use Rattle.ill_saved.specs.ManySides.{many_sides};
-ghost use Rattle.ill_desk.specs.Performing.{view_of};
+ghost use Rattle.ill_desk.specs.Performing.{command_state, view_of};
 ghost use Rattle.ill_text.specs.Fault.{CountsToolFailure};
-ghost use Rattle.ill_desk.specs.Act.{ActsAndSaves, RunsAct};
+ghost use Rattle.ill_desk.specs.Act.{ActsAndSaves, NamesNone, RunsAct};
 
 use crate::action::action;
 use crate::side_line::report;
-use ill_saved::{Action, AnyDesk, Desk, Desk1, Holdings, Store};
+use ill_saved::{Action, AnyDesk, Desk, Desk1, Holdings, Role, Store};
 use ill_text::fault::{ToolFault, refused};
 use ill_values::{Day, TxnId};
 use ill_words::{DeskOutcome, Outcome};
@@ -33,12 +33,14 @@ pub fn run_act<S: Store, W: Write>(
 ) -> Result<bool, ToolFault>
     ensures runs { RunsAct one_side tt
         (action_named (role_of desk.old.live.side) today (map (λ word. word.now) words.now))
-        (view_of S.state desk.old)
-        (W.contents writer.old) (W.contents writer.new) result
-        (view_of S.state desk.new) }
+        (command_state (view_of S.state desk.old) (W.contents writer.old)) result
+        (command_state (view_of S.state desk.new) (W.contents writer.new)) }
     ensures counted { CountsToolFailure result (S.state desk.old.store).failures (S.state desk.new.store).failures }
 {
-    act_on(alloc, desk, &(), today, words, writer)
+    match named(alloc, desk.role(), today, words) {
+        Ok(action) => perform(alloc, desk, &(), &action, writer),
+        Err(fault) => Err(fault),
+    }
 }
 
 /// Performs the action that `words` name on the side of `txn` at `desk`, as `run_act` does. If the desk lacks the
@@ -54,36 +56,44 @@ pub fn run_desk_act<S: Store, W: Write>(
 ) -> Result<bool, ToolFault>
     ensures runs { RunsAct many_sides txn.now
         (action_named desk.old.live.role today (map (λ word. word.now) words.now))
-        (view_of S.state desk.old)
-        (W.contents writer.old) (W.contents writer.new) result
-        (view_of S.state desk.new) }
+        (command_state (view_of S.state desk.old) (W.contents writer.old)) result
+        (command_state (view_of S.state desk.new) (W.contents writer.new)) }
     ensures counted { CountsToolFailure result (S.state desk.old.store).failures (S.state desk.new.store).failures }
 {
-    act_on(alloc, desk, txn, today, words, writer)
+    match named(alloc, desk.role(), today, words) {
+        Ok(action) => perform(alloc, desk, txn, &action, writer),
+        Err(fault) => Err(fault),
+    }
 }
 
-/// Performs the action that `words` name on the side `key` of `desk`, saves it, and writes its line.
-fn act_on<H: Holdings, S: Store, W: Write>(
+/// Returns the action that `words` name at a side of `role`, or the fault `Arguments` if they name none.
+fn named(alloc: Global, role: Role, today: Option<Day>, words: &[&str]) -> Result<Action, ToolFault>
+    ensures action { IfOk result (λ action. action_named role today (map (λ word. word.now) words.now) ≡ Some action) }
+    ensures fault { IfErr result (λ fault. NamesNone (action_named role today (map (λ word. word.now) words.now)) fault) }
+{
+    match action(alloc, role, today, words) {
+        Ok(Some(action)) => Ok(action),
+        Ok(None) => Err(ToolFault::Arguments),
+        Err(_) => Err(ToolFault::OutOfMemory),
+    }
+}
+
+/// Performs `action` on the side `key` of `desk`, saves it, and writes its line.
+fn perform<H: Holdings, S: Store, W: Write>(
     alloc: Global,
     desk: &mut AnyDesk<H, S>,
     key: &H::Key,
-    today: Option<Day>,
-    words: &[&str],
+    action: &Action,
     writer: &mut W,
 ) -> Result<bool, ToolFault>
-    ensures runs { RunsAct H.effects key.now
-        (action_named (H.effects.role desk.old.live) today (map (λ word. word.now) words.now))
-        (view_of S.state desk.old)
-        (W.contents writer.old) (W.contents writer.new) result
-        (view_of S.state desk.new) }
+    ensures runs { RunsAct H.effects key.now (Some action.now)
+        (command_state (view_of S.state desk.old) (W.contents writer.old)) result
+        (command_state (view_of S.state desk.new) (W.contents writer.new)) }
     ensures counted { CountsToolFailure result (S.state desk.old.store).failures
         (S.state desk.new.store).failures }
 {
-    let Some(action) = action(alloc, desk.role(), today, words)? else {
-        return Err(ToolFault::Arguments);
-    };
-    match act_and_save(alloc, desk, key, &action) {
-        Ok(outcome) => report(alloc, writer, outcome, desk, key),
+    match act_and_save(alloc, desk, key, action) {
+        Ok(outcome) => report(alloc, writer, outcome, desk.shown(key)),
         Err(fault) => Err(fault),
     }
 }

@@ -4,12 +4,11 @@ ghost use Rattle.std.specs.Prelude.{◌≡◌, ◌≤◌, All, Decides, Ok, map,
 ghost use Rattle.ill_saved.specs.Side.{issued_of, IsPrefix};
 ghost use Rattle.ill_saved.specs.ManySides.{sides_held};
 ghost use Rattle.ill_saved.specs.RecordsV2.{records_at, sides_spelling};
-ghost use Rattle.ill_text.specs.Fault.{CountsToolFailure};
+ghost use Rattle.ill_text.specs.Fault.{CountsToolFailure, IsFileFault};
 ghost use Rattle.ill_desk.specs.Performing.{known};
 ghost use Rattle.ill_text.specs.declared.fault.ToolFault.TheVariants.{OutOfMemory};
 ghost use Rattle.ill_desk.specs.Copy.{Copies};
 ghost use Rattle.ill_desk.specs.CopyOver.{CopiesOver, HasLoan, ReplacesKnown, ReplacesRead, ReplacesSides};
-ghost use Rattle.ill_desk.specs.Outbox.{IsFileFault};
 
 use ill_saved::{
     Desk, DeskFault, RecordFault, Side, Sides, Store, StoreFault, decode_record2, encode_record2,

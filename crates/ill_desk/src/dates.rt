@@ -5,11 +5,11 @@ ghost use Rattle.std.specs.Prelude.{◌≡◌, ◌++◌, map, slice_get, IfErr, 
 ghost use Rattle.std.specs.Option.{option_to_list};
 ghost use Rattle.ill_text.specs.declared.fault.ToolFault.TheVariants.{OutOfMemory};
 ghost use Rattle.ill_text.specs.Fault.{CountsToolFailure};
-ghost use Rattle.ill_desk.specs.Performing.{SavesOnce, view_of};
+ghost use Rattle.ill_desk.specs.Performing.{SavesOnce, command_state, view_of};
 ghost use Rattle.ill_desk.specs.Dates.{RunsDates, RunsDeeds, after_deed, after_deeds, all_due, deed_at, deed_by_date, deed_line, deed_lines, doing, due_at, due_in, is_overdue, may_expire};
 
-use crate::side_line::push_done_line;
 use ill_core::{Deed, State};
+use crate::side_line::push_done_line;
 use ill_saved::{Action, AnyDesk, Desk, DeskFault, Holdings, Role, Side, Sides, Store};
 use ill_text::fault::ToolFault;
 use ill_text::long_lines::push_word;
@@ -49,8 +49,8 @@ pub fn run_desk_dates<S: Store, W: Write>(
     which: Dates,
     writer: &mut W,
 ) -> Result<(), ToolFault>
-    ensures runs { RunsDates which today (W.contents writer.old) (W.contents writer.new)
-        (view_of S.state desk.old) result (view_of S.state desk.new) }
+    ensures runs { RunsDates which today (command_state (view_of S.state desk.old) (W.contents writer.old)) result
+        (command_state (view_of S.state desk.new) (W.contents writer.new)) }
     ensures counted { CountsToolFailure result (S.state desk.old.store).failures (S.state desk.new.store).failures }
 {
     match all_due(alloc, desk.sides(), today, which) {
@@ -145,9 +145,9 @@ fn run_deeds<H: Holdings<Key = TxnId>, S: Store, W: Write>(
     dues: &[Due],
     writer: &mut W,
 ) -> Result<(), ToolFault>
-    ensures runs { RunsDeeds H.effects today dues.now (W.contents writer.old) (W.contents writer.new)
-        (view_of S.state desk.old) result
-        (view_of S.state desk.new) }
+    ensures runs { RunsDeeds H.effects today dues.now
+        (command_state (view_of S.state desk.old) (W.contents writer.old)) result
+        (command_state (view_of S.state desk.new) (W.contents writer.new)) }
     ensures counted { CountsToolFailure result (S.state desk.old.store).failures
         (S.state desk.new.store).failures }
 {
@@ -258,5 +258,5 @@ fn push_deed_line<H: Holdings<Key = TxnId>, S: Store>(
     push_word(lines, due.txn.group())?;
     push_word(lines, due.txn.transaction())?;
     push_word(lines, due.deed.verb().name().as_bytes())?;
-    push_done_line(lines, desk, &due.txn)
+    push_done_line(lines, desk.shown(&due.txn).once_saved())
 }

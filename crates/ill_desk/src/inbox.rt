@@ -1,69 +1,67 @@
 //! The command `inbox`: a desk takes many mails, and saves once.
 
-ghost use Rattle.std.specs.Prelude.{◌≡◌, ◌≤◌, [], ◌∷◌, ◌++◌, Ok, IfErr, IfOk, OnOk};
+ghost use Rattle.std.specs.Prelude.{◌≡◌, ◌≤◌, [], ◌∷◌, ◌++◌, Ok, None, IfErr, IfOk, OnOk};
 ghost use Rattle.ill_der.specs.ShortForm.{apdu_at};
 ghost use Rattle.ill_text.specs.declared.fault.ToolFault.TheVariants.{OutOfMemory};
 ghost use Rattle.ill_saved.specs.ManySides.{many_sides};
-ghost use Rattle.ill_desk.specs.Performing.{SavesOnce, is_change, view_of};
+ghost use Rattle.ill_desk.specs.Performing.{SavesOnce, command_state, handed, is_change, view_of, with_kept};
 ghost use Rattle.ill_desk.specs.Take.{KeepsBefore};
-ghost use Rattle.ill_desk.specs.Inbox.{EndedWell, HandsOver, RunsInbox, after_mail, after_mails, after_message, answered_with, concluded, message_in, one_message, with_verdict, sorting_of, with_message, verdict_line, verdict_of};
+ghost use Rattle.ill_desk.specs.Inbox.{EndedWell, HandsOver, RunsInbox, after_mail, after_mails, after_message, answered_with, concluded, kept_bytes, message_in, one_message, sorting_of, with_message, verdict_line};
+ghost use Rattle.ill_desk.specs.Telling.{long};
 
-use crate::side_line::push_saved_message;
-use crate::take::keep_bytes;
 use crate::tally::{Tally, push_tally};
-use crate::verdict::{Delay, Mail, Unfit, Verdict, push_verdict};
+use crate::verdict::{Batch, Delay, Mail, Unfit, Verdict, push_verdict};
 use ill_core::Taking;
 use ill_der::{APDU_LIMIT, ApduView, view};
-use ill_saved::{AnyDesk, Desk, Holdings, Store};
+use crate::side_line::push_long;
+use crate::take::keep_bytes;
+use ill_saved::{AnyDesk, Desk, Holdings, Shown, Store};
 use ill_text::fault::{ToolFault, refused};
 use ill_text::output::write_and_flush;
-use ill_values::Apdu;
+use ill_values::{Apdu, OutOfMemory as NoMemory};
 use ill_words::{DeskOutcome, Outcome};
 use std::alloc::Global;
 use std::io::Write;
 
-/// Takes the message of each mail of `mails` at `desk`, in their order. It writes the taken messages to `came` and
+/// Takes the message of each mail of `batch` at `desk`, in their order. It writes the taken messages to `came` and
 /// flushes them. If there are any, it then saves the desk once. Then it writes the verdict of each mail and the counts,
-/// and flushes these lines. The last count is `waiting`, the number of further mails. It returns the verdicts.
+/// and flushes these lines. The last count is the number of further mails. It returns the verdicts.
 ///
 /// Only after `Ok` may the file of a mail be removed. After every fault the store has its old record, or the one with
 /// all mails. Unless the fault is `Write`, nothing was written to `writer`.
 pub fn run_desk_inbox<S: Store, F: Write, W: Write>(
     alloc: Global,
     desk: &mut Desk<S>,
-    mails: &[Mail],
-    waiting: usize,
+    batch: &Batch<'_>,
     came: &mut F,
     writer: &mut W,
 ) -> Result<Vec<Verdict>, ToolFault>
-    ensures runs { RunsInbox many_sides mails.now waiting (F.contents came.old) (F.contents came.new)
-        (W.contents writer.old) (W.contents writer.new)
-        (view_of S.state desk.old) (answered_with (λ verdicts. verdicts.items) result)
-        (view_of S.state desk.new) }
-    ensures ended { IfOk result (λ verdicts. EndedWell mails.now verdicts.items
+    ensures runs { RunsInbox many_sides batch.now.mails.now batch.now.waiting
+        (with_kept (F.contents came.old) (command_state (view_of S.state desk.old) (W.contents writer.old)))
+        (answered_with (λ verdicts. verdicts.items) result)
+        (with_kept (F.contents came.new) (command_state (view_of S.state desk.new) (W.contents writer.new))) }
+    ensures ended { IfOk result (λ verdicts. EndedWell batch.now.mails.now verdicts.items
         (view_of S.state desk.new)) }
     ensures never_fewer { (S.state desk.old.store).failures ≤ (S.state desk.new.store).failures }
 {
-    run_inbox(alloc, desk, mails, waiting, came, writer)
+    run_inbox(alloc, desk, batch, came, writer)
 }
 
-/// Takes the message of each mail of `mails` at `desk`, saves once, and writes their verdicts.
+/// Takes the message of each mail of `batch` at `desk`, saves once, and writes their verdicts.
 fn run_inbox<H: Holdings, S: Store, F: Write, W: Write>(
     alloc: Global,
     desk: &mut AnyDesk<H, S>,
-    mails: &[Mail],
-    waiting: usize,
+    batch: &Batch<'_>,
     came: &mut F,
     writer: &mut W,
 ) -> Result<Vec<Verdict>, ToolFault>
-    ensures runs { RunsInbox H.effects mails.now waiting (F.contents came.old) (F.contents came.new)
-        (W.contents writer.old) (W.contents writer.new)
-        (view_of S.state desk.old)
+    ensures runs { RunsInbox H.effects batch.now.mails.now batch.now.waiting
+        (with_kept (F.contents came.old) (command_state (view_of S.state desk.old) (W.contents writer.old)))
         (answered_with (λ verdicts. verdicts.items) result)
-        (view_of S.state desk.new) }
+        (with_kept (F.contents came.new) (command_state (view_of S.state desk.new) (W.contents writer.new))) }
     ensures never_fewer { (S.state desk.old.store).failures ≤ (S.state desk.new.store).failures }
 {
-    let sorted = match sort(alloc, desk, mails, waiting) {
+    let sorted = match sort(alloc, desk, batch) {
         Ok(sorted) => sorted,
         Err(fault) => return Err(fault),
     };
@@ -90,20 +88,19 @@ pub(crate) struct Sorted {
 fn sort<H: Holdings, S: Store>(
     alloc: Global,
     desk: &mut AnyDesk<H, S>,
-    mails: &[Mail],
-    waiting: usize,
+    batch: &Batch<'_>,
 ) -> Result<Sorted, ToolFault>
     ensures sorted { IfOk result (λ sorted. sorting_of desk.new.live sorted
-        ≡ concluded waiting (after_mails H.effects desk.old.live mails.now)) }
+        ≡ concluded batch.now.waiting (after_mails H.effects desk.old.live batch.now.mails.now)) }
     ensures fault { IfErr result (λ fault. fault ≡ OutOfMemory) }
     ensures store { desk.new.store ≡ desk.old.store }
 {
-    let mut sorted = match sort_mails(alloc, desk, mails) {
+    let mut sorted = match sort_mails(alloc, desk, batch.mails) {
         Ok(sorted) => sorted,
         Err(fault) => return Err(fault),
     };
     let tally = Tally::of(&sorted.verdicts);
-    match push_tally(&mut sorted.told, &tally, waiting) {
+    match push_tally(&mut sorted.told, &tally, batch.waiting) {
         Ok(()) => Ok(sorted),
         Err(_) => Err(ToolFault::OutOfMemory),
     }
@@ -167,22 +164,28 @@ impl Sorted {
         ensures store { desk.new.store ≡ desk.old.store }
     {
         match message_in(bytes) {
-            Ok(apdu) => self.sort_message(alloc, desk, name, bytes, &apdu),
+            Ok(read) => match self.sort_message(alloc, desk, bytes, &read) {
+                Ok(outcome) => self.settle(name, Verdict::of(desk.role(), outcome)),
+                Err(fault) => Err(fault),
+            },
             Err(unfit) => self.settle(name, Verdict::without_message(bytes, unfit)),
         }
     }
 
-    /// Hands the message `read` of the mail `name` to its side, and adds the verdict.
+    /// Hands the message `read`, which stands in `bytes`, to its side. It adds the lines of the message, and keeps its
+    /// bytes if it was taken. It returns the outcome.
     fn sort_message<H: Holdings, S: Store>(
         &mut self,
         alloc: Global,
         desk: &mut AnyDesk<H, S>,
-        name: &[u8],
         bytes: &[u8],
         read: &ApduView<'_>,
-    ) -> Result<(), ToolFault>
-        ensures sorted { OnOk result (sorting_of desk.new.live self.new
-            ≡ after_message H.effects name.now bytes.now (Ok read.now) (sorting_of desk.old.live self.old)) }
+    ) -> Result<DeskOutcome, ToolFault>
+        ensures handed { IfOk result (λ outcome.
+            handed H.effects desk.old.live read.now ≡ (Ok outcome, desk.new.live)) }
+        ensures sorted { IfOk result (λ outcome. sorting_of desk.new.live self.new
+            ≡ with_message H.effects bytes.now read.now outcome desk.new.live
+            (sorting_of desk.old.live self.old)) }
         ensures fault { IfErr result (λ fault. fault ≡ OutOfMemory) }
         ensures store { desk.new.store ≡ desk.old.store }
     {
@@ -190,51 +193,28 @@ impl Sorted {
             Ok(apdu) => apdu,
             Err(_) => return Err(ToolFault::OutOfMemory),
         };
-        match hand(alloc, desk, &apdu) {
-            Ok(outcome) => self.judge(desk, name, bytes, read, &apdu, outcome),
-            Err(fault) => Err(fault),
-        }
+        let outcome = match hand(alloc, desk, &apdu) {
+            Ok(outcome) => outcome,
+            Err(fault) => return Err(fault),
+        };
+        let now = desk.shown(H::key_of(&apdu)).once_saved();
+        self.tell(bytes, read, outcome, now)?;
+        Ok(outcome)
     }
 
-    /// Adds the lines of a message, and the verdict of its mail.
-    fn judge<H: Holdings, S: Store>(
+    /// Adds the lines of the message `read`, which stands in `bytes`, and keeps its bytes if it was taken.
+    fn tell(
         &mut self,
-        desk: &AnyDesk<H, S>,
-        name: &[u8],
         bytes: &[u8],
         read: &ApduView<'_>,
-        apdu: &Apdu,
         outcome: DeskOutcome,
-    ) -> Result<(), ToolFault>
-        requires same { read.now ≡ apdu.now }
-        ensures sorted { OnOk result (sorting_of desk.now.live self.new
-            ≡ with_verdict name.now (verdict_of (H.effects.role desk.now.live) outcome)
-            (with_message H.effects bytes.now apdu.now outcome desk.now.live
-            (sorting_of desk.now.live self.old))) }
-        ensures fault { IfErr result (λ fault. fault ≡ OutOfMemory) }
+        now: Shown,
+    ) -> Result<(), NoMemory>
+        ensures verdicts { self.new.verdicts ≡ self.old.verdicts }
+        ensures told { OnOk result (self.new.told.items ≡ self.old.told.items ++ long read.now outcome now) }
+        ensures kept { OnOk result (self.new.kept.items ≡ self.old.kept.items ++ kept_bytes outcome bytes.now) }
     {
-        if let Err(fault) = self.tell(desk, bytes, read, apdu, outcome) {
-            return Err(fault);
-        }
-        self.settle(name, Verdict::of(desk.role(), outcome))
-    }
-
-    /// Adds the lines of a message, and keeps its bytes if it was taken.
-    fn tell<H: Holdings, S: Store>(
-        &mut self,
-        desk: &AnyDesk<H, S>,
-        bytes: &[u8],
-        read: &ApduView<'_>,
-        apdu: &Apdu,
-        outcome: DeskOutcome,
-    ) -> Result<(), ToolFault>
-        requires same { read.now ≡ apdu.now }
-        ensures told { OnOk result (sorting_of desk.now.live self.new
-            ≡ with_message H.effects bytes.now apdu.now outcome desk.now.live
-            (sorting_of desk.now.live self.old)) }
-        ensures fault { IfErr result (λ fault. fault ≡ OutOfMemory) }
-    {
-        push_saved_message(&mut self.told, read, outcome, desk, H::key_of(apdu))?;
+        push_long(&mut self.told, read, outcome, now)?;
         if is_change(outcome) {
             self.kept.extend_from_slice(bytes)?;
         }
@@ -316,9 +296,9 @@ fn keep_and_save<H: Holdings, S: Store, F: Write>(
     ensures saves { SavesOnce H.effects kept.now
         (view_of S.state desk.old) result
         (view_of S.state desk.new) }
-    ensures keeps { KeepsBefore kept.now result (F.contents came.old) (F.contents came.new)
-        (view_of S.state desk.old)
-        (view_of S.state desk.new) }
+    ensures keeps { KeepsBefore kept.now result
+        (with_kept (F.contents came.old) (command_state (view_of S.state desk.old) None))
+        (with_kept (F.contents came.new) (command_state (view_of S.state desk.new) None)) }
     ensures never_fewer { (S.state desk.old.store).failures ≤ (S.state desk.new.store).failures }
 {
     if kept.is_empty() {

@@ -7,7 +7,7 @@ ghost use Rattle.ill_saved.specs.RecordsV2.{sides_spelling};
 ghost use Rattle.ill_saved.specs.ManySides.{sides_held, no_sides};
 ghost use Rattle.ill_saved.specs.Desk.{answer_of, store_of};
 ghost use Rattle.ill_saved.specs.OneSide.{alone};
-ghost use Rattle.ill_desk.specs.Telling.{done_line};
+ghost use Rattle.ill_desk.specs.Telling.{done_line, shown_in};
 ghost use Rattle.ill_text.specs.Output.{WritesText};
 ghost use Rattle.ill_desk.specs.New.{first_line, RunsNew, SavesFirst, BeginsIn};
 
@@ -32,7 +32,7 @@ pub fn run_new<S: Store, W: Write>(
     txn: TxnId,
     writer: &mut W,
 ) -> Result<Desk1<S>, (ToolFault, S)>
-    ensures runs { RunsNew (done_line (alone (idle_side role txn)))
+    ensures runs { RunsNew (done_line (shown_in (alone (idle_side role txn))))
         (W.contents writer.old) (W.contents writer.new) (answer_of result) }
     ensures begins { IfOk result (λ desk.
         (desk.live.side ≡ idle_side role txn) × (desk.live.released ≡ 0)) }
@@ -112,7 +112,12 @@ fn write_beginning<H: Holdings, S: Store, W: Write>(
         (first_line H.effects desk.now.live) result }
 {
     match desk.first_key() {
-        Some(key) => match report(alloc, writer, DeskOutcome::Plain(Outcome::Done), desk, key) {
+        Some(key) => match report(
+            alloc,
+            writer,
+            DeskOutcome::Plain(Outcome::Done),
+            desk.shown(key),
+        ) {
             Ok(_) => Ok(()),
             Err(fault) => Err(fault),
         },

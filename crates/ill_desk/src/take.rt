@@ -1,12 +1,12 @@
 //! The command `take`.
 
-ghost use Rattle.std.specs.Prelude.{◌≡◌, true};
+ghost use Rattle.std.specs.Prelude.{◌≡◌, None, true};
 ghost use Rattle.ill_der.specs.ShortForm.{spelling};
 ghost use Rattle.ill_saved.specs.OneSide.{one_side};
 ghost use Rattle.ill_saved.specs.ManySides.{many_sides};
-ghost use Rattle.ill_desk.specs.Performing.{view_of};
+ghost use Rattle.ill_desk.specs.Performing.{command_state, view_of, with_input, with_kept};
 ghost use Rattle.ill_text.specs.Fault.{CountsToolFailure};
-ghost use Rattle.ill_desk.specs.Take.{CountsTaking, KeepsBefore, KeepsDesk, KeepsPrefix, KeepsTaken, RunsTake, RunsTaking, SavesTaken, TakesAndSaves, kept_text, progress, TakesMessage};
+ghost use Rattle.ill_desk.specs.Take.{CountsTaking, KeepsBefore, KeepsBorrowed, KeepsPrefix, KeepsTaken, RunsTake, RunsTaking, SavesTaken, TakesAndSaves, borrowed_parts, kept_text, progress, TakesMessage};
 ghost use Rattle.ill_desk.specs.Telling.{short, wording};
 
 use crate::side_line::report_message;
@@ -33,9 +33,9 @@ pub fn run_take<S: Store, R: Read, W: Write>(
     reader: &mut R,
     writer: &mut W,
 ) -> Result<bool, ToolFault>
-    ensures runs { RunsTake short one_side (R.remaining reader.old) (R.remaining reader.new)
-        (W.contents writer.old) (W.contents writer.new)
-        (view_of S.state desk.old) result (view_of S.state desk.new) }
+    ensures runs { RunsTake short one_side
+        (with_input (R.remaining reader.old) (command_state (view_of S.state desk.old) (W.contents writer.old))) result
+        (with_input (R.remaining reader.new) (command_state (view_of S.state desk.new) (W.contents writer.new))) }
     ensures counted { CountsToolFailure result (S.state desk.old.store).failures (S.state desk.new.store).failures }
 {
     take_on::<OneSide, S, Sink, R, W, false, false>(alloc, desk, &mut sink(), reader, writer)
@@ -50,9 +50,9 @@ pub fn run_desk_take<S: Store, R: Read, W: Write>(
     reader: &mut R,
     writer: &mut W,
 ) -> Result<bool, ToolFault>
-    ensures runs { RunsTake short many_sides (R.remaining reader.old) (R.remaining reader.new)
-        (W.contents writer.old) (W.contents writer.new)
-        (view_of S.state desk.old) result (view_of S.state desk.new) }
+    ensures runs { RunsTake short many_sides
+        (with_input (R.remaining reader.old) (command_state (view_of S.state desk.old) (W.contents writer.old))) result
+        (with_input (R.remaining reader.new) (command_state (view_of S.state desk.new) (W.contents writer.new))) }
     ensures counted { CountsToolFailure result (S.state desk.old.store).failures (S.state desk.new.store).failures }
 {
     take_on::<ManySides, S, Sink, R, W, false, false>(alloc, desk, &mut sink(), reader, writer)
@@ -81,9 +81,11 @@ pub fn run_desk_take_as<S: Store, F: Write, R: Read, W: Write>(
     reader: &mut R,
     writer: &mut W,
 ) -> Result<bool, ToolFault>
-    ensures runs { RunsTaking form.is_kept (wording form.is_long) many_sides (R.remaining reader.old) (R.remaining reader.new)
-        (F.contents came.old) (F.contents came.new) (W.contents writer.old) (W.contents writer.new)
-        (view_of S.state desk.old) result (view_of S.state desk.new) }
+    ensures runs { RunsTaking form.is_kept (wording form.is_long) many_sides
+        (with_input (R.remaining reader.old) (with_kept (F.contents came.old)
+        (command_state (view_of S.state desk.old) (W.contents writer.old)))) result
+        (with_input (R.remaining reader.new) (with_kept (F.contents came.new)
+        (command_state (view_of S.state desk.new) (W.contents writer.new)))) }
     ensures counted { CountsTaking form.is_kept result (S.state desk.old.store).failures (S.state desk.new.store).failures }
 {
     match (form.is_long, form.is_kept) {
@@ -110,10 +112,11 @@ fn take_on<H: Holdings, S: Store, F: Write, R: Read, W: Write, const LONG: bool,
     reader: &mut R,
     writer: &mut W,
 ) -> Result<bool, ToolFault>
-    ensures runs { RunsTaking KEEP (wording LONG) H.effects (R.remaining reader.old) (R.remaining reader.new)
-        (F.contents came.old) (F.contents came.new) (W.contents writer.old) (W.contents writer.new)
-        (view_of S.state desk.old) result
-        (view_of S.state desk.new) }
+    ensures runs { RunsTaking KEEP (wording LONG) H.effects
+        (with_input (R.remaining reader.old) (with_kept (F.contents came.old)
+        (command_state (view_of S.state desk.old) (W.contents writer.old)))) result
+        (with_input (R.remaining reader.new) (with_kept (F.contents came.new)
+        (command_state (view_of S.state desk.new) (W.contents writer.new)))) }
     ensures counted { CountsTaking KEEP result (S.state desk.old.store).failures
         (S.state desk.new.store).failures }
 {
@@ -142,11 +145,11 @@ fn take_input<
 ) -> Result<bool, ToolFault>
     requires none { taken.old.count ≡ 0 }
     requires fine { taken.old.handler.all_fine ≡ true }
-    ensures runs { RunsTaking KEEP (wording LONG) H.effects (R.remaining reader.old) (R.remaining reader.new)
-        (F.contents taken.old.handler.came.now) (F.contents taken.new.handler.came.now)
-        (W.contents writer.old) (W.contents writer.new)
-        (view_of S.state taken.old.handler.desk.now) result
-        (view_of S.state taken.new.handler.desk.now) }
+    ensures runs { RunsTaking KEEP (wording LONG) H.effects
+        (with_input (R.remaining reader.old) (with_kept (F.contents taken.old.handler.came.now)
+        (command_state (view_of S.state taken.old.handler.desk.now) (W.contents writer.old)))) result
+        (with_input (R.remaining reader.new) (with_kept (F.contents taken.new.handler.came.now)
+        (command_state (view_of S.state taken.new.handler.desk.now) (W.contents writer.new)))) }
     ensures same_keeper { taken.new.handler.desk.ghost_name ≡ taken.old.handler.desk.ghost_name }
     ensures same_came { taken.new.handler.came.ghost_name ≡ taken.old.handler.came.ghost_name }
     ensures counted { CountsTaking KEEP result (S.state taken.old.handler.desk.now.store).failures
@@ -186,30 +189,26 @@ impl<H: Holdings, S: Store, F: Write, const LONG: bool, const KEEP: bool> TakesE
     ) -> Result<(), ToolFault>
         requires same { read.now ≡ apdu.now }
         ensures takes { TakesMessage KEEP (wording LONG) H.effects
-            (progress (view_of S.state self.old.desk.now)
-            (F.contents self.old.came.now) (W.contents writer.old) self.old.all_fine)
+            (progress (with_kept (F.contents self.old.came.now)
+            (command_state (view_of S.state self.old.desk.now) (W.contents writer.old))) self.old.all_fine)
             apdu.now result
-            (progress (view_of S.state self.new.desk.now)
-            (F.contents self.new.came.now) (W.contents writer.new) self.new.all_fine) }
-        ensures keeps { KeepsDesk KEEP result self.old.desk.ghost_name self.new.desk.ghost_name
-            self.old.came.ghost_name self.new.came.ghost_name
-            (S.state self.old.desk.now.store).failures (S.state self.new.desk.now.store).failures }
+            (progress (with_kept (F.contents self.new.came.now)
+            (command_state (view_of S.state self.new.desk.now) (W.contents writer.new))) self.new.all_fine) }
+        ensures keeps { KeepsBorrowed KEEP result
+            (borrowed_parts self.old.desk.ghost_name self.old.came.ghost_name (S.state self.old.desk.now.store).failures)
+            (borrowed_parts self.new.desk.ghost_name self.new.came.ghost_name (S.state self.new.desk.now.store).failures) }
     {
         match take_and_save::<H, S, F, KEEP>(alloc, self.desk, self.came, apdu) {
-            Ok(outcome) => match report_message::<H, S, W, LONG>(
-                alloc,
-                writer,
-                read,
-                outcome,
-                self.desk,
-                H::key_of(apdu),
-            ) {
-                Ok(fine) => {
-                    self.all_fine &= fine;
-                    Ok(())
+            Ok(outcome) => {
+                let now = self.desk.shown(H::key_of(apdu));
+                match report_message::<W, LONG>(alloc, writer, read, outcome, now) {
+                    Ok(fine) => {
+                        self.all_fine &= fine;
+                        Ok(())
+                    }
+                    Err(fault) => Err(fault),
                 }
-                Err(fault) => Err(fault),
-            },
+            }
             Err(fault) => Err(fault),
         }
     }
@@ -220,14 +219,14 @@ impl<H: Holdings, S: Store, F: Write, W: Write, const LONG: bool, const KEEP: bo
     type Fault = ToolFault;
 
     ghost handles = { λ old apdu result new. TakesMessage KEEP (wording LONG) H.effects
-        (progress (view_of S.state old.0.desk.now)
-        (F.contents old.0.came.now) (W.contents old.1) old.0.all_fine)
+        (progress (with_kept (F.contents old.0.came.now)
+        (command_state (view_of S.state old.0.desk.now) (W.contents old.1))) old.0.all_fine)
         apdu result
-        (progress (view_of S.state new.0.desk.now)
-        (F.contents new.0.came.now) (W.contents new.1) new.0.all_fine)
-        × KeepsDesk KEEP result old.0.desk.ghost_name new.0.desk.ghost_name
-        old.0.came.ghost_name new.0.came.ghost_name
-        (S.state old.0.desk.now.store).failures (S.state new.0.desk.now.store).failures };
+        (progress (with_kept (F.contents new.0.came.now)
+        (command_state (view_of S.state new.0.desk.now) (W.contents new.1))) new.0.all_fine)
+        × KeepsBorrowed KEEP result
+        (borrowed_parts old.0.desk.ghost_name old.0.came.ghost_name (S.state old.0.desk.now.store).failures)
+        (borrowed_parts new.0.desk.ghost_name new.0.came.ghost_name (S.state new.0.desk.now.store).failures) };
 
     fn handle(
         &mut self,
@@ -253,9 +252,9 @@ fn take_and_save<H: Holdings, S: Store, F: Write, const KEEP: bool>(
         (view_of S.state desk.old)
         apdu.now result
         (view_of S.state desk.new) }
-    ensures keeps { KeepsTaken KEEP apdu.now result (F.contents came.old) (F.contents came.new)
-        (view_of S.state desk.old)
-        (view_of S.state desk.new) }
+    ensures keeps { KeepsTaken KEEP apdu.now result
+        (with_kept (F.contents came.old) (command_state (view_of S.state desk.old) None))
+        (with_kept (F.contents came.new) (command_state (view_of S.state desk.new) None)) }
     ensures counted { CountsTaking KEEP result (S.state desk.old.store).failures
         (S.state desk.new.store).failures }
 {
@@ -279,9 +278,9 @@ fn keep_and_save<H: Holdings, S: Store, F: Write, const KEEP: bool>(
     ensures saves { SavesTaken H.effects
         (view_of S.state desk.old) result
         (view_of S.state desk.new) }
-    ensures keeps { KeepsBefore (kept_text KEEP apdu.now) result (F.contents came.old) (F.contents came.new)
-        (view_of S.state desk.old)
-        (view_of S.state desk.new) }
+    ensures keeps { KeepsBefore (kept_text KEEP apdu.now) result
+        (with_kept (F.contents came.old) (command_state (view_of S.state desk.old) None))
+        (with_kept (F.contents came.new) (command_state (view_of S.state desk.new) None)) }
     ensures counted { CountsTaking KEEP result (S.state desk.old.store).failures
         (S.state desk.new.store).failures }
 {
@@ -303,7 +302,7 @@ fn keep<F: Write>(alloc: Global, came: &mut F, apdu: &Apdu) -> Result<(), ToolFa
 }
 
 /// Keeps `bytes` of messages: they are written and flushed.
-pub(crate) fn keep_bytes<F: Write>(came: &mut F, bytes: &[u8]) -> Result<(), ToolFault>
+pub fn keep_bytes<F: Write>(came: &mut F, bytes: &[u8]) -> Result<(), ToolFault>
     ensures { KeepsPrefix bytes.now (F.contents came.old) (F.contents came.new) result }
 {
     match write_and_flush(came, bytes) {

@@ -23,6 +23,15 @@ pub struct Mail {
     pub bytes: Option<Vec<u8>>,
 }
 
+/// The mails of a run.
+#[derive(Clone, Copy)]
+pub struct Batch<'a> {
+    /// The mails that the run takes, in this order.
+    pub mails: &'a [Mail],
+    /// The number of further mails, which wait for the next run.
+    pub waiting: usize,
+}
+
 impl Mail {
     /// Returns the digest of the bytes that were read of it, in hexadecimal.
     pub fn digest(&self, alloc: Global) -> Result<String, OutOfMemory> {

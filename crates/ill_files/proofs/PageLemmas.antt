@@ -11,9 +11,9 @@ use Rattle.ill_values.specs.Day.{Date}
 use Rattle.ill_text.specs.declared.fault.ToolFault.{ToolFault}
 use Rattle.ill_text.specs.declared.fault.ToolFault.TheVariants.{Arguments, Der, TooMany, Script, Desk, Left, Read, Write}
 use Rattle.ill_text.specs.declared.fault.ToolFault.TheVariants.{OutOfMemory}
-use Rattle.ill_files.specs.AtFile.{IsOpenFault}
 use Rattle.ill_show.specs.Report.{AddsPart, AddsParts, Part, gravest_part, part_answer, part_text}
 use Rattle.ill_text.specs.Visits.{graver}
+use Rattle.ill_text.specs.Fault.{IsOpenFault}
 
 -- An unchanged page has the parts of no desks added, and the answer true.
 pub no_parts : (today : Date) (before : List ℕ) → AddsParts today [] before before (Ok true)

@@ -1,5 +1,5 @@
 -- The effect of each command. A desk here was loaded from a file, so nothing is known of its content.
-use Rattle.std.specs.Prelude.{◌≡◌, ◌⊎◌, ℕ, Bool, true, false, nat_lt, List, ◌++◌, length, codes, Option, None, Result, Ok}
+use Rattle.std.specs.Prelude.{◌≡◌, ◌⊎◌, ℕ, Bool, true, false, nat_lt, List, ◌++◌, length, codes, Option, Result, Ok}
 use Rattle.std.specs.Prelude.{Err, IfErr, IsErrAnd}
 use Rattle.ill_values.specs.Day.{Date}
 use Rattle.ill_values.specs.TxnId.{Qualifiers}
@@ -11,7 +11,8 @@ use Rattle.ill_saved.specs.Holdings.{DeskEntry}
 use Rattle.ill_saved.specs.ManySides.{DeskContents, found_by, txn_held, many_sides}
 use Rattle.ill_text.specs.declared.fault.ToolFault.{ToolFault}
 use Rattle.ill_text.specs.declared.fault.ToolFault.TheVariants.{Desk, OutOfMemory}
-use Rattle.ill_desk.specs.Performing.{HeldAndLanded}
+use Rattle.ill_desk.specs.Performing.{HeldAndLanded, command_state, with_input}
+use Rattle.ill_text.specs.Fault.{IsOpenFault}
 use Rattle.ill_text.specs.Output.{WritesText}
 use Rattle.ill_desk.specs.Actions.{action_named}
 use Rattle.ill_desk.specs.New.{RunsNew}
@@ -39,12 +40,6 @@ all_well (Err fault) = Err fault
 abbrev pub GoesWell : {A : Type 0} → (Result A ToolFault → Type 0) → Result Bool ToolFault → Type 0
 GoesWell {A} Answers result = (answer : Result A ToolFault) × Answers answer × (result ≡ all_well answer)
 
--- The fault is one with which a file is not opened, or its lock not taken.
-abbrev pub IsOpenFault : ToolFault → Type 0
-IsOpenFault (Desk fault) = Unit {0}
-IsOpenFault OutOfMemory = Unit {0}
-IsOpenFault other = ⊥
-
 -- A file could not be opened or locked, and nothing was written.
 abbrev pub FailsToOpen : {A : Type 0} → Option (List ℕ) → Option (List ℕ) → Result A ToolFault → Type 0
 FailsToOpen before after result = IsErrAnd result IsOpenFault × (after ≡ before)
@@ -61,7 +56,8 @@ abbrev pub ActsAtFile : Qualifiers → Option Date → List (List ℕ) → Optio
 ActsAtFile txn today words before after result =
     FailsToOpen before after result
     ⊎ ((old : HeldAndLanded DeskContents) × (new : HeldAndLanded DeskContents)
-    × RunsAct many_sides txn (action_named old.live.role today words) old before after result new)
+    × RunsAct many_sides txn (action_named old.live.role today words) (command_state old before) result
+    (command_state new after))
 
 -- The APDUs of the input were taken at a desk, in this form. Or its file could not be opened.
 abbrev pub TakesAtFile : TakeForm → Option (List ℕ) → Option (List ℕ) → Option (List ℕ) → Option (List ℕ) →
@@ -69,7 +65,8 @@ abbrev pub TakesAtFile : TakeForm → Option (List ℕ) → Option (List ℕ) �
 TakesAtFile form left rest before after result =
     (FailsToOpen before after result × (rest ≡ left))
     ⊎ ((old : HeldAndLanded DeskContents) × (new : HeldAndLanded DeskContents)
-    × RunsTaking form.is_kept (wording form.is_long) many_sides left rest None None before after old result new)
+    × RunsTaking form.is_kept (wording form.is_long) many_sides (with_input left (command_state old before)) result
+    (with_input rest (command_state new after)))
 
 -- The message `number` of `txn` at a desk was written. Or a file could not be opened.
 abbrev pub SendsAtFile : Qualifiers → ℕ → Option (List ℕ) → Option (List ℕ) → Result Bool ToolFault → Type 0

@@ -2,7 +2,7 @@
 //! another. No decision of a command depends on it.
 
 ghost use Rattle.std.specs.Prelude.{IfErr};
-ghost use Rattle.ill_files.specs.AtFile.{IsOpenFault};
+ghost use Rattle.ill_text.specs.Fault.{IsOpenFault};
 
 use crate::paths::CAME;
 use ill_der::{DerFault, Feed};

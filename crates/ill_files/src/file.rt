@@ -3,7 +3,8 @@
 
 ghost use Rattle.std.specs.Prelude.{◌≡◌, map, string_bytes, IfErr, IfOk};
 ghost use Rattle.ill_show.specs.Report.{AddsPart, AddsParts};
-ghost use Rattle.ill_files.specs.AtFile.{ActsAtFile, IsOpenFault, ListsDesk, ListsDesks, ListsPaths, LoanAtFile, NewAtFile, ReportsPaths, SendsAtFile, ShowsFile, TakesAtFile, VerifiesFile, after_writing, all_well};
+ghost use Rattle.ill_files.specs.AtFile.{ActsAtFile, ListsDesk, ListsDesks, ListsPaths, LoanAtFile, NewAtFile, ReportsPaths, SendsAtFile, ShowsFile, TakesAtFile, VerifiesFile, after_writing, all_well};
+ghost use Rattle.ill_text.specs.Fault.{IsOpenFault};
 
 use crate::came::{came_bytes, open_came};
 use crate::folder::{desk_paths, warn_of_names};
@@ -47,24 +48,33 @@ pub fn new<T: LockFiles, W: Write, E: Write>(
     end(begun)
 }
 
-/// `ill act`: performs one action in a transaction.
+/// An action that is asked for in a transaction.
+#[derive(Clone, Copy)]
+pub struct ActionView<'a> {
+    /// The transaction.
+    pub txn: &'a TxnId,
+    /// The day of the action, if it is given.
+    pub today: Option<Day>,
+    /// The words of the action.
+    pub words: &'a [&'a str],
+}
+
+/// `ill act`: performs the action of `view`.
 pub fn act<T: LockFiles, W: Write, E: Write>(
     machine: &mut Machine<'_, T, W, E>,
     file: &str,
-    txn: &TxnId,
-    today: Option<Day>,
-    words: &[&str],
+    view: &ActionView<'_>,
 ) -> Result<bool, ToolFault>
-    ensures { ActsAtFile txn.now today (map (λ word. word.now) words.now)
+    ensures { ActsAtFile view.now.txn.now view.now.today (map (λ word. word.now) view.now.words.now)
         (W.contents machine.old.writer) (W.contents machine.new.writer) result }
 {
     let (lock, mut desk) = open_locked(machine.rt, machine.alloc, file)?;
     let acted = run_desk_act(
         machine.alloc,
         &mut desk,
-        txn,
-        today,
-        words,
+        view.txn,
+        view.today,
+        view.words,
         &mut machine.writer,
     );
     release(acted, desk, lock)

@@ -2,7 +2,8 @@
 
 ghost use Rattle.std.specs.Prelude.{◌≡◌, Ok, true, IfErr};
 ghost use Rattle.ill_saved.specs.Desk.{answer_of};
-ghost use Rattle.ill_files.specs.AtFile.{IsOpenFault, all_well};
+ghost use Rattle.ill_files.specs.AtFile.{all_well};
+ghost use Rattle.ill_text.specs.Fault.{IsOpenFault};
 
 use ill_saved::{Desk, DeskFault, FileLock, FileStore, LockFiles, RECORD_LIMIT};
 use ill_text::fault::ToolFault;

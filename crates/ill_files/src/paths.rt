@@ -3,9 +3,7 @@
 ghost use Rattle.std.specs.Prelude.{◌≡◌, ◌==◌, nat_eq};
 ghost use Rattle.std.specs.List.{ends_with, list_any};
 ghost use Rattle.ill_files.specs.Paths.{is_beside};
-ghost use Rattle.ill_files.specs.AtFile.{IsOpenFault};
 
-use ill_text::fault::{STORE_FAILED, ToolFault};
 use ill_values::OutOfMemory;
 use std::alloc::Global;
 use std::fs::Metadata;
@@ -63,16 +61,6 @@ pub fn folder_of(path: &str) -> &str {
         Some(folder) if !folder.as_str().is_empty() => folder.as_str(),
         _ => ".",
     }
-}
-
-/// Returns the fault of a folder that cannot be read.
-pub fn fault(error: &io::Error) -> ToolFault
-    ensures { IsOpenFault result }
-{
-    if error.kind() == ErrorKind::OutOfMemory {
-        return ToolFault::OutOfMemory;
-    }
-    STORE_FAILED
 }
 
 /// Returns the path of the file `name` in `folder`, if the name is UTF-8. No path has another name.

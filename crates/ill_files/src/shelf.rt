@@ -5,12 +5,11 @@ ghost use Rattle.std.specs.Prelude.{Decides, IfOk, ◌≡◌, ℕ, List, IfErr, 
 ghost use Rattle.ill_files.specs.ShelfNames.{IsNamedOnShelf, IsDeskName, desk_name, desk_path, group_in};
 ghost use Rattle.ill_values.specs.Text.{IsQualifier};
 ghost use Rattle.ill_saved.specs.declared.role.Role.{Role};
-ghost use Rattle.ill_files.specs.AtFile.{IsOpenFault};
+ghost use Rattle.ill_text.specs.Fault.{IsOpenFault};
 
 use crate::open::open;
-use crate::paths::{RETIRED, fault, is_there, raw_names};
-use ill_der::BodyView;
-use ill_desk::inbox::message_in;
+use crate::paths::{RETIRED, is_there, raw_names};
+use ill_der::{ApduView, BodyView};
 use ill_saved::{DeskFault, Role};
 use ill_text::fault::{STORE_FAILED, ToolFault};
 use ill_values::{OutOfMemory, TxnId};
@@ -99,10 +98,7 @@ impl<'a> Shelf<'a> {
     pub fn desks<T: Files>(&self, rt: &T, alloc: Global) -> Result<Vec<String>, ToolFault>
         ensures { IfErr result IsOpenFault }
     {
-        match desks_in(rt, alloc, self.folder, self.role) {
-            Ok(desks) => Ok(desks),
-            Err(error) => Err(fault(&error)),
-        }
+        Ok(desks_in(rt, alloc, self.folder, self.role)?)
     }
 }
 
@@ -175,17 +171,14 @@ fn group_in(alloc: Global, role: Role, name: &str) -> Result<Vec<u8>, OutOfMemor
     Ok(group)
 }
 
-/// Returns true if the desk in `file` of a shelf may take `bytes`: no message, or one of its group. The shelf's own
-/// desk may take any message that begins no loan there.
+/// Returns true if the desk in `file` of a shelf may take `message`: it is one of the desk's group. The shelf's own desk
+/// may take any message that begins no loan there.
 pub fn is_for_desk(
     alloc: Global,
     file: &str,
     role: Role,
-    bytes: &[u8],
+    message: &ApduView<'_>,
 ) -> Result<bool, OutOfMemory> {
-    let Ok(message) = message_in(bytes) else {
-        return Ok(true);
-    };
     let name = Path::new(file).file_name().unwrap_or(file);
     if name == OWN {
         let is_request = matches!(message.body(), BodyView::IllRequest { .. });
@@ -209,11 +202,10 @@ pub fn retired_path(alloc: Global, file: &str) -> Result<String, OutOfMemory> {
 pub fn refuse_retired<T: Files>(rt: &T, alloc: Global, file: &str) -> Result<(), ToolFault>
     ensures { IfErr result IsOpenFault }
 {
-    match is_retired(rt, alloc, file) {
-        Ok(false) => Ok(()),
-        Ok(true) => Err(ToolFault::Desk(DeskFault::NoSuchTransaction)),
-        Err(error) => Err(fault(&error)),
+    if is_retired(rt, alloc, file)? {
+        return Err(ToolFault::Desk(DeskFault::NoSuchTransaction));
     }
+    Ok(())
 }
 
 /// Two groups whose desks have one name are one group. So each group has a desk of its own.

@@ -9,7 +9,7 @@ use Rattle.ill_text.specs.declared.fault.ToolFault.{ToolFault}
 use Rattle.ill_text.specs.declared.fault.ToolFault.TheVariants.{Left}
 use Rattle.std.specs.List.{zip}
 use Rattle.ill_saved.specs.declared.role.Role.{Role}
-use Rattle.ill_desk.specs.Performing.{HeldAndLanded}
+use Rattle.ill_desk.specs.Performing.{HeldAndLanded, CommandState, command_state}
 use Rattle.ill_text.specs.Output.{WritesText}
 use Rattle.ill_desk.specs.declared.verdict.Mail.{Mail}
 use Rattle.ill_desk.specs.declared.verdict.Verdict.{Verdict}
@@ -19,9 +19,9 @@ use Rattle.ill_desk.specs.Dates.{RunsDates}
 use Rattle.ill_desk.specs.Person.{wants_person}
 use Rattle.ill_desk.specs.Inbox.{RunsInbox, ending, is_waiting, tally_of}
 use Rattle.ill_text.specs.Input.{AreIn}
-use Rattle.ill_desk.specs.Outbox.{IsFileFault, StreamsOutbox, asked_by, letters_of, sent_line}
-use Rattle.ill_show.specs.Listing.{between}
-use Rattle.ill_files.specs.AtFile.{GoesWell, IsOpenFault, FailsToOpen}
+use Rattle.ill_desk.specs.Outbox.{StreamsOutbox, asked_by, letters_of, sent_line}
+use Rattle.ill_files.specs.AtFile.{GoesWell, FailsToOpen}
+use Rattle.ill_text.specs.Fault.{IsFileFault, IsOpenFault}
 
 -- The mails of a run, their verdicts, and the number of further mails that wait.
 pub record Night : Type 0 where
@@ -46,12 +46,11 @@ SettlesRun mails waiting (Err fault) result = result ≡ Err fault
 
 -- The mails of a folder were taken at a desk, and their files settled. Further mails may wait. Or a file
 -- could not be opened, and the desk is unchanged.
-abbrev pub TakesMails : HeldAndLanded DeskContents → Option (List ℕ) → Option (List ℕ) →
-    Result Night ToolFault → HeldAndLanded DeskContents → Type 0
-TakesMails old before after result new =
-    (FailsToOpen before after result × (new ≡ old))
+abbrev pub TakesMails : CommandState DeskContents → Result Night ToolFault → CommandState DeskContents → Type 0
+TakesMails old result new =
+    (FailsToOpen old.written new.written result × (new.desk ≡ old.desk))
     ⊎ ((mails : List Mail) × (waiting : ℕ) × (answer : Result (List Verdict) ToolFault)
-    × RunsInbox many_sides mails waiting None None before after old answer new
+    × RunsInbox many_sides mails waiting old answer new
     × SettlesRun mails waiting answer result)
 
 -- Returns the result of `inbox` after a run.
@@ -64,7 +63,7 @@ abbrev pub InboxAtFile : Option (List ℕ) → Option (List ℕ) → Result Bool
 InboxAtFile before after result =
     FailsToOpen before after result
     ⊎ ((old new : HeldAndLanded DeskContents) × (taken : Result Night ToolFault)
-    × TakesMails old before after taken new × (result ≡ ending_of taken))
+    × TakesMails (command_state old before) taken (command_state new after) × (result ≡ ending_of taken))
 
 -- The messages that want sending were put into a folder, and their number written. `bytes` has the messages
 -- that ask. The content of the folder is not known. Or a file could not be opened.
@@ -98,10 +97,10 @@ OutboxAtFile has_folder before after result =
     FailsToOpen before after result ⊎ ((held : List DeskEntry) × GoesWell (SendsFrom has_folder held before after) result)
 
 -- If `dates` has a day, the deeds of that day were performed and saved. Else nothing changed.
-abbrev pub PerformsDueDeeds : Option (Date × Dates) → Option (List ℕ) → Option (List ℕ) → HeldAndLanded DeskContents →
-    Result (Unit {0}) ToolFault → HeldAndLanded DeskContents → Type 0
-PerformsDueDeeds None before after old result new = (result ≡ Ok tt) × (after ≡ before) × (new ≡ old)
-PerformsDueDeeds (Some (today, which)) before after old result new = RunsDates which today before after old result new
+abbrev pub PerformsDueDeeds : Option (Date × Dates) → CommandState DeskContents → Result (Unit {0}) ToolFault →
+    CommandState DeskContents → Type 0
+PerformsDueDeeds None old result new = (result ≡ Ok tt) × (new.written ≡ old.written) × (new.desk ≡ old.desk)
+PerformsDueDeeds (Some (today, which)) old result new = RunsDates which today old result new
 
 -- Returns the result of a night. It is a fault if mails wait, false if a mail wants a person, else true.
 abbrev pub night_ending : Role → Night → Result Bool ToolFault
@@ -131,23 +130,25 @@ SendsAll night live before after (Ok done) result =
 
 -- The rest of a night, after its mails were taken: the deeds of the day, and then the sending. If the mails
 -- could not be taken, nothing more is done.
-abbrev pub FinishesNight : Option (Date × Dates) → Result Night ToolFault → Option (List ℕ) → Option (List ℕ) →
-    HeldAndLanded DeskContents → Result Bool ToolFault → HeldAndLanded DeskContents → Type 0
-FinishesNight dates (Err fault) before after old result new = (result ≡ Err fault) × (after ≡ before) × (new ≡ old)
-FinishesNight dates (Ok night) before after old result new =
-    (between : Option (List ℕ)) × (said : Result (Unit {0}) ToolFault) × PerformsDueDeeds dates before between old said new
-    × SendsAll night new.live between after said result
+abbrev pub FinishesNight : Option (Date × Dates) → Result Night ToolFault → CommandState DeskContents →
+    Result Bool ToolFault → CommandState DeskContents → Type 0
+FinishesNight dates (Err fault) old result new =
+    (result ≡ Err fault) × (new.written ≡ old.written) × (new.desk ≡ old.desk)
+FinishesNight dates (Ok night) old result new =
+    (met : CommandState DeskContents) × (said : Result (Unit {0}) ToolFault) × PerformsDueDeeds dates old said met
+    × SendsAll night met.desk.live met.written new.written said result × (new.desk ≡ met.desk)
 
 -- A night of a desk leads from `old` to `new`. Its mails were taken, the deeds of the day performed, and its
 -- messages sent.
-abbrev pub ExchangesAt : Option (Date × Dates) → HeldAndLanded DeskContents → Option (List ℕ) → Option (List ℕ) →
-    Result Bool ToolFault → HeldAndLanded DeskContents → Type 0
-ExchangesAt dates old before after result new =
-    (met : HeldAndLanded DeskContents) × (between : Option (List ℕ)) × (taken : Result Night ToolFault)
-    × TakesMails old before between taken met × FinishesNight dates taken between after met result new
+abbrev pub ExchangesAt : Option (Date × Dates) → CommandState DeskContents → Result Bool ToolFault →
+    CommandState DeskContents → Type 0
+ExchangesAt dates old result new =
+    (met : CommandState DeskContents) × (taken : Result Night ToolFault)
+    × TakesMails old taken met × FinishesNight dates taken met result new
 
 -- The command `exchange` performed a night of the desk in a file. Or the file could not be opened.
 abbrev pub ExchangesAtFile : Option (Date × Dates) → Option (List ℕ) → Option (List ℕ) → Result Bool ToolFault → Type 0
 ExchangesAtFile dates before after result =
     FailsToOpen before after result
-    ⊎ ((old : HeldAndLanded DeskContents) × (new : HeldAndLanded DeskContents) × ExchangesAt dates old before after result new)
+    ⊎ ((old : HeldAndLanded DeskContents) × (new : HeldAndLanded DeskContents)
+    × ExchangesAt dates (command_state old before) result (command_state new after))

@@ -1,13 +1,13 @@
 //! The files that a night writes beside its mail: the copy of each desk, and a sign of life.
 
 ghost use Rattle.std.specs.Prelude.{◌≡◌, IfErr};
-ghost use Rattle.ill_desk.specs.Outbox.{IsFileFault};
+ghost use Rattle.ill_text.specs.Fault.{IsFileFault};
 
 use crate::night::Night;
-use ill_desk::copy::{Copied, run_desk_copy_over};
 use ill_files::durable::Owner;
 use ill_files::machine::Machine;
 use ill_files::paths::is_there;
+use ill_desk::copy::{Copied, run_desk_copy_over};
 use ill_saved::{Desk, FileStore, RECORD_LIMIT, Store};
 use ill_text::fault::{STORE_FAILED, ToolFault};
 use ill_values::OutOfMemory;

@@ -3,10 +3,9 @@
 
 ghost use Rattle.std.specs.Prelude.{◌≡◌, Ok, is_some, IfErr};
 ghost use Rattle.ill_mail.specs.Nights.{EndsAfterSending, ExchangesAt, ExchangesAtFile, FinishesNight, InboxAtFile, OutboxAtFile, PerformsDueDeeds, SendsAll, SendsAsked, SendsFrom, SendsOn, SendsTo, SettlesRun, TakesMails, ending_of, night_ending, taken_of};
-ghost use Rattle.ill_files.specs.AtFile.{IsOpenFault};
 ghost use Rattle.ill_desk.specs.Inbox.{EndedWell, answered_with};
-ghost use Rattle.ill_desk.specs.Performing.{view_of};
-ghost use Rattle.ill_desk.specs.Outbox.{IsFileFault};
+ghost use Rattle.ill_desk.specs.Performing.{command_state, view_of};
+ghost use Rattle.ill_text.specs.Fault.{IsFileFault, IsOpenFault};
 
 use crate::backup::{beat, copy_desk};
 use crate::blame::{NO_BOX, NO_RUN, NOT_READ, blame_mail};
@@ -16,23 +15,23 @@ use crate::mail_folder::MailFolder;
 use crate::night::Night;
 use crate::places::{Places, look_at_out, look_at_places};
 use crate::settle::settle_mails;
+use ill_files::came::{CameFile, open_came};
+use ill_files::machine::Machine;
+use ill_files::open::{all_well, open_locked, release};
+use ill_files::paths::folder_of;
 use ill_desk::asked::asked_by;
 use ill_desk::dates::{Dates, run_desk_dates};
 use ill_desk::inbox::run_desk_inbox;
 use ill_desk::outbox::{run_desk_outbox, run_desk_outbox_stream};
 use ill_desk::person::{tell_person, wants_person};
 use ill_desk::tally::Tally;
-use ill_desk::verdict::Verdict;
-use ill_files::came::{CameFile, open_came};
-use ill_files::machine::Machine;
-use ill_files::open::{all_well, open_locked, release};
-use ill_files::paths::{fault, folder_of};
+use ill_desk::verdict::{Batch, Verdict};
 use ill_saved::{Desk, LockFiles, Role, Store};
-use ill_text::fault::{STORE_FAILED, ToolFault};
+use ill_text::fault::ToolFault;
 use ill_text::output::write_and_flush;
 use ill_values::Day;
 use std::alloc::Global;
-use std::io::{ErrorKind, Write};
+use std::io::Write;
 use std::rt::Files;
 
 const NO_CAME: &str = ".came cannot be read or written";
@@ -77,8 +76,9 @@ fn take_mails<T: Files, S: Store, W: Write, E: Write>(
     is_telling: bool,
     desk: &mut Desk<S>,
 ) -> Result<Taken, ToolFault>
-    ensures { TakesMails (view_of S.state desk.old) (W.contents machine.old.writer) (W.contents machine.new.writer)
-        (answered_with taken_of result) (view_of S.state desk.new) }
+    ensures { TakesMails (command_state (view_of S.state desk.old) (W.contents machine.old.writer))
+        (answered_with taken_of result)
+        (command_state (view_of S.state desk.new) (W.contents machine.new.writer)) }
 {
     let mail_box = machine.blame(
         open_box(machine.rt, machine.alloc, file, file),
@@ -94,14 +94,11 @@ fn take_mails<T: Files, S: Store, W: Write, E: Write>(
     };
     let role = desk.sides().role();
     let found = find_mails(machine, &place, incoming.is_sorted, role)?;
-    let run = run_desk_inbox(
-        machine.alloc,
-        desk,
-        &found.mails,
-        found.waiting,
-        &mut came,
-        &mut machine.writer,
-    );
+    let batch = Batch {
+        mails: &found.mails,
+        waiting: found.waiting,
+    };
+    let run = run_desk_inbox(machine.alloc, desk, &batch, &mut came, &mut machine.writer);
     match run {
         Ok(verdicts) => conclude(machine, &place, desk, found, verdicts),
         Err(fault) => {
@@ -192,11 +189,7 @@ fn keep_asked<T: Files>(
 ) -> Result<(), ToolFault>
     ensures { IfErr result IsFileFault }
 {
-    match mail_box.keep_asked(rt, alloc, asked) {
-        Ok(()) => Ok(()),
-        Err(error) if error.kind() == ErrorKind::OutOfMemory => Err(ToolFault::OutOfMemory),
-        Err(_) => Err(STORE_FAILED),
-    }
+    Ok(mail_box.keep_asked(rt, alloc, asked)?)
 }
 
 /// `ill outbox`: puts the messages of the loans that want sending into a folder, or writes them one after another.
@@ -286,10 +279,7 @@ fn send_into<T: Files, S: Store, W: Write, E: Write>(
 fn asking<T: Files>(rt: &T, alloc: Global, file: &str) -> Result<Vec<u8>, ToolFault>
     ensures { IfErr result IsOpenFault }
 {
-    match asked_bytes(rt, alloc, file) {
-        Ok(bytes) => Ok(bytes),
-        Err(error) => Err(fault(&error)),
-    }
+    Ok(asked_bytes(rt, alloc, file)?)
 }
 
 /// `ill exchange`: takes the mails that have come, performs the deeds of the day, copies the desk, and sends its
@@ -334,8 +324,9 @@ fn exchange_at<T: Files, S: Store, W: Write, E: Write>(
     night: &Night<'_>,
     desk: &mut Desk<S>,
 ) -> Result<bool, ToolFault>
-    ensures { ExchangesAt night.now.dates (view_of S.state desk.old)
-        (W.contents machine.old.writer) (W.contents machine.new.writer) result (view_of S.state desk.new) }
+    ensures { ExchangesAt night.now.dates
+        (command_state (view_of S.state desk.old) (W.contents machine.old.writer)) result
+        (command_state (view_of S.state desk.new) (W.contents machine.new.writer)) }
 {
     let incoming = Incoming {
         folder: night.incoming,
@@ -355,8 +346,9 @@ fn go_on<T: Files, S: Store, W: Write, E: Write>(
     desk: &mut Desk<S>,
     taken: &Taken,
 ) -> Result<bool, ToolFault>
-    ensures { FinishesNight night.now.dates (Ok (taken_of taken.now)) (W.contents machine.old.writer) (W.contents machine.new.writer)
-        (view_of S.state desk.old) result (view_of S.state desk.new) }
+    ensures { FinishesNight night.now.dates (Ok (taken_of taken.now))
+        (command_state (view_of S.state desk.old) (W.contents machine.old.writer)) result
+        (command_state (view_of S.state desk.new) (W.contents machine.new.writer)) }
 {
     match say_dates(machine.alloc, desk, night.dates, &mut machine.writer) {
         Ok(()) => send_all(machine, file, night, desk, taken),
@@ -371,8 +363,9 @@ fn say_dates<S: Store, W: Write>(
     dates: Option<(Day, Dates)>,
     writer: &mut W,
 ) -> Result<(), ToolFault>
-    ensures { PerformsDueDeeds dates (W.contents writer.old) (W.contents writer.new)
-        (view_of S.state desk.old) result (view_of S.state desk.new) }
+    ensures { PerformsDueDeeds dates
+        (command_state (view_of S.state desk.old) (W.contents writer.old)) result
+        (command_state (view_of S.state desk.new) (W.contents writer.new)) }
 {
     match dates {
         Some((today, which)) => run_desk_dates(alloc, desk, today, which, writer),

@@ -7,15 +7,15 @@
 //! that moment.
 
 ghost use Rattle.std.specs.Prelude.{◌≡◌, IfErr};
-ghost use Rattle.ill_files.specs.AtFile.{IsOpenFault};
 ghost use Rattle.ill_desk.specs.Inbox.{is_line_end, without_line_end};
+ghost use Rattle.ill_text.specs.Fault.{IsOpenFault};
 
 use crate::mail_box::{MailBox, MailPaths, give_back};
 use ill_der::{APDU_LIMIT, view};
+use ill_files::paths::{joined, path_of, raw_names};
+use ill_files::shelf::is_for_desk;
 use ill_desk::inbox::message_in;
 use ill_desk::verdict::Mail;
-use ill_files::paths::{fault, joined, path_of, raw_names};
-use ill_files::shelf::is_for_desk;
 use ill_saved::Role;
 use ill_text::fault::ToolFault;
 use ill_values::OutOfMemory;
@@ -163,10 +163,7 @@ pub struct Incoming<'a> {
 pub fn begin_run<T: Files>(rt: &T, alloc: Global, mail_box: &MailBox) -> Result<String, ToolFault>
     ensures { IfErr result IsOpenFault }
 {
-    match new_run(rt, alloc, mail_box) {
-        Ok(run) => Ok(run),
-        Err(error) => Err(fault(&error)),
-    }
+    Ok(new_run(rt, alloc, mail_box)?)
 }
 
 /// Reads the mails that earlier runs have claimed. Then it claims the mails of `folder` into the folder `run`, and
@@ -180,10 +177,7 @@ pub fn claim_mails<T: Files>(
 ) -> Result<Mails, ToolFault>
     ensures { IfErr result IsOpenFault }
 {
-    match all_mails(rt, alloc, mail_box, folder, Some(run)) {
-        Ok(mails) => Ok(mails),
-        Err(error) => Err(fault(&error)),
-    }
+    Ok(all_mails(rt, alloc, mail_box, folder, Some(run))?)
 }
 
 /// Reads the mails that a shelf has sorted from the folder of `place` to the desk there. A carrier that opened a mail before the
@@ -196,13 +190,9 @@ pub fn sorted_mails<T: Files>(
 ) -> Result<Mails, ToolFault>
     ensures { IfErr result IsOpenFault }
 {
-    match all_mails(rt, alloc, place.mail_box, place.folder, None) {
-        Ok(mut mails) => match hide_others(alloc, place.file, role, &mut mails) {
-            Ok(()) => Ok(mails),
-            Err(_) => Err(ToolFault::OutOfMemory),
-        },
-        Err(error) => Err(fault(&error)),
-    }
+    let mut mails = all_mails(rt, alloc, place.mail_box, place.folder, None)?;
+    hide_others(alloc, place.file, role, &mut mails)?;
+    Ok(mails)
 }
 
 /// Hides the bytes of the mails whose message is not for the desk in `file`.
@@ -213,15 +203,22 @@ fn hide_others(
     mails: &mut Mails,
 ) -> Result<(), OutOfMemory> {
     for mail in &mut mails.mails {
-        let is_own = match &mail.bytes {
-            Some(bytes) => is_for_desk(alloc, file, role, bytes)?,
-            None => true,
-        };
-        if !is_own {
+        if !may_be_own(alloc, file, role, mail)? {
             mail.bytes = None;
         }
     }
     Ok(())
+}
+
+/// Returns true if the desk in `file` may take `mail`: it has no message, or one that is for this desk.
+fn may_be_own(alloc: Global, file: &str, role: Role, mail: &Mail) -> Result<bool, OutOfMemory> {
+    let Some(bytes) = &mail.bytes else {
+        return Ok(true);
+    };
+    match message_in(bytes) {
+        Ok(message) => is_for_desk(alloc, file, role, &message),
+        Err(_) => Ok(true),
+    }
 }
 
 /// Reads the mails of a desk, as many as one run takes. First come the mails that earlier runs have claimed. Then it

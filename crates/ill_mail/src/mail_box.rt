@@ -2,11 +2,11 @@
 //! file there.
 
 ghost use Rattle.std.specs.Prelude.{Ok, IfErr};
-ghost use Rattle.ill_files.specs.AtFile.{IsOpenFault};
+ghost use Rattle.ill_text.specs.Fault.{IsOpenFault};
 
 use crate::reserved::{is_reserved, is_within};
 use ill_files::durable::{Owner, error_of_store, flush};
-use ill_files::paths::{MAIL, fault, is_same, path_of};
+use ill_files::paths::{MAIL, is_same, path_of};
 use ill_saved::{FileStore, RECORD_LIMIT, Store};
 use ill_text::fault::ToolFault;
 use std::alloc::Global;
@@ -31,10 +31,7 @@ pub fn open_box<T: Files>(
 ) -> Result<MailBox, ToolFault>
     ensures { IfErr result IsOpenFault }
 {
-    match MailBox::open(rt, alloc, file, original) {
-        Ok(mail_box) => Ok(mail_box),
-        Err(error) => Err(fault(&error)),
-    }
+    Ok(MailBox::open(rt, alloc, file, original)?)
 }
 
 /// The folder of a desk's mail.

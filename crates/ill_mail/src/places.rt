@@ -1,13 +1,13 @@
 //! The paths of a run: folders in which mails may be, and files that a run writes beside them.
 
 ghost use Rattle.std.specs.Prelude.{◌≡◌, IfErr};
-ghost use Rattle.ill_files.specs.AtFile.{IsOpenFault};
+ghost use Rattle.ill_text.specs.Fault.{IsOpenFault};
 
 use crate::blame::NO_FOLDER;
 use crate::night::Night;
 use crate::reserved::{is_one, is_reserved};
 use ill_files::machine::Machine;
-use ill_files::paths::{fault, folder_of};
+use ill_files::paths::folder_of;
 use ill_text::fault::{STORE_FAILED, ToolFault};
 use std::io::Write;
 use std::rt::Files;
@@ -50,11 +50,10 @@ pub(crate) fn look_at_out<T: Files, W: Write, E: Write>(
     ensures silent { machine.new.writer ≡ machine.old.writer }
 {
     machine.blame(find_folder(machine.rt, out), out, NO_FOLDER)?;
-    match is_reserved(machine.rt, machine.alloc, file, out) {
-        Ok(false) => Ok(()),
-        Ok(true) => machine.blame(Err(STORE_FAILED), out, RESERVED),
-        Err(error) => Err(fault(&error)),
+    if is_reserved(machine.rt, machine.alloc, file, out)? {
+        return machine.blame(Err(STORE_FAILED), out, RESERVED);
     }
+    Ok(())
 }
 
 /// Finds the folder at `path`.
@@ -81,10 +80,9 @@ pub fn look_at_places<T: Files, W: Write, E: Write>(
     if let Some(copies) = places.copies {
         machine.blame(find_folder(machine.rt, copies), copies, NO_FOLDER)?;
     }
-    match find_misplaced(machine.rt, places, night) {
-        Ok(None) => Ok(()),
-        Ok(Some(found)) => machine.blame(Err(STORE_FAILED), found.path, found.text),
-        Err(error) => Err(fault(&error)),
+    match find_misplaced(machine.rt, places, night)? {
+        None => Ok(()),
+        Some(found) => machine.blame(Err(STORE_FAILED), found.path, found.text),
     }
 }
 

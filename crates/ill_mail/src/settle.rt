@@ -1,12 +1,12 @@
 //! The settling of the files of mails, after a run has saved their messages.
 
 ghost use Rattle.std.specs.Prelude.{◌≡◌, IfErr};
-ghost use Rattle.ill_desk.specs.Outbox.{IsFileFault};
+ghost use Rattle.ill_text.specs.Fault.{IsFileFault};
 
 use crate::mail::Mails;
 use crate::mail_box::{MailBox, MailPaths, give_back, remove_if_there};
-use ill_desk::verdict::{Mail, Unfit, Verdict, push_unfit};
 use ill_files::machine::Machine;
+use ill_desk::verdict::{Mail, Unfit, Verdict, push_unfit};
 use ill_text::fault::{STORE_FAILED, ToolFault};
 use ill_text::warning::warn;
 use std::io::{ErrorKind, Write};

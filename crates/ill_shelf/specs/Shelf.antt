@@ -22,9 +22,9 @@ use Rattle.ill_text.specs.Input.{ReadsInput}
 use Rattle.ill_desk.specs.Take.{answer_of}
 use Rattle.ill_desk.specs.declared.take.TakeForm.{TakeForm}
 use Rattle.ill_show.specs.Listing.{heading}
-use Rattle.ill_desk.specs.Outbox.{IsFileFault}
 use Rattle.ill_text.specs.Output.{WritesText}
 use Rattle.ill_text.specs.Visits.{Stop, VisitsEach, graver}
+use Rattle.ill_text.specs.Fault.{IsFileFault}
 
 -- ---- mail
 

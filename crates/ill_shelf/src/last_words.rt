@@ -2,8 +2,8 @@
 //! from the mark of the group.
 
 ghost use Rattle.std.specs.Prelude.{◌≡◌, IfErr};
-ghost use Rattle.ill_desk.specs.Outbox.{IsFileFault};
 ghost use Rattle.ill_shelf.specs.Shelf.{IsFurther};
+ghost use Rattle.ill_text.specs.Fault.{IsFileFault};
 
 use ill_der::{ApduView, encode};
 use ill_desk::outbox::mail_name;
@@ -16,11 +16,11 @@ use ill_mail::blame::blame_mail;
 use ill_mail::mail_box::asked_bytes;
 use ill_mail::mail_folder::MailFolder;
 use ill_saved::{FileStore, RECORD_LIMIT, Role, Store};
-use ill_text::fault::{STORE_FAILED, ToolFault};
+use ill_text::fault::ToolFault;
 use ill_text::input::apdus_in;
 use ill_values::Apdu;
 use std::alloc::Global;
-use std::io::{self, ErrorKind, Write};
+use std::io::{self, Write};
 use std::rt::Files;
 
 /// Returns the bytes of the mark of the group of `desk`, if the group is retired.
@@ -82,11 +82,7 @@ pub(crate) fn send_last_words<T: Files, W: Write, E: Write>(
     ensures further { IsFurther result }
     ensures silent { machine.new.writer ≡ machine.old.writer }
 {
-    let words = match words_asked(machine.rt, machine.alloc, shelf) {
-        Ok(words) => words,
-        Err(error) if error.kind() == ErrorKind::OutOfMemory => return Err(ToolFault::OutOfMemory),
-        Err(_) => return Err(STORE_FAILED),
-    };
+    let words = words_asked(machine.rt, machine.alloc, shelf)?;
     let mut folder = MailFolder::at(machine.rt, machine.alloc, out);
     let sent = put_words(machine.alloc, &words, &mut folder);
     match blame_mail(machine, sent, &folder) {

@@ -1,10 +1,10 @@
 //! The commands on a shelf. In a transaction each does at the desk of its group as the command for one desk does.
 
 ghost use Rattle.std.specs.Prelude.{◌≡◌, true, map, is_some, IfErr};
-ghost use Rattle.ill_files.specs.AtFile.{ActsAtFile, IsOpenFault, LoanAtFile, NewAtFile, SendsAtFile, ShowsFile};
+ghost use Rattle.ill_files.specs.AtFile.{ActsAtFile, LoanAtFile, NewAtFile, SendsAtFile, ShowsFile};
 ghost use Rattle.ill_mail.specs.Nights.{ExchangesAtFile, InboxAtFile, OutboxAtFile};
 ghost use Rattle.ill_shelf.specs.Shelf.{IsFurther, RetiresAtFile, VisitsShelf, is_lines, retired_line, told_with};
-ghost use Rattle.ill_desk.specs.Outbox.{IsFileFault};
+ghost use Rattle.ill_text.specs.Fault.{IsOpenFault};
 
 use crate::last_words::{load_mark, send_last_words};
 use crate::sorting::{refuse_lost, sort_mails};
@@ -12,10 +12,10 @@ use crate::visit::{Visit, visit_all};
 use ill_desk::act::run_desk_act;
 use ill_desk::retire::run_desk_retire;
 use ill_files::durable::error_of_store;
-use ill_files::file::{loan, new, send};
+use ill_files::file::{ActionView, loan, new, send};
 use ill_files::machine::Machine;
 use ill_files::open::{lock, open, release};
-use ill_files::paths::{CAME, MAIL, RETIRED, fault, is_there, path_of};
+use ill_files::paths::{CAME, MAIL, RETIRED, is_there, path_of};
 use ill_files::shelf::{Shelf, is_retired, names_of_desks, own_path, refuse_retired, retired_path};
 use ill_mail::backup::beat;
 use ill_mail::mail::names_in;
@@ -27,7 +27,7 @@ use ill_show::loan::LoanView;
 use ill_text::fault::{STORE_FAILED, ToolFault, graver};
 use ill_text::form::Form;
 use ill_text::output::write_whole;
-use ill_values::{Day, Number, TxnId};
+use ill_values::{Number, TxnId};
 use ill_words::Who;
 use std::alloc::Global;
 use std::fs::DirBuilder;
@@ -56,34 +56,32 @@ fn make_shelf_folder<T: Files>(rt: &T, folder: &str) -> Result<(), ToolFault>
         return Err(STORE_FAILED);
     }
     match DirBuilder::new().create(rt, folder) {
-        Err(error) if error.kind() != ErrorKind::AlreadyExists => Err(fault(&error)),
+        Err(error) if error.kind() != ErrorKind::AlreadyExists => Err(error.into()),
         _ => Ok(()),
     }
 }
 
-/// `ill shelf act`: performs one action in a transaction, at the desk of its group. A new group is begun only if
+/// `ill shelf act`: performs the action of `view`, at the desk of its group. A new group is begun only if
 /// `is_new_group` is set.
 pub fn act_on_shelf<T: LockFiles, W: Write, E: Write>(
     machine: &mut Machine<'_, T, W, E>,
     folder: &str,
-    txn: &TxnId,
-    today: Option<Day>,
+    view: &ActionView<'_>,
     is_new_group: bool,
-    words: &[&str],
 ) -> Result<bool, ToolFault>
-    ensures { ActsAtFile txn.now today (map (λ word. word.now) words.now)
+    ensures { ActsAtFile view.now.txn.now view.now.today (map (λ word. word.now) view.now.words.now)
         (W.contents machine.old.writer) (W.contents machine.new.writer) result }
 {
     let shelf = Shelf::open(machine.rt, machine.alloc, folder)?;
-    let file = shelf.desk_of(machine.alloc, txn.group())?;
+    let file = shelf.desk_of(machine.alloc, view.txn.group())?;
     let role = if is_new_group { Some(shelf.role) } else { None };
     let (lock, mut desk) = open_or_begin(machine.rt, machine.alloc, file.as_str(), role)?;
     let acted = run_desk_act(
         machine.alloc,
         &mut desk,
-        txn,
-        today,
-        words,
+        view.txn,
+        view.today,
+        view.words,
         &mut machine.writer,
     );
     release(acted, desk, lock)
@@ -295,7 +293,7 @@ fn end_night<T: Files, W: Write, E: Write>(
     if let Some(folder) = night.copy
         && let Err(error) = copy_marks(machine.rt, machine.alloc, shelf, folder)
     {
-        return machine.blame(Err(file_fault(&error)), folder, NO_MARKS);
+        return machine.blame(Err(error.into()), folder, NO_MARKS);
     }
     if let Ok(_) | Err(ToolFault::Left) = answer {
         let own = shelf.own_desk(machine.alloc)?;
@@ -338,16 +336,6 @@ fn save_file<T: Files>(rt: &T, alloc: Global, path: &str, bytes: &[u8]) -> io::R
     match store.save(alloc, bytes) {
         Ok(()) => Ok(()),
         Err(fault) => Err(error_of_store(fault)),
-    }
-}
-
-/// Returns the fault of a file that cannot be written.
-fn file_fault(error: &io::Error) -> ToolFault
-    ensures { IsFileFault result }
-{
-    match error.kind() {
-        ErrorKind::OutOfMemory => ToolFault::OutOfMemory,
-        _ => STORE_FAILED,
     }
 }
 
@@ -395,8 +383,8 @@ fn mark_and_clear<T: Files>(rt: &T, alloc: Global, file: &str) -> Result<bool, T
     ensures { IfErr result IsOpenFault }
 {
     let is_marked = mark_retired(rt, alloc, file)?;
-    if is_marked && let Err(error) = clear(rt, alloc, file) {
-        return Err(fault(&error));
+    if is_marked {
+        clear(rt, alloc, file)?;
     }
     Ok(is_marked)
 }
@@ -405,10 +393,8 @@ fn mark_and_clear<T: Files>(rt: &T, alloc: Global, file: &str) -> Result<bool, T
 fn mark_retired<T: Files>(rt: &T, alloc: Global, file: &str) -> Result<bool, ToolFault>
     ensures { IfErr result IsOpenFault }
 {
-    match is_retired(rt, alloc, file) {
-        Ok(false) => {}
-        Ok(true) => return Ok(true),
-        Err(error) => return Err(fault(&error)),
+    if is_retired(rt, alloc, file)? {
+        return Ok(true);
     }
     let desk = open(rt, alloc, file)?;
     let path = retired_path(alloc, file)?;

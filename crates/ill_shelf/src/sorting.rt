@@ -5,8 +5,8 @@
 //! answers as a desk without the loan. It gets no message that would begin a loan.
 
 ghost use Rattle.std.specs.Prelude.{◌≡◌, IfErr};
-ghost use Rattle.ill_files.specs.AtFile.{IsOpenFault};
 ghost use Rattle.ill_shelf.specs.Shelf.{route_of};
+ghost use Rattle.ill_text.specs.Fault.{IsOpenFault};
 
 use crate::last_words::LastWords;
 use ill_der::{ApduView, BodyView, encode};
@@ -15,7 +15,7 @@ use ill_desk::new::run_desk_new;
 use ill_desk::verdict::Mail;
 use ill_files::machine::Machine;
 use ill_files::open::lock;
-use ill_files::paths::{CAME, MAIL, RETIRED, fault, is_there, path_of};
+use ill_files::paths::{CAME, MAIL, RETIRED, is_there, path_of};
 use ill_files::shelf::{Shelf, is_retired, names_of_desks, refuse_retired};
 use ill_mail::blame::{NO_BOX, NO_RUN, NOT_READ};
 use ill_mail::mail::{Mails, begin_run, claim_mails, new_run};
@@ -121,10 +121,7 @@ fn sort_under_lock<T: LockFiles, W: Write, E: Write>(
     };
     let found = claim_from_outside(machine.rt, machine.alloc, shelf, sources);
     let found = machine.blame(found, folder, NOT_READ)?;
-    match sort_found(machine, shelf, sources, &found) {
-        Ok(is_waiting) => Ok(is_waiting),
-        Err(error) => Err(fault(&error)),
-    }
+    Ok(sort_found(machine, shelf, sources, &found)?)
 }
 
 /// The places from which a shelf learns what it sorts.
@@ -155,11 +152,10 @@ fn claim_from_outside<T: Files>(
         run,
         ..
     } = sources;
-    match is_within(rt, alloc, folder, shelf.folder) {
-        Ok(false) => claim_mails(rt, alloc, mail_box, folder, run),
-        Ok(true) => Err(STORE_FAILED),
-        Err(error) => Err(fault(&error)),
+    if is_within(rt, alloc, folder, shelf.folder)? {
+        return Err(STORE_FAILED);
     }
+    claim_mails(rt, alloc, mail_box, folder, run)
 }
 
 /// Sorts the claimed mails `found`, and writes a line about each lost desk. Returns true if a desk is lost, or a mail
@@ -547,10 +543,9 @@ fn is_lost<T: Files>(rt: &T, alloc: Global, desk: &str) -> io::Result<bool> {
 pub(crate) fn refuse_lost<T: Files>(rt: &T, alloc: Global, desk: &str) -> Result<(), ToolFault>
     ensures { IfErr result IsOpenFault }
 {
-    match home_at(rt, alloc, desk) {
-        Ok(Home::Lost) => Err(ToolFault::Desk(DeskFault::NoRecord)),
-        Ok(_) => Ok(()),
-        Err(error) => Err(fault(&error)),
+    match home_at(rt, alloc, desk)? {
+        Home::Lost => Err(ToolFault::Desk(DeskFault::NoRecord)),
+        _ => Ok(()),
     }
 }
 

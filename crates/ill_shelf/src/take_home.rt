@@ -2,15 +2,14 @@
 
 ghost use Rattle.std.specs.Prelude.{◌≡◌, IfErr, IfOk};
 ghost use Rattle.ill_der.specs.ShortForm.{spelling};
-ghost use Rattle.ill_files.specs.AtFile.{IsOpenFault};
 ghost use Rattle.ill_shelf.specs.Shelf.{TakesAtShelf, TakesAtHome};
+ghost use Rattle.ill_text.specs.Fault.{IsOpenFault};
 
 use crate::sorting::{Route, home_at, make_desk, route_of};
 use ill_der::{ApduView, BodyView, Handler, encode};
 use ill_desk::take::TakeForm;
 use ill_files::file::take;
 use ill_files::machine::Machine;
-use ill_files::paths::fault;
 use ill_files::shelf::Shelf;
 use ill_saved::{DeskFault, LockFiles};
 use ill_text::fault::ToolFault;
@@ -102,10 +101,7 @@ fn desk_for<T: LockFiles>(
     ensures { IfErr result IsOpenFault }
 {
     let desk = shelf.desk_of(alloc, apdu.group())?;
-    let home = match home_at(rt, alloc, desk.as_str()) {
-        Ok(home) => home,
-        Err(error) => return Err(fault(&error)),
-    };
+    let home = home_at(rt, alloc, desk.as_str())?;
     let is_request = matches!(apdu.body(), BodyView::IllRequest { .. });
     match route_of(shelf.role, home, is_request, true) {
         Route::Home => Ok(desk),

@@ -1,3 +1,4 @@
 pub mod ListLemmas
+pub mod LoanLemmas
 pub mod ReportLemmas
 pub mod StatusLemmas

@@ -1,5 +1,5 @@
 -- Proves how a page of the command `report` grows by the parts of desks.
-use Rattle.std.proofs.Common.{◌≡◌, ℕ, ◌+◌, List, ◌++◌, ap, ◌∙◌, append_assoc}
+use Rattle.std.proofs.Common.{◌≡◌, ℕ, List, ◌++◌, ap, ◌∙◌, append_assoc}
 
 -- Appending three texts one by one equals appending their join.
 pub three_added : (before first second third one two three : List ℕ) → first ≡ before ++ one → second ≡ first ++ two

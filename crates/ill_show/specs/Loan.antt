@@ -31,6 +31,10 @@ loan_text Lines = kept_lines
 loan_text Object = λ held kept. object_line (loan_fields held.side held.released ++ came_fields kept)
 loan_text Picture = picture
 
+-- `written` is the text of the messages of `txn` in `bytes`.
+abbrev pub IsTextOf : (List Apdu → List ℕ) → Qualifiers → List ℕ → List ℕ → Type 0
+IsTextOf text txn bytes written = (came : List Apdu) × AreIn bytes came × (written ≡ text (kept_of txn came))
+
 -- The output grew from `before` to `after` by the text of the messages of `txn` in `bytes`. If memory ran
 -- out, it did not grow.
 abbrev pub WritesLoan : (List Apdu → List ℕ) → Qualifiers → List ℕ → Option (List ℕ) → Option (List ℕ) →

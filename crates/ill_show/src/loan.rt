@@ -3,7 +3,7 @@
 ghost use Rattle.std.specs.Prelude.{◌≡◌, IfOk};
 ghost use Rattle.ill_saved.specs.Side.{txn_of};
 ghost use Rattle.ill_saved.specs.ManySides.{found_by, txn_held};
-ghost use Rattle.ill_show.specs.Loan.{RunsLoan, WritesLoan, loan_form, loan_text};
+ghost use Rattle.ill_show.specs.Loan.{IsTextOf, RunsLoan, loan_form, loan_text};
 
 use crate::kept::{kept_of, push_kept_lines};
 use crate::objects::push_kept_object;
@@ -67,34 +67,30 @@ pub fn run_desk_loan<S: Store, W: Write>(
         (W.contents writer.old) (W.contents writer.new) result }
 {
     match desk.sides().get(view.txn) {
-        Some(side) => write_loan(
-            alloc,
-            view.form,
-            side,
-            desk.released(view.txn),
-            came,
-            writer,
-        ),
+        Some(side) => {
+            match text_of_loan(alloc, view.form, side, desk.released(view.txn), came) {
+                Ok(text) => write_whole(writer, &text),
+                Err(_) => Err(ToolFault::OutOfMemory),
+            }
+        }
         None => Err(ToolFault::Desk(DeskFault::NoSuchTransaction)),
     }
 }
 
-/// Writes all that is known of `side`, and its messages in `came`.
-fn write_loan<W: Write>(
+/// Returns the text of all that is known of `side`, and of its messages in `came`.
+fn text_of_loan(
     alloc: Global,
     form: LoanForm,
     side: &Side,
     released: u8,
     came: &[u8],
-    writer: &mut W,
-) -> Result<(), ToolFault>
-    ensures { WritesLoan (loan_text form (record { side = side.now; released = released })) (txn_of side.now) came.now
-        (W.contents writer.old) (W.contents writer.new) result }
+) -> Result<Vec<u8>, OutOfMemory>
+    ensures { IfOk result (λ text. IsTextOf (loan_text form (record { side = side.now; released = released }))
+        (txn_of side.now) came.now text.items) }
 {
     let came = apdus_in(alloc, came)?;
     let kept = kept_of(alloc, side.txn(), &came)?;
-    let text = loan_text(alloc, form, side, released, kept)?;
-    write_whole(writer, &text)
+    loan_text(alloc, form, side, released, kept)
 }
 
 /// Returns the text of `side` and of the messages `kept` that came to it.

@@ -18,7 +18,7 @@ use Rattle.ill_der.specs.Handling.{Handles, Handled, FailsAt, HandlesEach}
 use Rattle.ill_text.specs.declared.fault.ToolFault.{ToolFault}
 use Rattle.ill_text.specs.declared.input.Counted.{Counted}
 use Rattle.ill_text.specs.declared.fault.ToolFault.TheVariants.{Der, Read}
-use Rattle.ill_text.specs.Input.{spellings, Ends, ReadsInput, answer_at_end, CountsOn}
+use Rattle.ill_text.specs.Input.{spellings, Rest, rest_of, Ends, ReadsInput, answer_at_end, CountsOn}
 
 -- ---- APDUs handled one after another
 -- `handles` relates states, and `seen` relates their views. `as_seen` says that each step by `handles` is one by
@@ -35,10 +35,10 @@ handled_on_views handles seen view as_seen before after (apdu ∷ apdus) is =
 -- If an input ends by `handles`, it ends by `seen` on the views.
 ends_on_views : {S T : Type 0} (handles : Handles S ToolFault) (seen : Handles T ToolFault) (view : S → T)
     → ((s t : S) (apdu : Apdu) (r : Result (Unit {0}) ToolFault) → handles s apdu r t → seen (view s) apdu r (view t))
-    → (result : Result ℕ ToolFault) (count : ℕ) (bytes : List ℕ) (ahead : List ℕ) (left : Option (List ℕ)) (before after : S)
-    → Ends handles result count bytes ahead left before after → Ends seen result count bytes ahead left (view before) (view after)
-ends_on_views handles seen view as_seen (Ok n) count bytes ahead left before after is = (is.0, is.1, is.2, ap view is.3)
-ends_on_views handles seen view as_seen (Err fault) count bytes ahead left before after is = elim is [
+    → (result : Result ℕ ToolFault) (count : ℕ) (rest : Rest) (before after : S)
+    → Ends handles result count rest before after → Ends seen result count rest (view before) (view after)
+ends_on_views handles seen view as_seen (Ok n) count rest before after is = (is.0, is.1, is.2, ap view is.3)
+ends_on_views handles seen view as_seen (Err fault) count rest before after is = elim is [
   | inl stops ↦ inl (stops.0, ap view stops.1)
   | inr fails ↦ inr (fails.0, fails.1, fails.2, fails.3, as_seen before after fails.0 (Err fault) fails.4)
 ]
@@ -48,20 +48,19 @@ pub reads_on_views : {S T : Type 0} (handles : Handles S ToolFault) (seen : Hand
     → ((s t : S) (apdu : Apdu) (r : Result (Unit {0}) ToolFault) → handles s apdu r t → seen (view s) apdu r (view t))
     → (old new : Option (List ℕ)) (before after : S) (result : Result ℕ ToolFault)
     → ReadsInput handles old new before result after → ReadsInput seen old new (view before) result (view after)
-reads_on_views handles seen view as_seen old new before after result is = (
-  is.0,
-  is.1,
-  is.2,
-  view is.3,
-  record {
-    spelled = is.4.spelled;
-    most = is.4.most;
-    few = is.4.few;
-    read = is.4.read;
-    handled = handled_on_views handles seen view as_seen before is.3 is.0 is.4.handled;
-    ended = ends_on_views handles seen view as_seen result (length is.0) is.1 is.2 new is.3 after is.4.ended;
-  },
-)
+reads_on_views handles seen view as_seen old new before after result is = record {
+  apdus = is.apdus;
+  bytes = is.bytes;
+  ahead = is.ahead;
+  last = view is.last;
+  spelled = is.spelled;
+  most = is.most;
+  few = is.few;
+  read = is.read;
+  handled = handled_on_views handles seen view as_seen before is.last is.apdus is.handled;
+  ended = ends_on_views handles seen view as_seen result (length is.apdus) (rest_of is.bytes is.ahead new) is.last after
+      is.ended;
+}
 
 -- If handling the APDUs of a piece fails by `handles`, it fails by `seen` on the views.
 fails_as : {S T F : Type 0} (handles : Handles S F) (seen : Handles T F) (view : S → T)
@@ -83,8 +82,8 @@ fails_as handles seen view as_seen (Err closed) piece before after fault is = ab
 pub piece_on_views : {S T F : Type 0} (handles : Handles S F) (seen : Handles T F) (view : S → T)
     → ((s t : S) (apdu : Apdu) (r : Result (Unit {0}) F) → handles s apdu r t → seen (view s) apdu r (view t))
     → (old : FeedState) (piece : List ℕ) (before : S) (result : Result (Option DerFault) F) (new : FeedState) (after : S)
-    → HandlesEach handles old piece before result new after
-    → HandlesEach seen old piece (view before) result new (view after)
+    → HandlesEach handles (old, before) piece result (new, after)
+    → HandlesEach seen (old, view before) piece result (new, view after)
 piece_on_views handles seen view as_seen old piece before (Ok fault) new after is =
     let apdus = is.1 in
     (is.0, (apdus.0, apdus.1, handled_on_views handles seen view as_seen before after apdus.0 apdus.2))
@@ -115,24 +114,24 @@ counted_on handles before after (apdu ∷ apdus) few is =
     (omega (arith, one.1, on.0), on.1, (next.1, one.2, on.2))
 
 -- `piece` was pushed into the feed `old`, and its APDUs were counted and handled.
-abbrev pub HandlesCounted : {H C : Type 0} → Handles (H × C) ToolFault → FeedState → List ℕ → Counted H × C
-    → Result (Option DerFault) ToolFault → FeedState → Counted H × C → Type 0
-HandlesCounted handles old piece before result new after =
+abbrev pub HandlesCounted : {H C : Type 0} → Handles (H × C) ToolFault → FeedState × (Counted H × C) → List ℕ
+    → Result (Option DerFault) ToolFault → FeedState × (Counted H × C) → Type 0
+HandlesCounted handles old piece result new =
     HandlesEach (λ s apdu r t. CountsOn handles (s.0.count, (s.0.handler, s.1)) apdu r (t.0.count, (t.0.handler, t.1))) old piece
-    before result new after
+    result new
 
 -- If a counted handler has handled a piece, the piece is handled on pairs of the count and the state.
 each_counted : {H C : Type 0} (handles : Handles (H × C) ToolFault) (old feed : FeedState) (piece : List ℕ)
     (before : Counted H × C)
     (result : Result (Option DerFault) ToolFault) (new : FeedState) (after : Counted H × C)
-    → feed ≡ old → HandlesCounted handles feed piece before result new after
-    → HandlesEach (CountsOn handles) old piece (before.0.count, (before.0.handler, before.1)) result new
-    (after.0.count, (after.0.handler, after.1))
+    → feed ≡ old → HandlesCounted handles (feed, before) piece result (new, after)
+    → HandlesEach (CountsOn handles) (old, (before.0.count, (before.0.handler, before.1))) piece result
+    (new, (after.0.count, (after.0.handler, after.1)))
 each_counted {H = H} {C = C} handles old feed piece before result new after same is =
     piece_on_views (λ (s : Counted H × C) apdu r t.
     CountsOn handles (s.0.count, (s.0.handler, s.1)) apdu r (t.0.count, (t.0.handler, t.1))) (CountsOn handles)
     (λ s. (s.0.count, (s.0.handler, s.1))) (λ s t apdu r h. h) old piece before result new after
-    (subst (λ (f : FeedState). HandlesCounted handles f piece before result new after) same is)
+    (subst (λ (f : FeedState). HandlesCounted handles (f, before) piece result (new, after)) same is)
 
 -- `piece` was pushed after `held`, and gave the APDUs `more`. They were handled, from the state `before` to `after`.
 record IsPushed {S : Type 0} (handles : Handles S ToolFault) (held piece : List ℕ) (before : S) (fault : Option DerFault)
@@ -149,7 +148,7 @@ record IsPushed {S : Type 0} (handles : Handles S ToolFault) (held piece : List 
 pushed_counted : {H C : Type 0} (handles : Handles (H × C) ToolFault) (held : List ℕ) (feed : FeedState) (piece : List ℕ)
     (before : Counted H × C)
     (fault : Option DerFault) (new : FeedState) (after : Counted H × C)
-    → feed ≡ Ok held → HandlesCounted handles feed piece before (Ok fault) new after
+    → feed ≡ Ok held → HandlesCounted handles (feed, before) piece (Ok fault) (new, after)
     → IsPushed (CountsOn handles) held piece (before.0.count, (before.0.handler, before.1)) fault new
     (after.0.count, (after.0.handler, after.1))
 pushed_counted handles held feed piece before fault new after same is =
@@ -289,7 +288,7 @@ pub one_piece_more : {H C : Type 0} (handles : Handles (H × C) ToolFault) → S
     → (old now new : Option (List ℕ)) (before : H × C) (middle after : Counted H × C) (feed next : FeedState) (piece : List ℕ)
     → ReadSoFar handles old now before middle.0.count feed (middle.0.handler, middle.1) → Consumes now new piece
     → 0 < length piece → (closed : Option DerFault) → closed ≡ None
-    → HandlesCounted handles feed piece middle (Ok closed) next after
+    → HandlesCounted handles (feed, middle) piece (Ok closed) (next, after)
     → ReadSoFar handles old new before after.0.count next (after.0.handler, after.1)
     × (most_bytes_left after.0.count next < most_bytes_left middle.0.count feed)
 one_piece_more {H = H} {C = C} handles law old now new before middle after feed next piece so_far read some closed none each =
@@ -329,32 +328,30 @@ ends_held : {S : Type 0} (handles : Handles S ToolFault) → ShortLaw
     → (old new : Option (List ℕ)) (before after : S) (count : ℕ) (feed : FeedState) (result : Result ℕ ToolFault)
     (apdus : List Apdu)
     (held : List ℕ)
-    → SoFar handles old new before count feed after apdus held → Ends handles result count held [] new after after
+    → SoFar handles old new before count feed after apdus held → Ends handles result count (rest_of held [] new) after after
     → ReadsInput handles old new before result after
-ends_held handles law old new before after count feed result apdus held is ended = (
-  apdus,
-  held,
-  [],
-  after,
-  record {
-    spelled = is.spelled;
-    most = omega (arith, is.counted, is.few);
-    few = omega (arith, few_held law held is.unfinished);
-    read = subst (λ (x : List ℕ). Consumes old new (spellings apdus ++ x)) (sym (append-nil held)) is.read;
-    handled = is.handled;
-    ended = subst (λ (n : ℕ). Ends handles result n held [] new after after) (sym is.counted) ended;
-  },
-)
+ends_held handles law old new before after count feed result apdus held is ended = record {
+  apdus = apdus;
+  bytes = held;
+  ahead = [];
+  last = after;
+  spelled = is.spelled;
+  most = omega (arith, is.counted, is.few);
+  few = omega (arith, few_held law held is.unfinished);
+  read = subst (λ (x : List ℕ). Consumes old new (spellings apdus ++ x)) (sym (append-nil held)) is.read;
+  handled = is.handled;
+  ended = subst (λ (n : ℕ). Ends handles result n (rest_of held [] new) after after) (sym is.counted) ended;
+}
 
 -- At the end of the reader, the input ends well if no byte is held, and with `Short` otherwise.
 at_end : {S : Type 0} (handles : Handles S ToolFault) (count : ℕ) (held : List ℕ) (left : Option (List ℕ)) (after : S)
     → IsUnfinished held → IsAtEnd left
-    → Ends handles (answer_at_end (end_of (Ok held)) count) count held [] left after after
+    → Ends handles (answer_at_end (end_of (Ok held)) count) count (rest_of held [] left) after after
 at_end handles count [] left after unfinished end = (refl, refl, (refl, end), refl)
 at_end handles count (byte ∷ held) left after unfinished end =
     let n = length (byte ∷ held) in
-    subst (λ (empty : Bool). Ends handles (answer_at_end (if empty then Ok tt else Err (Short n)) count) count (byte ∷ held) []
-    left after after) (sym (eqb-suc-zero (length held)))
+    subst (λ (empty : Bool). Ends handles (answer_at_end (if empty then Ok tt else Err (Short n)) count) count
+    (rest_of (byte ∷ held) [] left) after after) (sym (eqb-suc-zero (length held)))
     (inl ((unfinished, (refl, end)), refl))
 
 -- If the reader is at its end, `ReadsInput` holds with the answer of `answer_at_end`.
@@ -366,7 +363,8 @@ ends_at_end handles law old new before after count feed so_far end =
     let held = so_far.1 in
     let is = so_far.2 in
     ends_held handles law old new before after count feed (answer_at_end (end_of feed) count) so_far.0 held is
-    (subst (λ (f : FeedState). Ends handles (answer_at_end (end_of f) count) count held [] new after after) (sym is.opened)
+    (subst (λ (f : FeedState). Ends handles (answer_at_end (end_of f) count) count (rest_of held [] new) after after)
+    (sym is.opened)
     (at_end handles count held new after is.unfinished end))
 
 -- If a read gives no byte, `ReadSoFar` still holds.
@@ -425,7 +423,7 @@ pub ends_closed : {H C : Type 0} (handles : Handles (H × C) ToolFault) → Shor
     (fault : DerFault)
     → ReadSoFar handles old now before middle.0.count feed (middle.0.handler, middle.1) → Consumes now new piece
     → length piece ≤ 4096 → (closed : Option DerFault) → closed ≡ Some fault
-    → HandlesCounted handles feed piece middle (Ok closed) next after
+    → HandlesCounted handles (feed, middle) piece (Ok closed) (next, after)
     → ReadsInput handles old new before (Err (Der fault)) (after.0.handler, after.1)
 ends_closed {H = H} {C = C} handles law old now new before middle after feed next piece fault so_far read small closed is_some
     each =
@@ -438,31 +436,29 @@ ends_closed {H = H} {C = C} handles law old now new before middle after feed nex
     let rest = pushed.rest in
     let begins = pushed.begins in
     let on = counted_on handles (middle.0.count, first) (after.0.count, (after.0.handler, after.1)) more is.few pushed.handled in
-    let leaves = subst (Leaves rest) (closed_by next fault (sym is_some ∙ pushed.closed)) pushed.leaves in (
-      apdus ++ more,
-      rest,
-      [],
-      (after.0.handler, after.1),
-      record {
-        spelled = all_join apdus more is.spelled begins.spelled;
-        most = omega (arith, length-append apdus more, is.counted, on.0, on.1);
-        few = omega (arith, rest_within held piece (spellings more) rest begins.parts, few_held law held is.unfinished, small);
-        read = subst (λ (x : List ℕ). Consumes old new (spellings (apdus ++ more) ++ x)) (sym (append-nil rest))
-            (apdus_read old now new apdus more held piece rest is.read read begins);
-        handled = handled_join handles before first (after.0.handler, after.1) apdus more is.handled on.2;
-        ended = inl ((leaves.0, not_short fault _ leaves.1), refl);
-      },
-    )
+    let leaves = subst (Leaves rest) (closed_by next fault (sym is_some ∙ pushed.closed)) pushed.leaves in record {
+      apdus = apdus ++ more;
+      bytes = rest;
+      ahead = [];
+      last = (after.0.handler, after.1);
+      spelled = all_join apdus more is.spelled begins.spelled;
+      most = omega (arith, length-append apdus more, is.counted, on.0, on.1);
+      few = omega (arith, rest_within held piece (spellings more) rest begins.parts, few_held law held is.unfinished, small);
+      read = subst (λ (x : List ℕ). Consumes old new (spellings (apdus ++ more) ++ x)) (sym (append-nil rest))
+          (apdus_read old now new apdus more held piece rest is.read read begins);
+      handled = handled_join handles before first (after.0.handler, after.1) apdus more is.handled on.2;
+      ended = inl ((leaves.0, not_short fault _ leaves.1), refl);
+    }
 
 -- If `apdu` is one too many, or handling it fails, the input ends at `apdu`.
 ends_in_hand : {S : Type 0} (handles : Handles S ToolFault) (state after : ℕ × S) (apdu : Apdu) (fault : ToolFault) (count : ℕ)
     (ahead : List ℕ) (left : Option (List ℕ))
     → IsApdu apdu → count ≡ state.0
     → state.0 ≤ 100000 → CountsOn handles state apdu (Err fault) after
-    → Ends handles (Err fault) count (spelling apdu) ahead left state.1 after.1
+    → Ends handles (Err fault) count (rest_of (spelling apdu) ahead left) state.1 after.1
 ends_in_hand handles state after apdu fault count ahead left is counted few on = elim on [
   | inl many ↦
-      subst (λ (f : ToolFault). Ends handles (Err f) count (spelling apdu) ahead left state.1 after.1) (sym many.1)
+      subst (λ (f : ToolFault). Ends handles (Err f) count (rest_of (spelling apdu) ahead left) state.1 after.1) (sym many.1)
       (inl ((omega (arith, many.0, few, counted), (apdu, is, refl)), many.2))
   | inr fails ↦ inr (apdu, is, refl, omega (arith, fails.0, counted), fails.1)
 ]
@@ -473,7 +469,7 @@ pub ends_failing : {H C : Type 0} (handles : Handles (H × C) ToolFault) → Sho
     (fault : ToolFault)
     → ReadSoFar handles old now before middle.0.count feed (middle.0.handler, middle.1) → Consumes now new piece
     → length piece ≤ 4096
-    → HandlesCounted handles feed piece middle (Err fault) next after
+    → HandlesCounted handles (feed, middle) piece (Err fault) (next, after)
     → ReadsInput handles old new before (Err fault) (after.0.handler, after.1)
 ends_failing {H = H} {C = C} handles law old now new before middle after feed next piece fault so_far read small each =
     let apdus = so_far.0 in
@@ -494,25 +490,23 @@ ends_failing {H = H} {C = C} handles law old now new before middle after feed ne
     flat_map-append spelling more (apdu ∷ []) ∙ ap (λ (x : List ℕ). spellings more ++ x) (append-nil text) in
     let parts : held ++ piece ≡ spellings more ++ (text ++ rest) =
     begins.parts ∙ ap (λ (x : List ℕ). x ++ rest) spelled ∙ append_assoc (spellings more) text rest in
-    let counted : length (apdus ++ more) ≡ state.0 = omega (arith, length-append apdus more, is.counted, on.0) in (
-      apdus ++ more,
-      text,
-      rest,
-      state.1,
-      record {
-        spelled = all_join apdus more is.spelled all.0;
-        most = omega (arith, counted, on.1);
-        few = omega (
-          arith,
-          rest_within held piece (spellings more) (text ++ rest) parts,
-          length-append text rest,
-          few_held law held is.unfinished,
-          small,
-        );
-        read = apdus_read old now new apdus more held piece (text ++ rest) is.read read
-            (record { spelled = all.0; parts = parts });
-        handled = handled_join handles before first state.1 apdus more is.handled on.2;
-        ended = ends_in_hand handles state (after.0.count, (after.0.handler, after.1)) apdu fault (length (apdus ++ more)) rest
-            new all.1 counted on.1 failed.6;
-      },
-    )
+    let counted : length (apdus ++ more) ≡ state.0 = omega (arith, length-append apdus more, is.counted, on.0) in record {
+      apdus = apdus ++ more;
+      bytes = text;
+      ahead = rest;
+      last = state.1;
+      spelled = all_join apdus more is.spelled all.0;
+      most = omega (arith, counted, on.1);
+      few = omega (
+        arith,
+        rest_within held piece (spellings more) (text ++ rest) parts,
+        length-append text rest,
+        few_held law held is.unfinished,
+        small,
+      );
+      read = apdus_read old now new apdus more held piece (text ++ rest) is.read read
+          (record { spelled = all.0; parts = parts });
+      handled = handled_join handles before first state.1 apdus more is.handled on.2;
+      ended = ends_in_hand handles state (after.0.count, (after.0.handler, after.1)) apdu fault (length (apdus ++ more)) rest
+          new all.1 counted on.1 failed.6;
+    }

@@ -1,5 +1,5 @@
 -- The faults that commands make of those of a desk and its store.
-use Rattle.std.specs.Prelude.{ℕ, ◌≤◌, Result, Ok, Err}
+use Rattle.std.specs.Prelude.{◌≡◌, ◌⊎◌, ℕ, ◌≤◌, Result, Ok, Err}
 use Rattle.ill_saved.specs.declared.fault.DeskFault.{DeskFault}
 use Rattle.ill_saved.specs.declared.fault.DeskFault.TheVariants as desks
 use Rattle.ill_saved.specs.declared.store.StoreFault.TheVariants.{Failed}
@@ -14,6 +14,16 @@ use Rattle.ill_text.specs.declared.fault.ToolFault.TheVariants.{Desk, OutOfMemor
 abbrev pub desk_fault : DeskFault → ToolFault
 desk_fault desks.OutOfMemory = OutOfMemory
 desk_fault other = Desk other
+
+-- The fault is a failure of a file, a folder or a stream, or a lack of memory.
+abbrev pub IsFileFault : ToolFault → Type 0
+IsFileFault fault = (fault ≡ Desk (desks.Store Failed)) ⊎ (fault ≡ OutOfMemory)
+
+-- The fault is one with which a file is not opened, or its lock not taken.
+abbrev pub IsOpenFault : ToolFault → Type 0
+IsOpenFault (Desk fault) = Unit {0}
+IsOpenFault OutOfMemory = Unit {0}
+IsOpenFault other = ⊥
 
 -- Returns the visible outcome of a refusal. Any other fault of a desk is a fault of the command.
 abbrev pub refused : DeskFault → Result DeskOutcome ToolFault

@@ -16,19 +16,30 @@ use Rattle.ill_der.specs.Feed as feeds
 abbrev pub spellings : List Apdu → List ℕ
 spellings apdus = flat_map spelling apdus
 
--- The input is at its end, and no bytes of it are left unread or undecoded.
-abbrev pub IsOver : List ℕ → Option (List ℕ) → Type 0
-IsOver ahead left = (ahead ≡ []) × IsAtEnd left
+-- ---- the end of an input
 
--- The fault is a reason to stop reading after `count` APDUs. `bytes` come after these, `ahead` was read but
--- not decoded, and `left` is unread. The bytes are faulty, or one APDU too many, or the reader failed before
--- their end.
-abbrev pub StopsReading : ToolFault → ℕ → List ℕ → List ℕ → Option (List ℕ) → Type 0
-StopsReading (Der fault) count bytes ahead left =
-    (apdu_at bytes ≡ Err fault) × IfShort fault (IsOver ahead left)
-StopsReading TooMany count bytes ahead left = (count ≡ 100000) × SpellsOne bytes
-StopsReading Read count bytes ahead left = IsUnfinished bytes × (ahead ≡ [])
-StopsReading other count bytes ahead left = ⊥
+-- The part of an input after the APDUs that were handled. `bytes` come first: the end is about them. Then comes
+-- `ahead`, which was read but not decoded, and then `unread`, which may be unknown.
+pub record Rest : Type 0 where
+  pub bytes : List ℕ
+  pub ahead : List ℕ
+  pub unread : Option (List ℕ)
+
+-- Returns the rest of these three parts.
+abbrev pub rest_of : List ℕ → List ℕ → Option (List ℕ) → Rest
+rest_of bytes ahead unread = record { bytes = bytes; ahead = ahead; unread = unread }
+
+-- The input is at its end, and no bytes of it are left unread or undecoded.
+abbrev pub IsOver : Rest → Type 0
+IsOver rest = (rest.ahead ≡ []) × IsAtEnd rest.unread
+
+-- The fault is a reason to stop reading after `count` APDUs. The bytes after these are faulty, or one APDU too
+-- many, or the reader failed before their end.
+abbrev pub StopsReading : ToolFault → ℕ → Rest → Type 0
+StopsReading (Der fault) count rest = (apdu_at rest.bytes ≡ Err fault) × IfShort fault (IsOver rest)
+StopsReading TooMany count rest = (count ≡ 100000) × SpellsOne rest.bytes
+StopsReading Read count rest = IsUnfinished rest.bytes × (rest.ahead ≡ [])
+StopsReading other count rest = ⊥
 
 -- `bytes` are an APDU, within the most that an input may have, and its handling failed.
 abbrev pub FailsInHand : {S : Type 0} → Handles S ToolFault → ToolFault → ℕ → List ℕ → S → S → Type 0
@@ -38,33 +49,29 @@ FailsInHand handles fault count bytes before after =
 
 -- An input ended with this result. All `count` APDUs were handled, and this number is the answer. Or the
 -- reading stopped. Or the handling of an APDU failed.
-abbrev pub Ends : {S : Type 0} → Handles S ToolFault → Result ℕ ToolFault → ℕ → List ℕ → List ℕ →
-    Option (List ℕ) → S → S → Type 0
-Ends handles (Ok n) count bytes ahead left before after =
-    (n ≡ count) × (bytes ≡ []) × IsOver ahead left × (after ≡ before)
-Ends handles (Err fault) count bytes ahead left before after =
-    (StopsReading fault count bytes ahead left × (after ≡ before))
-    ⊎ FailsInHand handles fault count bytes before after
+abbrev pub Ends : {S : Type 0} → Handles S ToolFault → Result ℕ ToolFault → ℕ → Rest → S → S → Type 0
+Ends handles (Ok n) count rest before after =
+    (n ≡ count) × (rest.bytes ≡ []) × IsOver rest × (after ≡ before)
+Ends handles (Err fault) count rest before after =
+    (StopsReading fault count rest × (after ≡ before))
+    ⊎ FailsInHand handles fault count rest.bytes before after
 
--- The command read the encodings of `apdus`, then `bytes`, and then `ahead`. It handled `apdus` one after
--- another, up to the state `last`. Its end is about `bytes`; it did not decode `ahead`. Both together are
--- less than an APDU and a piece of 4,096 bytes.
-pub record ReadsApdus {S : Type 0} (handles : Handles S ToolFault) (old new : Option (List ℕ)) (before : S)
-    (result : Result ℕ ToolFault) (after : S) (apdus : List Apdu) (bytes ahead : List ℕ) (last : S) : Type 0 where
+-- The input was read from `old` to `new`, with this result. The bytes read were the encodings of `apdus`, then
+-- `bytes`, and then `ahead`. The APDUs were handled one after another, from the state `before` to `last`. The
+-- end of the input led on to `after`. `bytes` and `ahead` together are less than an APDU and a piece of 4,096
+-- bytes.
+pub record ReadsInput {S : Type 0} (handles : Handles S ToolFault) (old new : Option (List ℕ)) (before : S)
+    (result : Result ℕ ToolFault) (after : S) : Type 0 where
+  pub apdus : List Apdu
+  pub bytes : List ℕ
+  pub ahead : List ℕ
+  pub last : S
   pub spelled : AllByRecursion IsApdu apdus
   pub most : length apdus ≤ 100000
   pub few : length bytes + length ahead < 359 + 4096
   pub read : Consumes old new (spellings apdus ++ (bytes ++ ahead))
   pub handled : Handled handles before apdus last
-  pub ended : Ends handles result (length apdus) bytes ahead new last after
-
--- The input was read from `old` to `new`, with this result. Its APDUs were handled from the state `before` to
--- `after`.
-abbrev pub ReadsInput : {S : Type 0} → Handles S ToolFault → Option (List ℕ) → Option (List ℕ) → S →
-    Result ℕ ToolFault → S → Type 0
-ReadsInput {S = S} handles old new before result after =
-    (apdus : List Apdu) × (bytes : List ℕ) × (ahead : List ℕ) × (last : S)
-    × ReadsApdus handles old new before result after apdus bytes ahead last
+  pub ended : Ends handles result (length apdus) (rest_of bytes ahead new) last after
 
 -- Returns the answer at the end of the input after `count` APDUs, by the answer of the decoder.
 abbrev pub answer_at_end : Result (Unit {0}) DerFault → ℕ → Result ℕ ToolFault

@@ -2,7 +2,7 @@
 
 ghost use Rattle.std.specs.Prelude.{◌≡◌, true, is_ok};
 ghost use Rattle.ill_saved.specs.Holdings.{is_refusal};
-ghost use Rattle.ill_text.specs.Fault.{desk_fault, refused};
+ghost use Rattle.ill_text.specs.Fault.{IsFileFault, IsOpenFault, desk_fault, refused};
 ghost use Rattle.ill_text.specs.declared.fault.ToolFault.TheVariants.{OutOfMemory};
 ghost use Rattle.ill_text.specs.Visits.{graver};
 
@@ -10,6 +10,8 @@ use ill_der::DerFault;
 use ill_saved::{DeskFault, StoreFault};
 use ill_words::{DeskOutcome, Outcome};
 use std::alloc::{AllocError, AllocFailed};
+use std::io;
+use std::io::ErrorKind;
 use thiserror::Error;
 
 /// The fault of a file that cannot be read or written.
@@ -73,6 +75,17 @@ impl<T: Drop> From<AllocFailed<T>> for ToolFault {
 
     fn from(_error: AllocFailed<T>) -> ToolFault {
         ToolFault::OutOfMemory
+    }
+}
+
+impl From<io::Error> for ToolFault {
+    ghost from_gives = { λ _ tool. IsFileFault tool × IsOpenFault tool };
+
+    fn from(error: io::Error) -> ToolFault {
+        if error.kind() == ErrorKind::OutOfMemory {
+            return ToolFault::OutOfMemory;
+        }
+        STORE_FAILED
     }
 }
 

@@ -9,11 +9,12 @@ use Rattle.ill_tool.specs.Simulate.{Performs, PerformsDesks}
 use Rattle.ill_line.specs.Asked.{Asked, desk_at_stake}
 use Rattle.ill_line.specs.Asked as asks
 use Rattle.ill_files.specs.AtFile.{GoesWell, NewAtFile, ActsAtFile, TakesAtFile, SendsAtFile, ShowsFile, ListsPaths, LoanAtFile}
-use Rattle.ill_files.specs.AtFile.{VerifiesFile, ReportsPaths, IsOpenFault}
+use Rattle.ill_files.specs.AtFile.{VerifiesFile, ReportsPaths}
 use Rattle.ill_mail.specs.Nights.{InboxAtFile, OutboxAtFile, ExchangesAtFile}
 use Rattle.std.specs.Path.{path_file_name}
 use Rattle.ill_files.specs.ShelfNames.{IsNamedOnShelf}
 use Rattle.ill_shelf.specs.Shelf.{is_lines, VisitsShelf, RetiresAtFile, TakesAtShelf}
+use Rattle.ill_text.specs.Fault.{IsOpenFault}
 
 -- A command has this result. The input went from `left` to `rest`, and the output from `before` to `after`.
 -- Only a shelf retires a group.

@@ -3,10 +3,10 @@
 
 ghost use Rattle.std.specs.Prelude.{IfErr};
 ghost use Rattle.ill_line.specs.Asked.{asked, desk_at_stake};
-ghost use Rattle.ill_files.specs.AtFile.{IsOpenFault};
 ghost use Rattle.ill_tool.specs.Runs.{IsGuarded, IsGuardedAt};
+ghost use Rattle.ill_text.specs.Fault.{IsOpenFault};
 
-use ill_files::paths::{fault, folder_of};
+use ill_files::paths::folder_of;
 use ill_files::shelf::{is_named_on_shelf, is_shelf};
 use ill_line::request::Request;
 use ill_text::fault::ToolFault;
@@ -45,8 +45,5 @@ fn refuse_on_shelf<T: Files>(rt: &T, alloc: Global, file: &str) -> Result<(), To
 fn has_shelf<T: Files>(rt: &T, alloc: Global, folder: &str) -> Result<bool, ToolFault>
     ensures { IfErr result IsOpenFault }
 {
-    match is_shelf(rt, alloc, folder) {
-        Ok(is_shelf) => Ok(is_shelf),
-        Err(error) => Err(fault(&error)),
-    }
+    Ok(is_shelf(rt, alloc, folder)?)
 }

@@ -18,7 +18,7 @@ pub use ill_desk::outgoing::Outgoing;
 pub use ill_desk::retire::run_desk_retire;
 pub use ill_desk::send::{run_desk_send, run_send};
 pub use ill_desk::take::{TakeForm, run_desk_take, run_desk_take_as, run_take};
-pub use ill_desk::verdict::{Delay, Mail, Unfit, Verdict};
+pub use ill_desk::verdict::{Batch, Delay, Mail, Unfit, Verdict};
 pub use ill_files::shelf::{desk_name, groups_have_their_own_desks};
 pub use ill_saved::DeskFault;
 pub use ill_show::list::run_desk_list;

@@ -10,7 +10,7 @@ use crate::guard::refuse_desk_of_shelf;
 use crate::simulate::{run_simulate, run_simulate_desks};
 use clap::Error;
 use clap::error::ErrorKind;
-use ill_files::file::{act, list, loan, new, report, send, status, take, verify};
+use ill_files::file::{ActionView, act, list, loan, new, report, send, status, take, verify};
 use ill_files::machine::Machine;
 use ill_files::open::all_well;
 use ill_line::request::{Call, Refusal, Request, read_words};
@@ -194,7 +194,15 @@ fn run<T: LockFiles, R: Read, W: Write, E: Write>(
             today,
             words,
             ..
-        } => act(machine, file, txn, *today, words),
+        } => act(
+            machine,
+            file,
+            &ActionView {
+                txn,
+                today: *today,
+                words,
+            },
+        ),
         Request::Take { file, form } => take(machine, file, *form, reader),
         Request::Inbox { file, folder } => { inbox(machine, file, unsorted(folder)) }
         Request::Outbox { file, folder } => outbox(machine, file, *folder),
@@ -238,7 +246,16 @@ fn run_on_shelf<T: LockFiles, R: Read, W: Write, E: Write>(
             today,
             is_new_group,
             words,
-        } => act_on_shelf(machine, file, txn, *today, *is_new_group, words),
+        } => act_on_shelf(
+            machine,
+            file,
+            &ActionView {
+                txn,
+                today: *today,
+                words,
+            },
+            *is_new_group,
+        ),
         Request::Take { file, form } => take_on_shelf(machine, file, *form, reader),
         Request::Send { file, txn, number } => { send_on_shelf(machine, file, txn, *number) }
         Request::Loan { file, txn, form } => {

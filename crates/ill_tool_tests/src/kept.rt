@@ -6,7 +6,7 @@ use crate::words::{Word, texts};
 use ill_saved::{Desk, Desk1, DeskFault, MemoryStore, Store};
 use ill_test_kit::Page;
 use ill_tool::{
-    Dates, LoanForm, LoanView, Mail, TakeForm, ToolFault, Verdict, run_act, run_desk_act,
+    Batch, Dates, LoanForm, LoanView, Mail, TakeForm, ToolFault, Verdict, run_act, run_desk_act,
     run_desk_copy, run_desk_dates, run_desk_inbox, run_desk_loan, run_desk_outbox,
     run_desk_outbox_stream, run_desk_send, run_desk_status, run_desk_take, run_desk_take_as,
     run_send, run_status, run_take,
@@ -214,7 +214,11 @@ impl<S: Store> Kept for Desk<S> {
     ) -> Option<Result<Vec<Verdict>, ToolFault>> {
         call.begin(alloc);
         let (came, output) = (&mut call.errors, &mut call.output);
-        let answer = run_desk_inbox(alloc, self, mails, WAITING, came, output);
+        let batch = Batch {
+            mails,
+            waiting: WAITING,
+        };
+        let answer = run_desk_inbox(alloc, self, &batch, came, output);
         Some(call.end(alloc, answer))
     }
 

@@ -8,7 +8,7 @@ use Rattle.ill_desk.proofs.inbox.sort.Goals as goal
 pub returns-in-Ok-push_tally-clause-sorted : goal.returns-in-Ok-push_tally-clause-sorted
 returns-in-Ok-push_tally-clause-sorted g c =
     let live = c.sort_mails.new.desk.live in
-    concluded_is c.args.waiting (sorting_of live c.in-Ok.sorted)
-    (after_mails g.H.Held.effects c.args.desk.now.live c.args.mails.now) c.deref.result.now c.of-tally.result
+    concluded_is c.args.batch.now.waiting (sorting_of live c.in-Ok.sorted)
+    (after_mails g.H.Held.effects c.args.desk.now.live c.args.batch.now.mails.now) c.deref.result.now c.of-tally.result
     c.push_tally.new.lines.items
     c.in-Ok.ensures.sorted c.deref.ensures.value c.of-tally.ensures c.in-Ok-push_tally.ensures

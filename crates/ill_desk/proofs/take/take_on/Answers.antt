@@ -1,6 +1,6 @@
 -- Answers the contract of `take_on` (`src/take.rt`).
 use Rattle.std.proofs.Common.{rules, ◌≡◌, subst, not, eqb}
-use Rattle.ill_desk.specs.Performing.{view_of}
+use Rattle.ill_desk.specs.Performing.{command_state, view_of, with_input, with_kept}
 use Rattle.ill_desk.specs.Take.{RunsTaking}
 use Rattle.ill_desk.specs.Telling.{wording}
 use Rattle.ill_desk.proofs.take.take_on.Goals as goal
@@ -22,6 +22,8 @@ returns-clause-runs g c =
     let empty : c.new-taken.result.handler.came.now ≡ c.args.came.now = search rules in
     at_same (view_of g.S.Store.state) g.F.Write.contents
     (λ from to before after. RunsTaking (not (eqb g.row.KEEP 0)) (wording (not (eqb g.row.LONG 0))) g.H.Held.effects
-    (g.R.Read.remaining c.args.reader.now) (g.R.Read.remaining c.take_input.new.reader) before after
-    (g.W.Write.contents c.args.writer.now) (g.W.Write.contents c.take_input.new.writer) from c.take_input.result to)
+    (with_input (g.R.Read.remaining c.args.reader.now) (with_kept before
+    (command_state from (g.W.Write.contents c.args.writer.now)))) c.take_input.result
+    (with_input (g.R.Read.remaining c.take_input.new.reader) (with_kept after
+    (command_state to (g.W.Write.contents c.take_input.new.writer)))))
     _ c.args.desk.now _ _ _ c.args.came.now _ _ start (search rules) empty (search rules) c.take_input.ensures.runs

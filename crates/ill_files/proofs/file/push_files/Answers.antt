@@ -2,10 +2,10 @@
 use Rattle.std.proofs.Common.{◌≡◌, ◌+◌, ◌<◌, ℕ, List, map, take, get_or, ap, sym, subst, refl, ◌∙◌}
 use Rattle.std.specs.Prelude.{IfErr, string_bytes}
 use Rattle.std.proofs.lemmas.List.{length-map, get_or-map}
-use Rattle.ill_files.specs.AtFile.{IsOpenFault}
 use Rattle.ill_show.specs.Report.{AddsParts}
 use Rattle.ill_files.proofs.PageLemmas.{no_parts, one_more_part, open_graver}
 use Rattle.ill_files.proofs.file.push_files.Goals as goal
+use Rattle.ill_text.specs.Fault.{IsOpenFault}
 
 -- Proves the loop invariant of `push_files` after one more desk. `one_more_part` appends its part, and by `open_graver`
 -- the gravest fault is one of opening.

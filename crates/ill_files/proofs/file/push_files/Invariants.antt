@@ -1,9 +1,9 @@
 -- States the loop invariant of `push_files` (`src/file.rt`).
 use Rattle.std.proofs.Common.{◌≡◌, map, take}
 use Rattle.std.specs.Prelude.{IfErr, string_bytes}
-use Rattle.ill_files.specs.AtFile.{IsOpenFault}
 use Rattle.ill_show.specs.Report.{AddsParts}
 use Rattle.ill_files.proofs.file.push_files.Given as goal
+use Rattle.ill_text.specs.Fault.{IsOpenFault}
 
 -- A part for each of the first `place` files is appended to the page. Their gravest fault is one of opening, and nothing was
 -- written.

@@ -1,11 +1,12 @@
 -- Answers the contract of `report` (`src/file.rt`).
 use Rattle.std.proofs.Common.{ℕ, List, ◌++◌, map, ap, subst, inr, ◌∙◌}
 use Rattle.std.specs.Prelude.{IfErr, Option, string_bytes, ◌==◌, length}
-use Rattle.ill_files.specs.AtFile.{IsOpenFault, after_writing, names_answer}
+use Rattle.ill_files.specs.AtFile.{after_writing, names_answer}
 use Rattle.ill_text.specs.Output.{WritesText}
 use Rattle.ill_show.specs.Report.{AddsParts, page_end, page_head}
 use Rattle.ill_text.specs.Visits.{graver}
 use Rattle.ill_files.proofs.file.report.Goals as goal
+use Rattle.ill_text.specs.Fault.{IsOpenFault}
 
 -- Proves the contract of `report`. The head, the parts of all desks and the end text make up the page. Nothing is
 -- written before it.

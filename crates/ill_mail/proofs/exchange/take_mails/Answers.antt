@@ -1,8 +1,8 @@
 -- Answers the contract of `take_mails` (`src/exchange.rt`).
-use Rattle.std.proofs.Common.{inr, ℕ, List, Option, Ok, Err, None, ap, refl, subst, sym, ◌∙◌}
+use Rattle.std.proofs.Common.{inr, ℕ, List, Option, Ok, Err, ap, refl, subst, sym, ◌∙◌}
 use Rattle.ill_desk.specs.declared.verdict.Mail.{Mail}
 use Rattle.ill_saved.specs.ManySides.{many_sides}
-use Rattle.ill_desk.specs.Performing.{view_of}
+use Rattle.ill_desk.specs.Performing.{command_state, view_of}
 use Rattle.ill_desk.specs.Inbox.{RunsInbox}
 use Rattle.ill_mail.proofs.exchange.take_mails.Goals as goal
 
@@ -11,6 +11,7 @@ use Rattle.ill_mail.proofs.exchange.take_mails.Goals as goal
 pub returns-in-Ok : goal.returns-in-Ok
 returns-in-Ok g c =
     let view = view_of g.S.Store.state in
+    let desk = view c.args.desk.now in
     let found = c.in_ok-found.found in
     let ran = Ok c.in-Ok.verdicts.items in
     let new = view c.run_desk_inbox-run.new.desk in
@@ -20,20 +21,21 @@ returns-in-Ok g c =
     let before = g.W.Write.contents c.args.machine.now.writer in
     let told = g.W.Write.contents c.run_desk_inbox-run.new.writer in
     let runs = subst (λ (start : Option (List ℕ)).
-    RunsInbox many_sides c.deref.result.now found.waiting None None start told (view c.args.desk.now) ran new) quiet
+    RunsInbox many_sides c.deref.result.now found.waiting (command_state desk start) ran (command_state new told)) quiet
     c.in-Ok.ensures.runs in
     let all = subst (λ (end : Option (List ℕ)).
-    RunsInbox many_sides c.deref.result.now found.waiting None None before end (view c.args.desk.now) ran new) (sym ended)
+    RunsInbox many_sides c.deref.result.now found.waiting (command_state desk before) ran (command_state new end)) (sym ended)
     runs in
     let of_mails = subst (λ (mails : List Mail).
-    RunsInbox many_sides mails found.waiting None None before (g.W.Write.contents c.conclude.new.machine.writer)
-    (view c.args.desk.now) ran new) c.deref.ensures.value all in
+    RunsInbox many_sides mails found.waiting (command_state desk before) ran
+    (command_state new (g.W.Write.contents c.conclude.new.machine.writer))) c.deref.ensures.value all in
     inr (found.mails.items, found.waiting, ran, of_mails, c.conclude.ensures.settles)
 
 -- Proves the contract of `take_mails` if the run fails. The fault of `run_desk_inbox` is returned.
 pub returns : goal.returns
 returns g c =
     let view = view_of g.S.Store.state in
+    let desk = view c.args.desk.now in
     let failed = Err c.in-Err.fault in
     let waiting = c.in_ok-found.found.waiting in
     let new = view c.run_desk_inbox-run.new.desk in
@@ -42,8 +44,9 @@ returns g c =
     let ended = ap (λ writer. g.W.Write.contents writer) c.warn_of_came.ensures in
     let before = g.W.Write.contents c.args.machine.now.writer in
     let runs = subst (λ (start : Option (List ℕ)).
-    RunsInbox many_sides c.deref.result.now waiting None None start (g.W.Write.contents c.run_desk_inbox-run.new.writer)
-    (view c.args.desk.now) failed new) quiet c.in-Err.ensures.runs in
+    RunsInbox many_sides c.deref.result.now waiting (command_state desk start) failed
+    (command_state new (g.W.Write.contents c.run_desk_inbox-run.new.writer))) quiet c.in-Err.ensures.runs in
     let all = subst (λ (end : Option (List ℕ)).
-    RunsInbox many_sides c.deref.result.now waiting None None before end (view c.args.desk.now) failed new) (sym ended) runs in
+    RunsInbox many_sides c.deref.result.now waiting (command_state desk before) failed (command_state new end)) (sym ended)
+    runs in
     inr (c.deref.result.now, waiting, failed, all, refl)

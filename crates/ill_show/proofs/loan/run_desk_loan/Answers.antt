@@ -1,30 +1,48 @@
 -- Answers the contract of `run_desk_loan` (`src/loan.rt`).
-use Rattle.std.proofs.Common.{rules, ◌≡◌, Option, Some, None, ℕ, sym, subst}
+use Rattle.std.proofs.Common.{rules, ◌≡◌, Option, Some, None, Err, ℕ, List, sym, subst}
+use Rattle.std.proofs.KnownBytes.{Appends-nil}
 use Rattle.ill_saved.specs.Sides.{side_with}
 use Rattle.ill_saved.specs.Side.{txn_of}
 use Rattle.ill_saved.specs.Holdings.{DeskEntry}
 use Rattle.ill_saved.specs.ManySides.{held_for, sides_held}
 use Rattle.ill_saved.proofs.Contents.{held_there, none_held_there}
-use Rattle.ill_show.specs.Loan.{RunsLoan, WritesLoan, loan_text}
+use Rattle.ill_text.specs.declared.fault.ToolFault.TheVariants.{OutOfMemory}
+use Rattle.ill_text.specs.Output.{WritesPrefix}
+use Rattle.ill_show.specs.Loan.{IsTextOf, RunsLoan, loan_text}
+use Rattle.ill_show.proofs.LoanLemmas.{writes_loan}
 use Rattle.ill_show.proofs.loan.run_desk_loan.Goals as goal
 
 -- Proves the contract of `run_desk_loan` if the side is held. Its entry consists of the side and its released
--- number.
-pub returns-in-Some : goal.returns-in-Some
-returns-in-Some g c =
+-- number, and the text of both is written.
+pub returns-in-Ok : goal.returns-in-Ok
+returns-in-Ok g c =
     let live = c.args.desk.now.live in
     let txn = c.args.view.now.txn.now in
+    let form = c.args.view.now.form in
     let side = c.in-Some.side.now in
     let bytes = c.args.came.now in
     let before = g.W.Write.contents c.args.writer.now in
-    let after = g.W.Write.contents c.write_loan.new.writer in
+    let after = g.W.Write.contents c.write_whole.new.writer in
+    let text = c.in-Ok.text.items in
     let there : side_with txn (sides_held live).sides ≡ Some side = search rules in
     let counted : c.released.result ≡ (held_for txn live).released = search rules in
-    subst (λ (found : Option DeskEntry). RunsLoan c.args.view.now.form found bytes before after c.write_loan.result)
-    (sym (held_there live txn side there))
-    (subst (λ (released : ℕ). WritesLoan (loan_text c.args.view.now.form (record { side = side; released = released }))
-    (txn_of side) bytes
-    before after c.write_loan.result) counted c.write_loan.ensures)
+    let held = loan_text form (record { side = side; released = (held_for txn live).released }) in
+    let is = subst (λ (released : ℕ). IsTextOf (loan_text form (record { side = side; released = released })) (txn_of side)
+    bytes text) counted c.in-Ok.ensures in
+    let writes = subst (λ (t : List ℕ). WritesPrefix before after t c.write_whole.result) c.deref.ensures.value
+    c.write_whole.ensures in
+    subst (λ (found : Option DeskEntry). RunsLoan form found bytes before after c.write_whole.result)
+    (sym (held_there live txn side there)) (writes_loan held (txn_of side) bytes text before after c.write_whole.result is writes)
+
+-- Proves the contract of `run_desk_loan` if memory runs out for the text. Then nothing is written.
+pub returns-in-Err : goal.returns-in-Err
+returns-in-Err g c =
+    let live = c.args.desk.now.live in
+    let txn = c.args.view.now.txn.now in
+    let before = g.W.Write.contents c.args.writer.now in
+    let there : side_with txn (sides_held live).sides ≡ Some c.in-Some.side.now = search rules in
+    subst (λ (found : Option DeskEntry). RunsLoan c.args.view.now.form found c.args.came.now before before (Err OutOfMemory))
+    (sym (held_there live txn c.in-Some.side.now there)) (Appends-nil before)
 
 -- Proves the contract of `run_desk_loan` if the side is not held. Then the desk has no entry of it.
 pub returns-in-None : goal.returns-in-None

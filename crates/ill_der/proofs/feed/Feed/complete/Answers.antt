@@ -77,10 +77,9 @@ returns-in-Ok-Ok g c =
     let opened = is_open closed (take size old) c.args.self.now c.self.view_is c.requires in
     let on =
     subst (λ (k : Option DerFault).
-    HandlesRest handles (held_of k (take size new))
+    HandlesRest handles (held_of k (take size new), (c.handle_first.new.handler, c.handle_first.new.context))
     (take (length c.args.piece.now - (c.in-Ok-Ok.end - size)) (drop (c.in-Ok-Ok.end - size) c.args.piece.now))
-    (c.handle_first.new.handler, c.handle_first.new.context) c.go_on-in-Ok-Ok.result c.go_on-in-Ok-Ok.new.self
-    (c.go_on-in-Ok-Ok.new.handler, c.go_on-in-Ok-Ok.new.context))
+    c.go_on-in-Ok-Ok.result (c.go_on-in-Ok-Ok.new.self, (c.go_on-in-Ok-Ok.new.handler, c.go_on-in-Ok-Ok.new.context)))
     opened c.go_on-in-Ok-Ok.ensures in
     goes_on_after handles c.read_again.ensures old new c.args.piece.now size filled c.in-Ok-Ok.end _ _ _ c.args.self.now
     c.go_on-in-Ok-Ok.result c.go_on-in-Ok-Ok.new.self c.fill-filled.ensures c.self.invariant was first on
@@ -102,9 +101,8 @@ returns-in-None g c =
     let is = short_held c.short_has_the_size.ensures old new c.args.piece.now size filled c.in-Ok-Err.fault c.fill-filled.ensures
     c.in-None.ensures first.0 in
     subst
-    (λ (k : Option DerFault). HandlesEach g.H.Handler.handles c.args.self.now c.args.piece.now
-    (c.args.handler.now, c.args.context.now) (Ok None) (held_of k (take filled new))
-    (c.handle_first.new.handler, c.handle_first.new.context))
+    (λ (k : Option DerFault). HandlesEach g.H.Handler.handles (c.args.self.now, (c.args.handler.now, c.args.context.now))
+    c.args.piece.now (Ok None) (held_of k (take filled new), (c.handle_first.new.handler, c.handle_first.new.context)))
     (sym opened) (all_left g.H.Handler.handles (take size old) c.args.piece.now _ _ c.args.self.now (Ok (take filled new)) was
     (is.1, is.2) first.1)
 

@@ -1,14 +1,7 @@
 pub mod Act
 pub mod Actions
-pub mod Copy
-pub mod CopyOver
-pub mod Dates
-pub mod Inbox
 pub mod New
-pub mod Outbox
 pub mod Performing
-pub mod Person
-pub mod Retire
 pub mod Send
 pub mod Take
 pub mod Telling

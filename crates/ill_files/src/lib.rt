@@ -6,6 +6,7 @@ pub mod came;
 pub mod durable;
 pub mod file;
 pub mod folder;
+pub mod home;
 pub mod machine;
 pub mod open;
 pub mod paths;

@@ -20,7 +20,7 @@ use Rattle.ill_show.specs.Loan.{loan_form}
 use Rattle.ill_show.specs.declared.loan.LoanForm.{LoanForm}
 use Rattle.ill_text.specs.declared.form.Form.{Form}
 use Rattle.ill_text.specs.declared.form.Form.TheVariants as forms
-use Rattle.ill_desk.specs.declared.dates.Dates.{Dates}
+use Rattle.ill_night.specs.declared.dates.Dates.{Dates}
 use Rattle.ill_show.specs.declared.wanted.Which.{Which}
 use Rattle.ill_show.specs.declared.wanted.Which.TheVariants as loans
 use Rattle.ill_show.specs.declared.wanted.Wanted.{Wanted}

@@ -2,5 +2,6 @@
 #![tactic(auto)]
 
 pub mod command_line;
+pub mod guard;
 mod help;
 pub mod request;

@@ -17,7 +17,7 @@ use ill_core::State;
 use ill_desk::take::TakeForm;
 use ill_files::paths::is_beside;
 use ill_mail::night::Night;
-use ill_desk::dates::Dates;
+use ill_night::dates::Dates;
 use ill_show::loan::LoanForm;
 use ill_show::wanted::{Wanted, Which};
 use ill_text::fault::ToolFault;

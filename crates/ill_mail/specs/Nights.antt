@@ -11,15 +11,15 @@ use Rattle.std.specs.List.{zip}
 use Rattle.ill_saved.specs.declared.role.Role.{Role}
 use Rattle.ill_desk.specs.Performing.{HeldAndLanded, CommandState, command_state}
 use Rattle.ill_text.specs.Output.{WritesText}
-use Rattle.ill_desk.specs.declared.verdict.Mail.{Mail}
-use Rattle.ill_desk.specs.declared.verdict.Verdict.{Verdict}
-use Rattle.ill_desk.specs.declared.dates.Dates.{Dates}
+use Rattle.ill_night.specs.declared.verdict.Mail.{Mail}
+use Rattle.ill_night.specs.declared.verdict.Verdict.{Verdict}
+use Rattle.ill_night.specs.declared.dates.Dates.{Dates}
 use Rattle.ill_mail.specs.declared.exchange.Taken.{Taken}
-use Rattle.ill_desk.specs.Dates.{RunsDates}
-use Rattle.ill_desk.specs.Person.{wants_person}
-use Rattle.ill_desk.specs.Inbox.{RunsInbox, ending, is_waiting, tally_of}
+use Rattle.ill_night.specs.Dates.{RunsDates}
+use Rattle.ill_night.specs.Person.{wants_person}
+use Rattle.ill_night.specs.Inbox.{RunsInbox, ending, is_waiting, tally_of}
 use Rattle.ill_text.specs.Input.{AreIn}
-use Rattle.ill_desk.specs.Outbox.{StreamsOutbox, asked_by, letters_of, sent_line}
+use Rattle.ill_night.specs.Outbox.{StreamsOutbox, asked_by, letters_of, sent_line}
 use Rattle.ill_files.specs.AtFile.{GoesWell, FailsToOpen}
 use Rattle.ill_text.specs.Fault.{IsFileFault, IsOpenFault}
 

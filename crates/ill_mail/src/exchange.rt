@@ -3,7 +3,7 @@
 
 ghost use Rattle.std.specs.Prelude.{◌≡◌, Ok, is_some, IfErr};
 ghost use Rattle.ill_mail.specs.Nights.{EndsAfterSending, ExchangesAt, ExchangesAtFile, FinishesNight, InboxAtFile, OutboxAtFile, PerformsDueDeeds, SendsAll, SendsAsked, SendsFrom, SendsOn, SendsTo, SettlesRun, TakesMails, ending_of, night_ending, taken_of};
-ghost use Rattle.ill_desk.specs.Inbox.{EndedWell, answered_with};
+ghost use Rattle.ill_night.specs.Inbox.{EndedWell, answered_with};
 ghost use Rattle.ill_desk.specs.Performing.{command_state, view_of};
 ghost use Rattle.ill_text.specs.Fault.{IsFileFault, IsOpenFault};
 
@@ -19,13 +19,13 @@ use ill_files::came::{CameFile, open_came};
 use ill_files::machine::Machine;
 use ill_files::open::{all_well, open_locked, release};
 use ill_files::paths::folder_of;
-use ill_desk::asked::asked_by;
-use ill_desk::dates::{Dates, run_desk_dates};
-use ill_desk::inbox::run_desk_inbox;
-use ill_desk::outbox::{run_desk_outbox, run_desk_outbox_stream};
-use ill_desk::person::{tell_person, wants_person};
-use ill_desk::tally::Tally;
-use ill_desk::verdict::{Batch, Verdict};
+use ill_night::asked::asked_by;
+use ill_night::dates::{Dates, run_desk_dates};
+use ill_night::inbox::run_desk_inbox;
+use ill_night::outbox::{run_desk_outbox, run_desk_outbox_stream};
+use ill_night::person::{tell_person, wants_person};
+use ill_night::tally::Tally;
+use ill_night::verdict::{Batch, Verdict};
 use ill_saved::{Desk, LockFiles, Role, Store};
 use ill_text::fault::ToolFault;
 use ill_text::output::write_and_flush;

@@ -7,15 +7,15 @@
 //! that moment.
 
 ghost use Rattle.std.specs.Prelude.{◌≡◌, IfErr};
-ghost use Rattle.ill_desk.specs.Inbox.{is_line_end, without_line_end};
+ghost use Rattle.ill_night.specs.Inbox.{is_line_end, without_line_end};
 ghost use Rattle.ill_text.specs.Fault.{IsOpenFault};
 
 use crate::mail_box::{MailBox, MailPaths, give_back};
 use ill_der::{APDU_LIMIT, view};
 use ill_files::paths::{joined, path_of, raw_names};
 use ill_files::shelf::is_for_desk;
-use ill_desk::inbox::message_in;
-use ill_desk::verdict::Mail;
+use ill_night::inbox::message_in;
+use ill_night::verdict::Mail;
 use ill_saved::Role;
 use ill_text::fault::ToolFault;
 use ill_values::OutOfMemory;

@@ -1,10 +1,10 @@
 //! A folder into which mails are written.
 
 ghost use Rattle.std.specs.Prelude.{List, Option, Some, None};
-ghost use Rattle.ill_desk.specs.Outbox.{Letter};
+ghost use Rattle.ill_night.specs.Outbox.{Letter};
 
 use ill_files::durable::flush;
-use ill_desk::outgoing::Outgoing;
+use ill_night::outgoing::Outgoing;
 use ill_text::fault::{STORE_FAILED, ToolFault};
 use ill_values::OutOfMemory;
 use std::alloc::Global;

@@ -6,7 +6,7 @@ ghost use Rattle.ill_text.specs.Fault.{IsFileFault};
 use crate::mail::Mails;
 use crate::mail_box::{MailBox, MailPaths, give_back, remove_if_there};
 use ill_files::machine::Machine;
-use ill_desk::verdict::{Mail, Unfit, Verdict, push_unfit};
+use ill_night::verdict::{Mail, Unfit, Verdict, push_unfit};
 use ill_text::fault::{STORE_FAILED, ToolFault};
 use ill_text::warning::warn;
 use std::io::{ErrorKind, Write};

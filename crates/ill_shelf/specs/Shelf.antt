@@ -8,8 +8,8 @@ use Rattle.ill_text.specs.declared.fault.ToolFault.{ToolFault}
 use Rattle.ill_text.specs.declared.fault.ToolFault.TheVariants.{Left}
 use Rattle.ill_text.specs.declared.form.Form.{Form}
 use Rattle.ill_text.specs.declared.form.Form.TheVariants.{Lines}
-use Rattle.ill_shelf.specs.declared.sorting.Home.{Home}
-use Rattle.ill_shelf.specs.declared.sorting.Home.TheVariants as homes
+use Rattle.ill_files.specs.declared.home.Home.{Home}
+use Rattle.ill_files.specs.declared.home.Home.TheVariants as homes
 use Rattle.ill_shelf.specs.declared.sorting.Route.{Route}
 use Rattle.ill_shelf.specs.declared.sorting.Route.TheVariants as routes
 use Rattle.ill_shelf.specs.declared.visit.Visit.{Visit}

@@ -6,15 +6,15 @@ ghost use Rattle.ill_shelf.specs.Shelf.{IsFurther};
 ghost use Rattle.ill_text.specs.Fault.{IsFileFault};
 
 use ill_der::{ApduView, encode};
-use ill_desk::outbox::mail_name;
-use ill_desk::outgoing::Outgoing;
-use ill_desk::retire::words_in;
 use ill_files::durable::error_of_store;
 use ill_files::machine::Machine;
 use ill_files::shelf::{Shelf, retired_path};
 use ill_mail::blame::blame_mail;
 use ill_mail::mail_box::asked_bytes;
 use ill_mail::mail_folder::MailFolder;
+use ill_night::outbox::mail_name;
+use ill_night::outgoing::Outgoing;
+use ill_night::retire::words_in;
 use ill_saved::{FileStore, RECORD_LIMIT, Role, Store};
 use ill_text::fault::ToolFault;
 use ill_text::input::apdus_in;

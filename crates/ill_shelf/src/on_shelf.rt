@@ -7,12 +7,12 @@ ghost use Rattle.ill_shelf.specs.Shelf.{IsFurther, RetiresAtFile, VisitsShelf, i
 ghost use Rattle.ill_text.specs.Fault.{IsOpenFault};
 
 use crate::last_words::{load_mark, send_last_words};
-use crate::sorting::{refuse_lost, sort_mails};
+use crate::sorting::sort_mails;
 use crate::visit::{Visit, visit_all};
 use ill_desk::act::run_desk_act;
-use ill_desk::retire::run_desk_retire;
 use ill_files::durable::error_of_store;
 use ill_files::file::{ActionView, loan, new, send};
+use ill_files::home::refuse_lost;
 use ill_files::machine::Machine;
 use ill_files::open::{lock, open, release};
 use ill_files::paths::{CAME, MAIL, RETIRED, is_there, path_of};
@@ -22,6 +22,7 @@ use ill_mail::mail::names_in;
 use ill_mail::mail_box::remove_if_there;
 use ill_mail::night::Night;
 use ill_mail::places::{Places, look_at_places};
+use ill_night::retire::run_desk_retire;
 use ill_saved::{Desk, DeskFault, FileLock, FileStore, LockFiles, RECORD_LIMIT, Role, Store};
 use ill_show::loan::LoanView;
 use ill_text::fault::{STORE_FAILED, ToolFault, graver};

@@ -10,18 +10,19 @@ ghost use Rattle.ill_text.specs.Fault.{IsOpenFault};
 
 use crate::last_words::LastWords;
 use ill_der::{ApduView, BodyView, encode};
-use ill_desk::inbox::message_in;
 use ill_desk::new::run_desk_new;
-use ill_desk::verdict::Mail;
+use ill_files::home::{Home, home_at};
 use ill_files::machine::Machine;
 use ill_files::open::lock;
-use ill_files::paths::{CAME, MAIL, RETIRED, is_there, path_of};
-use ill_files::shelf::{Shelf, is_retired, names_of_desks, refuse_retired};
+use ill_files::paths::{CAME, MAIL, RETIRED, path_of};
+use ill_files::shelf::{Shelf, names_of_desks, refuse_retired};
 use ill_mail::blame::{NO_BOX, NO_RUN, NOT_READ};
 use ill_mail::mail::{Mails, begin_run, claim_mails, new_run};
 use ill_mail::mail_box::{MailBox, give_back, open_box, remove_if_there};
 use ill_mail::reserved::is_within;
 use ill_mail::settle::remove_runs;
+use ill_night::inbox::message_in;
+use ill_night::verdict::Mail;
 use ill_saved::{DeskFault, FileStore, LockFiles, RECORD_LIMIT, Role};
 use ill_text::fault::{STORE_FAILED, ToolFault};
 use ill_text::warning::{warn, warn_of_message};
@@ -34,19 +35,6 @@ use std::{fs, io};
 
 /// The greatest number of desks that the mails of one run make, so that strangers cannot fill a disk.
 const NEW_DESKS: usize = 16;
-
-/// The home of a group on a shelf.
-#[derive(Clone, Copy)]
-pub enum Home {
-    /// The desk of the group.
-    Desk,
-    /// The mark of a retired group.
-    Retired,
-    /// No desk, but files that lie beside one: the file of the desk was lost.
-    Lost,
-    /// Nothing.
-    Nothing,
-}
 
 /// The way of a mail.
 #[derive(Clone, Copy)]
@@ -514,38 +502,6 @@ impl<T: LockFiles> Sorting<'_, T> {
     fn leave<E: Write>(&mut self, name: &[u8], text: &str, errors: &mut E) {
         self.is_waiting = true;
         warn(self.alloc, name, text, errors);
-    }
-}
-
-/// Returns the home of the group of `desk`.
-pub fn home_at<T: Files>(rt: &T, alloc: Global, desk: &str) -> io::Result<Home> {
-    if is_retired(rt, alloc, desk)? {
-        return Ok(Home::Retired);
-    }
-    if is_there(rt, desk)? {
-        return Ok(Home::Desk);
-    }
-    if is_lost(rt, alloc, desk)? {
-        Ok(Home::Lost)
-    } else {
-        Ok(Home::Nothing)
-    }
-}
-
-/// Returns true if a file that may outlive `desk` lies beside it, so that its group was begun before.
-fn is_lost<T: Files>(rt: &T, alloc: Global, desk: &str) -> io::Result<bool> {
-    let came = format!(in alloc; "{desk}{CAME}")?;
-    let mail = format!(in alloc; "{desk}{MAIL}")?;
-    Ok(is_there(rt, came.as_str())? || is_there(rt, mail.as_str())?)
-}
-
-/// Returns the refusal of a group whose desk is lost: it has no record.
-pub(crate) fn refuse_lost<T: Files>(rt: &T, alloc: Global, desk: &str) -> Result<(), ToolFault>
-    ensures { IfErr result IsOpenFault }
-{
-    match home_at(rt, alloc, desk)? {
-        Home::Lost => Err(ToolFault::Desk(DeskFault::NoRecord)),
-        _ => Ok(()),
     }
 }
 

@@ -5,10 +5,11 @@ ghost use Rattle.ill_der.specs.ShortForm.{spelling};
 ghost use Rattle.ill_shelf.specs.Shelf.{TakesAtShelf, TakesAtHome};
 ghost use Rattle.ill_text.specs.Fault.{IsOpenFault};
 
-use crate::sorting::{Route, home_at, make_desk, route_of};
+use crate::sorting::{Route, make_desk, route_of};
 use ill_der::{ApduView, BodyView, Handler, encode};
 use ill_desk::take::TakeForm;
 use ill_files::file::take;
+use ill_files::home::home_at;
 use ill_files::machine::Machine;
 use ill_files::shelf::Shelf;
 use ill_saved::{DeskFault, LockFiles};

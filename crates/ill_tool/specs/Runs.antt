@@ -1,20 +1,18 @@
 -- The contract of each command line: the command that it asks for is run.
-use Rattle.std.specs.Prelude.{◌≡◌, ℕ, Bool, List, Option, is_some, Result, Err, ◌⊎◌, true, IsSomeAnd, IsErrAnd}
+use Rattle.std.specs.Prelude.{◌≡◌, ℕ, Bool, List, Option, is_some, Result, Err, ◌⊎◌, true, IsErrAnd}
 use Rattle.ill_values.specs.TxnId.{txn_id_of}
 use Rattle.ill_text.specs.declared.fault.ToolFault.{ToolFault}
 use Rattle.ill_text.specs.declared.fault.ToolFault.TheVariants.{Arguments}
 use Rattle.ill_text.specs.Show.{RunsShow}
 use Rattle.ill_text.specs.Check.{Checks}
 use Rattle.ill_tool.specs.Simulate.{Performs, PerformsDesks}
-use Rattle.ill_line.specs.Asked.{Asked, desk_at_stake}
+use Rattle.ill_line.specs.Asked.{Asked}
 use Rattle.ill_line.specs.Asked as asks
 use Rattle.ill_files.specs.AtFile.{GoesWell, NewAtFile, ActsAtFile, TakesAtFile, SendsAtFile, ShowsFile, ListsPaths, LoanAtFile}
 use Rattle.ill_files.specs.AtFile.{VerifiesFile, ReportsPaths}
 use Rattle.ill_mail.specs.Nights.{InboxAtFile, OutboxAtFile, ExchangesAtFile}
-use Rattle.std.specs.Path.{path_file_name}
-use Rattle.ill_files.specs.ShelfNames.{IsNamedOnShelf}
+use Rattle.ill_line.specs.Guard.{IsGuarded}
 use Rattle.ill_shelf.specs.Shelf.{is_lines, VisitsShelf, RetiresAtFile, TakesAtShelf}
-use Rattle.ill_text.specs.Fault.{IsOpenFault}
 
 -- A command has this result. The input went from `left` to `rest`, and the output from `before` to `after`.
 -- Only a shelf retires a group.
@@ -45,17 +43,6 @@ Runs (asks.Report paths today) left rest before after result = (rest ≡ left) �
 Runs (asks.Verify file) left rest before after result = (rest ≡ left) × VerifiesFile before after result
 Runs (asks.Retire file group) left rest before after result =
     (rest ≡ left) × (after ≡ before) × (result ≡ Err Arguments)
-
--- The guard may answer a request for the desk in `file` with the fault. It refuses only a file with the name of a
--- desk on a shelf. Else its folder could not be looked at, or memory ran out.
-abbrev pub IsGuardedAt : List ℕ → ToolFault → Type 0
-IsGuardedAt file Arguments = IsSomeAnd (path_file_name file) IsNamedOnShelf
-IsGuardedAt file fault = IsOpenFault fault
-
--- The guard may answer a request with the fault. It lets each request through that changes no desk, and sends from
--- none.
-abbrev pub IsGuarded : Asked → ToolFault → Type 0
-IsGuarded asked fault = IsSomeAnd (desk_at_stake asked) (λ file. IsGuardedAt file fault)
 
 -- The guard refused a request for one desk, and nothing was read or written. Or its command has this result.
 abbrev pub RunsGuarded : Asked → Option (List ℕ) → Option (List ℕ) → Option (List ℕ) → Option (List ℕ) →

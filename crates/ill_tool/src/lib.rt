@@ -1,25 +1,23 @@
-//! The commands of `ill`: a request is run, its faults are explained, and it ends with an exit status.
+//! The commands of `ill`: a request is run, and ends with an exit status.
 #![tactic(auto)]
 
-mod explain;
-mod guard;
 mod simulate;
 mod words;
 
 pub use ill_der::DerFault;
 pub use ill_desk::act::{run_act, run_desk_act};
-pub use ill_desk::asked::asked_by;
-pub use ill_desk::copy::run_desk_copy;
-pub use ill_desk::dates::{Dates, run_desk_dates};
-pub use ill_desk::inbox::run_desk_inbox;
 pub use ill_desk::new::{run_desk_new, run_new};
-pub use ill_desk::outbox::{run_desk_outbox, run_desk_outbox_stream};
-pub use ill_desk::outgoing::Outgoing;
-pub use ill_desk::retire::run_desk_retire;
 pub use ill_desk::send::{run_desk_send, run_send};
 pub use ill_desk::take::{TakeForm, run_desk_take, run_desk_take_as, run_take};
-pub use ill_desk::verdict::{Batch, Delay, Mail, Unfit, Verdict};
 pub use ill_files::shelf::{desk_name, groups_have_their_own_desks};
+pub use ill_night::asked::asked_by;
+pub use ill_night::copy::run_desk_copy;
+pub use ill_night::dates::{Dates, run_desk_dates};
+pub use ill_night::inbox::run_desk_inbox;
+pub use ill_night::outbox::{run_desk_outbox, run_desk_outbox_stream};
+pub use ill_night::outgoing::Outgoing;
+pub use ill_night::retire::run_desk_retire;
+pub use ill_night::verdict::{Batch, Delay, Mail, Unfit, Verdict};
 pub use ill_saved::DeskFault;
 pub use ill_show::list::run_desk_list;
 pub use ill_show::listed::Listed;

@@ -5,14 +5,14 @@ ghost use Rattle.ill_line.specs.Asked.{asked};
 ghost use Rattle.ill_tool.specs.Runs.{Runs, RunsGuarded, RunsShelf};
 ghost use Rattle.ill_tool.specs.ExitStatus.{IsFlushed, desk_status, exit_status, status_of};
 
-use crate::explain::{Passed, Watched, explain, is_asked};
-use crate::guard::refuse_desk_of_shelf;
 use crate::simulate::{run_simulate, run_simulate_desks};
 use clap::Error;
 use clap::error::ErrorKind;
+use ill_explain::{Passed, Watched, explain, is_asked};
 use ill_files::file::{ActionView, act, list, loan, new, report, send, status, take, verify};
 use ill_files::machine::Machine;
 use ill_files::open::all_well;
+use ill_line::guard::refuse_desk_of_shelf;
 use ill_line::request::{Call, Refusal, Request, read_words};
 use ill_mail::exchange::{exchange, inbox, outbox};
 use ill_mail::mail::Incoming;

@@ -18,9 +18,10 @@ from ill.repository import Unread, read
 from ill.texts import words as command_line
 from ill.texts.words import HELP, LINE, MAN, body, find, named
 
-EXPLAIN = "crates/ill_tool/src/explain"
-WORLD, WORDS, TEXT, SHOW, DESK, FILES, MAIL, SHELF = (
-    f"crates/ill_{room}/src" for room in ("world", "words", "text", "show", "desk", "files", "mail", "shelf"))
+EXPLAIN = "crates/ill_explain/src"
+WORLD, WORDS, TEXT, SHOW, DESK, NIGHT, FILES, MAIL, SHELF = (
+    f"crates/ill_{room}/src"
+    for room in ("world", "words", "text", "show", "desk", "night", "files", "mail", "shelf"))
 FILE_KINDS = {"File", "NewFile", "Paths", "Folder"}
 FLAGS = {"Long", "Keep", "Picture", "Open", "Mine", "Json"}
 # The sources of the commands on a file: what locks it is told by their bodies.
@@ -239,7 +240,7 @@ def statuses():
 
 def source_of(command):
     """Returns the path of the source of a command: it stands in one of the crates of the program."""
-    crates = (TEXT, SHOW, DESK, FILES, MAIL, SHELF, "crates/ill_tool/src")
+    crates = (TEXT, SHOW, DESK, NIGHT, FILES, MAIL, SHELF, "crates/ill_tool/src")
     found = [path for path in (f"{crate}/{command}.rt" for crate in crates) if os.path.exists(repository.full(path))]
     if len(found) != 1:
         raise Unread(f"{command}.rt: it stands {len(found)} times in {', '.join(crates)}")
@@ -546,8 +547,8 @@ def compare_words(named_texts, words, arguments):
     files = re.findall(r"^  \$ ill new (\w+)", read(HELP), re.M)
     objects = "".join(map(read, (f"{TEXT}/apdu_object.rt", f"{SHOW}/objects.rt", f"{SHOW}/list_objects.rt")))
     labels = set(re.findall(r'(?:\(|\(text, )"([\w-]+)"(?:, |\)\?;)', objects))
-    counted = set(re.findall(r"(\w+) \{\1\}", read(f"{DESK}/tally.rt")))
-    staying = {f"NAME {word} REASON" for word in re.findall(r'b" (\w+) "', read(f"{DESK}/verdict.rt"))}
+    counted = set(re.findall(r"(\w+) \{\1\}", read(f"{NIGHT}/tally.rt")))
+    staying = {f"NAME {word} REASON" for word in re.findall(r'b" (\w+) "', read(f"{NIGHT}/verdict.rt"))}
     sent = {f"{word} N" for word in re.findall(r'"(\w+) \{\w+\}\\n"', read(f"{MAIL}/exchange.rt"))}
     told = {text for text, _ in told_faults()}
     known = words | labels | counted | staying | sent | verbs_known | set(arguments) | told | set(files) | {

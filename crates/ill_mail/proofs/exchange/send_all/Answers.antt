@@ -1,7 +1,7 @@
 -- Answers the contract of `send_all` (`src/exchange.rt`).
 use Rattle.std.proofs.Common.{ℕ, List, Option, inr, Err, refl, ap, subst, ◌∙◌}
 use Rattle.std.specs.List.{zip}
-use Rattle.ill_desk.specs.Outbox.{asked_by}
+use Rattle.ill_night.specs.Outbox.{asked_by}
 use Rattle.ill_mail.specs.Nights.{SendsAsked}
 use Rattle.ill_mail.proofs.exchange.send_all.Goals as goal
 

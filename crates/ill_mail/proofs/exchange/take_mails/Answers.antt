@@ -1,9 +1,9 @@
 -- Answers the contract of `take_mails` (`src/exchange.rt`).
 use Rattle.std.proofs.Common.{inr, ℕ, List, Option, Ok, Err, ap, refl, subst, sym, ◌∙◌}
-use Rattle.ill_desk.specs.declared.verdict.Mail.{Mail}
+use Rattle.ill_night.specs.declared.verdict.Mail.{Mail}
 use Rattle.ill_saved.specs.ManySides.{many_sides}
 use Rattle.ill_desk.specs.Performing.{command_state, view_of}
-use Rattle.ill_desk.specs.Inbox.{RunsInbox}
+use Rattle.ill_night.specs.Inbox.{RunsInbox}
 use Rattle.ill_mail.proofs.exchange.take_mails.Goals as goal
 
 -- Proves the contract of `take_mails` if the run ends well. `run_desk_inbox` makes the run, and `conclude` settles the

@@ -1,9 +1,0 @@
--- Answers the contract of `run_desk_outbox_stream` (`src/outbox.rt`).
-use Rattle.ill_desk.proofs.OutboxLemmas.{stream_written}
-use Rattle.ill_desk.proofs.outbox.run_desk_outbox_stream.Goals as goal
-
-pub returns-in-Ok : goal.returns-in-Ok
-returns-in-Ok g c =
-    stream_written c.args.asking.now c.args.desk.now.live.held c.new.result.items c.run_desk_outbox.new.out.bytes.items
-    c.deref.result.now c.in-Ok.field-0 _ _ c.write_whole.result
-    c.new.ensures.items c.deref.ensures.value c.in-Ok.ensures c.write_whole.ensures

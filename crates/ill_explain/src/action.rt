@@ -1,0 +1,281 @@
+//! The lines about an action whose words are wrong.
+
+use crate::day::tell_no_day;
+use crate::shown::Shown;
+use crate::verbs::{Form, Parts, form_of, names_of, nearest};
+use clap::ArgMatches;
+use ill_line::command_line::Argument;
+use ill_saved::{Desk, FileStore, RECORD_LIMIT, Role};
+use ill_values::{Day, Item, OutOfMemory, TextFault};
+use std::alloc::Global;
+use std::rt::Files;
+
+/// Appends the lines about the words of `ill act` that are wrong for the role of the desk. If the desk cannot be opened
+/// again, it appends nothing.
+pub fn tell_action<T: Files>(
+    rt: &T,
+    alloc: Global,
+    text: &mut String,
+    matches: &ArgMatches<'_>,
+) -> Result<(), OutOfMemory> {
+    let Some(words) = matches.get_strs(Argument::Words.id()) else {
+        return Ok(());
+    };
+    let file = matches.get_str(Argument::File.id()).unwrap_or_default();
+    let today = matches
+        .get_str(Argument::Today.id())
+        .and_then(|word| Day::read(word.as_bytes()).ok());
+    match role_at(rt, alloc, file) {
+        Some(role) => tell_words(alloc, text, role, today, words),
+        None => Ok(()),
+    }
+}
+
+/// Returns the role of the desk in `file`, if there is one that can be opened.
+fn role_at<T: Files>(rt: &T, alloc: Global, file: &str) -> Option<Role> {
+    let store = FileStore::at(rt, alloc, file, RECORD_LIMIT).ok()?;
+    let desk = Desk::start(alloc, store).ok()?;
+    Some(desk.sides().role())
+}
+
+/// Appends the lines about words that name no action of this role.
+fn tell_words(
+    alloc: Global,
+    text: &mut String,
+    role: Role,
+    today: Option<Day>,
+    words: &[&str],
+) -> Result<(), OutOfMemory> {
+    for word in words {
+        if word.is_empty() || word.contains(' ') {
+            return tell_no_word(text, word);
+        }
+    }
+    let Some((verb, parts)) = words.split_first() else {
+        return Ok(());
+    };
+    match form_of(verb) {
+        None => tell_no_verb(alloc, text, role, verb),
+        Some(form) if form.role != role => tell_other_role(text, role, form),
+        Some(form) if role == Role::Responder && today.is_none() => tell_no_today(text, form),
+        Some(form) => tell_parts(alloc, text, form, today, parts),
+    }
+}
+
+/// Appends a line about a word that no action may have.
+fn tell_no_word(text: &mut String, word: &str) -> Result<(), OutOfMemory> {
+    let shown = Shown::of(word);
+    if word.is_empty() {
+        return writeln!(text, "  A word of the action is empty.");
+    }
+    writeln!(
+        text,
+        "  {shown} holds a space: give its words one by one, without quotes."
+    )
+}
+
+/// Appends a line about a word that is no verb, with the nearest verb or all verbs of the role.
+fn tell_no_verb(
+    alloc: Global,
+    text: &mut String,
+    role: Role,
+    word: &str,
+) -> Result<(), OutOfMemory> {
+    let shown = Shown::of(word);
+    match nearest(alloc, &names_of(alloc, role)?, word)? {
+        Some(near) => writeln!(text, "  {shown} is no verb: the nearest one is `{near}`."),
+        None => {
+            writeln!(text, "  {shown} is no verb.")?;
+            tell_verbs(text, role)
+        }
+    }
+}
+
+/// Appends a line about a verb that only the other role has, and the verbs of this one.
+fn tell_other_role(text: &mut String, role: Role, form: Form) -> Result<(), OutOfMemory> {
+    let verb = form.verb;
+    let other = form.role.name();
+    let own = role.name();
+    writeln!(
+        text,
+        "  `{verb}` is a verb of a {other}, and this is the desk of a {own}."
+    )?;
+    tell_verbs(text, role)
+}
+
+/// Appends a line with the verbs of `role`.
+fn tell_verbs(text: &mut String, role: Role) -> Result<(), OutOfMemory> {
+    let name = role.name();
+    write!(text, "  The verbs of a {name}: ")?;
+    let names = names_of(*text.allocator(), role)?;
+    text.push_str(names.join(*text.allocator(), ", ")?.as_str())?;
+    writeln!(text, ".")
+}
+
+/// Appends that the day of a responder's action is missing.
+fn tell_no_today(text: &mut String, form: Form) -> Result<(), OutOfMemory> {
+    let verb = form.verb;
+    writeln!(
+        text,
+        "  A responder's action has a day: `--today DAY` before `{verb}`."
+    )
+}
+
+/// Appends the lines about wrong parts after a verb.
+fn tell_parts(
+    alloc: Global,
+    text: &mut String,
+    form: Form,
+    today: Option<Day>,
+    parts: &[&str],
+) -> Result<(), OutOfMemory> {
+    let (least, most) = form.parts.counts();
+    if parts.len() < least {
+        return writeln!(text, "  A part is missing: the form is {form}.");
+    }
+    match parts.get(most) {
+        Some(part) => {
+            let shown = Shown::of(part);
+            writeln!(text, "  {shown} is too much: the form is {form}.")
+        }
+        None => tell_part(alloc, text, form, today, parts),
+    }
+}
+
+/// Appends the lines about a wrong part after a verb. The number of parts is right.
+fn tell_part(
+    alloc: Global,
+    text: &mut String,
+    form: Form,
+    today: Option<Day>,
+    parts: &[&str],
+) -> Result<(), OutOfMemory> {
+    let Some((first, others)) = parts.split_first() else {
+        return Ok(());
+    };
+    match form.parts {
+        Parts::Nothing => Ok(()),
+        Parts::YesOrNo => tell_neither(text, form, first),
+        Parts::Result => tell_no_result(text, first),
+        Parts::Wished => tell_no_wish(text, form, first),
+        Parts::Due => tell_no_due(text, form, today, first),
+        Parts::Grant => tell_grant(text, form, today, first, others.first().copied()),
+        Parts::Item if *first != "none" && Day::read(first.as_bytes()).is_err() => {
+            tell_no_wish(text, form, first)
+        }
+        Parts::Item => tell_item(alloc, text, others),
+    }
+}
+
+/// Appends that `part` is neither yes nor no.
+fn tell_neither(text: &mut String, form: Form, part: &str) -> Result<(), OutOfMemory> {
+    let shown = Shown::of(part);
+    writeln!(text, "  {shown} is neither yes nor no: the form is {form}.")
+}
+
+/// Appends that `part` is no result, and all results.
+fn tell_no_result(text: &mut String, part: &str) -> Result<(), OutOfMemory> {
+    let shown = Shown::of(part);
+    writeln!(text, "  {shown} is no result.")?;
+    writeln!(
+        text,
+        "  The results: conditional, retry, unfilled, locations-provided, will-supply, hold-placed, estimate."
+    )
+}
+
+/// Appends that `part` is neither a day nor none.
+fn tell_no_wish(text: &mut String, form: Form, part: &str) -> Result<(), OutOfMemory> {
+    if let Err(fault) = Day::read(part.as_bytes()) {
+        tell_no_day(text, part, fault)?;
+    }
+    writeln!(text, "  `none` stands for no day: the form is {form}.")
+}
+
+/// Appends the reason why `part` is no day on which an item may be due.
+fn tell_no_due(
+    text: &mut String,
+    form: Form,
+    today: Option<Day>,
+    part: &str,
+) -> Result<(), OutOfMemory> {
+    match part.strip_prefix('+') {
+        Some(days) => tell_no_days(text, today, part, days),
+        None => {
+            if let Err(fault) = Day::read(part.as_bytes()) {
+                tell_no_day(text, part, fault)?;
+            }
+            writeln!(
+                text,
+                "  `+14` is the day 14 days after today: the form is {form}."
+            )
+        }
+    }
+}
+
+/// Appends the reason why `part` names no day. Its digits are wrong, or the day is past the end of the calendar.
+fn tell_no_days(
+    text: &mut String,
+    today: Option<Day>,
+    part: &str,
+    days: &str,
+) -> Result<(), OutOfMemory> {
+    let shown = Shown::of(part);
+    let are_digits = days.bytes().all(|byte| byte.is_ascii_digit());
+    if !are_digits || !(1..=5).contains(&days.len()) {
+        return writeln!(
+            text,
+            "  {shown} is no day: after `+` stand one to five digits."
+        );
+    }
+    writeln!(
+        text,
+        "  {shown} leads past the last day of the calendar, 99991231."
+    )
+}
+
+/// Appends the lines about the wrong parts of a Renew-Answer.
+fn tell_grant(
+    text: &mut String,
+    form: Form,
+    today: Option<Day>,
+    word: &str,
+    due: Option<&str>,
+) -> Result<(), OutOfMemory> {
+    match (word, due) {
+        ("yes", None) => writeln!(text, "  A part is missing: the form is {form}."),
+        ("yes", Some(due)) => tell_no_due(text, form, today, due),
+        ("no", Some(due)) => {
+            let shown = Shown::of(due);
+            writeln!(text, "  {shown} is too much: the form is {form}.")
+        }
+        _ => tell_neither(text, form, word),
+    }
+}
+
+/// Appends the reason why `words` are no item.
+fn tell_item(alloc: Global, text: &mut String, words: &[&str]) -> Result<(), OutOfMemory> {
+    let item = words.join(alloc, " ")?;
+    match Item::new(alloc, item.as_bytes()) {
+        Ok(_) | Err(TextFault::Empty) => Ok(()),
+        Err(TextFault::TooLong) => {
+            let size = item.len();
+            writeln!(text, "  The item has {size} bytes: it has 200 at most.")
+        }
+        Err(TextFault::BadByte) => tell_control(text, item.as_str()),
+        Err(TextFault::OutOfMemory) => Err(OutOfMemory),
+    }
+}
+
+/// Appends the place of the first byte of `item` that is a control character.
+fn tell_control(text: &mut String, item: &str) -> Result<(), OutOfMemory> {
+    let shown = Shown::of(item);
+    for (place, byte) in (1_u64..).zip(item.bytes()) {
+        if byte.is_ascii_control() {
+            return writeln!(
+                text,
+                "  Byte {place} of the item {shown} is a control character."
+            );
+        }
+    }
+    Ok(())
+}

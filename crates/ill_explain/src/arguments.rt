@@ -1,0 +1,158 @@
+//! The lines about wrong arguments, with the right form of each.
+
+use crate::action::tell_action;
+use crate::day::tell_day;
+use crate::file::tell_reserved;
+use crate::shown::Shown;
+use crate::verbs::nearest;
+use clap::ArgMatches;
+use ill_core::{STATES, State};
+use ill_line::command_line::{Argument, Name};
+use ill_saved::LockFiles;
+use ill_values::{OutOfMemory, TextFault, TxnId};
+use ill_words::words::{number, who};
+use std::alloc::Global;
+
+/// Appends a line about each wrong argument of a command. If each is right alone, it appends the lines about all
+/// together.
+pub fn tell_arguments<T: LockFiles>(
+    rt: &T,
+    alloc: Global,
+    text: &mut String,
+    name: Name,
+    matches: &ArgMatches<'_>,
+) -> Result<(), OutOfMemory> {
+    for argument in name.arguments() {
+        if let Some(word) = matches.get_str(argument.id()) {
+            tell_argument(alloc, text, *argument, word)?;
+        }
+    }
+    if text.is_empty() {
+        tell_together(rt, alloc, text, name, matches)?;
+    }
+    Ok(())
+}
+
+/// Appends the lines about arguments that are wrong together, although each is right alone.
+fn tell_together<T: LockFiles>(
+    rt: &T,
+    alloc: Global,
+    text: &mut String,
+    name: Name,
+    matches: &ArgMatches<'_>,
+) -> Result<(), OutOfMemory> {
+    match name {
+        Name::Act => tell_action(rt, alloc, text, matches),
+        Name::Outbox => writeln!(
+            text,
+            "  Say where the messages go: a folder, or --stream, and not both."
+        ),
+        Name::Exchange => writeln!(
+            text,
+            "  --overdue and --expire want the day: `--today 20250301`."
+        ),
+        _ => Ok(()),
+    }
+}
+
+/// Appends a line about `argument`, if it is wrong.
+fn tell_argument(
+    alloc: Global,
+    text: &mut String,
+    argument: Argument,
+    word: &str,
+) -> Result<(), OutOfMemory> {
+    match argument {
+        Argument::NewFile => tell_reserved(text, word).map(|_| ()),
+        Argument::Role => tell_role(text, word),
+        Argument::Group => tell_qualifier(alloc, text, "group", word),
+        Argument::Transaction => tell_qualifier(alloc, text, "transaction", word),
+        Argument::Today
+        | Argument::OnDay
+        | Argument::DueBefore
+        | Argument::ReportDay
+        | Argument::NightDay => tell_day(text, word),
+        Argument::InState => tell_state(alloc, text, word),
+        Argument::Number => tell_number(text, word),
+        _ => Ok(()),
+    }
+}
+
+/// Appends a line about a role, if it is none.
+fn tell_role(text: &mut String, word: &str) -> Result<(), OutOfMemory> {
+    if who(word.as_bytes()).is_some() {
+        return Ok(());
+    }
+    let shown = Shown::of(word);
+    writeln!(text, "  {shown} is no role: it is requester or responder.")
+}
+
+/// Appends a line about a qualifier of a loan, if it is invalid.
+fn tell_qualifier(
+    alloc: Global,
+    text: &mut String,
+    name: &str,
+    word: &str,
+) -> Result<(), OutOfMemory> {
+    let shown = Shown::of(word);
+    match TxnId::new(alloc, word.as_bytes(), b"-") {
+        Ok(_) => Ok(()),
+        Err(TextFault::Empty) => writeln!(
+            text,
+            "  The {name} is empty: it has 1 to 64 characters."
+        ),
+        Err(TextFault::TooLong) => {
+            let size = word.len();
+            writeln!(
+                text,
+                "  The {name} {shown} has {size} bytes: it has 64 at most."
+            )
+        }
+        Err(TextFault::BadByte) => tell_bad_byte(text, name, word),
+        Err(TextFault::OutOfMemory) => Err(OutOfMemory),
+    }
+}
+
+/// Appends a line about the first byte that a qualifier may not have.
+fn tell_bad_byte(text: &mut String, name: &str, word: &str) -> Result<(), OutOfMemory> {
+    let shown = Shown::of(word);
+    for (place, byte) in (1_u64..).zip(word.bytes()) {
+        if !matches!(byte, b' '..=b'~') {
+            writeln!(
+                text,
+                "  Byte {place} of the {name} {shown} is {byte:02X}, in hexadecimal."
+            )?;
+            return writeln!(
+                text,
+                "  It has characters of ASCII only, from space to tilde."
+            );
+        }
+    }
+    Ok(())
+}
+
+/// Appends a line about a state, if it is none.
+fn tell_state(alloc: Global, text: &mut String, word: &str) -> Result<(), OutOfMemory> {
+    if State::read(word.as_bytes()).is_some() {
+        return Ok(());
+    }
+    let shown = Shown::of(word);
+    let names: Vec<&str> = STATES.iter().map(|state| state.name()).collect(alloc)?;
+    let capitals = word.to_ascii_uppercase(alloc)?;
+    match nearest(alloc, &names, capitals.as_str())? {
+        Some(near) => writeln!(text, "  {shown} is no state: the nearest one is `{near}`."),
+        None => {
+            let all = names.join(alloc, ", ")?;
+            writeln!(text, "  {shown} is no state: it is one of {all}.")
+        }
+    }
+}
+
+/// Appends a line about the number of a message, if it is none.
+fn tell_number(text: &mut String, word: &str) -> Result<(), OutOfMemory> {
+    if number(word.as_bytes()).is_some() {
+        return Ok(());
+    }
+    let shown = Shown::of(word);
+    writeln!(text, "  {shown} is no number of a message: it is 1 to 255.")
+}

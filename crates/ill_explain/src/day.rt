@@ -1,0 +1,25 @@
+//! What is wrong with a word that is no day.
+
+use crate::shown::Shown;
+use ill_values::{Day, DayFault, OutOfMemory};
+
+/// Appends a line about a day, if it is none.
+pub(crate) fn tell_day(text: &mut String, word: &str) -> Result<(), OutOfMemory> {
+    match Day::read(word.as_bytes()) {
+        Ok(_) => Ok(()),
+        Err(fault) => tell_no_day(text, word, fault),
+    }
+}
+
+/// Appends a line about a word that is no day.
+pub fn tell_no_day(text: &mut String, word: &str, fault: DayFault) -> Result<(), OutOfMemory> {
+    let shown = Shown::of(word);
+    match fault {
+        DayFault::NotDigits => writeln!(
+            text,
+            "  {shown} is no day: a day has eight digits, as 20250301."
+        ),
+        DayFault::OutOfRange => writeln!(text, "  {shown} is no day: the years are 1900 to 9999."),
+        DayFault::NotADate => writeln!(text, "  {shown} is no day: the calendar has no such day."),
+    }
+}

@@ -1,0 +1,352 @@
+//! The lines about a fault of a desk's file.
+
+use crate::shown::Shown;
+use clap::ArgMatches;
+use ill_files::folder::desk_paths;
+use ill_files::open::open;
+use ill_files::paths::{BESIDE, CAME, folder_of};
+use ill_line::command_line::Argument;
+use ill_saved::{DeskFault, LockFiles, RECORD_LIMIT, RecordFault, StoreFault};
+use ill_values::OutOfMemory;
+use std::alloc::Global;
+use std::fs;
+use std::fs::Metadata;
+use std::io::ErrorKind;
+
+/// The ending of the name of the file that is locked instead of a desk's.
+const LOCK: &str = ".lck";
+
+/// The number of bytes at the beginning of each record, which give its version.
+const MARK: u32 = 4;
+
+/// Appends the cause of a fault of a desk.
+pub fn tell_desk_fault<T: LockFiles>(
+    rt: &T,
+    alloc: Global,
+    text: &mut String,
+    matches: &ArgMatches<'_>,
+    fault: DeskFault,
+) -> Result<(), OutOfMemory> {
+    let failed = failed_path(rt, alloc, matches);
+    let path = match &failed {
+        Some(path) => Some(path.as_str()),
+        None => matches.get_str(Argument::File.id()),
+    };
+    match path {
+        Some(path) => tell_fault_at(rt, text, path, has_mails(matches), fault),
+        None => writeln!(
+            text,
+            "  A line before has a name that is no UTF-8: no file of that name is opened."
+        ),
+    }
+}
+
+/// Appends the cause of a fault of the desk in the file at `path`.
+pub fn tell_fault_at<T: LockFiles>(
+    rt: &T,
+    text: &mut String,
+    path: &str,
+    has_mails: bool,
+    fault: DeskFault,
+) -> Result<(), OutOfMemory> {
+    let alloc = *text.allocator();
+    let shown = Shown::of(path);
+    match fault {
+        DeskFault::Exists => writeln!(
+            text,
+            "  {shown} is there already: a new desk wants a new file."
+        ),
+        DeskFault::NoRecord => tell_absent(rt, text, path),
+        DeskFault::Store(StoreFault::Failed)
+            if has_mails && !is_at_work(rt, alloc, path) && is_open(rt, alloc, path) => {
+            writeln!(
+                text,
+                "  The line before tells which file or folder it is. Without one {shown} is not saved: look at"
+            )?;
+            writeln!(
+                text,
+                "  the permissions of its folder, and at the room on the disk."
+            )
+        }
+        DeskFault::Store(StoreFault::Failed) => tell_failed(rt, alloc, text, path),
+        DeskFault::Store(StoreFault::TooLarge) => tell_too_large(rt, alloc, text, path),
+        DeskFault::Saved(fault) => tell_no_record(text, path, fault),
+        DeskFault::NoSuchTransaction => {
+            writeln!(
+                text,
+                "  {shown} has no such loan: `ill status` shows those that it has."
+            )
+        }
+        DeskFault::NoSuchMessage => {
+            writeln!(
+                text,
+                "  `ill status` shows how many messages the loan has issued."
+            )
+        }
+        _ => Ok(()),
+    }
+}
+
+/// Returns true if a command has a folder of mails. Such a command itself names a folder that fails.
+fn has_mails(matches: &ArgMatches<'_>) -> bool {
+    matches.get_str(Argument::Folder.id()).is_some() || matches.get_str(Argument::In.id()).is_some()
+}
+
+/// Returns true if another command is working on the file at `path`.
+fn is_at_work<T: LockFiles>(rt: &T, alloc: Global, path: &str) -> bool {
+    match format!(in alloc; "{path}{LOCK}") {
+        Ok(lock) => is_held(rt, lock.as_str()),
+        Err(_) => false,
+    }
+}
+
+/// Returns true if the desk in the file at `path` can be opened.
+fn is_open<T: LockFiles>(rt: &T, alloc: Global, path: &str) -> bool {
+    open(rt, alloc, path).is_ok()
+}
+
+/// Returns the first path of a command that fails. It is a desk that cannot be opened, or a folder that cannot be read.
+fn failed_path<T: LockFiles>(rt: &T, alloc: Global, matches: &ArgMatches<'_>) -> Option<String> {
+    for path in matches.get_strs(Argument::Paths.id())? {
+        if let Some(failed) = failed_at(rt, alloc, path) {
+            return Some(failed);
+        }
+    }
+    None
+}
+
+/// Returns the path of the first desk at `path` that cannot be opened, or `path` if it is a folder that cannot be read.
+fn failed_at<T: LockFiles>(rt: &T, alloc: Global, path: &str) -> Option<String> {
+    let found = desk_paths(rt, alloc, &[path]).ok()?;
+    found
+        .files
+        .into_iter()
+        .find(|file| open(rt, alloc, file.as_str()).is_err())
+}
+
+/// Appends the file that has too many bytes: the file of the desk, or of the messages that came.
+fn tell_too_large<T: LockFiles>(
+    rt: &T,
+    alloc: Global,
+    text: &mut String,
+    path: &str,
+) -> Result<(), OutOfMemory> {
+    let came = format!(in alloc; "{path}{CAME}")?;
+    match fs::symlink_metadata(rt, came.as_str()) {
+        Ok(found) if found.len() > u64::from(RECORD_LIMIT) => {
+            let shown = Shown::of(came.as_str());
+            writeln!(text, "  {shown} has grown too long: put it away.")
+        }
+        _ => {
+            let shown = Shown::of(path);
+            writeln!(text, "  {shown} has more bytes than the record of a desk.")
+        }
+    }
+}
+
+/// Appends that there is no file at `path`. If its folder does not exist, it appends that too.
+fn tell_absent<T: LockFiles>(rt: &T, text: &mut String, path: &str) -> Result<(), OutOfMemory> {
+    let shown = Shown::of(path);
+    writeln!(text, "  {shown} is not there: `ill new` begins a desk.")?;
+    tell_no_folder(rt, text, path)?;
+    Ok(())
+}
+
+/// Appends that the folder of the file at `path` does not exist, if so. It then returns true.
+fn tell_no_folder<T: LockFiles>(
+    rt: &T,
+    text: &mut String,
+    path: &str,
+) -> Result<bool, OutOfMemory> {
+    let folder = folder_of(path);
+    let shown = Shown::of(folder);
+    let is_folder = match fs::metadata(rt, folder) {
+        Ok(found) => found.is_dir(),
+        Err(_) => false,
+    };
+    if !is_folder {
+        writeln!(text, "  There is no folder {shown}.")?;
+    }
+    Ok(!is_folder)
+}
+
+/// Appends the reason why the file at `path` was not read, locked or written.
+fn tell_failed<T: LockFiles>(
+    rt: &T,
+    alloc: Global,
+    text: &mut String,
+    path: &str,
+) -> Result<(), OutOfMemory> {
+    let shown = Shown::of(path);
+    if path.is_empty() {
+        return writeln!(text, "  The name of the file is empty.");
+    }
+    if tell_reserved(text, path)? {
+        return Ok(());
+    }
+    match fs::symlink_metadata(rt, path) {
+        Ok(found) if !found.is_file() => tell_kind(rt, text, path, &found),
+        Ok(_) => tell_closed(rt, alloc, text, path),
+        Err(error) => tell_not_found(rt, alloc, text, path, error.kind()),
+    }
+}
+
+/// Appends that a file named as `path` lies beside a desk, and returns true, if that is so.
+pub fn tell_reserved(text: &mut String, path: &str) -> Result<bool, OutOfMemory> {
+    let shown = Shown::of(path);
+    for ending in &BESIDE {
+        if path.ends_with(*ending) {
+            writeln!(
+                text,
+                "  {shown} ends in {ending}: such files are the program's own."
+            )?;
+            return Ok(true);
+        }
+    }
+    Ok(false)
+}
+
+/// Appends the kind of thing that is at `path` instead of a file.
+fn tell_kind<T: LockFiles>(
+    rt: &T,
+    text: &mut String,
+    path: &str,
+    found: &Metadata,
+) -> Result<(), OutOfMemory> {
+    let shown = Shown::of(path);
+    if found.is_dir() && rt.open_dir(path).is_err() {
+        return writeln!(text, "  {shown} is a folder that this user may not read.");
+    }
+    if found.is_dir() {
+        return writeln!(text, "  {shown} is a folder, and a desk is a file.");
+    }
+    if found.is_symlink() {
+        return writeln!(
+            text,
+            "  {shown} is a link: name the file to which it leads."
+        );
+    }
+    writeln!(text, "  {shown} is no regular file.")
+}
+
+/// Appends the reason why the file at `path` could not be used.
+fn tell_closed<T: LockFiles>(
+    rt: &T,
+    alloc: Global,
+    text: &mut String,
+    path: &str,
+) -> Result<(), OutOfMemory> {
+    let shown = Shown::of(path);
+    match fs::open(rt, path) {
+        Err(error) if error.kind() == ErrorKind::PermissionDenied => {
+            writeln!(text, "  {shown} may not be read by this user.")
+        }
+        Err(_) => writeln!(text, "  {shown} cannot be opened."),
+        Ok(_) => tell_unsaved(rt, alloc, text, path),
+    }
+}
+
+/// Appends the reason why no file was found at `path`.
+fn tell_not_found<T: LockFiles>(
+    rt: &T,
+    alloc: Global,
+    text: &mut String,
+    path: &str,
+    kind: ErrorKind,
+) -> Result<(), OutOfMemory> {
+    let shown = Shown::of(path);
+    if kind == ErrorKind::PermissionDenied {
+        return writeln!(
+            text,
+            "  {shown} is in a folder that this user may not enter."
+        );
+    }
+    if tell_no_folder(rt, text, path)? {
+        return Ok(());
+    }
+    tell_unsaved(rt, alloc, text, path)
+}
+
+/// Appends that another command holds the file at `path`, or else that nothing can be saved there.
+fn tell_unsaved<T: LockFiles>(
+    rt: &T,
+    alloc: Global,
+    text: &mut String,
+    path: &str,
+) -> Result<(), OutOfMemory> {
+    let shown = Shown::of(path);
+    let lock = format!(in alloc; "{path}{LOCK}")?;
+    if is_held(rt, lock.as_str()) {
+        return writeln!(
+            text,
+            "  Another command is at work on {shown}: try again later."
+        );
+    }
+    let folder = Shown::of(folder_of(path));
+    writeln!(
+        text,
+        "  {shown} in the folder {folder} cannot be read to its end, or not be written."
+    )?;
+    writeln!(
+        text,
+        "  Look at the permissions of both, and at the room on the disk."
+    )?;
+    tell_came(rt, alloc, text, path)
+}
+
+/// Appends that the file of the messages that came may be the cause, if it exists.
+fn tell_came<T: LockFiles>(
+    rt: &T,
+    alloc: Global,
+    text: &mut String,
+    path: &str,
+) -> Result<(), OutOfMemory> {
+    let came = format!(in alloc; "{path}{CAME}")?;
+    if fs::symlink_metadata(rt, came.as_str()).is_err() {
+        return Ok(());
+    }
+    let shown = Shown::of(came.as_str());
+    writeln!(
+        text,
+        "  Or {shown} cannot be read or written, or has more than messages."
+    )
+}
+
+/// Returns true if another command holds the lock at the path `lock`.
+fn is_held<T: LockFiles>(rt: &T, lock: &str) -> bool {
+    if !is_file(rt, lock) {
+        return false;
+    }
+    match fs::open(rt, lock) {
+        Ok(file) => !rt.try_lock(&file).unwrap_or(true),
+        Err(_) => false,
+    }
+}
+
+/// Returns true if there is a regular file at `path`. To open a pipe would be to wait on it.
+fn is_file<T: LockFiles>(rt: &T, path: &str) -> bool {
+    match fs::symlink_metadata(rt, path) {
+        Ok(found) => found.is_file(),
+        Err(_) => false,
+    }
+}
+
+/// Appends the reason why the bytes of a file are no record.
+fn tell_no_record(text: &mut String, path: &str, fault: RecordFault) -> Result<(), OutOfMemory> {
+    let shown = Shown::of(path);
+    writeln!(text, "  {shown} holds no record of a desk.")?;
+    match fault {
+        RecordFault::Short => writeln!(text, "  It ends within a record."),
+        RecordFault::Bad(at) if at < MARK => writeln!(
+            text,
+            "  It does not begin as a desk does: is it the right file?"
+        ),
+        RecordFault::Bad(at) => writeln!(text, "  Its byte {at}, counted from 0, is wrong."),
+        RecordFault::Inconsistent => writeln!(text, "  No desk can have what it says."),
+        RecordFault::Digest => writeln!(
+            text,
+            "  It was damaged: its digest is not that of its bytes."
+        ),
+        RecordFault::OutOfMemory => Ok(()),
+    }
+}

@@ -1,0 +1,140 @@
+//! The reasons for a fault of a command line.
+
+use crate::arguments::tell_arguments;
+use crate::file::tell_desk_fault;
+use crate::input::{Passed, tell_bad_bytes, tell_bad_line};
+use crate::refused::tell_refused;
+use crate::shelf::tell_shelf_fault;
+use clap::ArgMatches;
+use ill_files::machine::Machine;
+use ill_line::command_line::{Name, SHELF, command};
+use ill_line::request::DASHES;
+use ill_saved::LockFiles;
+use ill_text::fault::ToolFault;
+use ill_values::OutOfMemory;
+use std::io::Write;
+
+/// The option.
+const OPTION: &str = "--explain";
+
+/// Returns true if `words` ask for explanations, before any `--`. The first word is the name of the program.
+pub fn is_asked(words: &[&str]) -> bool {
+    words
+        .iter()
+        .skip(1)
+        .take_while(|word| **word != DASHES)
+        .any(|word| *word == OPTION)
+}
+
+/// A command line that has failed.
+#[derive(Drop)]
+struct Failed<'a, 'b> {
+    /// Its words, from the name of the program on.
+    words: &'a [&'a str],
+    /// The name of its command.
+    name: Name,
+    /// The arguments of the command.
+    matches: &'a ArgMatches<'b>,
+    /// Its fault.
+    fault: ToolFault,
+    /// The place in the input at which the command stopped.
+    passed: Option<Passed>,
+}
+
+/// Writes the reasons for `fault` of a command line, if its words ask for them.
+pub fn explain<T: LockFiles, W: Write, E: Write>(
+    machine: &mut Machine<'_, T, W, E>,
+    words: &[&str],
+    fault: ToolFault,
+    passed: Option<Passed>,
+) {
+    if is_asked(words) {
+        let (rt, alloc) = (machine.rt, machine.alloc);
+        let mut text = String::new(alloc);
+        let _ = tell(rt, &mut text, words, fault, passed);
+        let _ = machine.errors.write_all(text.as_bytes());
+    }
+}
+
+/// Appends to `text` the lines about a fault of the command line with these words. Returns none if the words cannot be
+/// read again.
+fn tell<T: LockFiles>(
+    rt: &T,
+    text: &mut String,
+    words: &[&str],
+    fault: ToolFault,
+    passed: Option<Passed>,
+) -> Option<()> {
+    let alloc = *text.allocator();
+    let matches = command(alloc).ok()?.try_get_matches_from(words).ok()?;
+    let (first, found) = matches.subcommand()?;
+    let is_on_shelf = first == SHELF;
+    let (word, matches) = if is_on_shelf {
+        found.subcommand()?
+    } else {
+        (first, found)
+    };
+    let failed = Failed {
+        words,
+        name: Name::read(word)?,
+        matches,
+        fault,
+        passed,
+    };
+    tell_first(rt, text, &failed).ok()?;
+    tell_place(rt, text, &failed, is_on_shelf).ok()
+}
+
+/// Appends to `text` the lines about words that are refused before a file is opened, if the fault is one of arguments.
+fn tell_first<T: LockFiles>(
+    rt: &T,
+    text: &mut String,
+    failed: &Failed<'_, '_>,
+) -> Result<(), OutOfMemory> {
+    match failed.fault {
+        ToolFault::Arguments => tell_refused(rt, text, failed.words, failed.name, failed.matches),
+        _ => Ok(()),
+    }
+}
+
+/// Appends to `text` the lines about a fault of a command, on a shelf or on one desk.
+fn tell_place<T: LockFiles>(
+    rt: &T,
+    text: &mut String,
+    failed: &Failed<'_, '_>,
+    is_on_shelf: bool,
+) -> Result<(), OutOfMemory> {
+    let alloc = *text.allocator();
+    match failed.fault {
+        ToolFault::Desk(fault) if is_on_shelf => {
+            tell_shelf_fault(rt, alloc, text, failed.matches, fault)
+        }
+        _ => tell_fault(rt, text, failed),
+    }
+}
+
+/// Appends to `text` the lines about a fault of a command on one desk.
+fn tell_fault<T: LockFiles>(
+    rt: &T,
+    text: &mut String,
+    failed: &Failed<'_, '_>,
+) -> Result<(), OutOfMemory> {
+    let alloc = *text.allocator();
+    match failed.fault {
+        ToolFault::Arguments => tell_arguments(rt, alloc, text, failed.name, failed.matches),
+        ToolFault::Der(fault) => tell_bad_bytes(text, fault, failed.passed),
+        ToolFault::Script(line) => tell_bad_line(text, failed.name, line),
+        ToolFault::Desk(fault) => tell_desk_fault(rt, alloc, text, failed.matches, fault),
+        ToolFault::TooMany => writeln!(text, "  Divide the input, and give its parts one by one."),
+        ToolFault::Left => writeln!(
+            text,
+            "  Mails stay in the folder for the next run: their lines, and the last one, tell why."
+        ),
+        ToolFault::Read => writeln!(text, "  Standard input cannot be read to its end."),
+        ToolFault::Write => writeln!(
+            text,
+            "  Standard output takes no more: its reader has gone, or the disk is full."
+        ),
+        ToolFault::OutOfMemory => writeln!(text, "  The machine has no memory left for it."),
+    }
+}

@@ -1,0 +1,57 @@
+//! The home of a group on a shelf: what stands at the path of its desk.
+
+ghost use Rattle.std.specs.Prelude.{IfErr};
+ghost use Rattle.ill_text.specs.Fault.{IsOpenFault};
+
+use crate::paths::{CAME, MAIL, is_there};
+use crate::shelf::is_retired;
+use ill_saved::DeskFault;
+use ill_text::fault::ToolFault;
+use std::alloc::Global;
+use std::io;
+use std::rt::Files;
+
+/// The home of a group on a shelf.
+#[derive(Clone, Copy)]
+pub enum Home {
+    /// The desk of the group.
+    Desk,
+    /// The mark of a retired group.
+    Retired,
+    /// No desk, but files that lie beside one: the file of the desk was lost.
+    Lost,
+    /// Nothing.
+    Nothing,
+}
+
+/// Returns the home of the group of `desk`.
+pub fn home_at<T: Files>(rt: &T, alloc: Global, desk: &str) -> io::Result<Home> {
+    if is_retired(rt, alloc, desk)? {
+        return Ok(Home::Retired);
+    }
+    if is_there(rt, desk)? {
+        return Ok(Home::Desk);
+    }
+    if is_lost(rt, alloc, desk)? {
+        Ok(Home::Lost)
+    } else {
+        Ok(Home::Nothing)
+    }
+}
+
+/// Returns true if a file that may outlive `desk` lies beside it, so that its group was begun before.
+fn is_lost<T: Files>(rt: &T, alloc: Global, desk: &str) -> io::Result<bool> {
+    let came = format!(in alloc; "{desk}{CAME}")?;
+    let mail = format!(in alloc; "{desk}{MAIL}")?;
+    Ok(is_there(rt, came.as_str())? || is_there(rt, mail.as_str())?)
+}
+
+/// Returns the refusal of a group whose desk is lost: it has no record.
+pub fn refuse_lost<T: Files>(rt: &T, alloc: Global, desk: &str) -> Result<(), ToolFault>
+    ensures { IfErr result IsOpenFault }
+{
+    match home_at(rt, alloc, desk)? {
+        Home::Lost => Err(ToolFault::Desk(DeskFault::NoRecord)),
+        _ => Ok(()),
+    }
+}

@@ -1,0 +1,4 @@
+pub mod CopyLemmas
+pub mod DatesLemmas
+pub mod InboxLemmas
+pub mod OutboxLemmas

@@ -1,0 +1,93 @@
+-- Proves what a folder or a stream has after the command `outbox`, and which mails ask for an answer.
+use Rattle.std.proofs.Common.{◌≡◌, ℕ, zero, suc, ◌++◌, List, [], ◌∷◌, map, take, drop, Option, Some, None, Result, Ok, Err, refl}
+use Rattle.std.proofs.Common.{ap, sym, subst, ◌∙◌, append_assoc}
+use Rattle.std.specs.Prelude.{slice_get}
+use Rattle.std.specs.List.{zip, fold}
+use Rattle.std.specs.Io.KnownBytes.{Appends}
+use Rattle.std.proofs.lemmas.List.{take-map, append-nil}
+use Rattle.ill_saved.specs.Holdings.{DeskEntry}
+use Rattle.ill_saved.specs.ManySides.{DeskContents}
+use Rattle.ill_saved.proofs.Finding.{some_is}
+use Rattle.ill_text.specs.declared.fault.ToolFault.{ToolFault}
+use Rattle.ill_night.specs.declared.verdict.Mail.{Mail}
+use Rattle.ill_night.specs.declared.verdict.Verdict.{Verdict}
+use Rattle.ill_text.specs.Output.{WritesPrefix}
+use Rattle.ill_night.specs.declared.outbox.Leaving.{Leaving}
+use Rattle.ill_night.specs.Outbox.{Letter, RunsOutbox, StreamsOutbox, after_all, after_one, asked_by, asking_bytes_at, issue_of}
+use Rattle.ill_night.specs.Outbox.{letter_of, letters_of, stream_of}
+
+-- Putting the mails of `leaving` into an outlet equals putting the mail of each message in turn.
+pub each_put : {M : Type 0} (after : M → Letter → M) (leaving : List Leaving) (there : Option M)
+    → after_all after (map letter_of (map issue_of leaving)) there
+    ≡ fold (λ there message. after_one after there (letter_of (issue_of message))) there leaving
+each_put after [] there = refl
+each_put after (message ∷ leaving) there = each_put after leaving (after_one after there (letter_of (issue_of message)))
+
+-- The first `size` mails are the mails of the first `size` messages.
+pub first_mails : (size : ℕ) (leaving : List Leaving)
+    → take size (map letter_of (map issue_of leaving)) ≡ map letter_of (map issue_of (take size leaving))
+first_mails size leaving = take-map letter_of size (map issue_of leaving) ∙ ap (map letter_of) (take-map issue_of size leaving)
+
+-- ---- a stream
+
+-- A stream that began with `start` has `start`, and then the bytes of the mails.
+streamed : (start : List ℕ) (letters : List Letter)
+    → after_all (λ there letter. there ++ letter.bytes) letters (Some start) ≡ Some (start ++ stream_of letters)
+streamed start [] = ap Some (sym (append-nil start))
+streamed start (letter ∷ letters) =
+    streamed (start ++ letter.bytes) letters ∙ ap Some (append_assoc start letter.bytes (stream_of letters))
+
+-- If a stream was empty, its bytes are those of the mails that were put on it.
+stream_has : (letters : List Letter) (start bytes : List ℕ) → start ≡ []
+    → Some bytes ≡ after_all (λ there letter. there ++ letter.bytes) letters (Some start) → bytes ≡ stream_of letters
+stream_has letters start bytes empty put =
+    some_is _ _ (put ∙ ap (λ start. after_all (λ there letter. there ++ letter.bytes) letters (Some start)) empty
+    ∙ streamed [] letters)
+
+-- If the mails are gathered on an empty stream, and its bytes are written, the command has written the mails.
+pub stream_written : (asking : List ℕ) (held : List DeskEntry) (start bytes gathered : List ℕ) (count : ℕ)
+    (before after : Option (List ℕ)) (result : Result (Unit {0}) ToolFault)
+    → start ≡ [] → gathered ≡ bytes
+    → RunsOutbox (λ there letter. there ++ letter.bytes) asking held (Some start) (Some bytes) (Ok count)
+    → WritesPrefix before after gathered result → StreamsOutbox asking held before after result
+stream_written asking held start bytes gathered count before after (Ok done) empty same (a, are, (counted, put)) written =
+    (a, are, subst (λ text. Appends before after text) (same ∙ stream_has (letters_of a held) start bytes empty put) written)
+stream_written asking held start bytes gathered count before after (Err fault) empty same (a, are, (counted, put))
+    (failed, (size, written)) =
+    subst (λ fault. StreamsOutbox asking held before after (Err fault)) (sym failed) (
+      a,
+      are,
+      (
+        size,
+        subst (λ text. Appends before after (take size text))
+            (same ∙ stream_has (letters_of a held) start bytes empty put) written,
+      ),
+    )
+
+-- ---- the messages that ask
+-- A message asks if its loan at this desk is over. The next outbox answers it.
+
+-- Pairing a list with an empty list gives no pairs.
+zip_nothing : {A B : Type 0} (items : List A) → zip {X = B} items [] ≡ []
+zip_nothing [] = refl
+zip_nothing (item ∷ items) = refl
+
+-- A mail without a verdict does not ask, so it adds no bytes.
+mail_without_verdict_is_silent : (live : DeskContents) (mail : Option Mail) (rest : List ℕ)
+    → asking_bytes_at live mail None ++ rest ≡ rest
+mail_without_verdict_is_silent live None rest = refl
+mail_without_verdict_is_silent live (Some mail) rest = refl
+
+-- The bytes that ask from `place` on are those of the mail at `place`, and those of the later mails.
+pub asking_split_at : (live : DeskContents) (mails : List Mail) (verdicts : List Verdict) (place : ℕ)
+    → asking_bytes_at live (slice_get mails place) (slice_get verdicts place)
+    ++ asked_by live (zip (drop (suc place) mails) (drop (suc place) verdicts))
+    ≡ asked_by live (zip (drop place mails) (drop place verdicts))
+asking_split_at live [] verdicts zero = refl
+asking_split_at live [] verdicts (suc place) = refl
+asking_split_at live (mail ∷ mails) [] zero = ap (asked_by live) (zip_nothing mails)
+asking_split_at live (mail ∷ mails) [] (suc place) =
+    mail_without_verdict_is_silent live (slice_get mails place) (asked_by live (zip (drop (suc place) mails) []))
+    ∙ ap (asked_by live) (zip_nothing (drop (suc place) mails) ∙ sym (zip_nothing (drop place mails)))
+asking_split_at live (mail ∷ mails) (verdict ∷ verdicts) zero = refl
+asking_split_at live (mail ∷ mails) (verdict ∷ verdicts) (suc place) = asking_split_at live mails verdicts place

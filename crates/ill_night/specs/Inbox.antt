@@ -1,0 +1,315 @@
+-- The command `inbox`: it takes the mails of a folder in order, and saves the desk once (this profile's own).
+use Rattle.std.specs.Prelude.{◌≡◌, ℕ, nat_lt, Bool, true, false, not, ◌||◌, if◌then◌else◌, List, [], ◌∷◌, ◌++◌, length, fold, ◌-◌}
+use Rattle.std.specs.Prelude.{take, count_by, codes, nat_eq, Option, None, Some, option_map, Result, Ok, Err}
+use Rattle.std.specs.List.{starts_with}
+use Rattle.std.specs.Str.{bytes_eq}
+use Rattle.std.specs.Fmt.{decimal}
+use Rattle.ill_values.specs.declared.apdu.Apdu.{Apdu}
+use Rattle.ill_der.specs.declared.fault.DerFault.{DerFault}
+use Rattle.ill_der.specs.declared.fault.DerFault.TheVariants as ders
+use Rattle.ill_der.specs.ShortForm.{apdu_at}
+use Rattle.ill_der.specs.Faults.{place_of}
+use Rattle.ill_core.specs.declared.taking.Taking.TheVariants as takings
+use Rattle.ill_saved.specs.declared.role.Role.{Role}
+use Rattle.ill_saved.specs.declared.role.Role.TheVariants.{Requester}
+use Rattle.ill_saved.specs.ManySides.{DeskContents, many_sides}
+use Rattle.ill_words.specs.declared.outcome.Outcome.TheVariants as outcomes
+use Rattle.ill_words.specs.declared.outcome.DeskOutcome.{DeskOutcome}
+use Rattle.ill_words.specs.declared.outcome.DeskOutcome.TheVariants as seen
+use Rattle.ill_words.specs.Outcome.{desk_outcome_word}
+use Rattle.ill_text.specs.declared.fault.ToolFault.{ToolFault}
+use Rattle.ill_text.specs.declared.fault.ToolFault.TheVariants as faults
+use Rattle.ill_night.specs.declared.verdict.Mail.{Mail}
+use Rattle.ill_night.specs.declared.verdict.Unfit.{Unfit}
+use Rattle.ill_night.specs.declared.verdict.Unfit.TheVariants as unfits
+use Rattle.ill_night.specs.declared.verdict.Delay.{Delay}
+use Rattle.ill_night.specs.declared.verdict.Delay.TheVariants as delays
+use Rattle.ill_night.specs.declared.verdict.Verdict.{Verdict}
+use Rattle.ill_night.specs.declared.verdict.Verdict.TheVariants.{Done, Aside, Left}
+use Rattle.ill_night.specs.declared.tally.Heap.{Heap}
+use Rattle.ill_night.specs.declared.tally.Heap.TheVariants as heaps
+use Rattle.ill_night.specs.declared.tally.Tally.{Tally}
+use Rattle.ill_night.specs.declared.inbox.Sorted.{Sorted}
+use Rattle.ill_text.specs.Escape.{escaped}
+use Rattle.ill_saved.specs.Holdings.{Effects}
+use Rattle.ill_desk.specs.Performing.{HeldAndLanded, CommandState, handed, is_change, has_any, Run, EndsRun}
+use Rattle.ill_desk.specs.Take.{KeepsBefore}
+use Rattle.ill_desk.specs.Telling.{long, once_saved, shown_at}
+
+-- ---- the message of a mail
+
+-- Returns true for the bytes of a line end: a line feed (10), perhaps after a carriage return (13).
+abbrev pub is_line_end : List ℕ → Bool
+is_line_end bytes = bytes_eq bytes (10 ∷ []) || bytes_eq bytes (13 ∷ 10 ∷ [])
+
+-- Returns the bytes of a message that was read from `bytes`, if only a line end follows it. Else it returns `bytes`.
+abbrev pub message_before : List ℕ → Result (Apdu × List ℕ) DerFault → List ℕ
+message_before bytes (Ok (a, rest)) = if is_line_end rest then take (length bytes - length rest) bytes else bytes
+message_before bytes (Err fault) = bytes
+
+-- Returns the bytes of a mail without the line end after its message. A program that copies a mail as text may add one.
+abbrev pub without_line_end : List ℕ → List ℕ
+without_line_end bytes = message_before bytes (apdu_at bytes)
+
+-- Returns the only message of a mail. If decoding fails or bytes follow the message, it returns the reason
+-- why no desk takes the mail.
+abbrev pub one_message : Result (Apdu × List ℕ) DerFault → Result Apdu Unfit
+one_message (Ok (a, [])) = Ok a
+one_message (Ok (a, byte ∷ rest)) = Err unfits.Trailing
+one_message (Err fault) = Err (unfits.NoMessage fault)
+
+-- Returns the message of a mail, or the reason why no desk will ever take it. A message has at most 359
+-- bytes.
+abbrev pub message_in : List ℕ → Result Apdu Unfit
+message_in bytes = if nat_lt 359 (length bytes) then Err unfits.TooLong else one_message (apdu_at bytes)
+
+-- ---- the verdict of a mail
+
+-- Returns the verdict of a mail by the outcome of its message. A mail for an unknown loan waits at a
+-- requester's desk, which may begin the loan before the next run. It is done at a responder's desk: the
+-- requester sends the message again, after the request.
+abbrev pub verdict_of : Role → DeskOutcome → Verdict
+verdict_of role (seen.Plain (outcomes.Refused refusal)) = Aside (unfits.Refused refusal)
+verdict_of Requester seen.NoSuchTransaction = Left delays.NoSuchTransaction
+verdict_of role seen.DeskFull = Left delays.DeskFull
+verdict_of role outcome = Done outcome
+
+-- Returns true if the bytes begin as the record of a desk does, in either version.
+abbrev pub begins_as_record : List ℕ → Bool
+begins_as_record bytes = starts_with nat_eq bytes (codes "ILL1") || starts_with nat_eq bytes (codes "ILL2")
+
+-- Returns the verdict of a mail without a message. The record of a desk came by mistake, so it waits in its
+-- folder. Any other mail is put aside.
+abbrev pub verdict_without_message : List ℕ → Unfit → Verdict
+verdict_without_message bytes unfit = if begins_as_record bytes then Left delays.Record else Aside unfit
+
+-- ---- the words of it
+
+-- Returns the word of a fault in the bytes of a mail.
+abbrev pub der_word : DerFault → List ℕ
+der_word (ders.Short at) = codes "short"
+der_word (ders.Tag at) = codes "tag"
+der_word (ders.Length at) = codes "length"
+der_word (ders.Field at) = codes "field"
+der_word ders.OutOfMemory = codes "memory"
+
+-- Returns the place of a fault in the bytes, if it has one.
+abbrev pub place_text : Option ℕ → List ℕ
+place_text None = []
+place_text (Some at) = codes " at " ++ decimal at
+
+-- Returns the text of the reason why no desk will ever take a mail.
+abbrev pub unfit_text : Unfit → List ℕ
+unfit_text (unfits.NoMessage fault) = der_word fault ++ place_text (place_of fault)
+unfit_text unfits.TooLong = codes "too-long"
+unfit_text unfits.Trailing = codes "trailing"
+unfit_text (unfits.Refused refusal) = desk_outcome_word (seen.Plain (outcomes.Refused refusal))
+
+-- Returns the text of the reason why a mail waits for the next run.
+abbrev pub delay_text : Delay → List ℕ
+delay_text delays.NotRead = codes "not-read"
+delay_text delays.Record = codes "record"
+delay_text delays.NoSuchTransaction = desk_outcome_word seen.NoSuchTransaction
+delay_text delays.DeskFull = desk_outcome_word seen.DeskFull
+
+-- Returns the line of a mail that is put aside or waits.
+abbrev pub stays_line : List ℕ → List ℕ → List ℕ → List ℕ
+stays_line name word reason = escaped name ++ (word ++ (reason ++ codes "\n"))
+
+-- Returns the line of the mail `name`. A mail that is done has no line.
+abbrev pub verdict_line : List ℕ → Verdict → List ℕ
+verdict_line name (Done outcome) = []
+verdict_line name (Aside unfit) = stays_line name (codes " aside ") (unfit_text unfit)
+verdict_line name (Left delay) = stays_line name (codes " left ") (delay_text delay)
+
+-- ---- one mail after another
+
+-- The state after some mails: the sides, the verdicts, the lines, and the bytes of the taken messages.
+pub record Sorting (L : Type 0) : Type 0 where
+  pub live : L
+  pub verdicts : List Verdict
+  pub told : List ℕ
+  pub kept : List ℕ
+
+-- Returns the state with the sides `live` and the verdicts, lines and bytes of `sorted`.
+abbrev pub sorting_of : {L : Type 0} → L → Sorted → Sorting L
+sorting_of live sorted = record {
+  live = live;
+  verdicts = sorted.verdicts.items;
+  told = sorted.told.items;
+  kept = sorted.kept.items;
+}
+
+-- Returns the state before the first mail.
+abbrev pub unsorted : {L : Type 0} → L → Sorting L
+unsorted live = record { live = live; verdicts = []; told = []; kept = [] }
+
+-- Returns the state after the verdict of the mail `name`.
+abbrev pub with_verdict : {L : Type 0} → List ℕ → Verdict → Sorting L → Sorting L
+with_verdict name verdict old = record {
+  live = old.live;
+  verdicts = old.verdicts ++ verdict ∷ [];
+  told = old.told ++ verdict_line name verdict;
+  kept = old.kept;
+}
+
+-- Returns the bytes of a mail if its message was taken, else nothing.
+abbrev pub kept_bytes : DeskOutcome → List ℕ → List ℕ
+kept_bytes outcome bytes = if is_change outcome then bytes else []
+
+-- Returns the state after a message with this outcome. Its lines are as by `take --long`, with its side as it
+-- is once all is saved. Its bytes are kept if it was taken.
+abbrev pub with_message : {L K : Type 0} → Effects L K → List ℕ → Apdu → DeskOutcome → L → Sorting L → Sorting L
+with_message effects bytes a outcome live old = record {
+  live = live;
+  verdicts = old.verdicts;
+  told = old.told ++ long a outcome (once_saved (shown_at effects (effects.key_of a) live));
+  kept = old.kept ++ kept_bytes outcome bytes;
+}
+
+-- Returns the state after a message was handed to its side, and its mail got a verdict. A fault that is no
+-- refusal changes nothing. No side returns one.
+abbrev pub after_handing : {L K : Type 0} → Effects L K → List ℕ → List ℕ → Apdu → Result DeskOutcome ToolFault × L →
+    Sorting L → Sorting L
+after_handing effects name bytes a (Ok outcome, live) old =
+    with_verdict name (verdict_of (effects.role live) outcome) (with_message effects bytes a outcome live old)
+after_handing effects name bytes a (Err fault, live) old = old
+
+-- Returns the state after a mail with this message, or with the reason that it has none.
+abbrev pub after_message : {L K : Type 0} → Effects L K → List ℕ → List ℕ → Result Apdu Unfit → Sorting L → Sorting L
+after_message effects name bytes (Ok a) old = after_handing effects name bytes a (handed effects old.live a) old
+after_message effects name bytes (Err unfit) old = with_verdict name (verdict_without_message bytes unfit) old
+
+-- Returns the state after a mail with these bytes, or after one that could not be read.
+abbrev pub after_bytes : {L K : Type 0} → Effects L K → List ℕ → Option (List ℕ) → Sorting L → Sorting L
+after_bytes effects name None old = with_verdict name (Left delays.NotRead) old
+after_bytes effects name (Some bytes) old = after_message effects name bytes (message_in bytes) old
+
+-- Returns the state after one mail.
+abbrev pub after_mail : {L K : Type 0} → Effects L K → Sorting L → Mail → Sorting L
+after_mail effects old mail =
+    after_bytes effects mail.name.items (option_map (λ bytes. bytes.items) mail.bytes) old
+
+-- Returns the state after all of `mails`, in their order.
+abbrev pub after_mails : {L K : Type 0} → Effects L K → L → List Mail → Sorting L
+after_mails effects live mails = fold (after_mail effects) (unsorted live) mails
+
+-- ---- counts
+
+-- Returns the heap on which a mail with this verdict is counted.
+abbrev pub heap_of : Verdict → Heap
+heap_of (Done (seen.Plain (outcomes.Answered takings.Taken))) = heaps.Taken
+heap_of (Done (seen.Plain (outcomes.Answered takings.Repeat))) = heaps.Repeat
+heap_of (Done (seen.Plain (outcomes.Answered takings.Stale))) = heaps.Stale
+heap_of (Done (seen.Plain (outcomes.Answered (takings.Conflict state)))) = heaps.Conflict
+heap_of (Done outcome) = heaps.Unknown
+heap_of (Aside unfit) = heaps.Aside
+heap_of (Left delay) = heaps.Left
+
+-- Returns true if the two heaps are equal.
+abbrev pub is_heap : Heap → Heap → Bool
+is_heap heaps.Taken heaps.Taken = true
+is_heap heaps.Repeat heaps.Repeat = true
+is_heap heaps.Stale heaps.Stale = true
+is_heap heaps.Conflict heaps.Conflict = true
+is_heap heaps.Unknown heaps.Unknown = true
+is_heap heaps.Aside heaps.Aside = true
+is_heap heaps.Left heaps.Left = true
+is_heap heap other = false
+
+-- Returns the number of verdicts on a heap.
+abbrev pub count_on : Heap → List Verdict → ℕ
+count_on heap verdicts = count_by (λ verdict. is_heap heap (heap_of verdict)) verdicts
+
+-- Returns the numbers of verdicts on all heaps.
+abbrev pub tally_of : List Verdict → Tally
+tally_of verdicts = record {
+  taken = count_on heaps.Taken verdicts;
+  repeat = count_on heaps.Repeat verdicts;
+  stale = count_on heaps.Stale verdicts;
+  conflict = count_on heaps.Conflict verdicts;
+  unknown = count_on heaps.Unknown verdicts;
+  aside = count_on heaps.Aside verdicts;
+  left = count_on heaps.Left verdicts;
+}
+
+-- Returns the text of the counts of done mails, whose files are removed.
+unfoldable pub done_text : Tally → List ℕ
+done_text tally =
+    codes "taken " ++ decimal tally.taken ++ codes ", repeat " ++ decimal tally.repeat ++ codes ", stale "
+    ++ decimal tally.stale ++ codes ", conflict " ++ decimal tally.conflict ++ codes ", unknown "
+    ++ decimal tally.unknown
+
+-- Returns the text of the counts of mails that are put aside or wait. `waiting` mails had no room in this
+-- run.
+unfoldable pub staying_text : Tally → ℕ → List ℕ
+staying_text tally waiting =
+    codes ", aside " ++ decimal tally.aside ++ codes ", left " ++ decimal tally.left ++ codes ", waiting "
+    ++ decimal waiting ++ codes "\n"
+
+-- Returns the line of all counts.
+abbrev pub tally_line : Tally → ℕ → List ℕ
+tally_line tally waiting = done_text tally ++ staying_text tally waiting
+
+-- ---- the command
+
+-- A message was handed to its side. Or memory ran out for it, and nothing changed.
+abbrev pub HandsOver : {L K : Type 0} → Effects L K → L → Apdu → Result DeskOutcome ToolFault → L → Type 0
+HandsOver effects old a (Ok outcome) new = handed effects old a ≡ (Ok outcome, new)
+HandsOver effects old a (Err fault) new = new ≡ old
+
+-- Returns the lines of all mails, and the line of the counts.
+abbrev pub inbox_text : {L : Type 0} → Sorting L → ℕ → List ℕ
+inbox_text end waiting = end.told ++ tally_line (tally_of end.verdicts) waiting
+
+-- Returns the state after the line of the counts.
+abbrev pub concluded : {L : Type 0} → ℕ → Sorting L → Sorting L
+concluded waiting end = record {
+  live = end.live;
+  verdicts = end.verdicts;
+  told = inbox_text end waiting;
+  kept = end.kept;
+}
+
+-- Returns the run of the mails that lead to `end`.
+abbrev pub inbox_run : {L : Type 0} → Sorting L → ℕ → Run L (List Verdict)
+inbox_run end waiting = record {
+  live = end.live;
+  has_changed = has_any end.kept;
+  told = inbox_text end waiting;
+  answer = end.verdicts;
+}
+
+-- Returns a result with `value` applied to its answer.
+abbrev pub answered_with : {X Y : Type 0} → (X → Y) → Result X ToolFault → Result Y ToolFault
+answered_with value (Ok answer) = Ok (value answer)
+answered_with value (Err fault) = Err fault
+
+-- A run took `mails`, with `waiting` further mails left. The state of the command went from `old` to `new`. Taken
+-- messages are kept before they are saved.
+abbrev pub RunsInbox : {L K : Type 0} → Effects L K → List Mail → ℕ → CommandState L →
+    Result (List Verdict) ToolFault → CommandState L → Type 0
+RunsInbox effects mails waiting old result new =
+    KeepsBefore (after_mails effects old.desk.live mails).kept result old new
+    × EndsRun effects (inbox_run (after_mails effects old.desk.live mails) waiting) old result new
+
+-- A run over `mails` ended without a fault and with these verdicts, at a desk that is `new` now. So all its
+-- changes are saved.
+unfoldable pub EndedWell : List Mail → List Verdict → HeldAndLanded DeskContents → Type 0
+EndedWell mails verdicts new =
+    (waiting : ℕ) × (old end : CommandState DeskContents)
+    × RunsInbox many_sides mails waiting old (Ok verdicts) end × (end.desk ≡ new)
+
+-- ---- the answer
+
+-- Returns true if any mail waits for the next run.
+abbrev pub is_waiting : Tally → ℕ → Bool
+is_waiting tally waiting = nat_lt 0 tally.left || nat_lt 0 waiting
+
+-- Returns true if no mail was in conflict or put aside, so that no person is needed.
+abbrev pub is_quiet : Tally → Bool
+is_quiet tally = not (nat_lt 0 tally.conflict || nat_lt 0 tally.aside)
+
+-- Returns the result of the command after a run.
+abbrev pub ending : Tally → ℕ → Result Bool ToolFault
+ending tally waiting = if is_waiting tally waiting then Err faults.Left else Ok (is_quiet tally)

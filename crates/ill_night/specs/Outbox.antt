@@ -1,0 +1,194 @@
+-- The command `outbox`: the messages that leave a desk in a night, and the names of their mails. A message
+-- asks if it came for a loan that is over at this desk. A responder then sends its messages of the loan
+-- again.
+use Rattle.std.specs.Prelude.{◌≡◌, ◌⊎◌, ℕ, ◌+◌, ◌/◌, ◌%◌, Bool, false, if◌then◌else◌, List, [], ◌∷◌, ◌++◌, length, take, fold}
+use Rattle.std.specs.Prelude.{map, codes, Option, None, Some, option_map, Result, Ok, Err}
+use Rattle.std.specs.List.{flat_map, list_any}
+use Rattle.std.specs.Fmt.{decimal}
+use Rattle.std.specs.Io.KnownBytes.{Appends}
+use Rattle.sha2.specs.Sha256.{sha256}
+use Rattle.hex.specs.Hex.{encode_lower}
+use Rattle.ill_values.specs.TxnId.{Qualifiers}
+use Rattle.ill_values.specs.declared.apdu.Apdu.{Apdu}
+use Rattle.ill_der.specs.ShortForm.{spelling}
+use Rattle.ill_core.specs.Issued.{is_same_txn}
+use Rattle.ill_saved.specs.declared.role.Role.{Role}
+use Rattle.ill_saved.specs.declared.side.Side.{Side}
+use Rattle.ill_saved.specs.Side.{role_of, issued_of, txn_of}
+use Rattle.ill_words.specs.Sending.{is_over, wants_sending}
+use Rattle.ill_saved.specs.Sides.{side_with}
+use Rattle.ill_saved.specs.Holdings.{DeskEntry}
+use Rattle.ill_saved.specs.ManySides.{DeskContents, sides_held}
+use Rattle.ill_text.specs.declared.fault.ToolFault.{ToolFault}
+use Rattle.ill_text.specs.declared.fault.ToolFault.TheVariants.{OutOfMemory}
+use Rattle.ill_text.specs.Fault.{IsFileFault}
+use Rattle.ill_night.specs.declared.verdict.Mail.{Mail}
+use Rattle.ill_night.specs.declared.verdict.Verdict.{Verdict}
+use Rattle.ill_night.specs.declared.verdict.Verdict.TheVariants.{Done}
+use Rattle.ill_night.specs.declared.outbox.Leaving.{Leaving}
+use Rattle.ill_night.specs.declared.verdict.Unfit.{Unfit}
+use Rattle.ill_night.specs.Inbox.{message_in}
+use Rattle.ill_text.specs.Input.{AreIn}
+use Rattle.ill_text.specs.Output.{WritesText}
+use Rattle.ill_saved.specs.Roles.{role_name}
+
+-- ---- the messages that ask
+
+-- Returns true if a message of `asking` is of the transaction `txn`.
+abbrev pub is_asked : List Apdu → Qualifiers → Bool
+is_asked asking txn = list_any (λ a. is_same_txn a.txn txn) asking
+
+-- ---- the messages that leave
+
+-- A message, and the side that issued it.
+pub record Issue : Type 0 where
+  pub side : Side
+  pub apdu : Apdu
+
+-- Returns the released messages of a side.
+abbrev pub released_of : DeskEntry → List Apdu
+released_of held = take held.released (issued_of held.side)
+
+-- Returns the messages `apdus`, each with the side that issued it.
+abbrev pub issues_of : Side → List Apdu → List Issue
+issues_of side apdus = map (λ a. record { side = side; apdu = a }) apdus
+
+-- Returns the released messages of a side, in their order, if it wants sending. A responder's side wants it
+-- even if the loan is over, if `asking` has a message of the loan.
+abbrev pub leaving_side : List Apdu → DeskEntry → List Issue
+leaving_side asking held =
+    if wants_sending (is_asked asking (txn_of held.side)) held.side
+    then issues_of held.side (released_of held) else []
+
+-- Returns the leaving messages of all sides, in the order in which the sides were begun.
+abbrev pub leaving_desk : List Apdu → List DeskEntry → List Issue
+leaving_desk asking held = flat_map (leaving_side asking) held
+
+-- ---- the mails
+
+-- A mail that leaves: its name and its bytes.
+pub record Letter : Type 0 where
+  pub name : List ℕ
+  pub bytes : List ℕ
+
+-- Returns `text` and a line feed.
+abbrev pub line_of : List ℕ → List ℕ
+line_of text = text ++ codes "\n"
+
+-- Returns a text of the loan `txn` at a desk of the role `role`. It differs from the text of any other loan or role.
+abbrev pub loan_text : Role → Qualifiers → List ℕ
+loan_text role txn = line_of (role_name role) ++ (line_of txn.group ++ line_of txn.transaction)
+
+-- Returns the first half of the digest of `loan_text`, in hexadecimal.
+abbrev pub loan_stem : Role → Qualifiers → List ℕ
+loan_stem role txn = take 32 (encode_lower (sha256 (loan_text role txn)))
+
+-- Returns `n`, a number below 1,000, in three digits.
+abbrev pub three_digits : ℕ → List ℕ
+three_digits n = (48 + n / 100) ∷ (48 + n / 10 % 10) ∷ (48 + n % 10) ∷ []
+
+-- Returns the name of the mail of the message `number` in a loan. It does not change from run to run. Sorted by
+-- name, the mails of a loan are next to each other, in the order of their numbers.
+abbrev pub mail_name : Role → Qualifiers → ℕ → List ℕ
+mail_name role txn number = loan_stem role txn ++ (codes "-" ++ three_digits number)
+
+-- Returns the mail of a message.
+abbrev pub letter_of : Issue → Letter
+letter_of issue = record {
+  name = mail_name (role_of issue.side) (txn_of issue.side) issue.apdu.number;
+  bytes = spelling issue.apdu;
+}
+
+-- Returns the mails that leave a desk, given the messages that ask.
+abbrev pub letters_of : List Apdu → List DeskEntry → List Letter
+letters_of asking held = map letter_of (leaving_desk asking held)
+
+-- ---- the values of the code
+
+-- Returns the model of a message that leaves.
+abbrev pub issue_of : Leaving → Issue
+issue_of leaving = record { side = leaving.side.now; apdu = leaving.apdu.now }
+
+-- ---- the outlets
+
+-- Returns the content of an outlet after one more mail, if the content is known.
+abbrev pub after_one : {M : Type 0} → (M → Letter → M) → Option M → Letter → Option M
+after_one after there letter = option_map (λ there. after there letter) there
+
+-- The mail was put into the outlet. Or that failed, and the outlet is unchanged.
+abbrev pub PutsOne : {M : Type 0} → (M → Letter → M) → Letter → Option M → Option M → Result (Unit {0}) ToolFault →
+    Type 0
+PutsOne after letter old new (Ok done) = new ≡ after_one after old letter
+PutsOne after letter old new (Err fault) = IsFileFault fault × (new ≡ old)
+
+-- Returns the content of an outlet after `letters`, one after another, if the content is known.
+abbrev pub after_all : {M : Type 0} → (M → Letter → M) → List Letter → Option M → Option M
+after_all after letters there = fold (after_one after) there letters
+
+-- All mails were put into the outlet, and the answer is their number. Or a prefix of them was, and the next
+-- one failed.
+abbrev pub PutsAll : {M : Type 0} → (M → Letter → M) → List Letter → Option M → Option M → Result ℕ ToolFault → Type 0
+PutsAll after letters old new (Ok count) = (count ≡ length letters) × (new ≡ after_all after letters old)
+PutsAll after letters old new (Err fault) =
+    IsFileFault fault × ((size : ℕ) × (new ≡ after_all after (take size letters) old))
+
+-- ---- the command
+
+-- The command: the messages of `held` that want sending were put into the outlet. `bytes` has the messages
+-- that ask. If memory ran out to read these, the outlet is unchanged.
+abbrev pub RunsOutbox : {M : Type 0} → (M → Letter → M) → List ℕ → List DeskEntry → Option M → Option M →
+    Result ℕ ToolFault → Type 0
+RunsOutbox after bytes held old new (Ok count) =
+    (asking : List Apdu) × AreIn bytes asking × PutsAll after (letters_of asking held) old new (Ok count)
+RunsOutbox after bytes held old new (Err fault) =
+    ((fault ≡ OutOfMemory) × (new ≡ old))
+    ⊎ ((asking : List Apdu) × AreIn bytes asking × PutsAll after (letters_of asking held) old new (Err fault))
+
+-- Returns the line with the number of mails that left.
+abbrev pub sent_line : ℕ → List ℕ
+sent_line count = codes "sent " ++ decimal count ++ codes "\n"
+
+-- Returns the bytes of mails, one after another.
+abbrev pub stream_of : List Letter → List ℕ
+stream_of letters = flat_map (λ letter. letter.bytes) letters
+
+-- The output grew from `before` to `after` by the messages of `held` that want sending. If the writer failed,
+-- it grew by a prefix of them. If memory ran out, it did not grow.
+abbrev pub StreamsOutbox : List ℕ → List DeskEntry → Option (List ℕ) → Option (List ℕ) → Result (Unit {0}) ToolFault →
+    Type 0
+StreamsOutbox bytes held before after (Err OutOfMemory) = Appends before after []
+StreamsOutbox bytes held before after result =
+    (asking : List Apdu) × AreIn bytes asking × WritesText before after (stream_of (letters_of asking held)) result
+
+-- ---- the messages that ask, by an inbox
+
+-- Returns true if there is a side, and its loan is over.
+abbrev pub is_held_over : Option Side → Bool
+is_held_over None = false
+is_held_over (Some side) = is_over side
+
+-- Returns the bytes of a mail if its message asks: its loan is held at this desk and is over. Else it returns
+-- nothing.
+abbrev pub asking_bytes : DeskContents → List ℕ → Result Apdu Unfit → List ℕ
+asking_bytes live bytes (Ok a) = if is_held_over (side_with a.txn (sides_held live).sides) then bytes else []
+asking_bytes live bytes (Err unfit) = []
+
+-- Returns the bytes of a mail that could be read, if its message asks.
+abbrev pub asking_bytes_if_read : DeskContents → Option (List ℕ) → List ℕ
+asking_bytes_if_read live None = []
+asking_bytes_if_read live (Some bytes) = asking_bytes live bytes (message_in bytes)
+
+-- Returns the bytes of a mail with this verdict, if its message asks. A mail that is put aside or waits does
+-- not ask.
+abbrev pub asking_bytes_of_mail : DeskContents → Mail → Verdict → List ℕ
+asking_bytes_of_mail live mail (Done outcome) = asking_bytes_if_read live (option_map (λ bytes. bytes.items) mail.bytes)
+asking_bytes_of_mail live mail verdict = []
+
+-- Returns the bytes of a mail, if there are a mail and a verdict, and its message asks.
+abbrev pub asking_bytes_at : DeskContents → Option Mail → Option Verdict → List ℕ
+asking_bytes_at live (Some mail) (Some verdict) = asking_bytes_of_mail live mail verdict
+asking_bytes_at live mail verdict = []
+
+-- Returns the bytes of all messages that ask, by the verdicts of their mails.
+abbrev pub asked_by : DeskContents → List (Mail × Verdict) → List ℕ
+asked_by live mails = flat_map (λ mail. asking_bytes_of_mail live mail.0 mail.1) mails

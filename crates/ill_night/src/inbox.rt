@@ -1,0 +1,312 @@
+//! The command `inbox`: a desk takes many mails, and saves once.
+
+ghost use Rattle.std.specs.Prelude.{◌≡◌, ◌≤◌, [], ◌∷◌, ◌++◌, Ok, None, IfErr, IfOk, OnOk};
+ghost use Rattle.ill_der.specs.ShortForm.{apdu_at};
+ghost use Rattle.ill_text.specs.declared.fault.ToolFault.TheVariants.{OutOfMemory};
+ghost use Rattle.ill_saved.specs.ManySides.{many_sides};
+ghost use Rattle.ill_desk.specs.Performing.{SavesOnce, command_state, handed, is_change, view_of, with_kept};
+ghost use Rattle.ill_desk.specs.Take.{KeepsBefore};
+ghost use Rattle.ill_night.specs.Inbox.{EndedWell, HandsOver, RunsInbox, after_mail, after_mails, after_message, answered_with, concluded, kept_bytes, message_in, one_message, sorting_of, with_message, verdict_line};
+ghost use Rattle.ill_desk.specs.Telling.{long};
+
+use crate::tally::{Tally, push_tally};
+use crate::verdict::{Batch, Delay, Mail, Unfit, Verdict, push_verdict};
+use ill_core::Taking;
+use ill_der::{APDU_LIMIT, ApduView, view};
+use ill_desk::side_line::push_long;
+use ill_desk::take::keep_bytes;
+use ill_saved::{AnyDesk, Desk, Holdings, Shown, Store};
+use ill_text::fault::{ToolFault, refused};
+use ill_text::output::write_and_flush;
+use ill_values::{Apdu, OutOfMemory as NoMemory};
+use ill_words::{DeskOutcome, Outcome};
+use std::alloc::Global;
+use std::io::Write;
+
+/// Takes the message of each mail of `batch` at `desk`, in their order. It writes the taken messages to `came` and
+/// flushes them. If there are any, it then saves the desk once. Then it writes the verdict of each mail and the counts,
+/// and flushes these lines. The last count is the number of further mails. It returns the verdicts.
+///
+/// Only after `Ok` may the file of a mail be removed. After every fault the store has its old record, or the one with
+/// all mails. Unless the fault is `Write`, nothing was written to `writer`.
+pub fn run_desk_inbox<S: Store, F: Write, W: Write>(
+    alloc: Global,
+    desk: &mut Desk<S>,
+    batch: &Batch<'_>,
+    came: &mut F,
+    writer: &mut W,
+) -> Result<Vec<Verdict>, ToolFault>
+    ensures runs { RunsInbox many_sides batch.now.mails.now batch.now.waiting
+        (with_kept (F.contents came.old) (command_state (view_of S.state desk.old) (W.contents writer.old)))
+        (answered_with (λ verdicts. verdicts.items) result)
+        (with_kept (F.contents came.new) (command_state (view_of S.state desk.new) (W.contents writer.new))) }
+    ensures ended { IfOk result (λ verdicts. EndedWell batch.now.mails.now verdicts.items
+        (view_of S.state desk.new)) }
+    ensures never_fewer { (S.state desk.old.store).failures ≤ (S.state desk.new.store).failures }
+{
+    run_inbox(alloc, desk, batch, came, writer)
+}
+
+/// Takes the message of each mail of `batch` at `desk`, saves once, and writes their verdicts.
+fn run_inbox<H: Holdings, S: Store, F: Write, W: Write>(
+    alloc: Global,
+    desk: &mut AnyDesk<H, S>,
+    batch: &Batch<'_>,
+    came: &mut F,
+    writer: &mut W,
+) -> Result<Vec<Verdict>, ToolFault>
+    ensures runs { RunsInbox H.effects batch.now.mails.now batch.now.waiting
+        (with_kept (F.contents came.old) (command_state (view_of S.state desk.old) (W.contents writer.old)))
+        (answered_with (λ verdicts. verdicts.items) result)
+        (with_kept (F.contents came.new) (command_state (view_of S.state desk.new) (W.contents writer.new))) }
+    ensures never_fewer { (S.state desk.old.store).failures ≤ (S.state desk.new.store).failures }
+{
+    let sorted = match sort(alloc, desk, batch) {
+        Ok(sorted) => sorted,
+        Err(fault) => return Err(fault),
+    };
+    if let Err(fault) = keep_and_save(alloc, desk, came, &sorted.kept) {
+        return Err(fault);
+    }
+    match write_and_flush(writer, &sorted.told) {
+        Ok(()) => Ok(sorted.verdicts),
+        Err(fault) => Err(fault),
+    }
+}
+
+/// The verdicts on the mails of a run so far, their lines, and the bytes of taken messages.
+#[derive(Drop)]
+pub(crate) struct Sorted {
+    verdicts: Vec<Verdict>,
+    /// The lines of the mails.
+    told: Vec<u8>,
+    /// The bytes of the messages that were taken.
+    kept: Vec<u8>,
+}
+
+/// Hands the messages of all mails to their sides, in their order. It adds their lines and the line of the counts.
+fn sort<H: Holdings, S: Store>(
+    alloc: Global,
+    desk: &mut AnyDesk<H, S>,
+    batch: &Batch<'_>,
+) -> Result<Sorted, ToolFault>
+    ensures sorted { IfOk result (λ sorted. sorting_of desk.new.live sorted
+        ≡ concluded batch.now.waiting (after_mails H.effects desk.old.live batch.now.mails.now)) }
+    ensures fault { IfErr result (λ fault. fault ≡ OutOfMemory) }
+    ensures store { desk.new.store ≡ desk.old.store }
+{
+    let mut sorted = match sort_mails(alloc, desk, batch.mails) {
+        Ok(sorted) => sorted,
+        Err(fault) => return Err(fault),
+    };
+    let tally = Tally::of(&sorted.verdicts);
+    match push_tally(&mut sorted.told, &tally, batch.waiting) {
+        Ok(()) => Ok(sorted),
+        Err(_) => Err(ToolFault::OutOfMemory),
+    }
+}
+
+/// Hands the messages of all mails to their sides, in their order.
+fn sort_mails<H: Holdings, S: Store>(
+    alloc: Global,
+    desk: &mut AnyDesk<H, S>,
+    mails: &[Mail],
+) -> Result<Sorted, ToolFault>
+    ensures sorted { IfOk result (λ sorted. sorting_of desk.new.live sorted
+        ≡ after_mails H.effects desk.old.live mails.now) }
+    ensures fault { IfErr result (λ fault. fault ≡ OutOfMemory) }
+    ensures store { desk.new.store ≡ desk.old.store }
+{
+    let mut sorted = Sorted {
+        verdicts: Vec::new(alloc),
+        told: Vec::new(alloc),
+        kept: Vec::new(alloc),
+    };
+    for mail in mails {
+        if let Err(fault) = sorted.sort_mail(alloc, desk, mail) {
+            return Err(fault);
+        }
+    }
+    Ok(sorted)
+}
+
+impl Sorted {
+    /// Hands the message of `mail` to its side, if it has one, and adds its verdict.
+    fn sort_mail<H: Holdings, S: Store>(
+        &mut self,
+        alloc: Global,
+        desk: &mut AnyDesk<H, S>,
+        mail: &Mail,
+    ) -> Result<(), ToolFault>
+        ensures sorted { OnOk result (sorting_of desk.new.live self.new
+            ≡ after_mail H.effects (sorting_of desk.old.live self.old) mail.now) }
+        ensures fault { IfErr result (λ fault. fault ≡ OutOfMemory) }
+        ensures store { desk.new.store ≡ desk.old.store }
+    {
+        match &mail.bytes {
+            Some(bytes) => self.sort_bytes(alloc, desk, &mail.name, bytes),
+            None => self.settle(&mail.name, Verdict::Left(Delay::NotRead)),
+        }
+    }
+
+    /// Hands the message in `bytes`, of the mail `name`, to its side, and adds the verdict.
+    fn sort_bytes<H: Holdings, S: Store>(
+        &mut self,
+        alloc: Global,
+        desk: &mut AnyDesk<H, S>,
+        name: &[u8],
+        bytes: &[u8],
+    ) -> Result<(), ToolFault>
+        ensures sorted { OnOk result (sorting_of desk.new.live self.new
+            ≡ after_message H.effects name.now bytes.now (message_in bytes.now)
+            (sorting_of desk.old.live self.old)) }
+        ensures fault { IfErr result (λ fault. fault ≡ OutOfMemory) }
+        ensures store { desk.new.store ≡ desk.old.store }
+    {
+        match message_in(bytes) {
+            Ok(read) => match self.sort_message(alloc, desk, bytes, &read) {
+                Ok(outcome) => self.settle(name, Verdict::of(desk.role(), outcome)),
+                Err(fault) => Err(fault),
+            },
+            Err(unfit) => self.settle(name, Verdict::without_message(bytes, unfit)),
+        }
+    }
+
+    /// Hands the message `read`, which stands in `bytes`, to its side. It adds the lines of the message, and keeps its
+    /// bytes if it was taken. It returns the outcome.
+    fn sort_message<H: Holdings, S: Store>(
+        &mut self,
+        alloc: Global,
+        desk: &mut AnyDesk<H, S>,
+        bytes: &[u8],
+        read: &ApduView<'_>,
+    ) -> Result<DeskOutcome, ToolFault>
+        ensures handed { IfOk result (λ outcome.
+            handed H.effects desk.old.live read.now ≡ (Ok outcome, desk.new.live)) }
+        ensures sorted { IfOk result (λ outcome. sorting_of desk.new.live self.new
+            ≡ with_message H.effects bytes.now read.now outcome desk.new.live
+            (sorting_of desk.old.live self.old)) }
+        ensures fault { IfErr result (λ fault. fault ≡ OutOfMemory) }
+        ensures store { desk.new.store ≡ desk.old.store }
+    {
+        let apdu = match read.to_apdu(alloc) {
+            Ok(apdu) => apdu,
+            Err(_) => return Err(ToolFault::OutOfMemory),
+        };
+        let outcome = match hand(alloc, desk, &apdu) {
+            Ok(outcome) => outcome,
+            Err(fault) => return Err(fault),
+        };
+        let now = desk.shown(H::key_of(&apdu)).once_saved();
+        self.tell(bytes, read, outcome, now)?;
+        Ok(outcome)
+    }
+
+    /// Adds the lines of the message `read`, which stands in `bytes`, and keeps its bytes if it was taken.
+    fn tell(
+        &mut self,
+        bytes: &[u8],
+        read: &ApduView<'_>,
+        outcome: DeskOutcome,
+        now: Shown,
+    ) -> Result<(), NoMemory>
+        ensures verdicts { self.new.verdicts ≡ self.old.verdicts }
+        ensures told { OnOk result (self.new.told.items ≡ self.old.told.items ++ long read.now outcome now) }
+        ensures kept { OnOk result (self.new.kept.items ≡ self.old.kept.items ++ kept_bytes outcome bytes.now) }
+    {
+        push_long(&mut self.told, read, outcome, now)?;
+        if is_change(outcome) {
+            self.kept.extend_from_slice(bytes)?;
+        }
+        Ok(())
+    }
+
+    /// Adds the verdict of a mail, and its line if it has one.
+    fn settle(&mut self, name: &[u8], verdict: Verdict) -> Result<(), ToolFault>
+        ensures verdicts { OnOk result (self.new.verdicts.items ≡ self.old.verdicts.items ++ verdict ∷ []) }
+        ensures told { OnOk result (self.new.told.items ≡ self.old.told.items ++ verdict_line name.now verdict) }
+        ensures kept { self.new.kept ≡ self.old.kept }
+        ensures fault { IfErr result (λ fault. fault ≡ OutOfMemory) }
+    {
+        push_verdict(&mut self.told, name, verdict)?;
+        self.verdicts.push(verdict)?;
+        Ok(())
+    }
+}
+
+/// Returns the message of a mail, or the reason why no desk will ever take it.
+pub fn message_in(bytes: &[u8]) -> Result<ApduView<'_>, Unfit>
+    ensures { result ≡ message_in bytes.now }
+{
+    if bytes.len() > APDU_LIMIT {
+        return Err(Unfit::TooLong);
+    }
+    one_message(bytes)
+}
+
+/// Returns the only message in `bytes`, or the reason why there is none.
+fn one_message(bytes: &[u8]) -> Result<ApduView<'_>, Unfit>
+    ensures { result ≡ one_message (apdu_at bytes.now) }
+{
+    match view(bytes) {
+        Ok((apdu, size)) => {
+            if size == bytes.len() {
+                Ok(apdu)
+            } else {
+                Err(Unfit::Trailing)
+            }
+        }
+        Err(fault) => Err(Unfit::NoMessage(fault)),
+    }
+}
+
+/// Hands `apdu` to its side, and returns the outcome.
+fn hand<H: Holdings, S: Store>(
+    alloc: Global,
+    desk: &mut AnyDesk<H, S>,
+    apdu: &Apdu,
+) -> Result<DeskOutcome, ToolFault>
+    ensures handed { HandsOver H.effects desk.old.live apdu.now result desk.new.live }
+    ensures fault { IfErr result (λ fault. fault ≡ OutOfMemory) }
+    ensures store { desk.new.store ≡ desk.old.store }
+{
+    match desk.take(alloc, apdu) {
+        Ok(taking) => Ok(DeskOutcome::Plain(Outcome::Answered(taking))),
+        Err(fault) => refused(fault),
+    }
+}
+
+/// Returns true if a message was taken.
+fn is_change(outcome: DeskOutcome) -> bool
+    ensures { result ≡ is_change outcome }
+{
+    matches!(
+        outcome,
+        DeskOutcome::Plain(Outcome::Done | Outcome::Answered(Taking::Taken))
+    )
+}
+
+/// Writes the bytes of the taken messages, and then saves once. Without taken messages it does nothing.
+fn keep_and_save<H: Holdings, S: Store, F: Write>(
+    alloc: Global,
+    desk: &mut AnyDesk<H, S>,
+    came: &mut F,
+    kept: &[u8],
+) -> Result<(), ToolFault>
+    ensures saves { SavesOnce H.effects kept.now
+        (view_of S.state desk.old) result
+        (view_of S.state desk.new) }
+    ensures keeps { KeepsBefore kept.now result
+        (with_kept (F.contents came.old) (command_state (view_of S.state desk.old) None))
+        (with_kept (F.contents came.new) (command_state (view_of S.state desk.new) None)) }
+    ensures never_fewer { (S.state desk.old.store).failures ≤ (S.state desk.new.store).failures }
+{
+    if kept.is_empty() {
+        return Ok(());
+    }
+    keep_bytes(came, kept)?;
+    match desk.save(alloc) {
+        Ok(()) => Ok(()),
+        Err(fault) => Err(fault.into()),
+    }
+}

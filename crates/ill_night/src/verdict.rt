@@ -1,0 +1,223 @@
+//! The verdict of a mail, and its line.
+
+ghost use Rattle.std.specs.Prelude.{◌≡◌, ◌++◌, codes, OnOk};
+ghost use Rattle.ill_night.specs.declared.verdict.Unfit.TheVariants as unfits;
+ghost use Rattle.ill_night.specs.Inbox.{begins_as_record, delay_text, der_word, place_text, stays_line, unfit_text, verdict_line, verdict_of, verdict_without_message};
+
+use ill_core::Refusal;
+use ill_der::DerFault;
+use ill_saved::Role;
+use ill_text::escape::push_escaped;
+use ill_values::OutOfMemory;
+use ill_words::{DeskOutcome, Outcome};
+use itoa::Buffer;
+use sha2::{Digest, Sha256};
+use std::alloc::Global;
+
+/// A mail: a file in a folder, which should have one message.
+#[derive(Drop)]
+pub struct Mail {
+    /// The name of the file.
+    pub name: Vec<u8>,
+    /// Its bytes, or the first ones if it has more than a message. None if it cannot be read.
+    pub bytes: Option<Vec<u8>>,
+}
+
+/// The mails of a run.
+#[derive(Clone, Copy)]
+pub struct Batch<'a> {
+    /// The mails that the run takes, in this order.
+    pub mails: &'a [Mail],
+    /// The number of further mails, which wait for the next run.
+    pub waiting: usize,
+}
+
+impl Mail {
+    /// Returns the digest of the bytes that were read of it, in hexadecimal.
+    pub fn digest(&self, alloc: Global) -> Result<String, OutOfMemory> {
+        let mut hasher = Sha256::new();
+        if let Some(bytes) = &self.bytes {
+            hasher.update(bytes.as_slice());
+        }
+        Ok(hex::encode(alloc, hasher.finalize())?)
+    }
+}
+
+/// The reason why no desk will ever take a mail.
+#[derive(Clone, Copy, Debug, PartialEq, Eq, Hash)]
+pub enum Unfit {
+    /// Its bytes are no message.
+    NoMessage(DerFault),
+    /// It has more bytes than a message.
+    TooLong,
+    /// It has further bytes after its message.
+    Trailing,
+    /// The desk refuses its message for good.
+    Refused(Refusal),
+}
+
+/// The reason why a mail waits for the next run.
+#[derive(Clone, Copy, Debug, PartialEq, Eq, Hash)]
+pub enum Delay {
+    /// It cannot be read.
+    NotRead,
+    /// It begins as the record of a desk does, and came into the folder by mistake.
+    Record,
+    /// The desk has not begun the loan of its message.
+    NoSuchTransaction,
+    /// The desk has no room for the loan of its message.
+    DeskFull,
+}
+
+/// The verdict of a mail.
+#[derive(Clone, Copy, Debug, PartialEq, Eq, Hash)]
+pub enum Verdict {
+    /// The desk will do nothing more with it. Its file may be removed.
+    Done(DeskOutcome),
+    /// It is put aside, for a person.
+    Aside(Unfit),
+    /// It waits in its folder for the next run.
+    Left(Delay),
+}
+
+impl Verdict {
+    /// Returns the verdict of a mail, by the role of the desk and the outcome of its message.
+    pub fn of(role: Role, outcome: DeskOutcome) -> Verdict
+        ensures { result ≡ verdict_of role outcome }
+    {
+        match outcome {
+            DeskOutcome::Plain(Outcome::Refused(refusal)) => {
+                Verdict::Aside(Unfit::Refused(refusal))
+            }
+            DeskOutcome::NoSuchTransaction if role == Role::Requester => {
+                Verdict::Left(Delay::NoSuchTransaction)
+            }
+            DeskOutcome::DeskFull => Verdict::Left(Delay::DeskFull),
+            outcome => Verdict::Done(outcome),
+        }
+    }
+
+    /// Returns the verdict of a mail whose `bytes` have no message, for the reason `unfit`.
+    pub fn without_message(bytes: &[u8], unfit: Unfit) -> Verdict
+        ensures { result ≡ verdict_without_message bytes.now unfit }
+    {
+        if begins_as_record(bytes) {
+            Verdict::Left(Delay::Record)
+        } else {
+            Verdict::Aside(unfit)
+        }
+    }
+}
+
+/// Returns true if `bytes` begin as the record of a desk does.
+fn begins_as_record(bytes: &[u8]) -> bool
+    ensures { result ≡ begins_as_record bytes.now }
+{
+    bytes.starts_with(b"ILL1") || bytes.starts_with(b"ILL2")
+}
+
+/// Appends the line of the mail `name`. A mail that is done has none.
+pub(crate) fn push_verdict(
+    lines: &mut Vec<u8>,
+    name: &[u8],
+    verdict: Verdict,
+) -> Result<(), OutOfMemory>
+    ensures { OnOk result (lines.new.items ≡ lines.old.items ++ verdict_line name.now verdict) }
+{
+    match verdict {
+        Verdict::Done(_) => Ok(()),
+        Verdict::Aside(unfit) => push_aside(lines, name, unfit),
+        Verdict::Left(delay) => push_left(lines, name, delay),
+    }
+}
+
+/// Appends the line of the mail `name`, which is put aside.
+fn push_aside(lines: &mut Vec<u8>, name: &[u8], unfit: Unfit) -> Result<(), OutOfMemory>
+    ensures { OnOk result (lines.new.items ≡ lines.old.items
+        ++ stays_line name.now (codes " aside ") (unfit_text unfit)) }
+{
+    push_escaped(lines, name)?;
+    lines.extend_from_slice(b" aside ")?;
+    push_unfit(lines, unfit)?;
+    lines.push(b'\n')?;
+    Ok(())
+}
+
+/// Appends the line of the mail `name`, which waits in its folder.
+fn push_left(lines: &mut Vec<u8>, name: &[u8], delay: Delay) -> Result<(), OutOfMemory>
+    ensures { OnOk result (lines.new.items ≡ lines.old.items
+        ++ stays_line name.now (codes " left ") (delay_text delay)) }
+{
+    push_escaped(lines, name)?;
+    lines.extend_from_slice(b" left ")?;
+    lines.extend_from_slice(delay_word(delay).as_bytes())?;
+    lines.push(b'\n')?;
+    Ok(())
+}
+
+/// Returns the word of the reason why a mail waits.
+fn delay_word(delay: Delay) -> &'static str
+    ensures { result.now ≡ delay_text delay }
+{
+    match delay {
+        Delay::NotRead => "not-read",
+        Delay::Record => "record",
+        Delay::NoSuchTransaction => DeskOutcome::NoSuchTransaction.word(),
+        Delay::DeskFull => DeskOutcome::DeskFull.word(),
+    }
+}
+
+/// Appends the reason why no desk will ever take a mail.
+pub fn push_unfit(text: &mut Vec<u8>, unfit: Unfit) -> Result<(), OutOfMemory>
+    ensures { OnOk result (text.new.items ≡ text.old.items ++ unfit_text unfit) }
+{
+    match unfit {
+        Unfit::NoMessage(fault) => push_der_fault(text, fault),
+        Unfit::TooLong => push_word(text, "too-long"),
+        Unfit::Trailing => push_word(text, "trailing"),
+        Unfit::Refused(refusal) => {
+            push_word(text, DeskOutcome::Plain(Outcome::Refused(refusal)).word())
+        }
+    }
+}
+
+/// Appends `word`.
+fn push_word(text: &mut Vec<u8>, word: &str) -> Result<(), OutOfMemory>
+    ensures { OnOk result (text.new.items ≡ text.old.items ++ word.now) }
+{
+    text.extend_from_slice(word.as_bytes())?;
+    Ok(())
+}
+
+/// Appends the word of a fault in the bytes of a mail, and its place.
+fn push_der_fault(text: &mut Vec<u8>, fault: DerFault) -> Result<(), OutOfMemory>
+    ensures { OnOk result (text.new.items ≡ text.old.items ++ unfit_text (unfits.NoMessage fault)) }
+{
+    push_word(text, der_word(fault))?;
+    push_place(text, fault.at())
+}
+
+/// Returns the word of a fault in the bytes of a mail.
+fn der_word(fault: DerFault) -> &'static str
+    ensures { result.now ≡ der_word fault }
+{
+    match fault {
+        DerFault::Short(_) => "short",
+        DerFault::Tag(_) => "tag",
+        DerFault::Length(_) => "length",
+        DerFault::Field(_) => "field",
+        DerFault::OutOfMemory => "memory",
+    }
+}
+
+/// Appends the place of a fault in the bytes, if it has one.
+fn push_place(text: &mut Vec<u8>, place: Option<u16>) -> Result<(), OutOfMemory>
+    ensures { OnOk result (text.new.items ≡ text.old.items ++ place_text place) }
+{
+    let Some(at) = place else {
+        return Ok(());
+    };
+    push_word(text, " at ")?;
+    text.extend_from_slice(Buffer::new().format(at).as_bytes())?;
+    Ok(())
+}

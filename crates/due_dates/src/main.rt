@@ -2,13 +2,13 @@
 //! explains it. The desk `data/lending` was made by `ill`. Two of its five loans are SHIPPED.
 #![tactic(auto)]
 
-ghost use Rattle.std.specs.Prelude.{◌≡◌, map, IfOk};
-ghost use Rattle.due_dates.specs.Shipped.{shipped};
+ghost use Rattle.std.specs.Prelude.{◌≡◌, map, string_bytes, IfOk};
+ghost use Rattle.due_dates.specs.Shipped.{line, shipped};
 
 use anyhow::{Context, Result};
 use ill_core::State;
 use ill_saved::{Desk, DeskFault, FileStore, RECORD_LIMIT, Side, Sides};
-use ill_values::OutOfMemory;
+use ill_values::{Day, OutOfMemory, TxnId};
 use std::alloc::Global;
 use std::env;
 
@@ -50,8 +50,16 @@ fn shipped<'a>(alloc: Global, sides: &'a Sides) -> Result<Vec<&'a Side>, OutOfMe
 /// Prints the due date of `side` and its transaction.
 fn print_line(rt: &HostRuntime, side: &Side) -> Result<()> {
     let due = side.due().context("no due date")?;
-    let group = side.txn().group_str();
-    let transaction = side.txn().transaction_str();
-    println!(rt; "{due} {group} {transaction}")?;
+    let line = line(rt.alloc(), due, side.txn())?;
+    println!(rt; "{line}")?;
     Ok(())
+}
+
+/// Returns the line of a loan: its due date and its transaction.
+fn line(alloc: Global, due: Day, txn: &TxnId) -> Result<String, OutOfMemory>
+    ensures { IfOk result (λ text. string_bytes text ≡ line due txn.now) }
+{
+    let group = txn.group_str();
+    let transaction = txn.transaction_str();
+    Ok(format!(in alloc; "{due} {group} {transaction}")?)
 }

@@ -34,6 +34,8 @@ CLOSED = "closed"  # in place of a stream
 FULL = "/dev/full"
 # How long a run may take. Programs without proof are slow, so `make test` gives them more.
 SECONDS = int(os.environ.get("ILL_SECONDS", "60"))
+# The gate tries each stop at a call, and `make test` every STOP_STEP-th.
+STOP_STEP = int(os.environ.get("ILL_STOP_STEP", "1"))
 FORK = multiprocessing.get_context("fork")
 STARTS = 20  # how often a command is started while the machine has no room for a process, a quarter of a second apart
 
@@ -474,8 +476,7 @@ class Disk:
 
 
 def stops(calls, hows, is_tried):
-    """Gives each way, with the number of a call and the call, of which `is_tried` says that it may be stopped so."""
-    for how in hows:
-        for number, call in enumerate(calls, 1):
-            if is_tried(how, call):
-                yield how, number, call
+    """Gives each way, with the number of a call and the call, of which `is_tried` says that it may be stopped so. A
+    quick look (`STOP_STEP`) has one of several."""
+    tried = ((how, number, call) for how in hows for number, call in enumerate(calls, 1) if is_tried(how, call))
+    return itertools.islice(tried, 0, None, STOP_STEP)

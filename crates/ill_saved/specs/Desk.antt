@@ -49,10 +49,10 @@ SaveLands plan bytes (Err (Store stores.Failed)) old new =
 SaveLands plan bytes (Err OutOfMemory) old new = new ≡ old
 SaveLands plan bytes (Err other) old new = ⊥
 
--- If the answer is not `OutOfMemory`, the live sides satisfy `in_range`: they were encoded.
-abbrev pub IsInRangeIfEncoded : {L : Type 0} → (L → Type 0) → Result (Unit {0}) DeskFault → L → Type 0
-IsInRangeIfEncoded in_range (Err OutOfMemory) live = Unit {0}
-IsInRangeIfEncoded in_range answer live = in_range live
+-- If the answer to a save is not `OutOfMemory`, the live sides were encoded, and `Holds` holds of them.
+abbrev pub IfEncoded : {L : Type 0} → (L → Type 0) → Result (Unit {0}) DeskFault → L → Type 0
+IfEncoded Holds (Err OutOfMemory) live = Unit {0}
+IfEncoded Holds answer live = Holds live
 
 -- A call of the store spends its plan. If memory ran out before the call, the plan is unchanged.
 abbrev pub PlanAfter : Result (Unit {0}) DeskFault → Option NextCall → Option NextCall → Type 0

@@ -141,6 +141,10 @@ StaysBacked effects backs old new =
 
 -- ---- records
 
+-- The record of the live sides is read as these sides, with all messages released.
+abbrev pub IsReadAgain : {L K : Type 0} → Effects L K → L → Type 0
+IsReadAgain effects live = effects.read (effects.spelling live) ≡ Ok (effects.saves live)
+
 -- `bytes` are the record of the live sides. They are read as these sides with all messages released.
 -- The sides that are read back the live ones and themselves.
 pub record IsRecordOf {L K : Type 0} (effects : Effects L K) (backs : L → L → Type 0) (bytes : List ℕ) (live : L)

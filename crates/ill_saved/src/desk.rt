@@ -4,10 +4,10 @@ ghost use Rattle.std.specs.Prelude.{◌≡◌, ◌≤◌, true, length, option_c
 ghost use Rattle.ill_der.specs.ShortForm.{apdu_at};
 ghost use Rattle.ill_saved.specs.Side.{issued_of, idle_of, shown_of};
 ghost use Rattle.ill_saved.specs.Sides.{found_by};
-ghost use Rattle.ill_saved.specs.Holdings.{DeskActs, DeskTakesApdu, SendsHeld, IsBacked, held_after, landed_live};
+ghost use Rattle.ill_saved.specs.Holdings.{DeskActs, DeskTakesApdu, SendsHeld, IsBacked, IsReadAgain, held_after, landed_live};
 ghost use Rattle.ill_saved.specs.OneSide.{OneBacks, alone, one_side};
 ghost use Rattle.ill_saved.specs.ManySides.{ManyBack, held_for, many_sides, no_sides, sides_held, txn_held};
-ghost use Rattle.ill_saved.specs.Desk.{DeskOf, DeskTakes, IsOneApdu, DeskSaves, IsSaveFault, IsLoadFault, Loads, Restarts, RestartLeaves, answer_of, store_of, Creates, IsCreateAnswer, Begins, IsStartAnswer, AreAllReleased, DeskLoads, IsInRangeIfEncoded};
+ghost use Rattle.ill_saved.specs.Desk.{DeskOf, DeskTakes, IsOneApdu, DeskSaves, IsSaveFault, IsLoadFault, Loads, Restarts, RestartLeaves, answer_of, store_of, Creates, IsCreateAnswer, Begins, IsStartAnswer, AreAllReleased, DeskLoads, IfEncoded};
 
 use crate::fault::DeskFault;
 use crate::holdings::Holdings;
@@ -125,7 +125,8 @@ impl<H: Holdings, S: Store> AnyDesk<H, S> {
         ensures live { self.new.live ≡ held_after H.effects result self.old.live }
         ensures store { DeskSaves (H.effects.spelling self.old.live) (S.state self.old.store) result
             (S.state self.new.store) }
-        ensures sides { IsInRangeIfEncoded H.in_range result self.old.live }
+        ensures sides { IfEncoded H.in_range result self.old.live }
+        ensures reads { IfEncoded (IsReadAgain H.effects) result self.old.live }
         ensures faults { IsSaveFault result }
     {
         let record = self.held.record(alloc)?;

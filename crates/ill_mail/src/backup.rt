@@ -3,11 +3,11 @@
 ghost use Rattle.std.specs.Prelude.{◌≡◌, IfErr};
 ghost use Rattle.ill_text.specs.Fault.{IsFileFault};
 
-use crate::night::Night;
 use ill_files::durable::Owner;
 use ill_files::machine::Machine;
 use ill_files::paths::is_there;
 use ill_night::copy::{Copied, run_desk_copy_over};
+use ill_night::night::Night;
 use ill_saved::{Desk, FileStore, RECORD_LIMIT, Store};
 use ill_text::fault::{STORE_FAILED, ToolFault};
 use ill_values::OutOfMemory;

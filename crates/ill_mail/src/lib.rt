@@ -7,7 +7,6 @@ pub mod exchange;
 pub mod mail;
 pub mod mail_box;
 pub mod mail_folder;
-pub mod night;
 pub mod places;
 pub mod reserved;
 pub mod settle;

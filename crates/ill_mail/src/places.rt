@@ -4,10 +4,10 @@ ghost use Rattle.std.specs.Prelude.{◌≡◌, IfErr};
 ghost use Rattle.ill_text.specs.Fault.{IsOpenFault};
 
 use crate::blame::NO_FOLDER;
-use crate::night::Night;
 use crate::reserved::{is_one, is_reserved};
 use ill_files::machine::Machine;
 use ill_files::paths::folder_of;
+use ill_night::night::Night;
 use ill_text::fault::{STORE_FAILED, ToolFault};
 use std::io::Write;
 use std::rt::Files;

@@ -6,6 +6,7 @@ pub mod asked;
 pub mod copy;
 pub mod dates;
 pub mod inbox;
+pub mod night;
 pub mod outbox;
 pub mod outgoing;
 pub mod person;

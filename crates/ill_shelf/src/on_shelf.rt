@@ -20,8 +20,8 @@ use ill_files::shelf::{Shelf, is_retired, names_of_desks, own_path, refuse_retir
 use ill_mail::backup::beat;
 use ill_mail::mail::names_in;
 use ill_mail::mail_box::remove_if_there;
-use ill_mail::night::Night;
 use ill_mail::places::{Places, look_at_places};
+use ill_night::night::Night;
 use ill_night::retire::run_desk_retire;
 use ill_saved::{Desk, DeskFault, FileLock, FileStore, LockFiles, RECORD_LIMIT, Role, Store};
 use ill_show::loan::LoanView;

@@ -11,7 +11,7 @@ use ill_files::file::status;
 use ill_files::machine::Machine;
 use ill_mail::exchange::{exchange, inbox, outbox};
 use ill_mail::mail::Incoming;
-use ill_mail::night::Night;
+use ill_night::night::Night;
 use ill_saved::LockFiles;
 use ill_show::listed::{Listed, heading};
 use ill_text::fault::{ToolFault, graver};

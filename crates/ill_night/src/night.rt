@@ -1,6 +1,6 @@
 //! The arguments of a night.
 
-use ill_night::dates::Dates;
+use crate::dates::Dates;
 use ill_values::Day;
 
 /// The arguments of a run of `ill exchange`.

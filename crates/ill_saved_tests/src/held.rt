@@ -1,19 +1,20 @@
 //! Puts sides into the `Sides` of one library, one after another.
 
-use crate::actions::action;
 use crate::calls::SidesCall;
-use crate::idle::split_txn;
-use crate::line::Line;
-use crate::longest::longest;
-use crate::many::write_again;
-use crate::records::write_head;
-use crate::tries::TRIES;
-use ill_saved::{Role, Side, Sides, SidesFault, decode_record, encode_record, encode_record2};
-use ill_test_kit::{marks, named};
-use ill_values::TxnId;
+use ill_core::Wish;
+use ill_saved::{
+    Action, Role, Side, Sides, SidesFault, decode_record, encode_record, encode_record2,
+};
+use ill_saved_kit::{
+    Line, all_encoded, all_written_and_read, longest_side, numbered, role_of, split_txn,
+    write_count_and_role, write_head,
+};
+use ill_test_kit::marks;
+use ill_test_kit::marks::TRIES;
+use ill_values::Item;
 use std::alloc::Global;
 
-/// Performs a call with words on the sides of the bench, and writes its answer.
+/// Performs a call with words on the sides of the bench, and writes its answer. Returns `None` for `put`.
 pub fn call(
     alloc: Global,
     line: &mut Line,
@@ -26,6 +27,7 @@ pub fn call(
         SidesCall::Fill => fill(alloc, line, sides.as_mut()?, words),
         SidesCall::Get => get(alloc, line, sides.as_ref()?, words),
         SidesCall::At => at(alloc, line, sides.as_ref()?, words),
+        SidesCall::Put => None,
         SidesCall::PutLongest => put_longest(alloc, line, sides.as_mut()?),
         SidesCall::Again => write_again(alloc, line, sides.as_ref()?),
     }
@@ -56,14 +58,10 @@ fn fill(alloc: Global, line: &mut Line, sides: &mut Sides, words: &str) -> Optio
 /// Returns a requester that has asked, in the transaction with this number.
 fn asking(alloc: Global, number: u16) -> Option<Side> {
     let mut side = Side::idle(alloc, Role::Requester, numbered(alloc, number)?);
-    side.act(alloc, &action(alloc, "request none Maps")?).ok()?;
+    let item = Item::new(alloc, b"Maps").ok()?;
+    let request = Action::Wish(Wish::Request { expiry: None, item });
+    side.act(alloc, &request).ok()?;
     Some(side)
-}
-
-/// Returns the id of the transaction with this number, in the group G1.
-pub fn numbered(alloc: Global, number: u16) -> Option<TxnId> {
-    let transaction = format!(in alloc; "{number}").ok()?;
-    TxnId::new(alloc, b"G1", transaction.as_bytes()).ok()
 }
 
 /// Performs `put RECORD`: puts the side with this record.
@@ -75,7 +73,7 @@ pub fn put(alloc: Global, line: &mut Line, sides: &mut Sides, record: &[u8]) -> 
 
 /// Performs `put-longest`: puts a side with the longest record.
 fn put_longest(alloc: Global, line: &mut Line, sides: &mut Sides) -> Option<()> {
-    put_side(alloc, line, sides, longest(alloc)?);
+    put_side(alloc, line, sides, longest_side(alloc)?);
     Some(())
 }
 
@@ -165,25 +163,12 @@ fn write_found(line: &mut Line, side: Option<&Side>) {
     }
 }
 
-/// Writes the count of sides, and the role of all.
-pub fn write_count_and_role(alloc: Global, line: &mut Line, sides: &Sides) {
-    marks::begin_quiet(alloc);
-    let (count, role) = (sides.len(), sides.role());
-    marks::end_quiet(alloc);
-    line.show(&count);
-    line.text(match role {
-        Role::Requester => " requester",
-        Role::Responder => " responder",
-    });
+/// Performs `again`: writes the size of the record of the sides, which is read back as equal sides.
+fn write_again(alloc: Global, line: &mut Line, sides: &Sides) -> Option<()> {
+    let record = all_encoded(alloc, sides).ok()?;
+    let again = all_written_and_read(alloc, sides).ok()?;
+    line.show(&record.len());
+    line.text(" octets; ");
+    write_count_and_role(alloc, line, &again);
+    Some(())
 }
-
-/// Returns the role that `word` names.
-pub fn role_of(word: &str) -> Option<Role> {
-    named(&ROLES, word)
-}
-
-/// The words of the two roles.
-static ROLES: [(&str, Role); 2] = [
-    ("requester", Role::Requester),
-    ("responder", Role::Responder),
-];

@@ -1,4 +1,4 @@
-//! Tests saved records, stores and desks.
+//! Tests saved records, the sides of one library, and stores.
 //!
 //! Each line of the input is a case. The program writes it again, with the library's answer in place of its old answer.
 //! The answers to a family of cases are written below it. Three kinds of lines are written unchanged: empty lines,
@@ -6,45 +6,23 @@
 //! that they must get, and `stdout` has the same bytes. The program makes a temporary folder for files, and removes it
 //! at the end.
 //!
-//! Marks surround calls that take memory (`tries.rt`), and such a call is repeated while a growth is refused. A refused
-//! call must change nothing, so refusals do not change the answers.
+//! Marks surround calls that take memory (`ill_test_kit::marks`). Such a call is repeated while a growth is refused. A
+//! refused call must change nothing, so refusals do not change the answers.
 //!
 //! To try some cases alone, in seconds, put their lines and the `let` lines that they need into a file. An example is
 //! `grep -E '^(let|file) ' stdin > file`. Then `rt try < file | diff file -` prints nothing if all is right.
 #![tactic(auto)]
 
-mod actions;
-mod again;
-mod beginnings;
 mod bench;
 mod calls;
-mod coding;
-mod desk_kind;
-mod desk_view;
-mod desks;
 mod failing;
 mod files;
-mod fuses;
 mod held;
-mod idle;
-mod landing;
-mod line;
-mod longest;
-mod many;
-mod names;
 mod records;
-mod restarts;
-mod runs;
-mod session;
-mod stores;
-mod transactions;
-mod tries;
-mod words;
 
 use bench::Bench;
-use files::Folder;
+use ill_saved_kit::{Folder, Session};
 use ill_test_kit::{answer_lines, make_folder};
-use session::Session;
 use std::alloc::Global;
 use std::{fs, io};
 

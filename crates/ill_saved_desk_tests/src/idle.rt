@@ -3,10 +3,9 @@
 ghost use Rattle.std.specs.Prelude.{◌≡◌, IfSome};
 ghost use Rattle.ill_saved.specs.Side.{idle_of};
 
-use crate::held::role_of;
 use ill_desk_kit::idle_side;
 use ill_saved::Side;
-use ill_values::TxnId;
+use ill_saved_kit::{role_of, split_txn};
 use std::alloc::Global;
 
 /// Returns the idle side that `ROLE GROUP TRANSACTION` names.
@@ -17,12 +16,4 @@ pub fn idle(alloc: Global, words: &str) -> Option<Side>
     let role = role_of(role)?;
     let (txn, _) = split_txn(alloc, names)?;
     Some(idle_side(alloc, role, txn))
-}
-
-/// Returns the transaction that `words` begin with, as `GROUP TRANSACTION`, and the words after it.
-pub fn split_txn<'a>(alloc: Global, words: &'a str) -> Option<(TxnId, &'a str)> {
-    let (group, words) = words.split_once(' ')?;
-    let (transaction, words) = words.split_once(' ').unwrap_or((words, ""));
-    let txn = TxnId::new(alloc, group.as_bytes(), transaction.as_bytes()).ok()?;
-    Some((txn, words))
 }

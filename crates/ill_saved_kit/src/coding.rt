@@ -1,10 +1,11 @@
 //! Encodes and decodes records, and repeats that while a growth is refused.
 
-use crate::tries::{TRIES, Tries};
+use crate::tries::Tries;
 use ill_saved::{
     RecordFault, Side, Sides, decode_record, decode_record2, encode_record, encode_record2,
 };
 use ill_test_kit::marks;
+use ill_test_kit::marks::TRIES;
 use ill_values::OutOfMemory;
 use std::alloc::Global;
 

@@ -3,9 +3,8 @@
 use crate::actions::action;
 use crate::calls::ManyCall;
 use crate::desk_view::write_shown;
-use crate::held::{numbered, write_count_and_role};
-use crate::line::Line;
 use ill_saved::{Desk, MemoryStore, Role, Shown, Store};
+use ill_saved_kit::{Line, numbered, write_count_and_role};
 use ill_values::{Apdu, Body, Item, Number, TxnId};
 use std::alloc::Global;
 

@@ -1,11 +1,9 @@
 //! Views a desk, so that two views can be compared.
 
 use crate::desk_kind::DeskKind;
-use crate::line::Line;
-use crate::records::write_day;
-use crate::tries::Tries;
 use ill_core::State;
 use ill_saved::{AnyDesk, Shown, Side, Store, encode_record};
+use ill_saved_kit::{Line, Tries, write_day};
 use ill_test_kit::marks;
 use ill_values::TxnId;
 use std::alloc::Global;

@@ -1,12 +1,11 @@
 //! Lets the cases treat desks of one transaction and of many alike.
 
 use crate::beginnings::Begun;
-use crate::held::role_of;
-use crate::idle::{idle, split_txn};
-use crate::tries::Tries;
+use crate::idle::idle;
 use ill_saved::{
     AnyDesk, Desk, Desk1, Holdings, ManySides, MemoryStore, OneSide, Role, Side, Store,
 };
+use ill_saved_kit::{Tries, role_of, split_txn};
 use ill_values::TxnId;
 use std::alloc::Global;
 

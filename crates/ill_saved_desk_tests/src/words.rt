@@ -1,10 +1,9 @@
-//! Puts faults and answers into words.
+//! Puts the faults and answers of desks into words.
 
-use crate::line::Line;
 use ill_core::{Refusal, State, Taking};
 use ill_der::DerFault;
-use ill_saved::{DeskFault, RecordFault, StoreFault};
-use ill_values::Body;
+use ill_saved::DeskFault;
+use ill_saved_kit::{Line, store_words, write_record_fault};
 
 /// Writes the words of a fault of a desk whose side is in `state`.
 pub fn write_fault(line: &mut Line, fault: DeskFault, state: State) {
@@ -27,20 +26,6 @@ pub fn write_fault(line: &mut Line, fault: DeskFault, state: State) {
     }
 }
 
-/// Writes the words of a fault of a record.
-pub fn write_record_fault(line: &mut Line, fault: RecordFault) {
-    match fault {
-        RecordFault::Bad(at) => {
-            line.text("bad at ");
-            line.show(&at);
-        }
-        RecordFault::Short => line.text("short"),
-        RecordFault::Inconsistent => line.text("inconsistent"),
-        RecordFault::OutOfMemory => line.text("memory"),
-        RecordFault::Digest => line.text("digest"),
-    }
-}
-
 /// Writes the words of a fault of an APDU, and its place.
 fn write_bytes_fault(line: &mut Line, fault: DerFault) {
     let (words, at) = match fault {
@@ -52,32 +37,6 @@ fn write_bytes_fault(line: &mut Line, fault: DerFault) {
     };
     line.text(words);
     line.show(&at);
-}
-
-/// Returns the words of a fault of a store.
-fn store_words(fault: StoreFault) -> &'static str {
-    match fault {
-        StoreFault::Failed => "store failed",
-        StoreFault::TooLarge => "store too-large",
-        StoreFault::OutOfMemory => "memory",
-    }
-}
-
-/// Writes the result of a load.
-pub fn write_loaded(line: &mut Line, loaded: Result<Option<Vec<u8>>, StoreFault>) {
-    match loaded {
-        Ok(Some(bytes)) => line.octets(&bytes),
-        Ok(None) => line.text("none"),
-        Err(fault) => line.text(store_words(fault)),
-    }
-}
-
-/// Writes the result of a save.
-pub fn write_saved(line: &mut Line, saved: Result<(), StoreFault>) {
-    match saved {
-        Ok(()) => line.text("saved"),
-        Err(fault) => line.text(store_words(fault)),
-    }
 }
 
 /// Returns the word of a refusal in `state`.
@@ -108,13 +67,4 @@ pub fn taking_word(taking: Taking, state: State) -> &'static str {
 /// Returns `word` if the named state `told` is the state of the side.
 fn word_in(told: State, state: State, word: &'static str) -> &'static str {
     if told == state { word } else { "ANOTHER STATE" }
-}
-
-/// Writes the type of a message, and the result of an ILL-Answer.
-pub fn write_name(line: &mut Line, body: &Body) {
-    line.text(body.type_name());
-    if let Body::IllAnswer { result } = body {
-        line.text(" ");
-        line.text(result.name());
-    }
 }

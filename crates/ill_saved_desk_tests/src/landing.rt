@@ -5,12 +5,11 @@ use crate::beginnings::MemoryDesk;
 use crate::desk_kind::DeskKind;
 use crate::desk_view::DeskView;
 use crate::desks::{DeskCall, WrittenCall, answer_of, is_memory, perform, write_answer};
-use crate::held::role_of;
-use crate::line::Line;
-use crate::tries::TRIES;
 use ill_desk_kit::plan_of;
 use ill_saved::{AnyDesk, MemoryStore, NextCall, Role};
+use ill_saved_kit::{Line, role_of};
 use ill_test_kit::marks;
+use ill_test_kit::marks::TRIES;
 use ill_values::TxnId;
 use std::alloc::Global;
 

@@ -3,10 +3,10 @@
 use crate::desk_kind::DeskKind;
 use crate::desk_view::DeskView;
 use crate::desks::{act, save};
-use crate::line::Line;
 use crate::words::write_fault;
 use ill_core::State;
 use ill_saved::{AnyDesk, DeskFault, FuseStore, ManySides, MemoryStore, OneSide, Role, Store};
+use ill_saved_kit::Line;
 use ill_values::TxnId;
 use std::alloc::Global;
 

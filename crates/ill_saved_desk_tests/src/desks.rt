@@ -4,12 +4,12 @@ use crate::actions::action;
 use crate::calls::{BytesCall, WordsCall};
 use crate::desk_kind::{DeskKind, txn_in};
 use crate::desk_view::DeskView;
-use crate::line::Line;
-use crate::tries::TRIES;
 use crate::words::{taking_word, write_fault};
 use ill_core::{State, Taking};
 use ill_der::decode;
 use ill_saved::{Action, AnyDesk, DeskFault, MemoryStore, NextCall, Store};
+use ill_saved_kit::Line;
+use ill_test_kit::marks::TRIES;
 use ill_values::{Apdu, Number, TxnId};
 use std::alloc::Global;
 
@@ -186,7 +186,7 @@ pub fn call<H: DeskKind, S: Store>(
     }
 }
 
-/// Performs a call that takes bytes, and writes its answer. Returns `None` for `live`, `put` and `save`.
+/// Performs a call that takes bytes, and writes its answer. Returns `None` for `live` and `save`.
 pub fn call_with<H: DeskKind, S: Store>(
     alloc: Global,
     line: &mut Line,
@@ -198,7 +198,7 @@ pub fn call_with<H: DeskKind, S: Store>(
         BytesCall::Hand => return hand(alloc, line, desk, bytes),
         BytesCall::Messages => return messages(alloc, line, desk, bytes),
         BytesCall::Take => take(alloc, line, desk, bytes),
-        BytesCall::Live | BytesCall::Put | BytesCall::Save => return None,
+        BytesCall::Live | BytesCall::Save => return None,
     }
     Some(())
 }

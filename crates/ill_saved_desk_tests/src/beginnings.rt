@@ -2,12 +2,11 @@
 
 use crate::desk_kind::DeskKind;
 use crate::desk_view::DeskView;
-use crate::line::Line;
-use crate::stores::{is_as_seen, seen};
-use crate::tries::{TRIES, Tries};
 use crate::words::write_fault;
 use ill_core::State;
 use ill_saved::{AnyDesk, DeskFault, MemoryStore};
+use ill_saved_kit::{Line, Tries, is_as_seen, seen};
+use ill_test_kit::marks::TRIES;
 use std::alloc::Global;
 
 /// A desk whose store is in memory.

@@ -1,7 +1,6 @@
 //! Surrounds each try of a call that takes memory with marks.
 
 use ill_test_kit::marks;
-pub use ill_test_kit::marks::TRIES;
 use std::alloc::Global;
 
 /// Marks surround only calls on records of at most this size. A longer record would take too many tries.

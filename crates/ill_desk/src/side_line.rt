@@ -30,34 +30,43 @@ pub fn report<W: Write>(
     Ok(is_fine(outcome))
 }
 
-/// Writes the line of the outcome of a message. With `LONG` the heading of the message is before it, and the lines of
-/// its fields after it. Returns true if all went well.
-pub fn report_message<W: Write, const LONG: bool>(
+/// A message whose outcome is told.
+#[derive(Clone, Copy)]
+pub struct Told<'a, 'b> {
+    /// The message.
+    pub apdu: &'a ApduView<'b>,
+    /// Set if the heading of the message is told before the outcome, and its fields after it.
+    pub is_long: bool,
+}
+
+/// Writes the line of the outcome of a message. If `told` is long, the heading of the message is before it, and the
+/// lines of its fields after it. Returns true if all went well.
+pub fn report_message<W: Write>(
     alloc: Global,
     writer: &mut W,
-    apdu: &ApduView<'_>,
+    told: &Told<'_, '_>,
     outcome: DeskOutcome,
     now: Shown,
 ) -> Result<bool, ToolFault>
-    ensures { WritesOutcome (wording LONG apdu.now) (W.contents writer.old) (W.contents writer.new) outcome now result }
+    ensures { WritesOutcome (wording told.now.is_long told.now.apdu.now) (W.contents writer.old) (W.contents writer.new) outcome now result }
 {
     let mut lines = Vec::new(alloc);
-    push_words::<LONG>(&mut lines, apdu, outcome, now)?;
+    push_words(&mut lines, told, outcome, now)?;
     write_whole(writer, &lines)?;
     Ok(is_fine(outcome))
 }
 
 /// Appends the text of the outcome of a message.
-fn push_words<const LONG: bool>(
+fn push_words(
     lines: &mut Vec<u8>,
-    apdu: &ApduView<'_>,
+    told: &Told<'_, '_>,
     outcome: DeskOutcome,
     now: Shown,
 ) -> Result<(), OutOfMemory>
-    ensures { OnOk result (lines.new.items ≡ lines.old.items ++ wording LONG apdu.now outcome now) }
+    ensures { OnOk result (lines.new.items ≡ lines.old.items ++ wording told.now.is_long told.now.apdu.now outcome now) }
 {
-    if LONG {
-        push_long(lines, apdu, outcome, now)
+    if told.is_long {
+        push_long(lines, told.apdu, outcome, now)
     } else {
         push_line(lines, outcome, now)
     }

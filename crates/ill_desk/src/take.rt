@@ -9,7 +9,7 @@ ghost use Rattle.ill_text.specs.Fault.{CountsToolFailure};
 ghost use Rattle.ill_desk.specs.Take.{CountsTaking, KeepsBefore, KeepsBorrowed, KeepsPrefix, KeepsTaken, RunsTake, RunsTaking, SavesTaken, TakesAndSaves, borrowed_parts, kept_text, progress, TakesMessage};
 ghost use Rattle.ill_desk.specs.Telling.{short, wording};
 
-use crate::side_line::report_message;
+use crate::side_line::{Told, report_message};
 use ill_core::Taking;
 use ill_der::{ApduView, Handler, encode};
 use ill_saved::{AnyDesk, Desk, Desk1, Holdings, ManySides, OneSide, Store};
@@ -38,7 +38,7 @@ pub fn run_take<S: Store, R: Read, W: Write>(
         (with_input (R.remaining reader.new) (command_state (view_of S.state desk.new) (W.contents writer.new))) }
     ensures counted { CountsToolFailure result (S.state desk.old.store).failures (S.state desk.new.store).failures }
 {
-    take_on::<OneSide, S, Sink, R, W, false, false>(alloc, desk, &mut sink(), reader, writer)
+    run_desk_take_as(alloc, desk, TakeForm::SHORT, &mut sink(), reader, writer)
 }
 
 /// Takes each APDU of the input at `desk`, as `run_take` does. Each is taken by the side of its transaction, whose line
@@ -55,7 +55,7 @@ pub fn run_desk_take<S: Store, R: Read, W: Write>(
         (with_input (R.remaining reader.new) (command_state (view_of S.state desk.new) (W.contents writer.new))) }
     ensures counted { CountsToolFailure result (S.state desk.old.store).failures (S.state desk.new.store).failures }
 {
-    take_on::<ManySides, S, Sink, R, W, false, false>(alloc, desk, &mut sink(), reader, writer)
+    run_desk_take_as(alloc, desk, TakeForm::SHORT, &mut sink(), reader, writer)
 }
 
 /// The form of `take`: how it tells of a message, and if it keeps it.
@@ -68,92 +68,61 @@ pub struct TakeForm {
     pub is_kept: bool,
 }
 
+impl TakeForm {
+    /// The form of short lines that keeps no message.
+    const SHORT: TakeForm = TakeForm {
+        is_long: false,
+        is_kept: false,
+    };
+}
+
 /// Takes each APDU of the input as `run_desk_take` does, in the form `form`. The bytes of a message that is kept are
 /// written to `came` and flushed before the desk is saved. So no saved message is lost. A message that is kept but not
 /// saved is kept twice if it is taken again.
 ///
 /// If a message cannot be kept, it is taken in memory and not saved. This is a failure of the store.
-pub fn run_desk_take_as<S: Store, F: Write, R: Read, W: Write>(
+pub fn run_desk_take_as<H: Holdings, S: Store, F: Write, R: Read, W: Write>(
     alloc: Global,
-    desk: &mut Desk<S>,
+    desk: &mut AnyDesk<H, S>,
     form: TakeForm,
     came: &mut F,
     reader: &mut R,
     writer: &mut W,
 ) -> Result<bool, ToolFault>
-    ensures runs { RunsTaking form.is_kept (wording form.is_long) many_sides
+    ensures runs { RunsTaking form.is_kept (wording form.is_long) H.effects
         (with_input (R.remaining reader.old) (with_kept (F.contents came.old)
         (command_state (view_of S.state desk.old) (W.contents writer.old)))) result
         (with_input (R.remaining reader.new) (with_kept (F.contents came.new)
         (command_state (view_of S.state desk.new) (W.contents writer.new)))) }
     ensures counted { CountsTaking form.is_kept result (S.state desk.old.store).failures (S.state desk.new.store).failures }
 {
-    match (form.is_long, form.is_kept) {
-        (false, false) => take_on::<ManySides, S, F, R, W, false, false>(
-            alloc, desk, came, reader, writer,
-        ),
-        (true, false) => take_on::<ManySides, S, F, R, W, true, false>(
-            alloc, desk, came, reader, writer,
-        ),
-        (false, true) => take_on::<ManySides, S, F, R, W, false, true>(
-            alloc, desk, came, reader, writer,
-        ),
-        (true, true) => take_on::<ManySides, S, F, R, W, true, true>(
-            alloc, desk, came, reader, writer,
-        ),
-    }
-}
-
-/// Takes each APDU of the input at `desk`. With `KEEP` it keeps each taken one in `came`.
-fn take_on<H: Holdings, S: Store, F: Write, R: Read, W: Write, const LONG: bool, const KEEP: bool>(
-    alloc: Global,
-    desk: &mut AnyDesk<H, S>,
-    came: &mut F,
-    reader: &mut R,
-    writer: &mut W,
-) -> Result<bool, ToolFault>
-    ensures runs { RunsTaking KEEP (wording LONG) H.effects
-        (with_input (R.remaining reader.old) (with_kept (F.contents came.old)
-        (command_state (view_of S.state desk.old) (W.contents writer.old)))) result
-        (with_input (R.remaining reader.new) (with_kept (F.contents came.new)
-        (command_state (view_of S.state desk.new) (W.contents writer.new)))) }
-    ensures counted { CountsTaking KEEP result (S.state desk.old.store).failures
-        (S.state desk.new.store).failures }
-{
-    let mut taken = Counted::new(TakesEach::<'_, '_, H, S, F, LONG, KEEP> {
+    let mut taken = Counted::new(TakesEach {
         desk,
         came,
+        form,
         all_fine: true,
     });
     take_input(alloc, &mut taken, reader, writer)
 }
 
 /// Takes each APDU of the input with `taken`, which has taken none before.
-fn take_input<
-    H: Holdings,
-    S: Store,
-    F: Write,
-    R: Read,
-    W: Write,
-    const LONG: bool,
-    const KEEP: bool,
->(
+fn take_input<H: Holdings, S: Store, F: Write, R: Read, W: Write>(
     alloc: Global,
-    taken: &mut Counted<TakesEach<'_, '_, H, S, F, LONG, KEEP>>,
+    taken: &mut Counted<TakesEach<'_, '_, H, S, F>>,
     reader: &mut R,
     writer: &mut W,
 ) -> Result<bool, ToolFault>
     requires none { taken.old.count ≡ 0 }
     requires fine { taken.old.handler.all_fine ≡ true }
-    ensures runs { RunsTaking KEEP (wording LONG) H.effects
+    ensures runs { RunsTaking taken.old.handler.form.is_kept (wording taken.old.handler.form.is_long) H.effects
         (with_input (R.remaining reader.old) (with_kept (F.contents taken.old.handler.came.now)
         (command_state (view_of S.state taken.old.handler.desk.now) (W.contents writer.old)))) result
         (with_input (R.remaining reader.new) (with_kept (F.contents taken.new.handler.came.now)
         (command_state (view_of S.state taken.new.handler.desk.now) (W.contents writer.new)))) }
     ensures same_keeper { taken.new.handler.desk.ghost_name ≡ taken.old.handler.desk.ghost_name }
     ensures same_came { taken.new.handler.came.ghost_name ≡ taken.old.handler.came.ghost_name }
-    ensures counted { CountsTaking KEEP result (S.state taken.old.handler.desk.now.store).failures
-        (S.state taken.new.handler.desk.now.store).failures }
+    ensures counted { CountsTaking taken.old.handler.form.is_kept result
+        (S.state taken.old.handler.desk.now.store).failures (S.state taken.new.handler.desk.now.store).failures }
 {
     match handle_input(alloc, reader, writer, taken) {
         Ok(_) => Ok(taken.handler.all_fine),
@@ -161,24 +130,17 @@ fn take_input<
     }
 }
 
-/// A handler that takes each APDU at a desk, and keeps it with `KEEP`. It writes the text of each, and records if all
-/// went well.
+/// A handler that takes each APDU at a desk, in the form `form`. It writes the text of each, and records if all went
+/// well.
 #[derive(Drop)]
-struct TakesEach<'a, 'b, H: Holdings, S: Store, F: Write, const LONG: bool, const KEEP: bool> {
+struct TakesEach<'a, 'b, H: Holdings, S: Store, F: Write> {
     desk: &'a mut AnyDesk<H, S>,
     came: &'b mut F,
+    form: TakeForm,
     all_fine: bool,
 }
 
-impl<H: Holdings, S: Store, F: Write, const LONG: bool, const KEEP: bool> TakesEach<
-    '_,
-    '_,
-    H,
-    S,
-    F,
-    LONG,
-    KEEP,
-> {
+impl<H: Holdings, S: Store, F: Write> TakesEach<'_, '_, H, S, F> {
     /// Takes `apdu`, which was read as `read`, saves it if it was taken, and writes its line.
     fn take_and_tell<W: Write>(
         &mut self,
@@ -188,20 +150,26 @@ impl<H: Holdings, S: Store, F: Write, const LONG: bool, const KEEP: bool> TakesE
         read: &ApduView<'_>,
     ) -> Result<(), ToolFault>
         requires same { read.now ≡ apdu.now }
-        ensures takes { TakesMessage KEEP (wording LONG) H.effects
+        ensures takes { TakesMessage self.old.form.is_kept (wording self.old.form.is_long) H.effects
             (progress (with_kept (F.contents self.old.came.now)
             (command_state (view_of S.state self.old.desk.now) (W.contents writer.old))) self.old.all_fine)
             apdu.now result
             (progress (with_kept (F.contents self.new.came.now)
             (command_state (view_of S.state self.new.desk.now) (W.contents writer.new))) self.new.all_fine) }
-        ensures keeps { KeepsBorrowed KEEP result
+        ensures same_form { self.new.form ≡ self.old.form }
+        ensures keeps { KeepsBorrowed self.old.form.is_kept result
             (borrowed_parts self.old.desk.ghost_name self.old.came.ghost_name (S.state self.old.desk.now.store).failures)
             (borrowed_parts self.new.desk.ghost_name self.new.came.ghost_name (S.state self.new.desk.now.store).failures) }
     {
-        match take_and_save::<H, S, F, KEEP>(alloc, self.desk, self.came, apdu) {
+        let is_kept = self.form.is_kept;
+        match take_and_save(alloc, self.desk, is_kept, self.came, apdu) {
             Ok(outcome) => {
+                let told = Told {
+                    apdu: read,
+                    is_long: self.form.is_long,
+                };
                 let now = self.desk.shown(H::key_of(apdu));
-                match report_message::<W, LONG>(alloc, writer, read, outcome, now) {
+                match report_message(alloc, writer, &told, outcome, now) {
                     Ok(fine) => {
                         self.all_fine &= fine;
                         Ok(())
@@ -214,17 +182,17 @@ impl<H: Holdings, S: Store, F: Write, const LONG: bool, const KEEP: bool> TakesE
     }
 }
 
-impl<H: Holdings, S: Store, F: Write, W: Write, const LONG: bool, const KEEP: bool> Handler<W>
-    for TakesEach<'_, '_, H, S, F, LONG, KEEP> {
+impl<H: Holdings, S: Store, F: Write, W: Write> Handler<W> for TakesEach<'_, '_, H, S, F> {
     type Fault = ToolFault;
 
-    ghost handles = { λ old apdu result new. TakesMessage KEEP (wording LONG) H.effects
+    ghost handles = { λ old apdu result new. TakesMessage old.0.form.is_kept (wording old.0.form.is_long) H.effects
         (progress (with_kept (F.contents old.0.came.now)
         (command_state (view_of S.state old.0.desk.now) (W.contents old.1))) old.0.all_fine)
         apdu result
         (progress (with_kept (F.contents new.0.came.now)
         (command_state (view_of S.state new.0.desk.now) (W.contents new.1))) new.0.all_fine)
-        × KeepsBorrowed KEEP result
+        × (new.0.form ≡ old.0.form)
+        × KeepsBorrowed old.0.form.is_kept result
         (borrowed_parts old.0.desk.ghost_name old.0.came.ghost_name (S.state old.0.desk.now.store).failures)
         (borrowed_parts new.0.desk.ghost_name new.0.came.ghost_name (S.state new.0.desk.now.store).failures) };
 
@@ -241,10 +209,11 @@ impl<H: Holdings, S: Store, F: Write, W: Write, const LONG: bool, const KEEP: bo
     }
 }
 
-/// Takes `apdu`. If it was taken, it is kept with `KEEP`, and then the desk is saved.
-fn take_and_save<H: Holdings, S: Store, F: Write, const KEEP: bool>(
+/// Takes `apdu`. If it was taken and `is_kept` is set, it is kept in `came`. Then the desk is saved.
+fn take_and_save<H: Holdings, S: Store, F: Write>(
     alloc: Global,
     desk: &mut AnyDesk<H, S>,
+    is_kept: bool,
     came: &mut F,
     apdu: &Apdu,
 ) -> Result<DeskOutcome, ToolFault>
@@ -252,14 +221,14 @@ fn take_and_save<H: Holdings, S: Store, F: Write, const KEEP: bool>(
         (view_of S.state desk.old)
         apdu.now result
         (view_of S.state desk.new) }
-    ensures keeps { KeepsTaken KEEP apdu.now result
+    ensures keeps { KeepsTaken is_kept apdu.now result
         (with_kept (F.contents came.old) (command_state (view_of S.state desk.old) None))
         (with_kept (F.contents came.new) (command_state (view_of S.state desk.new) None)) }
-    ensures counted { CountsTaking KEEP result (S.state desk.old.store).failures
+    ensures counted { CountsTaking is_kept result (S.state desk.old.store).failures
         (S.state desk.new.store).failures }
 {
     match desk.take(alloc, apdu) {
-        Ok(Taking::Taken) => match keep_and_save::<H, S, F, KEEP>(alloc, desk, came, apdu) {
+        Ok(Taking::Taken) => match keep_and_save(alloc, desk, is_kept, came, apdu) {
             Ok(()) => Ok(DeskOutcome::Plain(Outcome::Answered(Taking::Taken))),
             Err(fault) => Err(fault),
         },
@@ -268,23 +237,24 @@ fn take_and_save<H: Holdings, S: Store, F: Write, const KEEP: bool>(
     }
 }
 
-/// Keeps `apdu`, which was taken, with `KEEP`, and then saves.
-fn keep_and_save<H: Holdings, S: Store, F: Write, const KEEP: bool>(
+/// Keeps `apdu`, which was taken, in `came` if `is_kept` is set. Then it saves the desk.
+fn keep_and_save<H: Holdings, S: Store, F: Write>(
     alloc: Global,
     desk: &mut AnyDesk<H, S>,
+    is_kept: bool,
     came: &mut F,
     apdu: &Apdu,
 ) -> Result<(), ToolFault>
     ensures saves { SavesTaken H.effects
         (view_of S.state desk.old) result
         (view_of S.state desk.new) }
-    ensures keeps { KeepsBefore (kept_text KEEP apdu.now) result
+    ensures keeps { KeepsBefore (kept_text is_kept apdu.now) result
         (with_kept (F.contents came.old) (command_state (view_of S.state desk.old) None))
         (with_kept (F.contents came.new) (command_state (view_of S.state desk.new) None)) }
-    ensures counted { CountsTaking KEEP result (S.state desk.old.store).failures
+    ensures counted { CountsTaking is_kept result (S.state desk.old.store).failures
         (S.state desk.new.store).failures }
 {
-    if KEEP {
+    if is_kept {
         keep(alloc, came, apdu)?;
     }
     match desk.save(alloc) {

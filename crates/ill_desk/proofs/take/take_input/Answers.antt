@@ -1,7 +1,6 @@
 -- Answers the contract of `take_input` (`src/take.rt`).
-use Rattle.std.proofs.Common.{Ok, Err, not, eqb}
+use Rattle.std.proofs.Common.{Ok, Err}
 use Rattle.ill_desk.specs.Performing.{view_of}
-use Rattle.ill_desk.specs.Telling.{wording}
 use Rattle.ill_desk.proofs.TakeLemmas.{input_taken}
 use Rattle.ill_desk.proofs.take.take_input.Goals as goal
 
@@ -9,8 +8,8 @@ use Rattle.ill_desk.proofs.take.take_input.Goals as goal
 pub returns-in-Ok-clause-runs : goal.returns-in-Ok-clause-runs
 returns-in-Ok-clause-runs g c =
     let taken =
-    input_taken (not (eqb g.row.KEEP 0)) (wording (not (eqb g.row.LONG 0))) g.H.Held.effects (view_of g.S.Store.state)
-    (λ k. (g.S.Store.state k.store).failures) g.F.Write.contents g.W.Write.contents _ _
+    input_taken g.H.Held.effects (view_of g.S.Store.state) (λ k. (g.S.Store.state k.store).failures)
+    g.F.Write.contents g.W.Write.contents _ _
     (c.args.taken.now.handler, c.args.writer.now) (c.handle_input.new.counted.handler, c.handle_input.new.context)
     (Ok c.in-Ok.field-0) c.requires.fine c.in-Ok.ensures in
     taken.runs
@@ -19,8 +18,8 @@ returns-in-Ok-clause-runs g c =
 pub returns-in-Ok-clause-same_keeper : goal.returns-in-Ok-clause-same_keeper
 returns-in-Ok-clause-same_keeper g c =
     let taken =
-    input_taken (not (eqb g.row.KEEP 0)) (wording (not (eqb g.row.LONG 0))) g.H.Held.effects (view_of g.S.Store.state)
-    (λ k. (g.S.Store.state k.store).failures) g.F.Write.contents g.W.Write.contents _ _
+    input_taken g.H.Held.effects (view_of g.S.Store.state) (λ k. (g.S.Store.state k.store).failures)
+    g.F.Write.contents g.W.Write.contents _ _
     (c.args.taken.now.handler, c.args.writer.now) (c.handle_input.new.counted.handler, c.handle_input.new.context)
     (Ok c.in-Ok.field-0) c.requires.fine c.in-Ok.ensures in
     taken.same_keeper
@@ -29,8 +28,8 @@ returns-in-Ok-clause-same_keeper g c =
 pub returns-in-Ok-clause-same_came : goal.returns-in-Ok-clause-same_came
 returns-in-Ok-clause-same_came g c =
     let taken =
-    input_taken (not (eqb g.row.KEEP 0)) (wording (not (eqb g.row.LONG 0))) g.H.Held.effects (view_of g.S.Store.state)
-    (λ k. (g.S.Store.state k.store).failures) g.F.Write.contents g.W.Write.contents _ _
+    input_taken g.H.Held.effects (view_of g.S.Store.state) (λ k. (g.S.Store.state k.store).failures)
+    g.F.Write.contents g.W.Write.contents _ _
     (c.args.taken.now.handler, c.args.writer.now) (c.handle_input.new.counted.handler, c.handle_input.new.context)
     (Ok c.in-Ok.field-0) c.requires.fine c.in-Ok.ensures in
     taken.same_came
@@ -39,8 +38,8 @@ returns-in-Ok-clause-same_came g c =
 pub returns-in-Ok-clause-counted : goal.returns-in-Ok-clause-counted
 returns-in-Ok-clause-counted g c =
     let taken =
-    input_taken (not (eqb g.row.KEEP 0)) (wording (not (eqb g.row.LONG 0))) g.H.Held.effects (view_of g.S.Store.state)
-    (λ k. (g.S.Store.state k.store).failures) g.F.Write.contents g.W.Write.contents _ _
+    input_taken g.H.Held.effects (view_of g.S.Store.state) (λ k. (g.S.Store.state k.store).failures)
+    g.F.Write.contents g.W.Write.contents _ _
     (c.args.taken.now.handler, c.args.writer.now) (c.handle_input.new.counted.handler, c.handle_input.new.context)
     (Ok c.in-Ok.field-0) c.requires.fine c.in-Ok.ensures in
     taken.counted
@@ -49,8 +48,8 @@ returns-in-Ok-clause-counted g c =
 pub returns-in-Err-clause-runs : goal.returns-in-Err-clause-runs
 returns-in-Err-clause-runs g c =
     let taken =
-    input_taken (not (eqb g.row.KEEP 0)) (wording (not (eqb g.row.LONG 0))) g.H.Held.effects (view_of g.S.Store.state)
-    (λ k. (g.S.Store.state k.store).failures) g.F.Write.contents g.W.Write.contents _ _
+    input_taken g.H.Held.effects (view_of g.S.Store.state) (λ k. (g.S.Store.state k.store).failures)
+    g.F.Write.contents g.W.Write.contents _ _
     (c.args.taken.now.handler, c.args.writer.now) (c.handle_input.new.counted.handler, c.handle_input.new.context)
     (Err c.in-Err.fault) c.requires.fine c.in-Err.ensures in
     taken.runs
@@ -59,8 +58,8 @@ returns-in-Err-clause-runs g c =
 pub returns-in-Err-clause-same_keeper : goal.returns-in-Err-clause-same_keeper
 returns-in-Err-clause-same_keeper g c =
     let taken =
-    input_taken (not (eqb g.row.KEEP 0)) (wording (not (eqb g.row.LONG 0))) g.H.Held.effects (view_of g.S.Store.state)
-    (λ k. (g.S.Store.state k.store).failures) g.F.Write.contents g.W.Write.contents _ _
+    input_taken g.H.Held.effects (view_of g.S.Store.state) (λ k. (g.S.Store.state k.store).failures)
+    g.F.Write.contents g.W.Write.contents _ _
     (c.args.taken.now.handler, c.args.writer.now) (c.handle_input.new.counted.handler, c.handle_input.new.context)
     (Err c.in-Err.fault) c.requires.fine c.in-Err.ensures in
     taken.same_keeper
@@ -69,8 +68,8 @@ returns-in-Err-clause-same_keeper g c =
 pub returns-in-Err-clause-same_came : goal.returns-in-Err-clause-same_came
 returns-in-Err-clause-same_came g c =
     let taken =
-    input_taken (not (eqb g.row.KEEP 0)) (wording (not (eqb g.row.LONG 0))) g.H.Held.effects (view_of g.S.Store.state)
-    (λ k. (g.S.Store.state k.store).failures) g.F.Write.contents g.W.Write.contents _ _
+    input_taken g.H.Held.effects (view_of g.S.Store.state) (λ k. (g.S.Store.state k.store).failures)
+    g.F.Write.contents g.W.Write.contents _ _
     (c.args.taken.now.handler, c.args.writer.now) (c.handle_input.new.counted.handler, c.handle_input.new.context)
     (Err c.in-Err.fault) c.requires.fine c.in-Err.ensures in
     taken.same_came
@@ -79,8 +78,8 @@ returns-in-Err-clause-same_came g c =
 pub returns-in-Err-clause-counted : goal.returns-in-Err-clause-counted
 returns-in-Err-clause-counted g c =
     let taken =
-    input_taken (not (eqb g.row.KEEP 0)) (wording (not (eqb g.row.LONG 0))) g.H.Held.effects (view_of g.S.Store.state)
-    (λ k. (g.S.Store.state k.store).failures) g.F.Write.contents g.W.Write.contents _ _
+    input_taken g.H.Held.effects (view_of g.S.Store.state) (λ k. (g.S.Store.state k.store).failures)
+    g.F.Write.contents g.W.Write.contents _ _
     (c.args.taken.now.handler, c.args.writer.now) (c.handle_input.new.counted.handler, c.handle_input.new.context)
     (Err c.in-Err.fault) c.requires.fine c.in-Err.ensures in
     taken.counted

@@ -10,6 +10,10 @@ from ill import harness
 TOP = harness.TOP  # tools/texts may set another folder, which is laid out alike
 
 
+# These crates of tests call rooms by their own names, and not by those that a library passes on.
+TESTS_OF_ROOMS = {"ill_desk_tests"}
+
+
 class Unread(Exception):
     """What cannot be read, and where it stands."""
 
@@ -62,9 +66,10 @@ def is_for_tests(crate):
 
 
 def rooms():
-    """Returns the libraries on which no crate of tests stands, and no kit."""
+    """Returns the libraries on which no crate of tests stands but those of rooms, and no kit."""
     below = stand_on()
-    tested = {other for name, others in below.items() if is_for_tests(name) for other in others}
+    tested = {other for name, others in below.items() if is_for_tests(name) and name not in TESTS_OF_ROOMS
+              for other in others}
     return {name for name in below if name not in tested and not is_for_tests(name)}
 
 

@@ -1,11 +1,10 @@
 //! Performs command lines on the files of a folder.
 
-use crate::call::{Call, tell_value};
-use crate::names::{Names, Phrase};
-use crate::telling::{begin, tell_bytes, tell_compared, tell_line};
 use crate::watched::{Seen, Watched};
-use crate::words::Word;
 use ill_saved::LockFiles;
+use ill_session_kit::telling::{begin, tell_bytes, tell_compared, tell_line, tell_value};
+use ill_session_kit::words::Word;
+use ill_session_kit::{Call, Names, Phrase};
 use ill_test_kit::{Page, TestWriter, make_folder};
 use ill_tool::run_words;
 use std::alloc::Global;

@@ -1,4 +1,4 @@
-//! Tests the commands on files and by calls. Tests the reading and writing of APDUs, on streams that fail or are long.
+//! Tests the command lines on the files of a folder, and the engines of `simulate` on streams that fail or are long.
 //!
 //! The files `stdin` and `stdout` have the same bytes: transcripts, whose head defines how they are written. A line
 //! that begins with two spaces is an answer. The program drops old answers, performs each call, and writes its answer
@@ -9,53 +9,25 @@
 //!
 //!     rt try -- "a cancel and a shipped cross" < stdin | diff stdin -
 //!
-//! Marks surround each call on the memory (`ill_test_kit::marks`), and each engine of a command on streams. If a growth
-//! is refused, the call is made again from the beginning. A line `  = a refused try: ..` shows that a refused try had a
-//! wrong result. No case has such a line.
+//! Marks surround each engine of `simulate` (`ill_test_kit::marks`). If a growth is refused, the call is made again. A
+//! line `  = a refused try: ..` shows that a refused try had a wrong result. No case has such a line.
 //!
 //! After a check, `rt run < stdin | diff stdin -` performs all cases. They are too long for `rt try`.
 #![tactic(auto)]
 
-mod beginning;
 mod bench;
-mod block;
-mod call;
 mod engines;
 mod folder;
-mod kept;
-mod letters;
-mod limited;
-mod mails;
-mod memory;
-mod names;
-mod past;
-mod session;
-mod streams;
-mod telling;
 mod texts;
-mod tries;
-mod view;
 mod watched;
-mod words;
 
 use bench::Bench;
 use folder::Folder;
-use ill_test_kit::answer_lines;
-use session::Session;
-use std::{env, io};
+use ill_session_kit::answer_cases;
+use std::io;
 
 fn main(rt: HostRuntime) -> io::Result<()> {
     let alloc = rt.alloc();
-    let arguments: Vec<String> = env::args(&rt)?.collect(alloc)?;
-    perform(&rt, arguments.get(1).map(|name| name.as_str()))
-}
-
-/// Performs the lines of the input, and prints their answers. If `wanted` names a case, only that case is performed.
-fn perform(rt: &HostRuntime, wanted: Option<&str>) -> io::Result<()> {
-    let alloc = rt.alloc();
-    let folder = Folder::new(rt, alloc)?;
-    let mut session = Session::new(alloc, Bench::new(alloc, folder), wanted);
-    let printed = answer_lines(rt, &mut session);
-    drop(session);
-    printed
+    let folder = Folder::new(&rt, alloc)?;
+    answer_cases(&rt, Bench::new(alloc, folder))
 }

@@ -1,7 +1,7 @@
 //! Prints the texts of faults. Some of them arise in no command line.
 
-use crate::telling::begin;
 use ill_saved::{RecordFault, StoreFault};
+use ill_session_kit::telling::begin;
 use ill_test_kit::Page;
 use ill_tool::{DerFault, DeskFault, ToolFault};
 use std::fmt::{Debug, Display};

@@ -2,10 +2,11 @@
 
 use crate::names::Names;
 use ill_test_kit::{Page, TestReader, TestWriter};
+use std::fmt::Debug;
 
 /// The part of the bytes of a writer that is printed.
 #[derive(Drop)]
-pub enum Telling {
+pub(crate) enum Telling {
     /// All bytes are printed.
     Whole,
     /// Two dots are printed if there are any bytes.
@@ -17,7 +18,7 @@ pub enum Telling {
 }
 
 /// Prints the bytes that a writer took, after `mark`.
-pub fn tell_writer(
+pub(crate) fn tell_writer(
     page: &mut Page,
     names: &Names,
     mark: &str,
@@ -127,4 +128,11 @@ pub fn begin(page: &mut Page, mark: &str) {
     page.text("  ");
     page.text(mark);
     page.text(" ");
+}
+
+/// Prints a value as `{:?}` prints it.
+pub fn tell_value<T: Debug>(page: &mut Page, value: &T) {
+    begin(page, "=");
+    page.show_parts(value);
+    page.text("\n");
 }

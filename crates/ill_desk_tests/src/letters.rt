@@ -2,11 +2,12 @@
 
 ghost use Rattle.std.specs.Prelude.{ℕ, None};
 
-use crate::names::Names;
-use crate::telling::{tell_bytes, tell_line};
+use ill_night::outgoing::Outgoing;
 use ill_saved::{DeskFault, StoreFault};
+use ill_session_kit::Names;
+use ill_session_kit::telling::{tell_bytes, tell_line};
 use ill_test_kit::Page;
-use ill_tool::{Outgoing, ToolFault};
+use ill_text::fault::ToolFault;
 use std::alloc::Global;
 
 /// A mail that was sent.

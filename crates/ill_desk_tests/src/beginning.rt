@@ -1,16 +1,16 @@
 //! Begins sides and desks over a store in memory, by the engines of `new`.
 
-use crate::call::Call;
 use crate::memory::{Beginning, Memory};
-use crate::names::Names;
-use crate::telling::tell_bytes;
-use crate::words::Word;
+use ill_desk::new::{run_desk_new, run_new};
 use ill_desk_kit::plan_of;
 use ill_saved::{MemoryStore, Role, Store};
+use ill_session_kit::telling::tell_bytes;
+use ill_session_kit::words::Word;
+use ill_session_kit::{Call, Names};
 use ill_test_kit::{Page, TestWriter};
-use ill_tool::{ToolFault, run_desk_new, run_new};
+use ill_text::fault::ToolFault;
 use ill_values::TxnId;
-use ill_world::words::who;
+use ill_words::words::who;
 use std::alloc::Global;
 
 /// The new memory, or the fault and the store that was handed back.

@@ -4,17 +4,15 @@
 //! each try begins with an equal memory. At the end each refused try is judged.
 
 use crate::beginning::begin;
-use crate::call::{Call, input_of, prefix_count};
+use crate::desk_call::{DeskCall, prefix_count};
 use crate::memory::{Beginning, Memory, MemoryCall};
-use crate::names::{Names, Phrase};
-use crate::tries::{CallResult, Extent, fault, tell_fault};
-use crate::words::{Word, copied};
+use crate::tries::{CallResult, Extent, fault};
+use ill_session_kit::engine::tell_fault;
+use ill_session_kit::words::{Word, copied};
+use ill_session_kit::{Names, Phrase, is_short};
 use ill_test_kit::Page;
 use ill_test_kit::marks::TRIES;
 use std::alloc::Global;
-
-/// A call whose input has at most this many bytes is made between marks.
-const SHORT: usize = 1_000;
 
 /// The call of a line.
 #[derive(Clone, Copy)]
@@ -111,7 +109,7 @@ impl Past {
         for _ in 0..TRIES {
             let memory = &mut self.memory;
             let mut seen = CallResult::of(self.alloc, on, phrase, Extent::Marked, memory)?;
-            if !seen.call.was_refused {
+            if !seen.call.base.was_refused {
                 page.page(&seen.answer);
                 drop(seen);
                 return Some(());
@@ -132,7 +130,7 @@ impl Past {
     ) -> Option<()> {
         self.push_extent(on, phrase, Extent::Nothing, prefixes)?;
         self.push_extent(on, phrase, Extent::Whole, prefixes)?;
-        for count in 0..prefix_count(self.alloc, on, phrase) {
+        for count in 0..prefix_count(self.alloc, on, phrase)? {
             self.push_extent(on, phrase, Extent::First(count), prefixes)?;
         }
         Some(())
@@ -207,7 +205,7 @@ fn perform_line(
     kind: LineCall,
     phrase: Phrase<'_>,
 ) -> Option<()> {
-    let mut call = Call::of(alloc, phrase)?;
+    let mut call = DeskCall::of(alloc, phrase)?;
     let done = perform_call(alloc, page, memory, kind, &mut call);
     drop(call);
     done
@@ -219,16 +217,16 @@ fn perform_call(
     page: &mut Page,
     memory: &mut Option<Memory>,
     kind: LineCall,
-    call: &mut Call<'_>,
+    call: &mut DeskCall<'_>,
 ) -> Option<()> {
     match kind {
         LineCall::Begin(beginning) => {
-            let begun = Memory::begin(alloc, beginning, call.words)?;
+            let begun = Memory::begin(alloc, beginning, call.base.words)?;
             drop(memory.replace(begun));
             Some(())
         }
-        LineCall::New(beginning) => begin(alloc, page, memory, beginning, call),
-        LineCall::Next => memory.as_mut()?.plan(call.words),
+        LineCall::New(beginning) => begin(alloc, page, memory, beginning, &mut call.base),
+        LineCall::Next => memory.as_mut()?.plan(call.base.words),
         LineCall::On(on) => memory.as_mut()?.perform(alloc, page, on, call),
     }
 }
@@ -240,9 +238,4 @@ fn begins_anew(kind: LineCall, words: &[Word]) -> bool {
         LineCall::New(_) => !words.iter().any(|word| word.is("again")),
         LineCall::Next | LineCall::On(_) => false,
     }
-}
-
-/// Returns true if the input of the call is short enough for many tries.
-pub fn is_short(phrase: Phrase<'_>) -> bool {
-    input_of(phrase).is_some_and(|bytes| bytes.len() <= SHORT)
 }

@@ -39,7 +39,7 @@ pub fn texts(alloc: Global, words: &[Word]) -> Option<Vec<&str>> {
 }
 
 /// Returns the words before the first bare `mark`, and the words after it, if `mark` is among them.
-pub fn cut<'a>(words: &'a [Word], mark: &str) -> (&'a [Word], Option<&'a [Word]>) {
+pub(crate) fn cut<'a>(words: &'a [Word], mark: &str) -> (&'a [Word], Option<&'a [Word]>) {
     for (index, word) in words.iter().enumerate() {
         if word.is(mark) {
             let before = words.get(..index).unwrap_or(words);
@@ -81,7 +81,7 @@ struct Splitter {
 
 /// Returns the words of a line. A word in quotes may be empty or have spaces. In it `\n`, `\r`, `\t`, `\"` and `\\`
 /// stand for a letter. `\x7F` stands for an octet below 80 in hexadecimal.
-pub fn words_of(alloc: Global, line: &str) -> Option<Vec<Word>> {
+pub(crate) fn words_of(alloc: Global, line: &str) -> Option<Vec<Word>> {
     let mut splitter = Splitter {
         alloc,
         words: Vec::new(alloc),

@@ -1,20 +1,18 @@
 //! A call has words and streams.
 
-use crate::letters::Letters;
-use crate::memory::MemoryCall;
 use crate::names::{Names, Phrase};
 use crate::streams::{bytes_of, reader_of, writer_of};
-use crate::telling::{Telling, begin, tell_reader, tell_writer};
+use crate::telling::{Telling, tell_reader, tell_value, tell_writer};
 use crate::words::{Word, cut};
-use ill_der::view;
-use ill_saved::DeskFault;
-use ill_test_kit::{Failure, Page, TestReader, TestWriter, marks};
-use ill_tool::ToolFault;
+use ill_test_kit::{Page, TestReader, TestWriter, marks};
 use std::alloc::Global;
 use std::fmt::Debug;
 
 /// The writers of a call between marks have this room. No such call writes as much.
 const ROOM: usize = 65_536;
+
+/// An input of at most this many bytes is short enough for many tries of its call.
+const SHORT: usize = 1_000;
 
 /// The input of a call, and its results except its answer.
 #[derive(Drop)]
@@ -29,50 +27,16 @@ pub struct Call<'a> {
     pub output: TestWriter,
     /// The writer for faults.
     pub errors: TestWriter,
-    /// The mails that the call has sent.
-    pub letters: Letters,
     /// True if the call answered out of memory.
     pub says_memory: bool,
     /// True if a growth was refused, so that the call must be made again.
     pub was_refused: bool,
-    /// True if the call answered out of memory, and still has changed the store of the copy.
-    pub spoils_copy: bool,
     /// True if marks surround the call.
     is_marked: bool,
     /// The words of the input.
     input: &'a [Word],
     /// The parts of the output and of the faults that are printed.
     tellings: (Telling, Telling),
-}
-
-/// The fault of a call, which may be out of memory.
-pub trait Faulty {
-    /// Returns true if the fault is out of memory.
-    fn is_memory(&self) -> bool;
-
-    /// Ends the marks of the call. Returns true if a growth was refused.
-    fn is_refused(alloc: Global, says_memory: bool) -> bool;
-}
-
-/// An engine may do without memory that only makes it faster.
-impl Faulty for ToolFault {
-    fn is_memory(&self) -> bool {
-        *self == ToolFault::OutOfMemory
-    }
-
-    fn is_refused(alloc: Global, says_memory: bool) -> bool {
-        marks::is_refused_or_without(alloc, says_memory)
-    }
-}
-
-impl Faulty for DeskFault {
-    fn is_memory(&self) -> bool {
-        *self == DeskFault::OutOfMemory
-    }
-
-    fn is_refused(alloc: Global, says_memory: bool) -> bool {
-        marks::is_refused(alloc, says_memory)
-    }
 }
 
 /// The words of a call, and the words of its streams.
@@ -117,10 +81,8 @@ impl<'a> Call<'a> {
                 source,
                 output,
                 errors,
-                letters: Letters::new(alloc, usize::MAX),
                 says_memory: false,
                 was_refused: false,
-                spoils_copy: false,
                 is_marked: false,
                 input: parts.input.unwrap_or(&[]),
                 tellings: (told, told_errors),
@@ -144,32 +106,34 @@ impl<'a> Call<'a> {
         }
     }
 
-    /// Ends the marks, and returns `answer`.
-    pub fn end<T: Drop, F: Faulty + Drop>(
+    /// Ends the marks, and returns `answer`. The fault `memory` is out of memory.
+    pub fn end<T: Drop, F: PartialEq + Drop>(
         &mut self,
         alloc: Global,
         answer: Result<T, F>,
+        memory: &F,
     ) -> Result<T, F> {
-        self.says_memory = match &answer {
-            Ok(_) => false,
-            Err(fault) => fault.is_memory(),
-        };
-        self.was_refused = self.is_marked && F::is_refused(alloc, self.says_memory);
+        self.says_memory = is_fault(&answer, memory);
+        self.was_refused = self.is_marked && marks::is_refused(alloc, self.says_memory);
         answer
     }
 
-    /// Reduces the call to the first `count` of its messages or mails.
-    pub fn shorten(&mut self, alloc: Global, on: MemoryCall, count: usize) -> Option<()> {
-        match on {
-            MemoryCall::Take => {
-                let bytes = bytes_of(self.names, self.input)?;
-                let prefix = bytes.get(..ends(alloc, &bytes)?.get(count).copied()?)?;
-                let prefix = Vec::from_slice(alloc, prefix).ok()?;
-                self.source = TestReader::new(prefix, Failure::NEVER, Vec::new(alloc));
-            }
-            _ => self.words = self.words.get(..count)?,
-        }
-        Some(())
+    /// Ends the marks of an engine, and returns `answer`. The fault `memory` is out of memory. An engine may do without
+    /// memory that only makes it faster.
+    pub fn end_engine<T: Drop, F: PartialEq + Drop>(
+        &mut self,
+        alloc: Global,
+        answer: Result<T, F>,
+        memory: &F,
+    ) -> Result<T, F> {
+        self.says_memory = is_fault(&answer, memory);
+        self.was_refused = self.is_marked && marks::is_refused_or_without(alloc, self.says_memory);
+        answer
+    }
+
+    /// Returns the bytes of the input that come before a failure.
+    pub fn input(&self) -> Option<Vec<u8>> {
+        bytes_of(self.names, self.input)
     }
 
     /// Prints the output, the faults and the rest of the input.
@@ -191,39 +155,16 @@ impl<'a> Call<'a> {
     }
 }
 
-/// Returns the bytes of the input in `WORDS < READER` that come before a failure.
-pub fn input_of(phrase: Phrase<'_>) -> Option<Vec<u8>> {
-    bytes_of(phrase.names, Parts::of(phrase.words).input.unwrap_or(&[]))
-}
-
-/// Returns the count of prefixes of the messages or mails of a call. Other calls have none.
-pub fn prefix_count(alloc: Global, on: MemoryCall, phrase: Phrase<'_>) -> usize {
-    match on {
-        MemoryCall::Take => input_of(phrase)
-            .and_then(|bytes| ends(alloc, &bytes))
-            .map_or(0, |ends| ends.len()),
-        MemoryCall::Inbox => Parts::of(phrase.words).words.len(),
-        _ => 0,
+/// Returns true if `answer` is this fault.
+fn is_fault<T, F: PartialEq>(answer: &Result<T, F>, fault: &F) -> bool {
+    match answer {
+        Ok(_) => false,
+        Err(found) => *found == *fault,
     }
 }
 
-/// Returns the size of each prefix of whole messages, from 0 on.
-fn ends(alloc: Global, bytes: &[u8]) -> Option<Vec<usize>> {
-    let mut ends = Vec::new(alloc);
-    let mut end = 0;
-    for _ in 0..bytes.len() {
-        ends.push(end).ok()?;
-        match view(bytes.get(end..)?) {
-            Ok((_, size)) => end = end.checked_add(size)?,
-            Err(_) => return Some(ends),
-        }
-    }
-    Some(ends)
-}
-
-/// Prints a value as `{:?}` prints it.
-pub fn tell_value<T: Debug>(page: &mut Page, value: &T) {
-    begin(page, "=");
-    page.show_parts(value);
-    page.text("\n");
+/// Returns true if the input of the call is short enough for many tries.
+pub fn is_short(phrase: Phrase<'_>) -> bool {
+    let input = Parts::of(phrase.words).input.unwrap_or(&[]);
+    bytes_of(phrase.names, input).is_some_and(|bytes| bytes.len() <= SHORT)
 }

@@ -1,16 +1,22 @@
 //! A side and a desk of many transactions are called and viewed by one trait.
 
-use crate::call::Call;
+use crate::letters::Letters;
 use crate::view::{View, tell_side};
-use crate::words::{Word, texts};
+use ill_desk::act::{run_act, run_desk_act};
+use ill_desk::send::{run_desk_send, run_send};
+use ill_desk::take::{TakeForm, run_desk_take, run_desk_take_as, run_take};
+use ill_night::copy::run_desk_copy;
+use ill_night::dates::{Dates, run_desk_dates};
+use ill_night::inbox::run_desk_inbox;
+use ill_night::outbox::{run_desk_outbox, run_desk_outbox_stream};
+use ill_night::verdict::{Batch, Mail, Verdict};
 use ill_saved::{Desk, Desk1, DeskFault, MemoryStore, Store};
+use ill_session_kit::Call;
+use ill_session_kit::words::{Word, texts};
+use ill_show::loan::{LoanForm, LoanView, run_desk_loan};
+use ill_show::status::{run_desk_status, run_status};
 use ill_test_kit::Page;
-use ill_tool::{
-    Batch, Dates, LoanForm, LoanView, Mail, TakeForm, ToolFault, Verdict, run_act, run_desk_act,
-    run_desk_copy, run_desk_dates, run_desk_inbox, run_desk_loan, run_desk_outbox,
-    run_desk_outbox_stream, run_desk_send, run_desk_status, run_desk_take, run_desk_take_as,
-    run_send, run_status, run_take,
-};
+use ill_text::fault::ToolFault;
 use ill_values::{Day, Number, TxnId};
 use std::alloc::Global;
 
@@ -41,6 +47,7 @@ pub trait Kept {
         alloc: Global,
         call: &mut Call<'_>,
         asking: &[u8],
+        letters: &mut Letters,
     ) -> Option<Result<usize, ToolFault>>;
 
     /// Writes all messages that are due to be sent, by the engine, which only a desk has. The engine writes them only
@@ -92,13 +99,13 @@ impl<S: Store> Kept for Desk1<S> {
         let words: Vec<&str> = texts(alloc, words_after(call.words))?;
         call.begin(alloc);
         let answer = run_act(alloc, self, today, &words, &mut call.output);
-        Some(call.end(alloc, answer))
+        Some(call.end_engine(alloc, answer, &ToolFault::OutOfMemory))
     }
 
     fn take(&mut self, alloc: Global, call: &mut Call<'_>) -> Result<bool, ToolFault> {
         call.begin(alloc);
         let answer = run_take(alloc, self, &mut call.source, &mut call.output);
-        call.end(alloc, answer)
+        call.end_engine(alloc, answer, &ToolFault::OutOfMemory)
     }
 
     fn inbox(
@@ -115,6 +122,7 @@ impl<S: Store> Kept for Desk1<S> {
         _alloc: Global,
         _call: &mut Call<'_>,
         _asking: &[u8],
+        _letters: &mut Letters,
     ) -> Option<Result<usize, ToolFault>> {
         None
     }
@@ -145,13 +153,13 @@ impl<S: Store> Kept for Desk1<S> {
         let number = number(call.words)?;
         call.begin(alloc);
         let answer = run_send(alloc, self, number, &mut call.output);
-        Some(call.end(alloc, answer))
+        Some(call.end_engine(alloc, answer, &ToolFault::OutOfMemory))
     }
 
     fn status(&self, alloc: Global, call: &mut Call<'_>) -> Result<(), ToolFault> {
         call.begin(alloc);
         let answer = run_status(alloc, self, &mut call.output);
-        call.end(alloc, answer)
+        call.end_engine(alloc, answer, &ToolFault::OutOfMemory)
     }
 
     fn loan(&self, _alloc: Global, _call: &mut Call<'_>) -> Option<Result<(), ToolFault>> {
@@ -161,13 +169,13 @@ impl<S: Store> Kept for Desk1<S> {
     fn save(&mut self, alloc: Global, call: &mut Call<'_>) -> Result<(), DeskFault> {
         call.begin(alloc);
         let answer = Desk1::save(self, alloc);
-        call.end(alloc, answer)
+        call.end(alloc, answer, &DeskFault::OutOfMemory)
     }
 
     fn restart(&mut self, alloc: Global, call: &mut Call<'_>) -> Result<(), DeskFault> {
         call.begin(alloc);
         let answer = Desk1::restart(self, alloc);
-        call.end(alloc, answer)
+        call.end(alloc, answer, &DeskFault::OutOfMemory)
     }
 
     fn view(&self, alloc: Global) -> Option<View> {
@@ -188,7 +196,7 @@ impl<S: Store> Kept for Desk<S> {
         let words: Vec<&str> = texts(alloc, words_after(words))?;
         call.begin(alloc);
         let answer = run_desk_act(alloc, self, &txn, today, &words, &mut call.output);
-        Some(call.end(alloc, answer))
+        Some(call.end_engine(alloc, answer, &ToolFault::OutOfMemory))
     }
 
     fn take(&mut self, alloc: Global, call: &mut Call<'_>) -> Result<bool, ToolFault> {
@@ -203,7 +211,7 @@ impl<S: Store> Kept for Desk<S> {
         } else {
             run_desk_take(alloc, self, source, output)
         };
-        call.end(alloc, answer)
+        call.end_engine(alloc, answer, &ToolFault::OutOfMemory)
     }
 
     fn inbox(
@@ -219,7 +227,7 @@ impl<S: Store> Kept for Desk<S> {
             waiting: WAITING,
         };
         let answer = run_desk_inbox(alloc, self, &batch, came, output);
-        Some(call.end(alloc, answer))
+        Some(call.end_engine(alloc, answer, &ToolFault::OutOfMemory))
     }
 
     fn outbox(
@@ -227,10 +235,11 @@ impl<S: Store> Kept for Desk<S> {
         alloc: Global,
         call: &mut Call<'_>,
         asking: &[u8],
+        letters: &mut Letters,
     ) -> Option<Result<usize, ToolFault>> {
         call.begin(alloc);
-        let answer = run_desk_outbox(alloc, self, asking, &mut call.letters);
-        Some(call.end(alloc, answer))
+        let answer = run_desk_outbox(alloc, self, asking, letters);
+        Some(call.end_engine(alloc, answer, &ToolFault::OutOfMemory))
     }
 
     fn stream(
@@ -241,7 +250,7 @@ impl<S: Store> Kept for Desk<S> {
     ) -> Option<Result<(), ToolFault>> {
         call.begin(alloc);
         let answer = run_desk_outbox_stream(alloc, self, asking, &mut call.output);
-        Some(call.end(alloc, answer))
+        Some(call.end_engine(alloc, answer, &ToolFault::OutOfMemory))
     }
 
     /// Performs `DAY [overdue] [expire]`.
@@ -254,7 +263,7 @@ impl<S: Store> Kept for Desk<S> {
         };
         call.begin(alloc);
         let answer = run_desk_dates(alloc, self, today, which, &mut call.output);
-        Some(call.end(alloc, answer))
+        Some(call.end_engine(alloc, answer, &ToolFault::OutOfMemory))
     }
 
     fn copy(
@@ -265,7 +274,7 @@ impl<S: Store> Kept for Desk<S> {
     ) -> Option<Result<(), ToolFault>> {
         call.begin(alloc);
         let answer = run_desk_copy(alloc, self, copy);
-        Some(call.end(alloc, answer))
+        Some(call.end_engine(alloc, answer, &ToolFault::OutOfMemory))
     }
 
     fn send(&self, alloc: Global, call: &mut Call<'_>) -> Option<Result<(), ToolFault>> {
@@ -273,13 +282,13 @@ impl<S: Store> Kept for Desk<S> {
         let number = number(words)?;
         call.begin(alloc);
         let answer = run_desk_send(alloc, self, &txn, number, &mut call.output);
-        Some(call.end(alloc, answer))
+        Some(call.end_engine(alloc, answer, &ToolFault::OutOfMemory))
     }
 
     fn status(&self, alloc: Global, call: &mut Call<'_>) -> Result<(), ToolFault> {
         call.begin(alloc);
         let answer = run_desk_status(alloc, self, &mut call.output);
-        call.end(alloc, answer)
+        call.end_engine(alloc, answer, &ToolFault::OutOfMemory)
     }
 
     fn loan(&self, alloc: Global, call: &mut Call<'_>) -> Option<Result<(), ToolFault>> {
@@ -290,19 +299,19 @@ impl<S: Store> Kept for Desk<S> {
             form: LoanForm::Lines,
         };
         let answer = run_desk_loan(alloc, self, &view, b"", &mut call.output);
-        Some(call.end(alloc, answer))
+        Some(call.end_engine(alloc, answer, &ToolFault::OutOfMemory))
     }
 
     fn save(&mut self, alloc: Global, call: &mut Call<'_>) -> Result<(), DeskFault> {
         call.begin(alloc);
         let answer = Desk::save(self, alloc);
-        call.end(alloc, answer)
+        call.end(alloc, answer, &DeskFault::OutOfMemory)
     }
 
     fn restart(&mut self, alloc: Global, call: &mut Call<'_>) -> Result<(), DeskFault> {
         call.begin(alloc);
         let answer = Desk::restart(self, alloc);
-        call.end(alloc, answer)
+        call.end(alloc, answer, &DeskFault::OutOfMemory)
     }
 
     fn view(&self, alloc: Global) -> Option<View> {

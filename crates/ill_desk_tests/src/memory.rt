@@ -4,20 +4,20 @@ ghost use Rattle.std.specs.Prelude.{◌≡◌, IfSome};
 ghost use Rattle.ill_saved.specs.Side.{idle_of};
 
 use crate::beginning::tell_landed;
-use crate::call::Call;
+use crate::desk_call::DeskCall;
 use crate::kept::Kept;
 use crate::letters::Letters;
 use crate::limited::LimitedStore;
 use crate::mails::mails_of;
-use crate::names::Names;
-use crate::telling::begin;
 use crate::view::View;
-use crate::words::Word;
 use ill_desk_kit::{idle_side, plan_of};
 use ill_saved::{Desk, Desk1, MemoryStore, NextCall, Role, Side, Store};
+use ill_session_kit::telling::begin;
+use ill_session_kit::words::Word;
+use ill_session_kit::{Call, Names};
 use ill_test_kit::Page;
 use ill_values::TxnId;
-use ill_world::words::who;
+use ill_words::words::who;
 use std::alloc::Global;
 
 /// A side or a desk. Its store fails as planned, or works for a count of saves.
@@ -111,7 +111,7 @@ impl Memory {
         alloc: Global,
         page: &mut Page,
         kind: MemoryCall,
-        call: &mut Call<'_>,
+        call: &mut DeskCall<'_>,
     ) -> Option<()> {
         match self {
             Memory::Side(desk) => perform_on(alloc, page, desk, kind, call),
@@ -203,7 +203,7 @@ fn perform_on<K: Kept>(
     page: &mut Page,
     kept: &mut K,
     kind: MemoryCall,
-    call: &mut Call<'_>,
+    call: &mut DeskCall<'_>,
 ) -> Option<()> {
     let before = kept.view(alloc)?;
     answer(alloc, page, kept, kind, call)?;
@@ -219,44 +219,44 @@ fn answer<K: Kept>(
     page: &mut Page,
     kept: &mut K,
     kind: MemoryCall,
-    call: &mut Call<'_>,
+    call: &mut DeskCall<'_>,
 ) -> Option<()> {
     match kind {
         MemoryCall::Save => {
-            let answer = kept.save(alloc, call);
-            call.tell_answer(page, &answer);
+            let answer = kept.save(alloc, &mut call.base);
+            call.base.tell_answer(page, &answer);
         }
         MemoryCall::Restart => {
-            let answer = kept.restart(alloc, call);
-            call.tell_answer(page, &answer);
+            let answer = kept.restart(alloc, &mut call.base);
+            call.base.tell_answer(page, &answer);
         }
         MemoryCall::Act => {
-            let answer = kept.act(alloc, call)?;
-            call.tell_answer(page, &answer);
+            let answer = kept.act(alloc, &mut call.base)?;
+            call.base.tell_answer(page, &answer);
         }
         MemoryCall::Take => {
-            let answer = kept.take(alloc, call);
-            call.tell_answer(page, &answer);
+            let answer = kept.take(alloc, &mut call.base);
+            call.base.tell_answer(page, &answer);
         }
-        MemoryCall::Inbox => return inbox(alloc, page, kept, call),
+        MemoryCall::Inbox => return inbox(alloc, page, kept, &mut call.base),
         MemoryCall::Dates => {
-            let answer = kept.dates(alloc, call)?;
-            call.tell_answer(page, &answer);
+            let answer = kept.dates(alloc, &mut call.base)?;
+            call.base.tell_answer(page, &answer);
         }
         MemoryCall::Outbox => return outbox(alloc, page, kept, call),
-        MemoryCall::Stream => return stream(alloc, page, kept, call),
+        MemoryCall::Stream => return stream(alloc, page, kept, &mut call.base),
         MemoryCall::Copy => return copy(alloc, page, kept, call),
         MemoryCall::Send => {
-            let answer = kept.send(alloc, call)?;
-            call.tell_answer(page, &answer);
+            let answer = kept.send(alloc, &mut call.base)?;
+            call.base.tell_answer(page, &answer);
         }
         MemoryCall::Status => {
-            let answer = kept.status(alloc, call);
-            call.tell_answer(page, &answer);
+            let answer = kept.status(alloc, &mut call.base);
+            call.base.tell_answer(page, &answer);
         }
         MemoryCall::Loan => {
-            let answer = kept.loan(alloc, call)?;
-            call.tell_answer(page, &answer);
+            let answer = kept.loan(alloc, &mut call.base)?;
+            call.base.tell_answer(page, &answer);
         }
     }
     Some(())
@@ -280,33 +280,39 @@ fn stream<K: Kept>(alloc: Global, page: &mut Page, kept: &K, call: &mut Call<'_>
 
 /// Performs `[lasting N] ASKING`: sends all messages that are due to be sent, with room for N mails. Prints the mails,
 /// and then the answer.
-fn outbox<K: Kept>(alloc: Global, page: &mut Page, kept: &K, call: &mut Call<'_>) -> Option<()> {
-    let (room, asking) = match call.words {
+fn outbox<K: Kept>(
+    alloc: Global,
+    page: &mut Page,
+    kept: &K,
+    call: &mut DeskCall<'_>,
+) -> Option<()> {
+    let (room, asking) = match call.base.words {
         [word, room, asking @ ..] if word.is("lasting") => {
             (room.text.parse::<usize>().ok()?, asking)
         }
         asking => (usize::MAX, asking),
     };
-    let asking = call.names.bytes(asking)?;
+    let asking = call.base.names.bytes(asking)?;
     call.letters = Letters::new(alloc, room);
-    let answer = kept.outbox(alloc, call, &asking)?;
-    call.letters.tell(page, call.names);
-    call.tell_answer(page, &answer);
+    let answer = kept.outbox(alloc, &mut call.base, &asking, &mut call.letters)?;
+    call.letters.tell(page, call.base.names);
+    call.base.tell_answer(page, &answer);
     Some(())
 }
 
 /// Performs `PLAN [BYTES]`: copies all sides to a store with this plan, in which BYTES have landed. Prints the answer,
 /// and then the bytes that have landed there.
-fn copy<K: Kept>(alloc: Global, page: &mut Page, kept: &K, call: &mut Call<'_>) -> Option<()> {
-    let (plan, before) = call.words.split_first()?;
-    let mut store = store_with(alloc, call.names, plan, before)?;
-    let answer = kept.copy(alloc, call, &mut store)?;
-    call.tell_answer(page, &answer);
+fn copy<K: Kept>(alloc: Global, page: &mut Page, kept: &K, call: &mut DeskCall<'_>) -> Option<()> {
+    let (plan, before) = call.base.words.split_first()?;
+    let names = call.base.names;
+    let mut store = store_with(alloc, names, plan, before)?;
+    let answer = kept.copy(alloc, &mut call.base, &mut store)?;
+    call.base.tell_answer(page, &answer);
     store.set_next(NextCall::Works); // A copy that is refused memory leaves the plan.
     let landed = store.load(alloc).ok()?.unwrap_or(Vec::new(alloc));
-    call.spoils_copy = call.says_memory
-        && landed.as_slice() != call.names.bytes(before)?.as_slice();
-    tell_landed(alloc, page, call.names, &mut store)
+    call.spoils_copy = call.base.says_memory
+        && landed.as_slice() != names.bytes(before)?.as_slice();
+    tell_landed(alloc, page, names, &mut store)
 }
 
 /// Returns a store in which these bytes have landed, if there are any, and whose next call is planned.

@@ -38,7 +38,7 @@ struct Name {
 
 impl Names {
     /// Returns no names.
-    pub fn new(alloc: Global) -> Names {
+    pub(crate) fn new(alloc: Global) -> Names {
         Names {
             alloc,
             names: Vec::new(alloc),
@@ -47,7 +47,7 @@ impl Names {
     }
 
     /// Begins a case: drops the names that another case gave.
-    pub fn begin_case(&mut self) {
+    pub(crate) fn begin_case(&mut self) {
         match self.shared {
             Some(count) => self.names.truncate(count),
             None => self.shared = Some(self.names.len()),
@@ -55,7 +55,7 @@ impl Names {
     }
 
     /// Defines the first word as a name for the bytes of the others.
-    pub fn add(&mut self, words: &[Word]) -> Option<()> {
+    pub(crate) fn add(&mut self, words: &[Word]) -> Option<()> {
         let (first, others) = words.split_first()?;
         let name = Name {
             word: first.text.clone().ok()?,
@@ -72,7 +72,7 @@ impl Names {
     }
 
     /// Adds the bytes of `words`.
-    pub fn push(&self, bytes: &mut Vec<u8>, words: &[Word]) -> Option<()> {
+    pub(crate) fn push(&self, bytes: &mut Vec<u8>, words: &[Word]) -> Option<()> {
         for word in words {
             self.push_word(bytes, word)?;
         }
@@ -114,7 +114,7 @@ impl Names {
     }
 
     /// Returns a name and the count of its repetitions that give `bytes`.
-    pub fn name_of(&self, bytes: &[u8]) -> Option<(u32, &str)> {
+    pub(crate) fn name_of(&self, bytes: &[u8]) -> Option<(u32, &str)> {
         for name in &self.names {
             if let Some(times) = times_over(bytes, &name.bytes) {
                 return Some((times, name.word.as_str()));

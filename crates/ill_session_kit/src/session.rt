@@ -1,11 +1,11 @@
 //! Performs the lines of the input, one after another.
 
-use crate::bench::Performs;
 use crate::block::Block;
-use crate::names::Names;
+use crate::names::{Names, Phrase};
 use crate::words::{Word, words_of};
-use ill_test_kit::{INDENT, Lines, Page};
+use ill_test_kit::{INDENT, Lines, Page, answer_lines};
 use std::alloc::Global;
+use std::{env, io};
 
 /// The answer to a line that is no call.
 const NOT_UNDERSTOOD: &str = "  NOT UNDERSTOOD";
@@ -13,9 +13,33 @@ const NOT_UNDERSTOOD: &str = "  NOT UNDERSTOOD";
 /// This line says that no case has the wanted name.
 const NO_SUCH_CASE: &str = "NO SUCH CASE";
 
+/// A bench performs the calls of lines. A function returns `None` if its words are no call.
+pub trait Performs {
+    /// Begins a case: removes all that the cases before it have made.
+    fn begin(&mut self) -> Option<()>;
+
+    /// Performs the call that `word` and the words of `phrase` after it spell, and prints its answer.
+    fn perform(&mut self, page: &mut Page, word: &str, phrase: Phrase<'_>) -> Option<()>;
+
+    /// Ends the last case.
+    fn end(&mut self) -> Option<()>;
+}
+
+/// Performs the lines of the standard input on `bench`, and prints their answers. If the program has an argument, only
+/// the case of this name is performed.
+pub fn answer_cases<B: Performs + Drop>(rt: &HostRuntime, bench: B) -> io::Result<()> {
+    let alloc = rt.alloc();
+    let arguments: Vec<String> = env::args(rt)?.collect(alloc)?;
+    let wanted = arguments.get(1).map(|name| name.as_str());
+    let mut session = Session::new(alloc, bench, wanted);
+    let printed = answer_lines(rt, &mut session);
+    drop(session);
+    printed
+}
+
 /// The state that the lines so far have set up.
 #[derive(Drop)]
-pub struct Session<'a, B: Performs> {
+struct Session<'a, B: Performs> {
     /// The allocator of all values.
     alloc: Global,
     /// The bench with the names.
@@ -43,7 +67,7 @@ struct NamedBench<B: Performs> {
 
 impl<'a, B: Performs> Session<'a, B> {
     /// Returns a session before the first line. If `wanted` names a case, only that case is performed.
-    pub fn new(alloc: Global, bench: B, wanted: Option<&'a str>) -> Session<'a, B> {
+    fn new(alloc: Global, bench: B, wanted: Option<&'a str>) -> Session<'a, B> {
         Session {
             alloc,
             bench: NamedBench {
@@ -141,7 +165,7 @@ impl<B: Performs> Lines for Session<'_, B> {
         }
     }
 
-    /// Removes the folder. If no case was performed, prints that there is no such case.
+    /// Ends the last case. If no case was performed, prints that there is no such case.
     fn end(&mut self, page: &mut Page) -> Option<()> {
         self.bench.bench.end()?;
         if !self.has_found_case {
@@ -189,7 +213,13 @@ impl<B: Performs> NamedBench<B> {
             }
             "fresh" => self.bench.begin(),
             "let" => self.names.add(others),
-            _ => self.bench.perform(page, &self.names, words),
+            word => {
+                let phrase = Phrase {
+                    words: others,
+                    names: &self.names,
+                };
+                self.bench.perform(page, word, phrase)
+            }
         }
     }
 }

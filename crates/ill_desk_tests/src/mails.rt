@@ -1,8 +1,8 @@
 //! Reads the mails of a call.
 
-use crate::names::Names;
-use crate::words::Word;
-use ill_tool::Mail;
+use ill_night::verdict::Mail;
+use ill_session_kit::Names;
+use ill_session_kit::words::Word;
 use std::alloc::Global;
 
 /// Returns a mail for each word. The word is its name, and also names its bytes. The word `-` stands for a mail that

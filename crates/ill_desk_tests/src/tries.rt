@@ -4,10 +4,10 @@
 //! memory, each part of the result has three right values. They are the value without the call, the value after the
 //! call, and the value after some of its messages.
 
-use crate::call::Call;
+use crate::desk_call::DeskCall;
 use crate::memory::{Memory, MemoryCall};
-use crate::names::Phrase;
 use crate::view::View;
+use ill_session_kit::Phrase;
 use ill_test_kit::Page;
 use std::alloc::Global;
 
@@ -28,7 +28,7 @@ pub enum Extent {
 #[derive(Drop)]
 pub struct CallResult<'a> {
     /// The call, with its streams.
-    pub call: Call<'a>,
+    pub call: DeskCall<'a>,
     /// The lines of its answer.
     pub answer: Page,
     /// The live sides after it.
@@ -59,16 +59,6 @@ const PARTS: [(Part, &str); 4] = [
 ];
 
 impl<'a> CallResult<'a> {
-    /// Returns the result before the call is made.
-    pub fn new(alloc: Global, call: Call<'a>) -> CallResult<'a> {
-        CallResult {
-            call,
-            answer: Page::new(alloc),
-            live: View::none(alloc),
-            landed: View::none(alloc),
-        }
-    }
-
     /// Makes this extent of the call on the memory, and returns the result.
     pub fn of(
         alloc: Global,
@@ -77,7 +67,12 @@ impl<'a> CallResult<'a> {
         extent: Extent,
         memory: &mut Option<Memory>,
     ) -> Option<CallResult<'a>> {
-        let mut seen = CallResult::new(alloc, Call::of(alloc, phrase)?);
+        let mut seen = CallResult {
+            call: DeskCall::of(alloc, phrase)?,
+            answer: Page::new(alloc),
+            live: View::none(alloc),
+            landed: View::none(alloc),
+        };
         let made = seen.make(alloc, on, extent, memory);
         if made.is_none() {
             drop(seen);
@@ -98,7 +93,7 @@ impl<'a> CallResult<'a> {
             Extent::Nothing => return Some(()),
             Extent::First(count) => self.call.shorten(alloc, on, count)?,
             Extent::Whole => {}
-            Extent::Marked => self.call.mark(alloc)?,
+            Extent::Marked => self.call.base.mark(alloc)?,
         }
         let (answer, call) = (&mut self.answer, &mut self.call);
         memory.as_mut()?.perform(alloc, answer, on, call)
@@ -116,9 +111,10 @@ impl<'a> CallResult<'a> {
     /// Returns true if both results agree in this part.
     fn is_alike(&self, part: Part, other: &CallResult<'_>) -> bool {
         match part {
-            Part::Output => self.call.output.taken.as_slice() == other.call.output.taken.as_slice(),
-            Part::KeptMessages => self.call.errors.taken.as_slice()
-                == other.call.errors.taken.as_slice(),
+            Part::Output => self.call.base.output.taken.as_slice()
+                == other.call.base.output.taken.as_slice(),
+            Part::KeptMessages => self.call.base.errors.taken.as_slice()
+                == other.call.base.errors.taken.as_slice(),
             Part::Live => self.live.has_record_of(&other.live),
             Part::Landed => self.landed.is(&other.landed),
         }
@@ -132,12 +128,6 @@ impl<'a> CallResult<'a> {
     }
 }
 
-/// Prints the words of the wrong part of a refused try.
-pub fn tell_fault(page: &mut Page, words: &str) {
-    page.text("  = a refused try: ");
-    page.line(words);
-}
-
 /// Returns the words of the first wrong part of a refused call, if there is one. The first two `prefixes` are the
 /// results of no call and of the whole call. The others are the results of the call with each prefix of its messages.
 pub fn fault(
@@ -148,7 +138,7 @@ pub fn fault(
     let [before, after, between @ ..] = prefixes else {
         return Some("its fronts");
     };
-    if !seen.call.says_memory {
+    if !seen.call.base.says_memory {
         return if seen.is(after) {
             None
         } else {

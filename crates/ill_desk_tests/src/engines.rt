@@ -1,0 +1,84 @@
+//! Calls that have no memory: reading and writing APDUs, and the engines of the commands `show` and `check`.
+
+use ill_der::{ReadFault, decode, encode, read_apdu, write_apdu};
+use ill_session_kit::engine::Engine;
+use ill_session_kit::telling::{tell_bytes, tell_line, tell_reader, tell_value};
+use ill_session_kit::{Call, Names};
+use ill_test_kit::Page;
+use ill_text::check::run_check;
+use ill_text::fault::ToolFault;
+use ill_text::show::run_show;
+use ill_values::Apdu;
+use std::alloc::Global;
+
+/// The function that is called.
+#[derive(Clone, Copy)]
+pub enum ApduEngine {
+    /// The engine of `show`.
+    Show,
+    /// The engine of `check`.
+    Check,
+    /// Reads APDUs.
+    Read,
+    /// Writes an APDU.
+    Write,
+}
+
+impl Engine for ApduEngine {
+    fn answer(&self, alloc: Global, page: &mut Page, call: &mut Call<'_>) -> Option<()> {
+        match self {
+            ApduEngine::Show => {
+                call.begin(alloc);
+                let answer = run_show(alloc, &mut call.source, &mut call.output);
+                let answer = call.end_engine(alloc, answer, &ToolFault::OutOfMemory);
+                call.tell_answer(page, &answer);
+                Some(())
+            }
+            ApduEngine::Check => {
+                call.begin(alloc);
+                let answer = run_check(alloc, &mut call.source, &mut call.output);
+                let answer = call.end_engine(alloc, answer, &ToolFault::OutOfMemory);
+                call.tell_answer(page, &answer);
+                Some(())
+            }
+            ApduEngine::Read => read(alloc, page, call),
+            ApduEngine::Write => write(alloc, page, call),
+        }
+    }
+}
+
+/// Performs `read TIMES`: reads one APDU after another, each in its own call.
+fn read(alloc: Global, page: &mut Page, call: &mut Call<'_>) -> Option<()> {
+    let times = call.words.first()?.text.parse::<u32>().ok()?;
+    for _ in 0..times {
+        call.source.forgive();
+        let answer = read_apdu(alloc, &mut call.source);
+        tell_read(alloc, page, call.names, answer)?;
+    }
+    tell_reader(page, call.names, &call.source);
+    Some(())
+}
+
+/// Prints the bytes of the APDU that was read, or the end or the fault.
+fn tell_read(
+    alloc: Global,
+    page: &mut Page,
+    names: &Names,
+    answer: Result<Option<Apdu>, ReadFault>,
+) -> Option<()> {
+    match answer {
+        Ok(Some(apdu)) => tell_bytes(page, names, "=", &encode(alloc, &apdu).ok()?),
+        Ok(None) => tell_line(page, "=", "the end"),
+        Err(fault) => tell_value(page, &fault),
+    }
+    Some(())
+}
+
+/// Performs `write BYTES`: writes the APDU that the bytes encode.
+fn write(alloc: Global, page: &mut Page, call: &mut Call<'_>) -> Option<()> {
+    let bytes = call.names.bytes(call.words)?;
+    let (apdu, _) = decode(alloc, &bytes).ok()?;
+    let answer = write_apdu(alloc, &mut call.output, &apdu);
+    call.tell_answer(page, &answer);
+    Some(())
+}

@@ -1,14 +1,8 @@
 -- Derives the effect of the command `new` from the results of its calls.
-use Rattle.std.proofs.Common.{rules, ◌≡◌, ◌⊎◌, ℕ, List, Option, Some, None, Result, Ok, Err, inl, inr, refl, ◌∙◌}
+use Rattle.std.proofs.Common.{rules, ◌≡◌, ◌⊎◌, ℕ, List, Option, Some, None, Result, Ok, Err, inl, inr, ◌∙◌}
 use Rattle.ill_saved.specs.declared.fault.DeskFault.TheVariants.{Store}
 use Rattle.ill_saved.specs.declared.store.StoreFault.TheVariants.{Failed}
 use Rattle.ill_saved.specs.declared.store.NextCall.{NextCall}
-use Rattle.ill_values.specs.TxnId.{Qualifiers}
-use Rattle.ill_saved.specs.declared.role.Role.{Role}
-use Rattle.ill_saved.specs.declared.role.Role.TheVariants.{Requester, Responder}
-use Rattle.ill_saved.specs.Side.{idle_side}
-use Rattle.ill_saved.specs.Holdings.{whole}
-use Rattle.ill_saved.specs.OneSide.{alone}
 use Rattle.ill_saved.specs.Store.{Allows, plan_after_call}
 use Rattle.ill_text.specs.declared.fault.ToolFault.{ToolFault}
 use Rattle.ill_text.specs.declared.fault.ToolFault.TheVariants.{Desk, Write, OutOfMemory}
@@ -35,8 +29,3 @@ begun_over bytes None (Err (Desk (Store Failed))) new allows lands = lands
 begun_over bytes (Some plan) (Err (Desk (Store Failed))) new allows lands = absurd lands.1
 begun_over bytes plan (Err OutOfMemory) new allows lands = lands
 begun_over bytes plan (Err other) new allows lands = absurd lands
-
--- `whole` and `alone` return equal entries for an idle side, since it has issued nothing.
-pub nothing_issued : (role : Role) (txn : Qualifiers) → whole (idle_side role txn) ≡ alone (idle_side role txn)
-nothing_issued Requester txn = refl
-nothing_issued Responder txn = refl

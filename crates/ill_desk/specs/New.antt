@@ -1,26 +1,13 @@
--- The command `new`: it begins a desk of one side, or a desk that holds none yet.
-use Rattle.std.specs.Prelude.{◌≡◌, ◌⊎◌, ℕ, true, List, [], take, Option, None, Some, option_map, codes, Result, Ok, Err}
+-- The command `new`: it begins a desk that holds no side yet.
+use Rattle.std.specs.Prelude.{◌≡◌, ◌⊎◌, ℕ, true, List, [], take, Option, None, Some, Result, Ok, Err}
 use Rattle.std.specs.Io.KnownBytes.{Appends}
 use Rattle.ill_saved.specs.declared.fault.DeskFault.TheVariants.{Exists, Store}
 use Rattle.ill_saved.specs.declared.store.StoreFault.TheVariants.{Failed}
 use Rattle.ill_saved.specs.declared.store.NextCall.{NextCall}
-use Rattle.ill_saved.specs.declared.shown.Shown.{Shown}
-use Rattle.ill_saved.specs.Holdings.{Effects}
 use Rattle.ill_text.specs.Fault.{CountsToolFailure}
-use Rattle.ill_desk.specs.Telling.{done_line, shown_at}
 use Rattle.ill_saved.specs.Store.{Allows, LandsAtFailure, StoreState, plan_after_call}
 use Rattle.ill_text.specs.declared.fault.ToolFault.{ToolFault}
 use Rattle.ill_text.specs.declared.fault.ToolFault.TheVariants.{Desk, Write, OutOfMemory}
-
--- Returns the line of a desk that was begun and saved. It is the line of the first side, or `done` alone
--- without one.
-abbrev pub line_of_first : Option Shown → List ℕ
-line_of_first (Some now) = done_line now
-line_of_first None = codes "done\n"
-
--- Returns the line of a desk that was begun with the sides `live`.
-abbrev pub first_line : {L K : Type 0} → Effects L K → L → List ℕ
-first_line effects live = line_of_first (option_map (λ key. shown_at effects key live) effects.first_key)
 
 -- The output grew from `before` to `after` by `line`, once the record was saved. After the fault `Write` it
 -- grew by a prefix of `line`. If the store has a record, or the store failed, or memory ran out, it did not

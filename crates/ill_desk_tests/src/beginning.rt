@@ -1,29 +1,26 @@
-//! Begins sides and desks over a store in memory, by the engines of `new`.
+//! Begins desks over a store in memory, by the engine of `new`.
 
-use crate::memory::{Beginning, Memory};
-use ill_desk::new::{run_desk_new, run_new};
+use crate::memory::Memory;
+use ill_desk::new::run_desk_new;
 use ill_desk_kit::plan_of;
-use ill_saved::{MemoryStore, Role, Store};
+use ill_saved::{MemoryStore, Store};
 use ill_session_kit::telling::tell_bytes;
 use ill_session_kit::words::Word;
 use ill_session_kit::{Call, Names};
-use ill_test_kit::{Page, TestWriter};
+use ill_test_kit::Page;
 use ill_text::fault::ToolFault;
-use ill_values::TxnId;
 use ill_words::words::who;
 use std::alloc::Global;
 
-/// The new memory, or the fault and the store that was handed back.
-type Begun = Result<Memory, (ToolFault, MemoryStore)>;
-
-/// Performs `ROLE STORE`: begins a side or a desk of this role, and prints the answer. Then prints the state of the new
-/// sides, or the landed bytes of the store that was handed back. STORE is the plan of a new store: `works`, `fails-old`
-/// or `fails-new`. Or it is `again`, which takes the store of the old memory.
+/// Performs `ROLE STORE`: begins a desk of this role, and prints the answer. Then prints the state of its sides, or the
+/// landed bytes of the store that was handed back.
+///
+/// STORE is the plan of a new store: `works`, `fails-old` or `fails-new`. Or it is `again`, which takes the store of the
+/// old memory.
 pub fn begin(
     alloc: Global,
     page: &mut Page,
     memory: &mut Option<Memory>,
-    beginning: Beginning,
     call: &mut Call<'_>,
 ) -> Option<()> {
     let [role, store] = call.words else {
@@ -31,8 +28,9 @@ pub fn begin(
     };
     let role = who(role.text.as_bytes())?;
     let store = store_of(alloc, memory, store)?;
-    match begin_over(alloc, store, beginning, role, &mut call.output) {
-        Ok(begun) => {
+    match run_desk_new(alloc, store, role, &mut call.output) {
+        Ok(desk) => {
+            let begun = Memory::Desk(desk);
             call.tell_answer(page, &Ok::<(), ToolFault>(()));
             begun.tell_begun(page);
             drop(memory.replace(begun));
@@ -62,34 +60,6 @@ fn new_store(alloc: Global, plan: &Word) -> Option<MemoryStore> {
     let mut store = MemoryStore::new(alloc);
     store.set_next(next);
     Some(store)
-}
-
-/// Returns the answer of the engine over `store`. A desk begins without a transaction.
-fn begin_over(
-    alloc: Global,
-    store: MemoryStore,
-    beginning: Beginning,
-    role: Role,
-    output: &mut TestWriter,
-) -> Begun {
-    match beginning {
-        Beginning::Side => begin_side(alloc, store, role, output),
-        Beginning::Desk => match run_desk_new(alloc, store, role, output) {
-            Ok(desk) => Ok(Memory::Desk(desk)),
-            Err(refused) => Err(refused),
-        },
-    }
-}
-
-/// Returns the answer of the engine that begins the side of transaction G1, T1 over `store`.
-fn begin_side(alloc: Global, store: MemoryStore, role: Role, output: &mut TestWriter) -> Begun {
-    match TxnId::new(alloc, b"G1", b"T1") {
-        Ok(txn) => match run_new(alloc, store, role, txn, output) {
-            Ok(desk) => Ok(Memory::Side(desk)),
-            Err(refused) => Err(refused),
-        },
-        Err(_) => Err((ToolFault::OutOfMemory, store)),
-    }
 }
 
 /// Prints the bytes that have landed, if there are any.

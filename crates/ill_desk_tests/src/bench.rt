@@ -26,15 +26,14 @@ enum Kind {
 }
 
 /// The first words of lines, and the calls that they name.
-const KINDS: [(&str, Kind); 21] = [
+const KINDS: [(&str, Kind); 20] = [
     ("show", Kind::Engine(ApduEngine::Show)),
     ("check", Kind::Engine(ApduEngine::Check)),
     ("read", Kind::Engine(ApduEngine::Read)),
     ("write", Kind::Engine(ApduEngine::Write)),
     ("side", Kind::Line(LineCall::Begin(Beginning::Side))),
-    ("new-side", Kind::Line(LineCall::New(Beginning::Side))),
     ("desk", Kind::Line(LineCall::Begin(Beginning::Desk))),
-    ("new", Kind::Line(LineCall::New(Beginning::Desk))),
+    ("new", Kind::Line(LineCall::New)),
     ("next", Kind::Line(LineCall::Next)),
     ("save", Kind::Line(LineCall::On(MemoryCall::Save))),
     ("restart", Kind::Line(LineCall::On(MemoryCall::Restart))),

@@ -19,8 +19,8 @@ use std::alloc::Global;
 pub enum LineCall {
     /// A side or a desk begins.
     Begin(Beginning),
-    /// A side or a desk begins by the engine of `new`.
-    New(Beginning),
+    /// A desk begins by the engine of `new`.
+    New,
     /// The next call of the store is planned.
     Next,
     /// A call is made on the memory.
@@ -225,7 +225,7 @@ fn perform_call(
             drop(memory.replace(begun));
             Some(())
         }
-        LineCall::New(beginning) => begin(alloc, page, memory, beginning, &mut call.base),
+        LineCall::New => begin(alloc, page, memory, &mut call.base),
         LineCall::Next => memory.as_mut()?.plan(call.base.words),
         LineCall::On(on) => memory.as_mut()?.perform(alloc, page, on, call),
     }
@@ -235,7 +235,7 @@ fn perform_call(
 fn begins_anew(kind: LineCall, words: &[Word]) -> bool {
     match kind {
         LineCall::Begin(_) => true,
-        LineCall::New(_) => !words.iter().any(|word| word.is("again")),
+        LineCall::New => !words.iter().any(|word| word.is("again")),
         LineCall::Next | LineCall::On(_) => false,
     }
 }

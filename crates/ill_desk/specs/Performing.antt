@@ -15,7 +15,7 @@ use Rattle.ill_words.specs.declared.outcome.DeskOutcome.{DeskOutcome}
 use Rattle.ill_words.specs.declared.outcome.DeskOutcome.TheVariants.{Plain}
 use Rattle.ill_text.specs.declared.fault.ToolFault.{ToolFault}
 use Rattle.ill_text.specs.declared.fault.ToolFault.TheVariants.{Desk, Write, OutOfMemory}
-use Rattle.ill_saved.specs.Holdings.{Effects}
+use Rattle.ill_saved.specs.Holdings.{Effects, IsReadAgain}
 use Rattle.ill_text.specs.Fault.{refused}
 
 -- ---- the known state
@@ -70,9 +70,10 @@ saved effects old = record {
 }
 
 -- A failed save leads from `old` to `new`. The desk holds its sides, and its store has the old record or the
--- new one.
+-- new one. The new one is read as the sides that the desk holds.
 abbrev pub IsFaulted : {L K : Type 0} → Effects L K → HeldAndLanded L → HeldAndLanded L → Type 0
-IsFaulted effects old new = (new ≡ old) ⊎ (new ≡ record old { landed = (saved effects old).landed })
+IsFaulted effects old new =
+    (new ≡ old) ⊎ ((new ≡ record old { landed = (saved effects old).landed }) × IsReadAgain effects old.live)
 
 -- ---- the visible outcome
 
@@ -104,13 +105,14 @@ IsChange (Ok outcome) = is_change outcome ≡ true
 IsChange (Err fault) = ⊥
 
 -- An event with this outcome and these sides leads from `old` to `new`, with this result. It happened, and
--- was saved if it is a change. Or it is a change, and the save failed. Or memory ran out for the event, if it
--- needs memory, or for the save.
+-- was saved if it is a change. Its record is read as these sides. Or it is a change, and the save failed. Or
+-- memory ran out for the event, if it needs memory, or for the save.
 abbrev pub Performs : {L K : Type 0} → Effects L K → Type 0 → HeldAndLanded L → Result DeskOutcome ToolFault × L →
     Result DeskOutcome ToolFault → HeldAndLanded L → Type 0
 Performs effects WantsMemory old event (Ok outcome) new =
     (event.0 ≡ Ok outcome)
     × (new ≡ (if is_change outcome then saved effects (with_sides old event.1) else with_sides old event.1))
+    × (is_change outcome ≡ true → IsReadAgain effects event.1)
 Performs effects WantsMemory old event (Err (Desk (desks.Store Failed))) new =
     IsChange event.0 × IsFaulted effects (with_sides old event.1) new
 Performs effects WantsMemory old event (Err OutOfMemory) new =
@@ -123,11 +125,14 @@ Performs effects WantsMemory old event (Err other) new = ⊥
 abbrev pub has_any : {X : Type 0} → List X → Bool
 has_any items = nat_lt 0 (length items)
 
--- One save of all changes leads from `old` to `new`. Without a change nothing is saved. If the save failed,
--- the store has the old record or the new one. If memory ran out, nothing changed.
+-- One save of all changes leads from `old` to `new`, and its record is read as these sides. Without a change
+-- nothing is saved. If the save failed, the store has the old record or the new one. If memory ran out,
+-- nothing changed.
 abbrev pub SavesOnce : {L K X : Type 0} → Effects L K → List X → HeldAndLanded L → Result (Unit {0}) ToolFault
     → HeldAndLanded L → Type 0
-SavesOnce effects changes old (Ok done) new = new ≡ (if has_any changes then saved effects old else old)
+SavesOnce effects changes old (Ok done) new =
+    (new ≡ (if has_any changes then saved effects old else old))
+    × (has_any changes ≡ true → IsReadAgain effects old.live)
 SavesOnce effects changes old (Err (Desk (desks.Store Failed))) new =
     (has_any changes ≡ true) × IsFaulted effects old new
 SavesOnce effects changes old (Err OutOfMemory) new = new ≡ old
@@ -145,6 +150,11 @@ abbrev pub after_run : {L K A : Type 0} → Effects L K → HeldAndLanded L → 
 after_run effects old run =
     if run.has_changed then saved effects (with_sides old run.live) else with_sides old run.live
 
+-- The changes of a run are saved, which leads from `old` to `new`. The record is read as the sides of the run.
+abbrev pub IsSavedRun : {L K A : Type 0} → Effects L K → HeldAndLanded L → Run L A → HeldAndLanded L → Type 0
+IsSavedRun effects old run new =
+    (new ≡ after_run effects old run) × (run.has_changed ≡ true → IsReadAgain effects run.live)
+
 -- The end of a run leads from `old` to `new`, with this answer. Without a fault all changes are saved and the
 -- lines written. After the fault `Write` all is saved, and a prefix of the lines written. If the save failed,
 -- the store has the old record or the new one, and nothing is written. If memory ran out, the store has the
@@ -152,9 +162,9 @@ after_run effects old run =
 abbrev pub EndsRun : {L K A : Type 0} → Effects L K → Run L A → CommandState L → Result A ToolFault → CommandState L →
     Type 0
 EndsRun effects run old (Ok answer) new =
-    (answer ≡ run.answer) × Appends old.written new.written run.told × (new.desk ≡ after_run effects old.desk run)
+    (answer ≡ run.answer) × Appends old.written new.written run.told × IsSavedRun effects old.desk run new.desk
 EndsRun effects run old (Err Write) new =
-    ((size : ℕ) × Appends old.written new.written (take size run.told)) × (new.desk ≡ after_run effects old.desk run)
+    ((size : ℕ) × Appends old.written new.written (take size run.told)) × IsSavedRun effects old.desk run new.desk
 EndsRun effects run old (Err (Desk (desks.Store Failed))) new =
     (new.written ≡ old.written) × (run.has_changed ≡ true) × IsFaulted effects (with_sides old.desk run.live) new.desk
 EndsRun effects run old (Err OutOfMemory) new =

@@ -11,7 +11,7 @@ use Rattle.ill_saved.specs.declared.store.StoreFault.TheVariants.{Failed}
 use Rattle.ill_der.specs.ShortForm.{spelling}
 use Rattle.ill_der.specs.Handling.{Handles}
 use Rattle.ill_text.specs.Input.{ReadsInput}
-use Rattle.ill_saved.specs.Holdings.{Effects, WantsMemory}
+use Rattle.ill_saved.specs.Holdings.{Effects, IsReadAgain, WantsMemory}
 use Rattle.ill_desk.specs.Performing.{HeldAndLanded, CommandState, with_input, handed, is_change, saved}
 use Rattle.ill_desk.specs.Performing.{IsFaulted, Performs}
 use Rattle.ill_text.specs.Fault.{ToolFailsCounted}
@@ -58,10 +58,10 @@ KeepsTaken is_kept a (Ok outcome) old new =
     Appends old.kept new.kept (kept_text (is_change outcome && is_kept) a)
 KeepsTaken is_kept a (Err fault) old new = KeepsBefore {X = Unit {0}} (kept_text is_kept a) (Err fault) old new
 
--- The save of a taken message leads from `old` to `new`. It succeeded, or it failed, or memory ran out and
--- nothing changed.
+-- The save of a taken message leads from `old` to `new`. It succeeded, and its record is read as these sides.
+-- Or it failed, or memory ran out and nothing changed.
 abbrev pub SavesTaken : {L K : Type 0} → Effects L K → HeldAndLanded L → Result (Unit {0}) ToolFault → HeldAndLanded L → Type 0
-SavesTaken effects old (Ok done) new = new ≡ saved effects old
+SavesTaken effects old (Ok done) new = (new ≡ saved effects old) × IsReadAgain effects old.live
 SavesTaken effects old (Err (Desk (desks.Store Failed))) new = IsFaulted effects old new
 SavesTaken effects old (Err OutOfMemory) new = new ≡ old
 SavesTaken effects old (Err other) new = ⊥

@@ -1,11 +1,71 @@
--- A round without the last message of a side leaves both sides out of step. A whole round brings them in step.
-use Rattle.std.proofs.Common.{rules, refl, sym}
+-- The definitions of a round exclude worlds that are amiss. A round without the last message of a side leaves one. A whole
+-- round brings both sides in step.
+use Rattle.std.proofs.Common.{rules, inl, inr, List, Err, refl, sym, subst}
 use Rattle.std.proofs.lemmas.Bool.{true≢false}
+use Rattle.ill_core.specs.Requester.{RequesterRecord}
+use Rattle.ill_core.specs.Responder.{ResponderRecord}
+use Rattle.ill_saved.specs.declared.side.Side.{Side}
+use Rattle.ill_saved.specs.declared.side.Side.TheVariants as sides
 use Rattle.ill_saved.specs.declared.role.Role.{Role as Who}
 use Rattle.ill_saved.specs.declared.role.Role.TheVariants as who
-use Rattle.ill_world.specs.World.{run_of, run_by}
-use Rattle.ill_world.specs.Round.{sends_and_delivers, round_of, AreInStep}
-use Rattle.ill_world.specs.BadRounds.{cut_round, last_unheard}
+use Rattle.ill_world.specs.declared.event.Event.{Event}
+use Rattle.ill_world.specs.World.{Parties, run_of, run_by}
+use Rattle.ill_world.specs.Agreement.{Facing}
+use Rattle.ill_world.specs.Round.{sends_and_delivers, round_of, Performs, AreInStep, OutOfStep}
+use Rattle.ill_world.specs.Night.{AreAtRest, AreInStepOrAtRest}
+use Rattle.ill_world.specs.BadNights.{Restless}
+use Rattle.ill_world.specs.BadRounds.{IsAmiss, no_requester, no_responder, both, cut_round, last_unheard}
+use Rattle.ill_world.specs.BadTraces.{IsOfNoPrefix}
+use Rattle.ill_world.proofs.OutOfStep.{none_in_step}
+use Rattle.ill_world.proofs.BadNights.{not_at_rest}
+
+-- ---- worlds that are amiss
+
+-- A responder's side faces no side as a requester's.
+responder_first : (P : RequesterRecord → ResponderRecord → Type 0) (y : ResponderRecord) (side : Side)
+    → Facing P (sides.Responder y) side → ⊥
+responder_first P y (sides.Requester x) faces = faces
+responder_first P y (sides.Responder z) faces = faces
+
+-- A requester's side is faced by no side as a responder's.
+requester_second : (P : RequesterRecord → ResponderRecord → Type 0) (x : RequesterRecord) (side : Side)
+    → Facing P side (sides.Requester x) → ⊥
+requester_second P x (sides.Requester z) faces = faces
+requester_second P x (sides.Responder y) faces = faces
+
+-- If `Bad` excludes `Good` of two records, `IsAmiss Bad` excludes it of the live sides of a world.
+amiss_not : (Bad Good : RequesterRecord → ResponderRecord → Type 0)
+    → ((x : RequesterRecord) (y : ResponderRecord) → Bad x y → Good x y → ⊥) → (w : Parties) → IsAmiss Bad w
+    → Facing Good w.requester.live w.responder.live → ⊥
+amiss_not Bad Good excludes w (no_requester y is) faces =
+    responder_first Good y w.responder.live (subst (λ s. Facing Good s w.responder.live) is faces)
+amiss_not Bad Good excludes w (no_responder x is) faces =
+    requester_second Good x w.requester.live (subst (λ s. Facing Good w.requester.live s) is faces)
+amiss_not Bad Good excludes w (both x y is_x is_y bad) faces =
+    excludes x y bad (subst (λ s. Facing Good (sides.Requester x) s) is_y
+    (subst (λ s. Facing Good s w.responder.live) is_x faces))
+
+-- Two sides that are out of step are not in step.
+pub none_out_of_step : (w : Parties) → IsAmiss OutOfStep w → AreInStep w → ⊥
+none_out_of_step w amiss step = amiss_not OutOfStep _ none_in_step w amiss step
+
+-- Two sides that are restless are not at rest.
+pub none_restless : (w : Parties) → IsAmiss Restless w → AreAtRest w → ⊥
+none_restless w amiss rest = amiss_not Restless _ not_at_rest w amiss rest
+
+-- Two sides that are out of step and restless are neither in step nor at rest.
+pub none_of_both : (w : Parties) → IsAmiss OutOfStep w → IsAmiss Restless w → AreInStepOrAtRest w → ⊥
+none_of_both w amiss restless (inl step) = none_out_of_step w amiss step
+none_of_both w amiss restless (inr rest) = none_restless w restless rest
+
+-- ---- the world after events
+
+-- If events were performed, or a prefix of them, the world after them is no other.
+pub none_misled : {M : Type 0} (events : List Event) (old new : Parties) (memory : M) → IsOfNoPrefix (run_of old) events new
+    → Performs run_of events old (Err memory) new → ⊥
+none_misled events old new memory none (prefix, (more, is), shown) = none prefix more is shown
+
+-- ---- a round that is cut short
 
 -- A round that leaves out the last message leaves the two sides out of step.
 pub cut_leaves_apart : (who : Who) → AreInStep (run_of (last_unheard who) (cut_round who (last_unheard who))) → ⊥

@@ -1,10 +1,13 @@
--- For each side there is a world in which its last message is needed. A whole round brings both sides in step there. A
--- round without this message does not.
-use Rattle.std.specs.Prelude.{◌-◌, List, [], ◌∷◌, ◌++◌, length, None, codes}
+-- These are worlds that no round may leave, and worlds in which a message of a round is needed. A whole round brings
+-- both sides in step there. A round without this message does not.
+use Rattle.std.specs.Prelude.{◌≡◌, ◌-◌, List, [], ◌∷◌, ◌++◌, length, None, codes}
 use Rattle.ill_values.specs.TxnId.{Qualifiers}
 use Rattle.ill_values.specs.declared.apdu.AnswerResult.TheVariants.{Unfilled}
 use Rattle.ill_core.specs.declared.requester.Wish.TheVariants as wishes
 use Rattle.ill_core.specs.declared.responder.Deed.TheVariants as deeds
+use Rattle.ill_core.specs.Requester.{RequesterRecord}
+use Rattle.ill_core.specs.Responder.{ResponderRecord}
+use Rattle.ill_saved.specs.declared.side.Side.TheVariants as sides
 use Rattle.ill_saved.specs.Side.{issued_of}
 use Rattle.ill_saved.specs.declared.role.Role.{Role as Who}
 use Rattle.ill_saved.specs.declared.role.Role.TheVariants.{Requester, Responder}
@@ -12,6 +15,15 @@ use Rattle.ill_world.specs.declared.event.Event.{Event}
 use Rattle.ill_world.specs.declared.event.Event.TheVariants.{Wish, Deed, Save, Send, Deliver}
 use Rattle.ill_world.specs.World.{Parties, first_world, party, run_of}
 use Rattle.ill_world.specs.Round.{sends_and_delivers, half_of}
+
+-- ---- worlds that are amiss
+
+-- A live side of `w` has the role of the other one, or `P` holds of the two live records.
+pub data IsAmiss (P : RequesterRecord → ResponderRecord → Type 0) (w : Parties) : Type 0 where
+  no_requester : (y : ResponderRecord) → w.requester.live ≡ sides.Responder y → IsAmiss P w
+  no_responder : (x : RequesterRecord) → w.responder.live ≡ sides.Requester x → IsAmiss P w
+  both : (x : RequesterRecord) (y : ResponderRecord) → w.requester.live ≡ sides.Requester x →
+      w.responder.live ≡ sides.Responder y → P x y → IsAmiss P w
 
 -- ---- a round that is cut short
 
@@ -24,9 +36,9 @@ abbrev pub cut_round : Who → Parties → List Event
 cut_round Requester w = cut_half Requester w ++ half_of Responder (run_of w (cut_half Requester w))
 cut_round Responder w = half_of Requester w ++ cut_half Responder (run_of w (half_of Requester w))
 
--- ---- a world in which the message is needed
+-- ---- worlds in which the message is needed
 
--- The two worlds are of this transaction.
+-- The worlds are of this transaction.
 abbrev pub named_loan : Qualifiers
 named_loan = record { group = codes "North-2025"; transaction = codes "17" }
 

@@ -7,7 +7,7 @@ pub data Leaves (written trace : List ℕ) : Type 0 where
   differs : (common rest more : List ℕ) (byte other : ℕ) → written ≡ common ++ byte ∷ rest →
       trace ≡ common ++ other ∷ more → (byte ≡ other → ⊥) → Leaves written trace
 
--- No prefix of `events` has the bytes written as its trace.
-abbrev pub IsOfNoPrefix : {E : Type 0} → (List E → List ℕ) → List E → List ℕ → Type 0
-IsOfNoPrefix {E = E} trace_of events written =
-    (prefix more : List E) → events ≡ prefix ++ more → written ≡ trace_of prefix → ⊥
+-- No prefix of `events` has this result, as a trace or as the world after it.
+abbrev pub IsOfNoPrefix : {E X : Type 0} → (List E → X) → List E → X → Type 0
+IsOfNoPrefix {E = E} result_of events result =
+    (prefix more : List E) → events ≡ prefix ++ more → result ≡ result_of prefix → ⊥

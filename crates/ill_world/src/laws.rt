@@ -1,6 +1,7 @@
 //! The laws of every world are the contracts of functions that do nothing.
 
-ghost use Rattle.std.specs.Prelude.{◌≡◌, ◌↔◌, ◌⊎◌, ◌++◌, ◌∷◌, ℕ, Bool, List, [], Option, Some, Ok, Err, true, false};
+ghost use Rattle.std.specs.Prelude.{◌≡◌, ◌↔◌, ◌⊎◌, ◌++◌, ◌∷◌, ◌<◌, ℕ, Bool, List, [], length, Option, Some, Ok, Err, true, false};
+ghost use Rattle.std.specs.declared.alloc.AllocError.{AllocError};
 ghost use Rattle.ill_values.specs.Day.{Date};
 ghost use Rattle.ill_values.specs.TxnId.{Qualifiers};
 ghost use Rattle.ill_values.specs.declared.apdu.Apdu.{Apdu};
@@ -8,6 +9,8 @@ ghost use Rattle.ill_core.specs.declared.requester.Wish.{Wish};
 ghost use Rattle.ill_core.specs.declared.responder.Deed.{Deed};
 ghost use Rattle.ill_core.specs.declared.state.State.TheVariants as states;
 ghost use Rattle.ill_core.specs.declared.turn.Turn.TheVariants.{Over, Mine};
+ghost use Rattle.ill_values.specs.Bodies.{is_end};
+ghost use Rattle.ill_core.specs.Issued.{has_message_with};
 ghost use Rattle.ill_core.specs.Requester.{RequesterRecord};
 ghost use Rattle.ill_core.specs.RequesterActions as requester_actions;
 ghost use Rattle.ill_core.specs.RequesterDeliveries as requester_deliveries;
@@ -15,7 +18,7 @@ ghost use Rattle.ill_core.specs.Responder.{ResponderRecord};
 ghost use Rattle.ill_core.specs.ResponderActions as responder_actions;
 ghost use Rattle.ill_core.specs.ResponderDeliveries as responder_deliveries;
 ghost use Rattle.ill_core.specs.Verbs.{requester_turn, responder_turn, requester_verbs, responder_verbs};
-ghost use Rattle.ill_saved.specs.Side.{IsPrefix};
+ghost use Rattle.ill_saved.specs.Side.{IsPrefix, issued_of};
 ghost use Rattle.ill_saved.specs.declared.role.Role.{Role as Who};
 ghost use Rattle.ill_saved.specs.declared.role.Role.TheVariants.{Requester, Responder};
 ghost use Rattle.ill_saved.specs.declared.side.Side.{Side};
@@ -28,9 +31,9 @@ ghost use Rattle.ill_world.specs.Safety.{OfBoth, EndsAlike, WasShipped, WasGrant
 ghost use Rattle.ill_world.specs.Agreement.{Agrees, IsAgreeingRun, KeepsDates, Arrives};
 ghost use Rattle.ill_world.specs.BadWorlds.{IsUnsafe, Disagrees, TakesBack, ArrivesInVain};
 ghost use Rattle.ill_world.specs.BadTraces.{Leaves, IsOfNoPrefix};
-ghost use Rattle.ill_world.specs.BadRounds.{cut_round, last_unheard};
+ghost use Rattle.ill_world.specs.BadRounds.{IsAmiss, cut_round, last_unheard};
 ghost use Rattle.ill_world.specs.Changes.{MayChange, OnlyLandedChanges, KeepsSent, can_be_seen};
-ghost use Rattle.ill_world.specs.Round.{round_of, CanAnswer, AreInStep, InStep, OutOfStep};
+ghost use Rattle.ill_world.specs.Round.{round_of, Performs, CanAnswer, AreInStep, InStep, OutOfStep};
 ghost use Rattle.ill_words.specs.Sending.{is_over, wants_sending};
 ghost use Rattle.ill_world.specs.Night.{asks, night_of, AreAtRest, AreInStepOrAtRest, AtRest};
 ghost use Rattle.ill_words.specs.BadSending.{MisjudgesEnd, MisjudgesSending};
@@ -186,6 +189,31 @@ pub fn no_round_may_be_cut_short()
 /// the other has.
 pub fn no_pair_out_of_step_is_in_step()
     ensures { (x : RequesterRecord) (y : ResponderRecord) → OutOfStep x y → InStep x y → ⊥ }
+{}
+
+/// Sides whose records are out of step are not in step. Sides whose records are restless are not at rest. If the records
+/// are both, the sides are neither in step nor at rest. Nor are they if one has the role of the other.
+#[tactic(auto, using(crate::proofs::BadRounds::none_out_of_step, crate::proofs::BadRounds::none_restless, crate::proofs::BadRounds::none_of_both))]
+pub fn no_world_amiss_is_in_step_or_at_rest()
+    ensures step { (w : Parties) → IsAmiss OutOfStep w → AreInStep w → ⊥ }
+    ensures rest { (w : Parties) → IsAmiss Restless w → AreAtRest w → ⊥ }
+    ensures neither { (w : Parties) → IsAmiss OutOfStep w → IsAmiss Restless w → AreInStepOrAtRest w → ⊥ }
+{}
+
+/// A side can answer if it has issued fewer than 255 messages, or one that ends the request.
+pub fn most_sides_can_answer()
+    ensures left { (side : Side) → length (issued_of side) < 255 → CanAnswer side }
+    ensures ended { (side : Side) → has_message_with is_end (issued_of side) ≡ true → CanAnswer side }
+{}
+
+/// Events that were performed lead to the world after them, and to no other. If memory ran out, a prefix of them leads
+/// to the world.
+#[tactic(auto, using(crate::proofs::BadRounds::none_misled))]
+pub fn no_other_world_is_performed()
+    ensures done { (events : List Event) (old new : Parties) →
+        (new ≡ run_of old events → ⊥) → Performs {M = AllocError} run_of events old (Ok tt) new → ⊥ }
+    ensures memory { (events : List Event) (old new : Parties) (memory : AllocError) →
+        IsOfNoPrefix (run_of old) events new → Performs run_of events old (Err memory) new → ⊥ }
 {}
 
 /// If two records are in step, the loan is over for both, or for neither. If for neither, one has the turn and a verb.

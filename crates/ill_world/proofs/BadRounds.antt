@@ -1,5 +1,5 @@
--- The definitions of a round exclude worlds that are amiss. A round without the last message of a side leaves one. A whole
--- round brings both sides in step.
+-- The definitions of a round exclude worlds that are amiss. A round without the last message of a side, or without
+-- its first one, leaves them so. A whole round brings both sides in step.
 use Rattle.std.proofs.Common.{rules, inl, inr, List, Err, refl, sym, subst}
 use Rattle.std.proofs.lemmas.Bool.{true≢false}
 use Rattle.ill_core.specs.Requester.{RequesterRecord}
@@ -14,7 +14,7 @@ use Rattle.ill_world.specs.Agreement.{Facing}
 use Rattle.ill_world.specs.Round.{sends_and_delivers, round_of, Performs, AreInStep, OutOfStep}
 use Rattle.ill_world.specs.Night.{AreAtRest, AreInStepOrAtRest}
 use Rattle.ill_world.specs.BadNights.{Restless}
-use Rattle.ill_world.specs.BadRounds.{IsAmiss, no_requester, no_responder, both, cut_round, last_unheard}
+use Rattle.ill_world.specs.BadRounds.{IsAmiss, no_requester, no_responder, both, cut_round, last_unheard, late_round, two_unheard}
 use Rattle.ill_world.specs.BadTraces.{IsOfNoPrefix}
 use Rattle.ill_world.proofs.OutOfStep.{none_in_step}
 use Rattle.ill_world.proofs.BadNights.{not_at_rest}
@@ -80,3 +80,17 @@ whole_brings_in_step who.Requester =
     record { faced = refl; undeclined = refl; received = λ is. search rules; checked_in = refl; due = λ is. refl }
 whole_brings_in_step who.Responder =
     record { faced = refl; undeclined = refl; received = λ is. search rules; checked_in = refl; due = λ is. refl }
+
+-- A round that leaves out the first message leaves the two sides out of step, though a later one arrives.
+pub late_leaves_apart : (who : Who) → AreInStep (run_of (two_unheard who) (late_round who (two_unheard who))) → ⊥
+unfolding run_by sends_and_delivers
+late_leaves_apart who.Requester step = true≢false (sym step.faced)
+late_leaves_apart who.Responder step = true≢false (sym step.faced)
+
+-- A whole round brings these two sides in step, too.
+pub whole_brings_both_in_step : (who : Who) → AreInStep (run_of (two_unheard who) (round_of (two_unheard who)))
+unfolding run_by sends_and_delivers
+whole_brings_both_in_step who.Requester =
+    record { faced = refl; undeclined = refl; received = λ is. search rules; checked_in = refl; due = λ is. refl }
+whole_brings_both_in_step who.Responder =
+    record { faced = refl; undeclined = refl; received = λ is. refl; checked_in = refl; due = λ is. refl }

@@ -1,6 +1,7 @@
 -- These are worlds that no round may leave, and worlds in which a message of a round is needed. A whole round brings
 -- both sides in step there. A round without this message does not.
 use Rattle.std.specs.Prelude.{◌≡◌, ◌-◌, List, [], ◌∷◌, ◌++◌, length, None, codes}
+use Rattle.ill_values.specs.Day.{Date}
 use Rattle.ill_values.specs.TxnId.{Qualifiers}
 use Rattle.ill_values.specs.declared.apdu.AnswerResult.TheVariants.{Unfilled}
 use Rattle.ill_core.specs.declared.requester.Wish.TheVariants as wishes
@@ -36,6 +37,15 @@ abbrev pub cut_round : Who → Parties → List Event
 cut_round Requester w = cut_half Requester w ++ half_of Responder (run_of w (cut_half Requester w))
 cut_round Responder w = half_of Requester w ++ cut_half Responder (run_of w (half_of Requester w))
 
+-- Returns the half of a round of `who` without its first message.
+abbrev pub late_half : Who → Parties → List Event
+late_half who w = Save who ∷ sends_and_delivers who 2 (length (issued_of (party w who).live) - 1)
+
+-- Returns a round without the first message of the given party.
+abbrev pub late_round : Who → Parties → List Event
+late_round Requester w = late_half Requester w ++ half_of Responder (run_of w (late_half Requester w))
+late_round Responder w = half_of Requester w ++ late_half Responder (run_of w (half_of Requester w))
+
 -- ---- worlds in which the message is needed
 
 -- The worlds are of this transaction.
@@ -46,11 +56,17 @@ named_loan = record { group = codes "North-2025"; transaction = codes "17" }
 abbrev pub request : List Event
 request = Wish (wishes.Request None (codes "A History of Maps")) ∷ []
 
+-- The request reaches the responder.
+abbrev pub arrival : List Event
+arrival = Save Requester ∷ Send Requester 1 ∷ Deliver Responder 1 ∷ []
+
+-- The responder decides on this day.
+abbrev pub first_day : Date
+first_day = record { year = 2025; month = 3; day = 1 }
+
 -- The request reaches the responder, which answers that it cannot supply the item.
 abbrev pub refusal : List Event
-refusal =
-    Save Requester ∷ Send Requester 1 ∷ Deliver Responder 1
-    ∷ Deed (deeds.Answer Unfilled) (record { year = 2025; month = 3; day = 1 }) ∷ []
+refusal = arrival ++ Deed (deeds.Answer Unfilled) first_day ∷ []
 
 -- Returns events that end with an issued message of `who`. It has not reached the other party.
 abbrev pub until_unheard : Who → List Event
@@ -60,3 +76,13 @@ until_unheard Responder = request ++ refusal
 -- Returns the world after these events, in which the last message of `who` has not reached the other party.
 abbrev pub last_unheard : Who → Parties
 last_unheard who = run_of (first_world named_loan) (until_unheard who)
+
+-- Returns events that end with two issued messages of `who`. The requester asks, and then cancels. The responder ships,
+-- and then recalls the item. Neither message has reached the other party.
+abbrev pub until_two_unheard : Who → List Event
+until_two_unheard Requester = request ++ Wish wishes.Cancel ∷ []
+until_two_unheard Responder = request ++ arrival ++ Deed (deeds.Ship first_day) first_day ∷ Deed deeds.Recall first_day ∷ []
+
+-- Returns the world after these events, in which two messages of `who` have not reached the other party.
+abbrev pub two_unheard : Who → Parties
+two_unheard who = run_of (first_world named_loan) (until_two_unheard who)

@@ -31,7 +31,7 @@ ghost use Rattle.ill_world.specs.Safety.{OfBoth, EndsAlike, WasShipped, WasGrant
 ghost use Rattle.ill_world.specs.Agreement.{Agrees, IsAgreeingRun, KeepsDates, Arrives};
 ghost use Rattle.ill_world.specs.BadWorlds.{IsUnsafe, Disagrees, TakesBack, ArrivesInVain};
 ghost use Rattle.ill_world.specs.BadTraces.{Leaves, IsOfNoPrefix};
-ghost use Rattle.ill_world.specs.BadRounds.{IsAmiss, cut_round, last_unheard};
+ghost use Rattle.ill_world.specs.BadRounds.{IsAmiss, cut_round, last_unheard, late_round, two_unheard};
 ghost use Rattle.ill_world.specs.Changes.{MayChange, OnlyLandedChanges, KeepsSent, can_be_seen};
 ghost use Rattle.ill_world.specs.Round.{round_of, Performs, CanAnswer, AreInStep, InStep, OutOfStep};
 ghost use Rattle.ill_words.specs.Sending.{is_over, wants_sending};
@@ -183,6 +183,16 @@ pub fn no_round_may_be_cut_short()
         AreInStep (run_of (last_unheard who) (cut_round who (last_unheard who))) → ⊥ }
     ensures whole { (who : Who) →
         AreInStep (run_of (last_unheard who) (round_of (last_unheard who))) }
+{}
+
+/// A round that leaves out the first message of a side does not always bring both sides in step. For either side a run
+/// leads to a world in which it does not, though a later message arrives. A whole round brings both sides in step there.
+#[tactic(auto, using(crate::proofs::BadRounds::late_leaves_apart, crate::proofs::BadRounds::whole_brings_both_in_step))]
+pub fn no_round_may_begin_late()
+    ensures late { (who : Who) →
+        AreInStep (run_of (two_unheard who) (late_round who (two_unheard who))) → ⊥ }
+    ensures whole { (who : Who) →
+        AreInStep (run_of (two_unheard who) (round_of (two_unheard who))) }
 {}
 
 /// Two records are not in step if their states do not face each other. They are not in step if one lacks a fact that

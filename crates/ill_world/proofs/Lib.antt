@@ -1,5 +1,6 @@
 pub mod Agreements
 pub mod Arrivals
+pub mod BadChanges
 pub mod BadDesks
 pub mod BadNights
 pub mod BadRounds

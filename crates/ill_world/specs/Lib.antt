@@ -1,4 +1,5 @@
 pub mod Agreement
+pub mod BadChanges
 pub mod BadDesks
 pub mod BadNights
 pub mod BadRounds

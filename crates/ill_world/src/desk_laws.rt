@@ -25,6 +25,7 @@ ghost use Rattle.ill_world.specs.World.{Parties, run_of};
 ghost use Rattle.ill_world.specs.Safety.{Safe};
 ghost use Rattle.ill_world.specs.Agreement.{Agrees, KeepsDates};
 ghost use Rattle.ill_world.specs.BadDesks.{Names, IsNotReached, MissesHeld, ChangesUnreached, ArrivesInVainAt};
+ghost use Rattle.ill_world.specs.BadChanges.{ChangesTooMuch};
 ghost use Rattle.ill_world.specs.BadTraces.{Leaves, IsOfNoPrefix};
 ghost use Rattle.ill_world.specs.Changes.{KeepsSent};
 ghost use Rattle.ill_world.specs.DeskChanges.{DeskMayChange, ReachesSide, ProjectsTo};
@@ -167,12 +168,15 @@ pub fn transactions_have_their_events()
         events_for txn w (Noise who bytes ∷ []) ≡ [] }
 {}
 
-/// No event of two desks misses a transaction that its desk holds. None changes a transaction that it does not reach.
-/// If `ArrivesAt` holds of it, neither an end of a request nor a Returned arrives in vain.
+/// No event of two desks misses a transaction that its desk holds. None changes a transaction that
+/// it does not reach, or changes one too much. If `ArrivesAt` holds of it, neither an end of a request nor a Returned
+/// arrives in vain.
 pub fn no_bad_desk_event_passes()
     ensures reaches { (w : DeskParties) (event : DeskEvent) → MissesHeld w event → ReachesSide w event → ⊥ }
     ensures changes { (outcome : DeskOutcome) (old new : Parties) →
         ChangesUnreached outcome old new → DeskMayChange outcome old new → ⊥ }
+    ensures plain { (outcome : Outcome) (old new : Parties) →
+        ChangesTooMuch old new outcome → DeskMayChange (Plain outcome) old new → ⊥ }
     ensures arrives { (w : DeskParties) (event : DeskEvent) →
         ArrivesInVainAt w event → ArrivesAt w event → ⊥ }
 {}

@@ -25,6 +25,7 @@ ghost use Rattle.ill_saved.specs.declared.side.Side.{Side};
 ghost use Rattle.ill_world.specs.declared.event.Event.{Event};
 ghost use Rattle.ill_world.specs.declared.event.Event.TheVariants.{Save};
 ghost use Rattle.ill_world.specs.declared.fault.SimFault.TheVariants.{Write, OutOfMemory};
+ghost use Rattle.ill_words.specs.declared.outcome.Outcome.{Outcome};
 ghost use Rattle.ill_world.specs.World.{Parties, first_world, happens, run_of};
 ghost use Rattle.ill_world.specs.Simulation.{script, trace_of, line_after, Simulates};
 ghost use Rattle.ill_world.specs.Safety.{OfBoth, EndsAlike, WasShipped, WasGranted, Safe, IsSafeRun};
@@ -32,6 +33,7 @@ ghost use Rattle.ill_world.specs.Agreement.{Agrees, IsAgreeingRun, KeepsDates, A
 ghost use Rattle.ill_world.specs.BadWorlds.{IsUnsafe, Disagrees, TakesBack, ArrivesInVain};
 ghost use Rattle.ill_world.specs.BadTraces.{Leaves, IsOfNoPrefix};
 ghost use Rattle.ill_world.specs.BadRounds.{IsAmiss, cut_round, last_unheard, late_round, two_unheard};
+ghost use Rattle.ill_world.specs.BadChanges.{ChangesTooMuch, LosesSent, IsUnseen};
 ghost use Rattle.ill_world.specs.Changes.{MayChange, OnlyLandedChanges, KeepsSent, can_be_seen};
 ghost use Rattle.ill_world.specs.Round.{round_of, Performs, CanAnswer, AreInStep, InStep, OutOfStep};
 ghost use Rattle.ill_words.specs.Sending.{is_over, wants_sending};
@@ -362,6 +364,16 @@ pub fn sent_stays_sent()
 {
     world_stands();
 }
+
+/// An event that did nothing has not changed the world. A save that failed has changed no more than a landed side. No sent
+/// message is lost. No event is refused for a wrong role, or for a lack of memory.
+#[tactic(auto, using(crate::proofs::BadChanges::none_too_much, crate::proofs::BadChanges::none_lost, crate::proofs::BadChanges::none_unseen))]
+pub fn no_bad_change_is_allowed()
+    ensures changes { (outcome : Outcome) (old new : Parties) →
+        ChangesTooMuch old new outcome → MayChange OnlyLandedChanges outcome old new → ⊥ }
+    ensures sent { (old new : Parties) → LosesSent old new → KeepsSent old new → ⊥ }
+    ensures seen { (outcome : Outcome) → IsUnseen outcome → can_be_seen outcome ≡ true → ⊥ }
+{}
 
 /// In a run no outcome is the refusal of a wrong role, or of a lack of memory.
 pub fn few_outcomes_are_seen()

@@ -1,10 +1,14 @@
--- Proves the clauses `reaches`, `changes` and `arrives` of `no_bad_desk_event_passes` (`src/desk_laws.rt`). Each case
--- of a bad event contradicts its definition, by the lemmas of `BadDesks`.
+-- Proves the clauses of `no_bad_desk_event_passes` (`src/desk_laws.rt`). Each case of a bad event contradicts its
+-- definition, by the lemmas of `BadDesks` and `BadChanges`.
+use Rattle.ill_world.proofs.BadChanges.{none_too_much}
 use Rattle.ill_world.proofs.BadDesks.{none_missed, none_changed, none_in_vain_at}
 use Rattle.ill_world.proofs.desk_laws.no_bad_desk_event_passes.Goals as goal
 
 pub returns-clause-reaches : goal.returns-clause-reaches
 returns-clause-reaches c = none_missed
+
+pub returns-clause-plain : goal.returns-clause-plain
+returns-clause-plain c = none_too_much
 
 pub returns-clause-changes : goal.returns-clause-changes
 returns-clause-changes c = none_changed

@@ -1,6 +1,7 @@
 -- The definitions on two desks take the events of a transaction, and exclude the bad events.
 use Rattle.std.proofs.Common.{rules, ◌≡◌, inl, inr, ℕ, Bool, true, false, if◌then◌else◌, List, [], ◌∷◌, ◌++◌, length, nat_lt}
 use Rattle.std.proofs.Common.{Option, Some, None, refl, sym, ap, ◌∙◌, subst}
+use Rattle.std.proofs.lemmas.Bool.{true≢false}
 use Rattle.ill_values.specs.TxnId.{Qualifiers}
 use Rattle.ill_values.specs.declared.apdu.Apdu.{Apdu}
 use Rattle.ill_values.specs.declared.apdu.Body.{Body}
@@ -21,13 +22,18 @@ use Rattle.ill_words.specs.declared.outcome.Outcome.{Outcome}
 use Rattle.ill_words.specs.declared.outcome.Outcome.TheVariants.{NotSent}
 use Rattle.ill_words.specs.declared.outcome.DeskOutcome.{DeskOutcome}
 use Rattle.ill_words.specs.declared.outcome.DeskOutcome.TheVariants.{Plain, NoSuchTransaction, DeskFull}
-use Rattle.ill_world.specs.World.{Parties, party, sent_message, run_by, run_of, happens, first_world}
+use Rattle.ill_world.specs.World.{Party, Parties, party, sent_message, run_by, run_of, happens, first_world}
 use Rattle.ill_world.specs.Desks.{DeskParty, DeskParties, sent_for, desk_receives, plain, first_desks, desks_happen, desks_run}
-use Rattle.ill_world.specs.Desks.{project, concerns, if_reached, is_event_of, events_for}
+use Rattle.ill_world.specs.Desks.{project, concerns, if_reached, is_event_of, events_for, IsSeenAs, Projects}
+use Rattle.ill_world.specs.DeskScript.{IsInTxn}
 use Rattle.ill_world.specs.Agreement.{settled_by}
 use Rattle.ill_world.specs.DeskSafety.{IsRunOfEach, SettlesAt, ArrivesAt}
-use Rattle.ill_world.specs.DeskChanges.{IsPlain, Reaches, ReachesAt, ReachesSide, DeskMayChange}
+use Rattle.ill_world.specs.DeskChanges.{ProjectsTo, IsPlain, Reaches, ReachesAt, ReachesSide, DeskMayChange}
 use Rattle.ill_world.specs.BadDesks.{Names, IsNotReached, MissesHeld, ChangesUnreached, EndsIn, shipped, cancelled, expired}
+use Rattle.ill_world.specs.BadDesks.{desk_of, MayBegin, by_wish, by_deed, by_sending, by_delivery, MissesNew, begins_none}
+use Rattle.ill_world.specs.BadDesks.{overfills, finds_one}
+use Rattle.ill_world.specs.BadDesks.{misses_desk, Hides, hides_side, hides_release, hides_landed, hides_sent, IsMisseen}
+use Rattle.ill_world.specs.BadDesks.{other_outcome, other_world, no_event}
 use Rattle.ill_world.specs.BadDesks.{refused, IsUnheededAt, ArrivesInVainAt, end_in_vain, returned_in_vain}
 use Rattle.ill_world.proofs.BadWorlds.{heeded, final_ends}
 use Rattle.ill_world.proofs.Runs.{run_both, run_one}
@@ -166,6 +172,44 @@ none_in_vain_at w _ (returned_in_vain txn n a sent is unheeded) arrives =
     heeded_at (states.Returned ∷ states.CheckedIn ∷ []) after.0 (held_for txn after.1.responder.live).side unheeded
     (arrives a sent (ap is_returned is))
 
+-- ---- projections
+
+-- A party to which a desk projects hides nothing of it.
+pub none_hidden : (p : DeskParty) (txn : Qualifiers) (shown : Party) → Hides p txn shown → ProjectsTo p txn shown → ⊥
+none_hidden p txn shown (hides_side held found other) shows = other (shows.live held found).0
+none_hidden p txn shown (hides_release held found other) shows = other (shows.live held found).1
+none_hidden p txn shown (hides_landed side found other) shows = other (shows.landed side found)
+none_hidden p txn shown (hides_sent sending found other) shows = other (shows.sent sending found)
+
+-- An event of a transaction is seen there with its outcome and its world.
+seen_there : {P : Type 0} (own : Bool) (expected : Outcome × P) (old new : P) (outcome : DeskOutcome) → own ≡ true
+    → IsSeenAs own expected old outcome new → (outcome ≡ Plain expected.0) × (new ≡ expected.1)
+seen_there true expected old new outcome is seen = seen
+seen_there false expected old new outcome is seen = absurd (true≢false (sym is))
+
+-- Any other event leaves the projection unchanged.
+unseen_there : {P : Type 0} (own : Bool) (expected : Outcome × P) (old new : P) (outcome : DeskOutcome) → own ≡ false
+    → IsSeenAs own expected old outcome new → new ≡ old
+unseen_there true expected old new outcome is seen = absurd (true≢false is)
+unseen_there false expected old new outcome is seen = seen
+
+-- If `Projects` holds of an event, it is not misseen.
+pub none_misseen : (txn : Qualifiers) (w : DeskParties) (event : DeskEvent) → IsMisseen txn w event → Projects txn w event → ⊥
+none_misseen txn w event (other_outcome own other) projects = other (seen_there (is_event_of txn w event) _ _ _ _ own projects).0
+none_misseen txn w event (other_world own other) projects = other (seen_there (is_event_of txn w event) _ _ _ _ own projects).1
+none_misseen txn w event (no_event own changed) projects = changed (unseen_there (is_event_of txn w event) _ _ _ _ own projects)
+
+-- ---- scripts
+
+-- An event that names another transaction is not in this one.
+pub none_elsewhere : (txn another : Qualifiers) (event : DeskEvent) → Names another event → (txn ≡ another → ⊥)
+    → IsInTxn txn event → ⊥
+none_elsewhere txn another (events.Wish of wish) names apart is = apart (sym is ∙ names)
+none_elsewhere txn another (events.Deed of deed today) names apart is = apart (sym is ∙ names)
+none_elsewhere txn another (events.Send role of n) names apart is = apart (sym is ∙ names)
+none_elsewhere txn another (events.Deliver role of n) names apart is = apart (sym is ∙ names)
+none_elsewhere txn another event names apart is = absurd names
+
 -- ---- events that reach a side, and changes
 
 -- A plain outcome is neither NoSuchTransaction nor DeskFull.
@@ -198,6 +242,46 @@ none_missed w (events.Deliver role of n) (txn, held, names, found, missed) reach
     go None e = not_plain (Plain NotSent) tt (subst IsNotReached (ap (λ o. (desk_receives (party w role) o).0) e) missed)
     go (Some a) e = held_missed (is_ill_request a.body) (party w role) txn of held _ names found (reaches a e) missed
 none_missed w event (txn, held, names, found, missed) reaches = absurd names
+
+-- If `ReachesSide` holds of an event that names `txn`, it reaches a side of `txn` as `MayBegin` says.
+reaches_as : (w : DeskParties) (txn : Qualifiers) (may : Bool) (event : DeskEvent) → MayBegin w txn may event
+    → ReachesSide w event → ReachesAt may (desk_of w event) txn (desks_happen w event).0
+reaches_as w txn may _ (by_wish wish is) reaches =
+    subst (λ b. ReachesAt b w.requester txn (desks_happen w (events.Wish txn wish)).0) is reaches
+reaches_as w txn may _ (by_deed deed today is) reaches =
+    subst (λ b. ReachesAt b w.responder txn (desks_happen w (events.Deed txn deed today)).0) (sym is) reaches
+reaches_as w txn may _ (by_sending role n is) reaches =
+    subst (λ b. ReachesAt b (party w role) txn (desks_happen w (events.Send role txn n)).0) (sym is) reaches
+reaches_as w txn may _ (by_delivery role n a sent is) reaches =
+    subst (λ b. ReachesAt b (party w role) txn (desks_happen w (events.Deliver role txn n)).0) is (reaches a sent)
+
+-- If `ReachesSide` holds of an event that names no transaction, it is reached.
+reaches_desk : (w : DeskParties) (event : DeskEvent) → ((txn : Qualifiers) → Names txn event → ⊥) → ReachesSide w event
+    → IsPlain (desks_happen w event).0
+reaches_desk w (events.Wish of wish) nameless reaches = absurd (nameless of refl)
+reaches_desk w (events.Deed of deed today) nameless reaches = absurd (nameless of refl)
+reaches_desk w (events.Send role of n) nameless reaches = absurd (nameless of refl)
+reaches_desk w (events.Deliver role of n) nameless reaches = absurd (nameless of refl)
+reaches_desk w event nameless reaches = reaches
+
+-- If `ReachesSide` holds of an event, it has the right outcome where no side is held.
+pub none_missed_new : (w : DeskParties) (event : DeskEvent) → MissesNew w event → ReachesSide w event → ⊥
+none_missed_new w event (begins_none txn may unheld room missed) reaches =
+    let outcome = (desks_happen w event).0 in
+    not_plain outcome (subst (λ r. Reaches true r None outcome) room
+    (subst (λ found. Reaches true (nat_lt (length (desk_of w event).live.held) 1000) found outcome) unheld
+    (reaches_as w txn true event may reaches))) missed
+none_missed_new w event (overfills txn may unheld full other) reaches =
+    let outcome = (desks_happen w event).0 in
+    other (subst (λ r. Reaches true r None outcome) full
+    (subst (λ found. Reaches true (nat_lt (length (desk_of w event).live.held) 1000) found outcome) unheld
+    (reaches_as w txn true event may reaches)))
+none_missed_new w event (finds_one txn may unheld other) reaches =
+    let outcome = (desks_happen w event).0 in
+    other (subst (λ found. Reaches false (nat_lt (length (desk_of w event).live.held) 1000) found outcome) unheld
+    (reaches_as w txn false event may reaches))
+none_missed_new w event (misses_desk nameless missed) reaches =
+    not_plain (desks_happen w event).0 (reaches_desk w event nameless reaches) missed
 
 -- If `DeskMayChange` holds of an event that is not reached, the projection has not changed.
 pub none_changed : (outcome : DeskOutcome) (old new : Parties) → ChangesUnreached outcome old new

@@ -1,6 +1,6 @@
 -- These are the events of two desks that belong to a transaction, and events that no run may have. By the laws the
 -- definitions on desks take the former, and exclude the latter.
-use Rattle.std.specs.Prelude.{◌≡◌, ◌⊎◌, ℕ, true, List, [], ◌∷◌, Some}
+use Rattle.std.specs.Prelude.{◌≡◌, ◌⊎◌, ℕ, nat_lt, Bool, true, false, List, [], ◌∷◌, length, Some, None}
 use Rattle.ill_values.specs.Day.{Date}
 use Rattle.ill_values.specs.TxnId.{Qualifiers}
 use Rattle.ill_values.specs.declared.apdu.Apdu.{Apdu}
@@ -9,18 +9,25 @@ use Rattle.ill_values.specs.declared.apdu.Body.TheVariants as bodies
 use Rattle.ill_values.specs.declared.apdu.AnswerResult.{AnswerResult}
 use Rattle.ill_core.specs.declared.state.State.{State}
 use Rattle.ill_core.specs.declared.state.State.TheVariants as states
-use Rattle.ill_values.specs.Bodies.{is_final}
+use Rattle.ill_values.specs.Bodies.{is_final, is_ill_request}
+use Rattle.ill_core.specs.declared.requester.Wish.{Wish as RequesterWish}
+use Rattle.ill_core.specs.declared.responder.Deed.{Deed as ResponderDeed}
 use Rattle.ill_core.specs.Requester.{later}
+use Rattle.ill_saved.specs.declared.role.Role.{Role as Who}
 use Rattle.ill_saved.specs.declared.role.Role.TheVariants.{Requester, Responder}
+use Rattle.ill_saved.specs.declared.side.Action.TheVariants as actions
 use Rattle.ill_saved.specs.declared.side.Side.{Side}
+use Rattle.ill_saved.specs.Side.{other, begins}
+use Rattle.ill_saved.specs.Sides.{side_with}
 use Rattle.ill_saved.specs.Holdings.{DeskEntry}
 use Rattle.ill_saved.specs.ManySides.{found_by, txn_held, held_for}
 use Rattle.ill_world.specs.declared.event.DeskEvent.{DeskEvent}
 use Rattle.ill_world.specs.declared.event.DeskEvent.TheVariants.{Wish, Deed, Send, Deliver}
 use Rattle.ill_words.specs.declared.outcome.DeskOutcome.{DeskOutcome}
 use Rattle.ill_words.specs.declared.outcome.DeskOutcome.TheVariants.{Plain, NoSuchTransaction, DeskFull}
-use Rattle.ill_world.specs.World.{Parties, party, who_of, sent_message}
-use Rattle.ill_world.specs.Desks.{DeskParties, plain, sent_for, desks_happen}
+use Rattle.ill_world.specs.World.{Party, Parties, party, who_of, happens, sent_message}
+use Rattle.ill_world.specs.Desks.{Sending, DeskParty, DeskParties, plain, txn_sent, sent_for, desks_happen, project}
+use Rattle.ill_world.specs.Desks.{is_event_of}
 use Rattle.ill_world.specs.BadWorlds.{IsUnheeded}
 
 -- ---- the events of a transaction
@@ -44,9 +51,64 @@ MissesHeld w event =
     × (found_by txn_held txn (party w (who_of (plain event))).live.held ≡ Some held)
     × IsNotReached (desks_happen w event).0
 
+-- Returns the desk to which the event happens.
+abbrev pub desk_of : DeskParties → DeskEvent → DeskParty
+desk_of w event = party w (who_of (plain event))
+
+-- The event names `txn`, and the Bool tells if it may begin a side. Only a Request may, and an ILL-Request that was
+-- sent.
+pub data MayBegin (w : DeskParties) (txn : Qualifiers) (may : Bool) : DeskEvent → Type 0 where
+  by_wish : (wish : RequesterWish) → begins (actions.Wish wish) ≡ may → MayBegin w txn may (Wish txn wish)
+  by_deed : (deed : ResponderDeed) (today : Date) → may ≡ false → MayBegin w txn may (Deed txn deed today)
+  by_sending : (who : Who) (n : ℕ) → may ≡ false → MayBegin w txn may (Send who txn n)
+  by_delivery : (who : Who) (n : ℕ) (a : Apdu) → sent_message (sent_for txn (party w (other who)).sent) n ≡ Some a →
+      is_ill_request a.body ≡ may → MayBegin w txn may (Deliver who txn n)
+
+-- The event has the wrong outcome where no side is held. Each case gives one reason.
+pub data MissesNew (w : DeskParties) (event : DeskEvent) : Type 0 where
+  -- It may begin a side of a transaction, and there is room. But it reaches none.
+  begins_none : (txn : Qualifiers) → MayBegin w txn true event →
+      found_by txn_held txn (desk_of w event).live.held ≡ None →
+      nat_lt (length (desk_of w event).live.held) 1000 ≡ true → IsNotReached (desks_happen w event).0 → MissesNew w event
+  -- It may begin one, and the desk is full. But the outcome is not DeskFull.
+  overfills : (txn : Qualifiers) → MayBegin w txn true event →
+      found_by txn_held txn (desk_of w event).live.held ≡ None →
+      nat_lt (length (desk_of w event).live.held) 1000 ≡ false → ((desks_happen w event).0 ≡ DeskFull → ⊥) →
+      MissesNew w event
+  -- It may begin none. But the outcome is not NoSuchTransaction.
+  finds_one : (txn : Qualifiers) → MayBegin w txn false event →
+      found_by txn_held txn (desk_of w event).live.held ≡ None →
+      ((desks_happen w event).0 ≡ NoSuchTransaction → ⊥) → MissesNew w event
+  -- It names no transaction. But it does not reach its desk.
+  misses_desk : ((txn : Qualifiers) → Names txn event → ⊥) → IsNotReached (desks_happen w event).0 → MissesNew w event
+
 -- The outcome is NoSuchTransaction or DeskFull, and the projection has changed.
 abbrev pub ChangesUnreached : DeskOutcome → Parties → Parties → Type 0
 ChangesUnreached outcome old new = IsNotReached outcome × (new ≡ old → ⊥)
+
+-- ---- projections
+
+-- `shown` lacks something that desk `p` holds, has landed or has sent in `txn`.
+pub data Hides (p : DeskParty) (txn : Qualifiers) (shown : Party) : Type 0 where
+  hides_side : (held : DeskEntry) → found_by txn_held txn p.live.held ≡ Some held → (shown.live ≡ held.side → ⊥) →
+      Hides p txn shown
+  hides_release : (held : DeskEntry) → found_by txn_held txn p.live.held ≡ Some held →
+      (shown.released ≡ held.released → ⊥) → Hides p txn shown
+  hides_landed : (side : Side) → side_with txn p.landed.sides ≡ Some side → (shown.landed ≡ side → ⊥) →
+      Hides p txn shown
+  hides_sent : (sending : Sending) → found_by txn_sent txn p.sent ≡ Some sending → (shown.sent ≡ sending.sent → ⊥) →
+      Hides p txn shown
+
+-- The event of desks is not seen in `txn` as the event that it is there.
+pub data IsMisseen (txn : Qualifiers) (w : DeskParties) (event : DeskEvent) : Type 0 where
+  -- It is an event of `txn`, but with another outcome than there, or another world after it.
+  other_outcome : is_event_of txn w event ≡ true →
+      ((desks_happen w event).0 ≡ Plain (happens (project txn w) (plain event)).0 → ⊥) → IsMisseen txn w event
+  other_world : is_event_of txn w event ≡ true →
+      (project txn (desks_happen w event).1 ≡ (happens (project txn w) (plain event)).1 → ⊥) → IsMisseen txn w event
+  -- It is no event of `txn`, and changes the projection.
+  no_event : is_event_of txn w event ≡ false → (project txn (desks_happen w event).1 ≡ project txn w → ⊥) →
+      IsMisseen txn w event
 
 -- ---- deliveries
 

@@ -18,13 +18,13 @@ ghost use Rattle.ill_world.specs.declared.fault.SimFault.TheVariants.{Write, Out
 ghost use Rattle.ill_world.specs.declared.script.ScriptLine.{ScriptLine};
 ghost use Rattle.ill_world.specs.declared.script.ScriptLine.TheVariants as lines;
 ghost use Rattle.ill_world.specs.declared.desk_script.DeskLine.TheVariants as desk_lines;
-ghost use Rattle.ill_world.specs.Desks.{DeskParties, plain, first_desks, desks_happen, desks_run, project, events_for, Projects};
+ghost use Rattle.ill_world.specs.Desks.{DeskParty, DeskParties, plain, first_desks, desks_happen, desks_run, project, events_for, Projects};
 ghost use Rattle.ill_world.specs.DeskScript.{EventIn, in_txn, says_in, IsInTxn};
 ghost use Rattle.ill_world.specs.DeskSimulation.{desk_script, desk_trace_of, desk_line_after, SimulatesDesks};
-ghost use Rattle.ill_world.specs.World.{Parties, run_of};
+ghost use Rattle.ill_world.specs.World.{Party, Parties, run_of};
 ghost use Rattle.ill_world.specs.Safety.{Safe};
 ghost use Rattle.ill_world.specs.Agreement.{Agrees, KeepsDates};
-ghost use Rattle.ill_world.specs.BadDesks.{Names, IsNotReached, MissesHeld, ChangesUnreached, ArrivesInVainAt};
+ghost use Rattle.ill_world.specs.BadDesks.{Names, IsNotReached, MissesHeld, MissesNew, ChangesUnreached, Hides, IsMisseen, ArrivesInVainAt};
 ghost use Rattle.ill_world.specs.BadChanges.{ChangesTooMuch};
 ghost use Rattle.ill_world.specs.BadTraces.{Leaves, IsOfNoPrefix};
 ghost use Rattle.ill_world.specs.Changes.{KeepsSent};
@@ -168,17 +168,28 @@ pub fn transactions_have_their_events()
         events_for txn w (Noise who bytes ∷ []) ≡ [] }
 {}
 
-/// No event of two desks misses a transaction that its desk holds. None changes a transaction that
+/// No event of two desks misses a transaction that its desk holds, or one that it begins. None changes a transaction that
 /// it does not reach, or changes one too much. If `ArrivesAt` holds of it, neither an end of a request nor a Returned
 /// arrives in vain.
 pub fn no_bad_desk_event_passes()
     ensures reaches { (w : DeskParties) (event : DeskEvent) → MissesHeld w event → ReachesSide w event → ⊥ }
+    ensures begins { (w : DeskParties) (event : DeskEvent) → MissesNew w event → ReachesSide w event → ⊥ }
     ensures changes { (outcome : DeskOutcome) (old new : Parties) →
         ChangesUnreached outcome old new → DeskMayChange outcome old new → ⊥ }
     ensures plain { (outcome : Outcome) (old new : Parties) →
         ChangesTooMuch old new outcome → DeskMayChange (Plain outcome) old new → ⊥ }
     ensures arrives { (w : DeskParties) (event : DeskEvent) →
         ArrivesInVainAt w event → ArrivesAt w event → ⊥ }
+{}
+
+/// The projection of a desk hides nothing that it holds, has landed or has sent. An event of a transaction is seen there
+/// with its outcome and its world, and any other changes nothing there.
+#[tactic(auto, using(crate::proofs::BadDesks::none_hidden, crate::proofs::BadDesks::none_misseen))]
+pub fn no_bad_projection_passes()
+    ensures shows { (p : DeskParty) (txn : Qualifiers) (shown : Party) →
+        Hides p txn shown → ProjectsTo p txn shown → ⊥ }
+    ensures events { (txn : Qualifiers) (w : DeskParties) (event : DeskEvent) →
+        IsMisseen txn w event → Projects txn w event → ⊥ }
 {}
 
 /// If the writer fails, the bytes that a simulation of two desks has written are a prefix of the trace. If memory runs
@@ -242,12 +253,16 @@ pub fn one_desk_night_is_enough()
 }
 
 /// In a script of two desks a line other than `use` leaves the transaction in use unchanged. Its event is that of a
-/// script of two sides. An event of one transaction names the one in use. Before the first `use` there is no event.
+/// script of two sides. An event of one transaction names the one in use, and no other. Before the first `use` there is
+/// no event.
+#[tactic(auto, using(crate::proofs::BadDesks::none_elsewhere))]
 pub fn events_are_in_the_transaction_in_use()
     ensures stays { (in_use : Option Qualifiers) (line : ScriptLine Event) →
         (says_in in_use (desk_lines.Plain line)).1 ≡ in_use }
     ensures plain { (txn : Qualifiers) (event : Event) → plain (in_txn txn event) ≡ event }
     ensures named { (txn : Qualifiers) (event : Event) → IsInTxn txn (in_txn txn event) }
+    ensures others { (txn another : Qualifiers) (event : DeskEvent) →
+        Names another event → (txn ≡ another → ⊥) → IsInTxn txn event → ⊥ }
     ensures none { (event : Event) → (says_in None (desk_lines.Plain (lines.Event event))).0 ≡ lines.Bad }
 {}
 

@@ -1,10 +1,12 @@
--- A simulation writes no trace of `Leaves` or `IsOfNoPrefix`.
-use Rattle.std.proofs.Common.{arith, rules, ◌≡◌, ℕ, List, [], ◌∷◌, ◌++◌, length, Some, Err, refl, sym, ap, ◌∙◌, subst}
-use Rattle.std.proofs.Common.{append_assoc, length-append}
+-- A simulation writes no trace of `Leaves` or `IsOfNoPrefix`, and has no result of `Misreports`.
+use Rattle.std.proofs.Common.{arith, rules, ◌≡◌, ℕ, List, [], ◌∷◌, ◌++◌, length, Option, Some, None, Result, Err, refl, sym}
+use Rattle.std.proofs.Common.{ap, ◌∙◌, subst, append_assoc, append-nil, length-append}
 use Rattle.ill_saved.specs.Side.{IsPrefix}
+use Rattle.ill_world.specs.declared.fault.SimFault.{SimFault}
 use Rattle.ill_world.specs.declared.fault.SimFault.TheVariants.{Write, OutOfMemory}
-use Rattle.ill_world.specs.Play.{Play, Progress, Streams, reading_on, trace_on, Plays}
-use Rattle.ill_world.specs.BadTraces.{Leaves, IsOfNoPrefix, goes_on, differs}
+use Rattle.ill_world.specs.Play.{Play, Progress, Streams, reading_on, broken_on, trace_on, Plays}
+use Rattle.ill_world.specs.BadTraces.{Leaves, IsOfNoPrefix, goes_on, differs, Misreports, stops_early, passes_over, miscounts}
+use Rattle.ill_world.specs.BadTraces.{miswrites, misnames, miswrites_before, misreads}
 
 -- Equal lists have equal first bytes.
 first_same : (a b : ℕ) (xs ys : List ℕ) → a ∷ xs ≡ b ∷ ys → a ≡ b
@@ -32,6 +34,10 @@ no_events : {E : Type 0} (trace_of : List E → List ℕ) (events : List E) (wri
     → (prefix : List E) × IsPrefix prefix events × (written ≡ trace_of prefix) → ⊥
 no_events trace_of events written none (prefix, (more, is), shown) = none prefix more is shown
 
+-- A bad line is not at once there and not there.
+some_line : (bad : Option ℕ) (line : ℕ) → bad ≡ Some line → bad ≡ None → ⊥
+some_line bad line is none = let both : ◌≡◌ {A = Option ℕ} (Some line) None = sym is ∙ none in search rules
+
 module _ {W E C : Type 0} (play : Play W E C) (from : Progress W C) (text left written : List ℕ) where
   -- Returns the streams before a simulation that reads `text`.
   abbrev before : Streams
@@ -57,3 +63,29 @@ module _ {W E C : Type 0} (play : Play W E C) (from : Progress W C) (text left w
       no_events (trace_on play from) (reading_on play from (read ++ left)).events trace
       (λ prefix more is shown. none prefix more (ap (λ t. (reading_on play from t).events) consumed ∙ is)
       (appended ∙ shown)) (answers left refl)
+
+  -- If a play has left nothing, it has read the whole text.
+  read_all : (read : List ℕ) → text ≡ read ++ left → left ≡ [] → read ≡ text
+  read_all read consumed none = sym (consumed ∙ ap (λ l. read ++ l) none ∙ append-nil read)
+
+  -- The result of a play from the first event on does not misreport.
+  pub none_misreports : (result : Result ℕ SimFault) → from.count ≡ 0
+      → Misreports (trace_on play from) (reading_on play from) (broken_on play from) text left written result
+      → Plays play from before result after → ⊥
+  none_misreports _ first (stops_early count some) (read, trace, consumed, appended, answers) = some answers.0
+  none_misreports _ first (passes_over count line is) (read, trace, consumed, appended, answers) =
+      some_line (reading_on play from text).bad line is
+      (ap (λ t. (reading_on play from t).bad) (sym (read_all read consumed answers.0)) ∙ answers.1)
+  none_misreports _ first (miscounts count other) (read, trace, consumed, appended, answers) =
+      let same = read_all read consumed answers.0 in
+      other (subst (λ t. count ≡ length (reading_on play from t).events) same (omega (arith, first, answers.3)))
+  none_misreports _ first (miswrites count other) (read, trace, consumed, appended, answers) =
+      let same = read_all read consumed answers.0 in
+      other (subst (λ t. written ≡ trace_on play from (reading_on play from t).events) same (appended ∙ answers.2))
+  none_misreports _ first (misnames line other) (read, trace, consumed, appended, answers) =
+      other (subst (λ t. (reading_on play from t).bad ≡ Some line) (sym consumed) (answers left refl).0)
+  none_misreports _ first (miswrites_before line other) (read, trace, consumed, appended, answers) =
+      other (subst (λ t. written ≡ trace_on play from (reading_on play from t).events) (sym consumed)
+      (appended ∙ (answers left refl).1))
+  none_misreports _ first (misreads none) (read, trace, consumed, appended, answers) =
+      none read consumed answers.0 (appended ∙ answers.1)

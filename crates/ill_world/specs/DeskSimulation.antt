@@ -6,7 +6,7 @@ use Rattle.ill_world.specs.declared.fault.SimFault.{SimFault}
 use Rattle.ill_world.specs.Desks.{DeskParties, first_desks, desks_happen, desks_run}
 use Rattle.ill_world.specs.DeskScript.{EventIn, desk_meaning, says_in}
 use Rattle.ill_world.specs.DeskTrace.{desk_line}
-use Rattle.ill_world.specs.Play.{Play, before_first, Said, end_reading, reading_from, trace_from, Plays}
+use Rattle.ill_world.specs.Play.{Play, before_first, Said, end_reading, broken_reading, reading_from, trace_from, Plays}
 
 -- In the play of two desks each line has its meaning in the transaction in use. This transaction is carried from line
 -- to line.
@@ -20,6 +20,10 @@ two_desks = record {
 -- Returns the reading of a whole text. At first no transaction is in use.
 abbrev pub desk_script : List ℕ → Said EventIn
 desk_script text = reading_from two_desks (end_reading two_desks) None 1 text
+
+-- Returns the reading of a text at whose end the reader failed.
+abbrev pub desk_script_read : List ℕ → Said EventIn
+desk_script_read text = reading_from two_desks broken_reading None 1 text
 
 -- Returns the trace of `events`, from two desks on that hold nothing.
 abbrev pub desk_trace_of : List EventIn → List ℕ

@@ -1,6 +1,6 @@
 //! The laws of two desks of many transactions are the contracts of functions that do nothing.
 
-ghost use Rattle.std.specs.Prelude.{◌≡◌, ◌++◌, ℕ, Bool, List, [], ◌∷◌, Option, Some, None, Err};
+ghost use Rattle.std.specs.Prelude.{◌≡◌, ◌++◌, ℕ, Bool, List, [], ◌∷◌, Option, Some, None, Result, Err};
 ghost use Rattle.ill_values.specs.TxnId.{Qualifiers};
 ghost use Rattle.ill_saved.specs.Side.{IsPrefix};
 ghost use Rattle.ill_saved.specs.declared.role.Role.{Role as Who};
@@ -14,19 +14,20 @@ ghost use Rattle.ill_world.specs.declared.event.Event.{Event};
 ghost use Rattle.ill_world.specs.declared.event.Event.TheVariants as events;
 ghost use Rattle.ill_words.specs.declared.outcome.Outcome.{Outcome};
 ghost use Rattle.ill_words.specs.declared.outcome.Outcome.TheVariants.{NotSent};
+ghost use Rattle.ill_world.specs.declared.fault.SimFault.{SimFault};
 ghost use Rattle.ill_world.specs.declared.fault.SimFault.TheVariants.{Write, OutOfMemory};
 ghost use Rattle.ill_world.specs.declared.script.ScriptLine.{ScriptLine};
 ghost use Rattle.ill_world.specs.declared.script.ScriptLine.TheVariants as lines;
 ghost use Rattle.ill_world.specs.declared.desk_script.DeskLine.TheVariants as desk_lines;
 ghost use Rattle.ill_world.specs.Desks.{DeskParty, DeskParties, plain, first_desks, desks_happen, desks_run, project, events_for, Projects};
 ghost use Rattle.ill_world.specs.DeskScript.{EventIn, in_txn, says_in, IsInTxn};
-ghost use Rattle.ill_world.specs.DeskSimulation.{desk_script, desk_trace_of, desk_line_after, SimulatesDesks};
+ghost use Rattle.ill_world.specs.DeskSimulation.{desk_script, desk_script_read, desk_trace_of, desk_line_after, SimulatesDesks};
 ghost use Rattle.ill_world.specs.World.{Party, Parties, run_of};
 ghost use Rattle.ill_world.specs.Safety.{Safe};
 ghost use Rattle.ill_world.specs.Agreement.{Agrees, KeepsDates};
 ghost use Rattle.ill_world.specs.BadDesks.{Names, IsNotReached, MissesHeld, MissesNew, ChangesUnreached, Hides, IsMisseen, ArrivesInVainAt};
 ghost use Rattle.ill_world.specs.BadChanges.{ChangesTooMuch};
-ghost use Rattle.ill_world.specs.BadTraces.{Leaves, IsOfNoPrefix};
+ghost use Rattle.ill_world.specs.BadTraces.{Leaves, IsOfNoPrefix, Misreports};
 ghost use Rattle.ill_world.specs.Changes.{KeepsSent};
 ghost use Rattle.ill_world.specs.DeskChanges.{DeskMayChange, ReachesSide, ProjectsTo};
 ghost use Rattle.ill_world.specs.Round.{round_of, CanAnswer, AreInStep};
@@ -193,7 +194,7 @@ pub fn no_bad_projection_passes()
 {}
 
 /// If the writer fails, the bytes that a simulation of two desks has written are a prefix of the trace. If memory runs
-/// out, they are the trace of a prefix of the events.
+/// out, they are the trace of a prefix of the events. Any other result is right.
 pub fn no_bad_desk_trace_is_written()
     ensures write { (text left written : List ℕ) →
         Leaves written (desk_trace_of (desk_script text).events) →
@@ -201,6 +202,9 @@ pub fn no_bad_desk_trace_is_written()
     ensures memory { (text left written : List ℕ) →
         IsOfNoPrefix desk_trace_of (desk_script text).events written →
         SimulatesDesks (Some text) (Some left) (Some []) (Some written) (Err OutOfMemory) → ⊥ }
+    ensures result { (text left written : List ℕ) (result : Result ℕ SimFault) →
+        Misreports desk_trace_of desk_script desk_script_read text left written result →
+        SimulatesDesks (Some text) (Some left) (Some []) (Some written) result → ⊥ }
 {}
 
 /// If two desks satisfy `DesksInvariant`, the delivery of a message is never `DeskFull`, and so in no run. A delivery

@@ -1,6 +1,6 @@
 //! The laws of every world are the contracts of functions that do nothing.
 
-ghost use Rattle.std.specs.Prelude.{◌≡◌, ◌↔◌, ◌⊎◌, ◌++◌, ◌∷◌, ◌<◌, ℕ, Bool, List, [], length, Option, Some, Ok, Err, true, false};
+ghost use Rattle.std.specs.Prelude.{◌≡◌, ◌↔◌, ◌⊎◌, ◌++◌, ◌∷◌, ◌<◌, ℕ, Bool, List, [], length, Option, Some, Result, Ok, Err, true, false};
 ghost use Rattle.std.specs.declared.alloc.AllocError.{AllocError};
 ghost use Rattle.ill_values.specs.Day.{Date};
 ghost use Rattle.ill_values.specs.TxnId.{Qualifiers};
@@ -24,14 +24,15 @@ ghost use Rattle.ill_saved.specs.declared.role.Role.TheVariants.{Requester, Resp
 ghost use Rattle.ill_saved.specs.declared.side.Side.{Side};
 ghost use Rattle.ill_world.specs.declared.event.Event.{Event};
 ghost use Rattle.ill_world.specs.declared.event.Event.TheVariants.{Save};
+ghost use Rattle.ill_world.specs.declared.fault.SimFault.{SimFault};
 ghost use Rattle.ill_world.specs.declared.fault.SimFault.TheVariants.{Write, OutOfMemory};
 ghost use Rattle.ill_words.specs.declared.outcome.Outcome.{Outcome};
 ghost use Rattle.ill_world.specs.World.{Parties, first_world, happens, run_of};
-ghost use Rattle.ill_world.specs.Simulation.{script, trace_of, line_after, Simulates};
+ghost use Rattle.ill_world.specs.Simulation.{script, script_read, trace_of, line_after, Simulates};
 ghost use Rattle.ill_world.specs.Safety.{OfBoth, EndsAlike, WasShipped, WasGranted, Safe, IsSafeRun};
 ghost use Rattle.ill_world.specs.Agreement.{Agrees, IsAgreeingRun, KeepsDates, Arrives};
 ghost use Rattle.ill_world.specs.BadWorlds.{IsUnsafe, Disagrees, TakesBack, ArrivesInVain};
-ghost use Rattle.ill_world.specs.BadTraces.{Leaves, IsOfNoPrefix};
+ghost use Rattle.ill_world.specs.BadTraces.{Leaves, IsOfNoPrefix, Misreports};
 ghost use Rattle.ill_world.specs.BadRounds.{IsAmiss, cut_round, last_unheard, late_round, two_unheard};
 ghost use Rattle.ill_world.specs.BadChanges.{ChangesTooMuch, LosesSent, IsUnseen};
 ghost use Rattle.ill_world.specs.Changes.{MayChange, OnlyLandedChanges, KeepsSent, can_be_seen};
@@ -334,7 +335,7 @@ pub fn traces_show_runs()
 {}
 
 /// If the writer fails, the bytes that a simulation has written are a prefix of the trace of the script. If memory runs
-/// out, they are the trace of a prefix of the events.
+/// out, they are the trace of a prefix of the events. Any other result is right.
 pub fn no_bad_trace_is_written()
     ensures write { (txn : Qualifiers) (text left written : List ℕ) →
         Leaves written (trace_of txn (script text).events) →
@@ -342,6 +343,9 @@ pub fn no_bad_trace_is_written()
     ensures memory { (txn : Qualifiers) (text left written : List ℕ) →
         IsOfNoPrefix (trace_of txn) (script text).events written →
         Simulates txn (Some text) (Some left) (Some []) (Some written) (Err OutOfMemory) → ⊥ }
+    ensures result { (txn : Qualifiers) (text left written : List ℕ) (result : Result ℕ SimFault) →
+        Misreports (trace_of txn) script script_read text left written result →
+        Simulates txn (Some text) (Some left) (Some []) (Some written) result → ⊥ }
 {}
 
 /// Only `Done`, `Saved`, `Sent`, `Restarted`, `Answered(Taken)` and `Faulted` change the world. `Faulted` changes

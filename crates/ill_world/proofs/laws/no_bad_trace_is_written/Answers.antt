@@ -1,9 +1,9 @@
--- Proves the clauses `write` and `memory` of `no_bad_trace_is_written` (`src/laws.rt`). Both hold of any play, by the
--- lemmas of `BadTraces`.
+-- Proves the clauses of `no_bad_trace_is_written` (`src/laws.rt`). They hold of any play, by the lemmas of `BadTraces`.
+use Rattle.std.proofs.Common.{refl}
 use Rattle.ill_world.specs.World.{first_world}
 use Rattle.ill_world.specs.Play.{before_first}
 use Rattle.ill_world.specs.Simulation.{two_sides}
-use Rattle.ill_world.proofs.BadTraces.{none_leaves, some_prefix}
+use Rattle.ill_world.proofs.BadTraces.{none_leaves, some_prefix, none_misreports}
 use Rattle.ill_world.proofs.laws.no_bad_trace_is_written.Goals as goal
 
 pub returns-clause-write : goal.returns-clause-write
@@ -11,3 +11,7 @@ returns-clause-write c = λ txn. none_leaves two_sides (before_first tt (first_w
 
 pub returns-clause-memory : goal.returns-clause-memory
 returns-clause-memory c = λ txn. some_prefix two_sides (before_first tt (first_world txn))
+
+pub returns-clause-result : goal.returns-clause-result
+returns-clause-result c =
+    λ txn text left written result. none_misreports two_sides (before_first tt (first_world txn)) text left written result refl

@@ -147,7 +147,7 @@ sent_by_one w who.Responder new keeps who.Responder n a was = keeps n a was
 sent_by_one w who.Responder new keeps who.Requester n a was = was
 
 -- If a world satisfies the invariant, `SendsSaved` holds of both parties.
-saved_by : (txn : Qualifiers) (w : Parties) (of : Who) → Invariant txn w → SendsSaved (party w of)
+pub saved_by : (txn : Qualifiers) (w : Parties) (of : Who) → Invariant txn w → SendsSaved (party w of)
 saved_by txn w who.Requester stands = stands.requester.saved
 saved_by txn w who.Responder stands = stands.responder.saved
 
@@ -162,7 +162,7 @@ abbrev pub After : Qualifiers → Type 0
 After txn = (w : Parties) (event : Event) → Invariant txn w → Invariant txn (happens w event).1
 
 -- Further events keep all messages that were sent in `w`.
-further_keeps_sent : (txn : Qualifiers) → After txn → (w : Parties) (more : List Event) → Invariant txn w
+pub further_keeps_sent : (txn : Qualifiers) → After txn → (w : Parties) (more : List Event) → Invariant txn w
     → KeepsSent w (run_of w more)
 unfolding run_by
 further_keeps_sent txn after w [] stands = λ of n a was. was

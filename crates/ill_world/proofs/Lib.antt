@@ -8,6 +8,7 @@ pub mod BadTraces
 pub mod BadWorlds
 pub mod Changes
 pub mod Claims
+pub mod Copies
 pub mod DeskArrivals
 pub mod DeskCounts
 pub mod DeskMaps

@@ -372,7 +372,7 @@ fault_of_save p txn true = ap (λ side. record (party_for txn p) { landed = side
 fault_of_save p txn false = refl
 
 -- After a desk restarts, it shows the party after its restart.
-restarts_seen : (p : DeskParty) (txn : Qualifiers) → party_for txn (desk_restarts p) ≡ restarts (party_for txn p)
+pub restarts_seen : (p : DeskParty) (txn : Qualifiers) → party_for txn (desk_restarts p) ≡ restarts (party_for txn p)
 restarts_seen p txn = ap (λ (h : DeskEntry). record (party_for txn p) { live = h.side; released = h.released })
     (whole_for txn p.landed)
 

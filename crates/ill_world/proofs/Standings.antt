@@ -203,7 +203,7 @@ requester_takes law txn (sides.Responder y) a partner_sent was stands = absurd s
 
 -- `RequesterSideInvariant` holds with `more` if it holds with `partner_sent`, and `more` has each message of
 -- `partner_sent`.
-requester_more : (txn : Qualifiers) (side : Side) (partner_sent more : List (Option Apdu))
+pub requester_more : (txn : Qualifiers) (side : Side) (partner_sent more : List (Option Apdu))
     → ((a : Apdu) → WasSent partner_sent a → WasSent more a) → RequesterSideInvariant txn side partner_sent
     → RequesterSideInvariant txn side more
 requester_more txn (sides.Requester x) partner_sent more stays stands = record {
@@ -234,7 +234,7 @@ responder_takes law txn (sides.Requester x) a partner_sent was stands = absurd s
 
 -- `ResponderSideInvariant` holds with `more` if it holds with `partner_sent`, and `more` has each message of
 -- `partner_sent`.
-responder_more : (txn : Qualifiers) (side : Side) (partner_sent more : List (Option Apdu))
+pub responder_more : (txn : Qualifiers) (side : Side) (partner_sent more : List (Option Apdu))
     → ((a : Apdu) → WasSent partner_sent a → WasSent more a) → ResponderSideInvariant txn side partner_sent
     → ResponderSideInvariant txn side more
 responder_more txn (sides.Responder y) partner_sent more stays stands = record {

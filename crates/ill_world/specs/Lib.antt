@@ -6,6 +6,7 @@ pub mod BadRounds
 pub mod BadTraces
 pub mod BadWorlds
 pub mod Changes
+pub mod Copies
 pub mod DeskChanges
 pub mod DeskCounts
 pub mod DeskNight

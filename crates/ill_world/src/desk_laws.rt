@@ -5,7 +5,8 @@ ghost use Rattle.ill_values.specs.TxnId.{Qualifiers};
 ghost use Rattle.ill_saved.specs.Side.{IsPrefix};
 ghost use Rattle.ill_saved.specs.declared.role.Role.{Role as Who};
 ghost use Rattle.ill_saved.specs.declared.role.Role.TheVariants.{Requester};
-ghost use Rattle.ill_saved.specs.ManySides.{found_by, txn_held};
+ghost use Rattle.ill_saved.specs.ManySides.{found_by, txn_held, side_for};
+ghost use Rattle.ill_saved.specs.Sides.{SidesOf};
 ghost use Rattle.ill_world.specs.declared.event.DeskEvent.{DeskEvent};
 ghost use Rattle.ill_world.specs.declared.event.DeskEvent.TheVariants.{Save, SaveFault, Deliver, Restart, Noise};
 ghost use Rattle.ill_words.specs.declared.outcome.DeskOutcome.{DeskOutcome};
@@ -22,13 +23,14 @@ ghost use Rattle.ill_world.specs.declared.desk_script.DeskLine.TheVariants as de
 ghost use Rattle.ill_world.specs.Desks.{DeskParty, DeskParties, plain, first_desks, desks_happen, desks_run, project, events_for, Projects};
 ghost use Rattle.ill_world.specs.DeskScript.{EventIn, in_txn, says_in, IsInTxn};
 ghost use Rattle.ill_world.specs.DeskSimulation.{desk_script, desk_script_read, desk_trace_of, desk_line_after, SimulatesDesks};
-ghost use Rattle.ill_world.specs.World.{Party, Parties, run_of};
+ghost use Rattle.ill_world.specs.World.{Party, Parties, party, run_of};
 ghost use Rattle.ill_world.specs.Safety.{Safe};
 ghost use Rattle.ill_world.specs.Agreement.{Agrees, KeepsDates};
 ghost use Rattle.ill_world.specs.BadDesks.{Names, IsNotReached, MissesHeld, MissesNew, ChangesUnreached, Hides, IsMisseen, ArrivesInVainAt};
 ghost use Rattle.ill_world.specs.BadChanges.{ChangesTooMuch};
 ghost use Rattle.ill_world.specs.BadTraces.{Leaves, IsOfNoPrefix, Misreports};
 ghost use Rattle.ill_world.specs.Changes.{KeepsSent};
+ghost use Rattle.ill_world.specs.Copies.{puts_back, desk_puts_back, HasAllSent};
 ghost use Rattle.ill_world.specs.DeskChanges.{DeskMayChange, ReachesSide, ProjectsTo};
 ghost use Rattle.ill_world.specs.Round.{round_of, CanAnswer, AreInStep};
 ghost use Rattle.ill_world.specs.DeskRound.{desk_round_of};
@@ -182,6 +184,24 @@ pub fn no_bad_desk_event_passes()
     ensures arrives { (w : DeskParties) (event : DeskEvent) →
         ArrivesInVainAt w event → ArrivesAt w event → ⊥ }
 {}
+
+/// Two desks show a copy that is put back as a copy in each transaction. If two desks satisfy `DesksInvariant`, a copy of
+/// what has landed may be put back later. Each transaction is safe then in which it has every message that was sent.
+pub fn a_copy_of_a_desk_may_be_put_back()
+    ensures each { (txn : Qualifiers) (w : DeskParties) (who : Who) (copy : SidesOf) →
+        project txn (desk_puts_back who copy w) ≡ puts_back who (side_for txn copy) (project txn w) }
+    ensures safe { (txn : Qualifiers) (w : DeskParties) (more : List DeskEvent) (who : Who) → DesksInvariant w →
+        let copy = (party w who).landed in let now = desks_run w more in
+        HasAllSent (side_for txn copy) (party (project txn now) who) →
+        Safe (project txn (desk_puts_back who copy now)) }
+{
+    desks_stand();
+    desk_events_are_events();
+    laws::world_stands();
+    laws::ends_alike();
+    laws::was_shipped();
+    laws::was_granted();
+}
 
 /// The projection of a desk hides nothing that it holds, has landed or has sent. An event of a transaction is seen there
 /// with its outcome and its world, and any other changes nothing there.

@@ -27,7 +27,7 @@ ghost use Rattle.ill_world.specs.declared.event.Event.TheVariants.{Save};
 ghost use Rattle.ill_world.specs.declared.fault.SimFault.{SimFault};
 ghost use Rattle.ill_world.specs.declared.fault.SimFault.TheVariants.{Write, OutOfMemory};
 ghost use Rattle.ill_words.specs.declared.outcome.Outcome.{Outcome};
-ghost use Rattle.ill_world.specs.World.{Parties, first_world, happens, run_of};
+ghost use Rattle.ill_world.specs.World.{Parties, party, first_world, happens, run_of};
 ghost use Rattle.ill_world.specs.Simulation.{script, script_read, trace_of, line_after, Simulates};
 ghost use Rattle.ill_world.specs.Safety.{OfBoth, EndsAlike, WasShipped, WasGranted, Safe, IsSafeRun};
 ghost use Rattle.ill_world.specs.Agreement.{Agrees, IsAgreeingRun, KeepsDates, Arrives};
@@ -35,6 +35,7 @@ ghost use Rattle.ill_world.specs.BadWorlds.{IsUnsafe, Disagrees, TakesBack, Arri
 ghost use Rattle.ill_world.specs.BadTraces.{Leaves, IsOfNoPrefix, Misreports};
 ghost use Rattle.ill_world.specs.BadRounds.{IsAmiss, cut_round, last_unheard, late_round, two_unheard};
 ghost use Rattle.ill_world.specs.BadChanges.{ChangesTooMuch, LosesSent, IsUnseen};
+ghost use Rattle.ill_world.specs.Copies.{puts_back, HasAllSent, older_copy_back};
 ghost use Rattle.ill_world.specs.Changes.{MayChange, OnlyLandedChanges, KeepsSent, can_be_seen};
 ghost use Rattle.ill_world.specs.Round.{round_of, Performs, CanAnswer, AreInStep, InStep, OutOfStep};
 ghost use Rattle.ill_words.specs.Sending.{is_over, wants_sending};
@@ -377,6 +378,36 @@ pub fn no_bad_change_is_allowed()
         ChangesTooMuch old new outcome → MayChange OnlyLandedChanges outcome old new → ⊥ }
     ensures sent { (old new : Parties) → LosesSent old new → KeepsSent old new → ⊥ }
     ensures seen { (outcome : Outcome) → IsUnseen outcome → can_be_seen outcome ≡ true → ⊥ }
+{}
+
+/// If a world satisfies the invariant, the record that has landed last has every message that was sent.
+pub fn what_landed_last_has_all_that_was_sent()
+    ensures { (txn : Qualifiers) (w : Parties) (who : Who) → Invariant txn w →
+        HasAllSent (party w who).landed (party w who) }
+{}
+
+/// A copy of a record that has landed may be put back later, if it has every message that was sent. The invariant holds
+/// then, and so the world is safe after any further events.
+pub fn a_copy_with_all_that_was_sent_may_be_put_back()
+    ensures stands { (txn : Qualifiers) (w : Parties) (more : List Event) (who : Who) → Invariant txn w →
+        HasAllSent (party w who).landed (party (run_of w more) who) →
+        Invariant txn (puts_back who (party w who).landed (run_of w more)) }
+    ensures run { (txn : Qualifiers) (events more further : List Event) (who : Who) →
+        let copied = run_of (first_world txn) events in let now = run_of copied more in
+        HasAllSent (party copied who).landed (party now who) →
+        IsSafeRun (puts_back who (party copied who).landed now) further }
+{
+    world_stands();
+    ends_alike();
+    was_shipped();
+    was_granted();
+}
+
+/// An older copy, which lacks a sent message, may not be put back. A run leads to a world in which the sides contradict
+/// each other after it.
+#[tactic(auto, using(crate::proofs::Copies::older_is_unsafe))]
+pub fn no_older_copy_may_be_put_back()
+    ensures { Safe older_copy_back → ⊥ }
 {}
 
 /// In a run no outcome is the refusal of a wrong role, or of a lack of memory.

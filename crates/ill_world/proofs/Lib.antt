@@ -41,5 +41,6 @@ pub mod Simulations
 pub mod Standings
 pub mod Steps
 pub mod Texts
+pub mod Turns
 pub mod Uniqueness
 pub mod Worlds

@@ -1,6 +1,6 @@
 //! The laws of every world are the contracts of functions that do nothing.
 
-ghost use Rattle.std.specs.Prelude.{◌≡◌, ◌↔◌, ◌⊎◌, ◌++◌, ◌∷◌, ◌<◌, ℕ, Bool, List, [], length, Option, Some, Result, Ok, Err, true, false};
+ghost use Rattle.std.specs.Prelude.{◌≡◌, ◌↔◌, ◌⊎◌, ◌++◌, ◌∷◌, ◌<◌, ℕ, Bool, List, [], length, IsOk, Option, Some, Result, Ok, Err, true, false};
 ghost use Rattle.std.specs.declared.alloc.AllocError.{AllocError};
 ghost use Rattle.ill_values.specs.Day.{Date};
 ghost use Rattle.ill_values.specs.TxnId.{Qualifiers};
@@ -244,6 +244,21 @@ pub fn one_of_two_in_step_acts()
         (x.state ≡ states.Conditional) × (y.state ≡ states.InProcess) }
 {
     ill_core::laws::turns_have_verbs();
+}
+
+/// The library that has the turn can act if it has a number left: the requester by a wish, and the responder by a deed that
+/// each day allows. So if two records are in step, the loan is not over, and both have numbers left, one library can act.
+pub fn who_has_the_turn_can_act()
+    ensures asks { (x : RequesterRecord) → requester_turn x ≡ Mine → length x.issued < 255 →
+        (wish : Wish) × IsOk (requester_actions.acts x wish) }
+    ensures lends { (y : ResponderRecord) → responder_turn y ≡ Mine → length y.issued < 255 →
+        (deed : Deed) × ((today : Date) → IsOk (responder_actions.acts y deed today)) }
+    ensures in_step { (x : RequesterRecord) (y : ResponderRecord) → InStep x y → (requester_turn x ≡ Over → ⊥) →
+        length x.issued < 255 → length y.issued < 255 →
+        ((wish : Wish) × IsOk (requester_actions.acts x wish))
+        ⊎ ((deed : Deed) × ((today : Date) → IsOk (responder_actions.acts y deed today))) }
+{
+    one_of_two_in_step_acts();
 }
 
 /// If a world satisfies the invariant, and the loan is over for the requester, both sides are at rest. The loan is over

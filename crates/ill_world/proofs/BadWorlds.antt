@@ -52,7 +52,7 @@ of_pair P w x y both requester_has responder_has =
 -- ---- safety
 
 -- If `EndsAlike`, `WasShipped` and `WasGranted` hold of two sides, these do not contradict each other.
-no_contradiction : (x y : Side) → Contradicts x y → EndsAlike x y → WasShipped x y → WasGranted x y → ⊥
+pub no_contradiction : (x y : Side) → Contradicts x y → EndsAlike x y → WasShipped x y → WasGranted x y → ⊥
 no_contradiction x y (not_supplied is other) ends shipped granted = other (ends.1 is)
 no_contradiction x y (cancelled is other) ends shipped granted = other (ends.0 is)
 no_contradiction x y (never_shipped is none) ends shipped granted = let both : true ≡ false = sym (shipped is) ∙ none in cc

@@ -183,7 +183,7 @@ send_role role p of n None is = is
 send_role role p of n (Some held) is = sends_role role p _ _ _ is (λ a. is)
 
 -- Each event leaves the roles of its desk.
-role_kept : (role : Who) (p : DeskParty) (partner_sent : List Sending) (event : DeskEvent) → IsDeskOf role p
+pub role_kept : (role : Who) (p : DeskParty) (partner_sent : List Sending) (event : DeskEvent) → IsDeskOf role p
     → IsDeskOf role (desk_happens_to p partner_sent event).1
 role_kept role p partner_sent (events.Wish of wish) is =
     decided_role role p (actions.Wish wish) (side_for_call p.live of (begins (actions.Wish wish)))

@@ -68,7 +68,7 @@ sent_either true instead new found = refl
 sent_either false instead new found = refl
 
 -- After `a` is sent in `of`, this transaction has it as message n. Each other one has its old messages.
-sent_after : (txn of : Qualifiers) (all : List Sending) (n : ℕ) (a : Apdu)
+pub sent_after : (txn of : Qualifiers) (all : List Sending) (n : ℕ) (a : Apdu)
     → sent_for txn (with_sent_for of all n a) ≡ cond (is_same_txn txn of) (with_sent (sent_for of all) n a) (sent_for txn all)
 sent_after txn of all n a =
     let new : Sending = record { txn = of; sent = with_sent (sent_for of all) n a } in

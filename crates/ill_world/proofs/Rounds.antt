@@ -27,7 +27,7 @@ takes_all side (a ∷ apdus) = takes_all (takes side a).1 apdus
 -- ---- one message
 
 -- If `a` is put at place i of a list, the list has `a` there.
-put_here : (slots : List (Option Apdu)) (i : ℕ) (a : Apdu) → i < length slots
+pub put_here : (slots : List (Option Apdu)) (i : ℕ) (a : Apdu) → i < length slots
     → option_flatten (slice_get (slice_set slots i (Some a)) i) ≡ Some a
 put_here [] i a within = absurd (omega (arith, within))
 put_here (slot ∷ slots) zero a within = refl

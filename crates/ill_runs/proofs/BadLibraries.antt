@@ -1,0 +1,46 @@
+-- Proves that no bad libraries are safe, and that a library is no other desk of the model than the one in its file.
+use Rattle.std.proofs.Common.{◌≡◌, Result, Ok, Err, sym, ◌∙◌, subst}
+use Rattle.ill_values.specs.declared.apdu.Apdu.{Apdu}
+use Rattle.ill_saved.specs.declared.fault.RecordFault.{RecordFault}
+use Rattle.ill_saved.specs.declared.role.Role.TheVariants as who
+use Rattle.ill_saved.specs.Sides.{SidesOf}
+use Rattle.ill_saved.specs.RecordsV2.{records_at}
+use Rattle.ill_saved.specs.ManySides.{side_for}
+use Rattle.ill_world.specs.BadWorlds.{Contradicts}
+use Rattle.ill_world.specs.Desks.{DeskParty}
+use Rattle.ill_world.proofs.BadWorlds.{no_contradiction}
+use Rattle.ill_runs.specs.Mail.{IsOneOf, WasSent}
+use Rattle.ill_runs.specs.Libraries.{Library, Libraries, IsAt, AreSafe}
+use Rattle.ill_runs.specs.BadLibraries.{AreUnsafe, unread, contradicted}
+use Rattle.ill_runs.proofs.Lists.{each_at}
+
+-- If one file is read as `a` and as `b`, these are the same sides.
+pub read_once : (read : Result SidesOf RecordFault) (a b : SidesOf) → read ≡ Ok a → read ≡ Ok b → a ≡ b
+read_once read a b first second =
+    let same : ◌≡◌ {A = Result SidesOf RecordFault} (Ok a) (Ok b) = sym first ∙ second in cc
+
+-- A file that cannot be read is read as no sides.
+not_read : (read : Result SidesOf RecordFault) (fault : RecordFault) (held : SidesOf) → read ≡ Err fault → read ≡ Ok held → ⊥
+not_read read fault held first second =
+    let same : ◌≡◌ {A = Result SidesOf RecordFault} (Err fault) (Ok held) = sym first ∙ second in absurd cc
+
+-- Unsafe libraries are not safe.
+pub not_safe : (libraries : Libraries) → AreUnsafe libraries → AreSafe libraries → ⊥
+not_safe libraries (unread who.Requester fault is) safe = not_read _ fault safe.0 is safe.2
+not_safe libraries (unread who.Responder fault is) safe = not_read _ fault safe.1 is safe.3
+not_safe libraries (contradicted requester responder txn first second bad) safe =
+    let one = read_once _ safe.0 requester safe.2 first in
+    let other = read_once _ safe.1 responder safe.3 second in
+    let faces = safe.4 txn in
+    let bad_there = subst (λ r. Contradicts (side_for txn r) (side_for txn safe.1)) (sym one)
+    (subst (λ s. Contradicts (side_for txn requester) (side_for txn s)) (sym other) bad) in
+    no_contradiction _ _ bad_there faces.0 faces.1 faces.2
+
+-- A library has the landed sides of its desk in its file, and its desk has sent each message that has left.
+pub desk_is_in_file : (library : Library) (p : DeskParty) → IsAt library p
+    → ((held : SidesOf) → records_at library.file ≡ Ok held → held ≡ p.landed)
+    × ((a : Apdu) → IsOneOf library.left a → WasSent p.sent a)
+desk_is_in_file library p at = (
+  λ held read. read_once _ held p.landed read at.file,
+  λ a one. each_at (WasSent p.sent) library.left one.0 a at.left one.1,
+)

@@ -1,0 +1,102 @@
+-- Proves that each history of two libraries is a run of the model, and that its libraries are safe.
+use Rattle.std.proofs.Common.{List, [], ◌∷◌, ◌++◌, refl, sym, subst, arith}
+use Rattle.ill_values.specs.TxnId.{Qualifiers}
+use Rattle.ill_saved.specs.declared.role.Role.{Role as Who}
+use Rattle.ill_saved.specs.declared.role.Role.TheVariants as who
+use Rattle.ill_saved.specs.Side.{other}
+use Rattle.ill_saved.specs.Sides.{are_apart}
+use Rattle.ill_saved.specs.Ranges.{Each}
+use Rattle.ill_saved.specs.RecordsV2.{AreSides}
+use Rattle.ill_saved.proofs.Contents.{SidesReadAgain}
+use Rattle.ill_world.specs.declared.event.DeskEvent.{DeskEvent}
+use Rattle.ill_world.specs.World.{Parties, party, run_by}
+use Rattle.ill_world.specs.Desks.{DeskParties, first_desk, first_desks, desks_happen, desks_run, project}
+use Rattle.ill_world.specs.Changes.{KeepsSent}
+use Rattle.ill_world.specs.Invariant.{Invariant}
+use Rattle.ill_world.specs.Safety.{OfBoth, EndsAlike, WasShipped, WasGranted}
+use Rattle.ill_world.specs.DeskSafety.{DesksInvariant}
+use Rattle.ill_world.proofs.Desks.{EachStands, desks_stand_on}
+use Rattle.ill_runs.specs.Libraries.{Libraries, first_library, first_libraries, Happens, IsHistory, libraries_after, IsAt, AreAt}
+use Rattle.ill_runs.specs.Libraries.{IsRunAt, AreSafe}
+use Rattle.ill_runs.proofs.LibraryLemmas.{events_there, run_join, command_leads}
+
+-- ---- the first libraries
+
+-- A desk without a side may be saved.
+none_are_sides : (role : Who) → AreSides (record { role = role; sides = [] })
+unfolding Each are_apart
+none_are_sides role = record { held = refl; each = tt; few = omega arith }
+
+-- A library whose desk was just begun is the first desk of the model.
+first_at : SidesReadAgain → (role : Who) → IsAt (first_library role) (first_desk role)
+unfolding Each
+first_at again role = record { file = again (record { role = role; sides = [] }) (none_are_sides role); left = tt }
+
+-- ---- one after another
+
+-- Each of two libraries is a desk of the model, if both are.
+each_is_at : (role : Who) (libraries : Libraries) (w : DeskParties) → AreAt libraries w
+    → IsAt (party libraries role) (party w role)
+each_is_at who.Requester libraries w at = at.requester
+each_is_at who.Responder libraries w at = at.responder
+
+-- Both libraries are desks of the model, if each is.
+both_are_at : (role : Who) (libraries : Libraries) (w : DeskParties) → IsAt (party libraries role) (party w role)
+    → IsAt (party libraries (other role)) (party w (other role)) → AreAt libraries w
+both_are_at who.Requester libraries w here there = record { requester = here; responder = there }
+both_are_at who.Responder libraries w here there = record { requester = there; responder = here }
+
+-- Two desks that stand do so after each event, and a message that was sent stays sent.
+module _ (stand : EachStands) (stay : (txn : Qualifiers) (w : DeskParties) (event : DeskEvent) → DesksInvariant w
+    → KeepsSent (project txn w) (project txn (desks_happen w event).1)) where
+  -- If one library performs a command, the events of the command lead to the desks of both.
+  one_leads_both : (w : DeskParties) (before after : Libraries) → DesksInvariant w → AreAt before w → Happens before after
+      → (events : List DeskEvent) × AreAt after (desks_run w events)
+  one_leads_both w before after stands at happens =
+      let role = happens.0 in
+      let others = each_is_at (other role) before w at in
+      let leads = command_leads stand stay role w stands (party before (other role)).left (party before role)
+      (party after role) others.left (each_is_at role before w at) happens.1 in
+      let there = (events_there role w leads.events leads.here).1 in
+      let still : IsAt (party after (other role)) (party (desks_run w leads.events) (other role)) =
+      subst (λ library. IsAt library (party (desks_run w leads.events) (other role))) (sym happens.2)
+      (subst (IsAt (party before (other role))) (sym there) others) in
+      (leads.events, both_are_at role after (desks_run w leads.events) leads.at still)
+
+  -- A history leads from the desks of its first libraries to those of its last ones.
+  history_leads : (w : DeskParties) (now : Libraries) (later : List Libraries) → DesksInvariant w → AreAt now w
+      → IsHistory now later → (events : List DeskEvent) × AreAt (libraries_after now later) (desks_run w events)
+  unfolding run_by IsHistory libraries_after
+  history_leads w now [] stands at is = ([], at)
+  history_leads w now (next ∷ later) stands at is =
+      let one = one_leads_both w now next stands at is.0 in
+      let more = history_leads (desks_run w one.0) next later (desks_stand_on stand w one.0 stands) one.1 is.1 in (
+        one.0 ++ more.0,
+        subst (AreAt (libraries_after next later)) (sym (run_join w one.0 more.0)) more.1,
+      )
+
+  -- A history from the first libraries is a run of the model.
+  pub history_is_run : SidesReadAgain → DesksInvariant first_desks → (later : List Libraries) → IsHistory first_libraries later
+      → IsRunAt (libraries_after first_libraries later)
+  history_is_run again first later is =
+      history_leads first_desks first_libraries later first
+      (record { requester = first_at again who.Requester; responder = first_at again who.Responder }) is
+
+-- ---- safety
+
+-- If two desks stand, the libraries that are these desks are safe.
+pub safe_at : ((txn : Qualifiers) (w : Parties) → Invariant txn w → OfBoth EndsAlike w)
+    → ((txn : Qualifiers) (w : Parties) → Invariant txn w → OfBoth WasShipped w)
+    → ((txn : Qualifiers) (w : Parties) → Invariant txn w → OfBoth WasGranted w)
+    → (libraries : Libraries) (w : DeskParties) → DesksInvariant w → AreAt libraries w → AreSafe libraries
+safe_at ends shipped granted libraries w stands at = (
+  w.requester.landed,
+  w.responder.landed,
+  at.requester.file,
+  at.responder.file,
+  λ txn. (
+    (ends txn (project txn w) (stands.each txn)).landed,
+    (shipped txn (project txn w) (stands.each txn)).landed,
+    (granted txn (project txn w) (stands.each txn)).landed,
+  ),
+)

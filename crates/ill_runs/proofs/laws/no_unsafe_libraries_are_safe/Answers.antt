@@ -1,0 +1,6 @@
+-- Proves the contract of `no_unsafe_libraries_are_safe` (`src/laws.rt`).
+use Rattle.ill_runs.proofs.BadLibraries.{not_safe}
+use Rattle.ill_runs.proofs.laws.no_unsafe_libraries_are_safe.Goals as goal
+
+pub returns : goal.returns
+returns c = not_safe

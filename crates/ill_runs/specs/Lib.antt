@@ -1,0 +1,4 @@
+pub mod BadLibraries
+pub mod Events
+pub mod Libraries
+pub mod Mail

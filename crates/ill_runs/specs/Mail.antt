@@ -1,0 +1,115 @@
+-- The messages that come to a desk in a command, and those that leave it.
+use Rattle.std.specs.Prelude.{◌≡◌, ℕ, nat_le, Bool, true, List, [], ◌∷◌, ◌++◌, length, map, take, Option, None, Some, option_map}
+use Rattle.std.specs.Prelude.{Result, Ok, Err}
+use Rattle.std.specs.List.{slice_get}
+use Rattle.std.proofs.Common.{inl, inr}
+use Rattle.ill_values.specs.Day.{Date}
+use Rattle.ill_values.specs.TxnId.{Qualifiers}
+use Rattle.ill_values.specs.declared.apdu.Apdu.{Apdu}
+use Rattle.ill_der.specs.Handling.{Handles}
+use Rattle.ill_core.specs.Issued.{message}
+use Rattle.ill_saved.specs.Ranges.{Each}
+use Rattle.ill_saved.specs.Side.{issued_of}
+use Rattle.ill_saved.specs.Holdings.{DeskEntry}
+use Rattle.ill_saved.specs.ManySides.{DeskContents, found_by, many_sides, txn_held}
+use Rattle.ill_text.specs.declared.fault.ToolFault.{ToolFault}
+use Rattle.ill_text.specs.Input.{Ends, ReadsInput, Rest, rest_of}
+use Rattle.ill_desk.specs.Performing.{CommandState}
+use Rattle.ill_desk.specs.Take.{RunsTaking, TakesMessage, progress}
+use Rattle.ill_desk.specs.Telling.{Wording}
+use Rattle.ill_night.specs.declared.verdict.Mail.{Mail}
+use Rattle.ill_night.specs.declared.verdict.Unfit.{Unfit}
+use Rattle.ill_night.specs.declared.dates.Dates.{Dates}
+use Rattle.ill_night.specs.Inbox.{message_in}
+use Rattle.ill_night.specs.Outbox.{leaving_desk}
+use Rattle.ill_mail.specs.Nights.{Night, TakesMails, ExchangesAt}
+use Rattle.ill_world.specs.World.{sent_message}
+use Rattle.ill_world.specs.Desks.{Sending, sent_for}
+
+-- ---- messages
+
+-- `a` is one of `apdus`.
+abbrev pub IsOneOf : List Apdu → Apdu → Type 0
+IsOneOf apdus a = (n : ℕ) × (slice_get apdus n ≡ Some a)
+
+-- `a` is one of the messages that a desk has sent.
+abbrev pub WasSent : List Sending → Apdu → Type 0
+WasSent sent a = (txn : Qualifiers) × (n : ℕ) × (sent_message (sent_for txn sent) n ≡ Some a)
+
+-- The desk has issued and released `a`, so it may be sent.
+abbrev pub IsReleased : DeskContents → Apdu → Type 0
+IsReleased live a =
+    (txn : Qualifiers) × (n : ℕ) × (held : DeskEntry) × (found_by txn_held txn live.held ≡ Some held)
+    × (message (issued_of held.side) n ≡ Some a) × (nat_le n held.released ≡ true)
+
+-- ---- the messages of an input
+
+-- Returns the message with which an input ended, if its handling failed.
+abbrev pub message_failed : {S : Type 0} → (handles : Handles S ToolFault) → (result : Result ℕ ToolFault) → (count : ℕ) →
+    (rest : Rest) → (before after : S) → Ends handles result count rest before after → List Apdu
+message_failed handles (Ok n) count rest before after ends = []
+message_failed handles (Err fault) count rest before after (inl stops) = []
+message_failed handles (Err fault) count rest before after (inr fails) = fails.0 ∷ []
+
+-- Returns the messages that an input brought, by how it was read.
+abbrev pub messages_read : {S : Type 0} → (handles : Handles S ToolFault) → (old new : Option (List ℕ)) → (before : S) →
+    (result : Result ℕ ToolFault) → (after : S) → ReadsInput handles old new before result after → List Apdu
+messages_read handles old new before result after read =
+    read.apdus
+    ++ message_failed handles result (length read.apdus) (rest_of read.bytes read.ahead new) read.last after read.ended
+
+-- Returns the messages that a desk took from its input, by how that went.
+abbrev pub messages_taken : {is_kept : Bool} → {told : Wording} → {old new : CommandState DeskContents} →
+    {result : Result Bool ToolFault} → RunsTaking is_kept told many_sides old result new → List Apdu
+messages_taken {is_kept} {told} {old} {new} taken =
+    messages_read (TakesMessage is_kept told many_sides) old.unread new.unread (progress old true) taken.0
+    (progress new taken.1) taken.3
+
+-- ---- the mails of a folder
+
+-- Returns the message of these bytes, if they are just one message.
+abbrev pub message_if : Result Apdu Unfit → List Apdu
+message_if (Ok a) = a ∷ []
+message_if (Err unfit) = []
+
+-- Returns the message of a mail that could be read, if it holds just one.
+abbrev pub message_if_read : Option (List ℕ) → List Apdu
+message_if_read None = []
+message_if_read (Some bytes) = message_if (message_in bytes)
+
+-- Returns the message of a mail, if it could be read and holds just one. Any other mail is noise.
+abbrev pub message_of : Mail → List Apdu
+message_of mail = message_if_read (option_map (λ bytes. bytes.items) mail.bytes)
+
+-- `Known` holds of the message of each mail.
+abbrev pub Bring : (Apdu → Type 0) → List Mail → Type 0
+Bring Known mails = Each (λ mail. Each Known (message_of mail)) mails
+
+-- Returns the mails that a desk took from a folder, by how that went.
+abbrev pub mails_taken : {old new : CommandState DeskContents} → {result : Result Night ToolFault} →
+    TakesMails old result new → List Mail
+mails_taken (inl failed) = []
+mails_taken (inr took) = took.0
+
+-- Returns the mails that a desk took in a night.
+abbrev pub mails_of : (dates : Option (Date × Dates)) → {old new : CommandState DeskContents} → {result : Result Bool ToolFault} →
+    ExchangesAt dates old result new → List Mail
+mails_of dates night = mails_taken night.2
+
+-- ---- the messages that leave
+
+-- `left` are the first of the messages that leave a desk in an outbox, if some messages ask.
+abbrev pub IsOutbox : DeskContents → List Apdu → Type 0
+IsOutbox live left =
+    (asking : List Apdu) × (size : ℕ) × (left ≡ take size (map (λ issue. issue.apdu) (leaving_desk asking live.held)))
+
+-- `left` leave a desk if its deeds were done and saved. Otherwise none leaves.
+abbrev pub LeavesIfDone : Result (Unit {0}) ToolFault → DeskContents → List Apdu → Type 0
+LeavesIfDone (Ok done) live left = IsOutbox live left
+LeavesIfDone (Err fault) live left = left ≡ []
+
+-- `left` leave a desk in a night, by how the night went. If its mails could not be taken, none leaves.
+abbrev pub Leaves : (dates : Option (Date × Dates)) → {old new : CommandState DeskContents} → {result : Result Bool ToolFault} →
+    ExchangesAt dates old result new → List Apdu → Type 0
+Leaves dates (met, Err fault, taken, ends) left = left ≡ []
+Leaves dates (met, Ok night, taken, ends) left = LeavesIfDone ends.1 ends.0.desk.live left

@@ -1,0 +1,63 @@
+//! The laws of histories: two libraries perform commands, one after another, and their mail is carried or lost.
+
+ghost use Rattle.std.specs.Prelude.{◌≡◌, List, Ok};
+ghost use Rattle.ill_values.specs.declared.apdu.Apdu.{Apdu};
+ghost use Rattle.ill_saved.specs.declared.role.Role.{Role as Who};
+ghost use Rattle.ill_saved.specs.Side.{other};
+ghost use Rattle.ill_saved.specs.Ranges.{Each};
+ghost use Rattle.ill_saved.specs.RecordsV2.{records_at};
+ghost use Rattle.ill_saved.specs.Sides.{SidesOf};
+ghost use Rattle.ill_world.specs.World.{party};
+ghost use Rattle.ill_world.specs.Desks.{DeskParties, DeskParty};
+ghost use Rattle.ill_world.specs.DeskSafety.{DesksInvariant};
+ghost use Rattle.ill_runs.specs.BadLibraries.{AreUnsafe};
+ghost use Rattle.ill_runs.specs.Mail.{IsOneOf, WasSent};
+ghost use Rattle.ill_runs.specs.Libraries.{AreSafe, Commands, IsAt, IsHistory, IsRunAt, LeadsTo, Libraries, Library, first_libraries, libraries_after};
+
+/// Each command of a library is some events at its desk in the model: a restart, what the command does, its saves, and a
+/// Send for each message that leaves. The messages that come were sent by the other desk.
+pub fn each_command_is_events()
+    ensures { (who : Who) (w : DeskParties) → DesksInvariant w → (others : List Apdu) (before after : Library) →
+        Each (WasSent (party w (other who)).sent) others → IsAt before (party w who) → Commands others before after →
+        LeadsTo who w after }
+{
+    ill_world::desk_laws::desks_stand();
+    ill_world::desk_laws::sent_stays_sent_at_desks();
+}
+
+/// Each history of two libraries is a run of the model. After any commands some events lead the first desks of the model
+/// to desks that are both libraries.
+pub fn each_history_is_a_run()
+    ensures { (later : List Libraries) → IsHistory first_libraries later →
+        IsRunAt (libraries_after first_libraries later) }
+{
+    ill_saved::laws::sides_read_again();
+    ill_world::desk_laws::desks_stand();
+    ill_world::desk_laws::sent_stays_sent_at_desks();
+}
+
+/// After each history of two libraries the files of both desks can be read. In each transaction their sides do not
+/// contradict each other.
+pub fn each_history_is_safe()
+    ensures { (later : List Libraries) → IsHistory first_libraries later →
+        AreSafe (libraries_after first_libraries later) }
+{
+    each_history_is_a_run();
+    ill_world::desk_laws::desks_stand();
+    ill_world::laws::ends_alike();
+    ill_world::laws::was_shipped();
+    ill_world::laws::was_granted();
+}
+
+/// Libraries are not safe if a file cannot be read, or if a side in the responder's file contradicts the requester's.
+pub fn no_unsafe_libraries_are_safe()
+    ensures { (libraries : Libraries) → AreUnsafe libraries → AreSafe libraries → ⊥ }
+{}
+
+/// If a library is a desk of the model, its file is read as the landed sides of this desk and as no others. The desk has
+/// sent each message that has left the library.
+pub fn files_are_the_desks()
+    ensures { (library : Library) (p : DeskParty) → IsAt library p →
+        ((held : SidesOf) → records_at library.file ≡ Ok held → held ≡ p.landed)
+        × ((a : Apdu) → IsOneOf library.left a → WasSent p.sent a) }
+{}

@@ -94,8 +94,8 @@ Exchanges others old leaving new =
     × Bring (IsOneOf others) (mails_of dates night) × Leaves dates night leaving
 
 -- One command leads from the library `before` to `after`. `others` have left the other library: any of them may come,
--- once or often, early or late. A command that is stopped before its first save leaves the library as it was. One that is
--- stopped later leaves what a shorter one leaves: of fewer messages, or a night without its deeds or its last letters.
+-- once or often, early or late. A command that is stopped before its first save is the last case. One that is stopped
+-- later counts as a shorter one: of fewer messages, or a night without its deeds or its last letters.
 abbrev pub Commands : List Apdu → Library → Library → Type 0
 Commands others before after =
     IsCommand Acts before after ⊎ IsCommand (Takes others) before after

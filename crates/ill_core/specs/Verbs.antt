@@ -151,6 +151,16 @@ abbrev pub reply_turn : Bool → Turn
 reply_turn true = Theirs
 reply_turn false = Mine
 
+-- Returns true if a library that waits may still have the verb. The requester may cancel, or return the item early. The
+-- responder may let the request expire, say that the item is overdue, or recall it.
+abbrev pub may_be_early : Verb → Bool
+may_be_early Cancel = true
+may_be_early Return = true
+may_be_early Expire = true
+may_be_early Overdue = true
+may_be_early Recall = true
+may_be_early other = false
+
 -- Returns the turn in RETURNED: nobody's if the requester has the checked-in mark, and else the responder's.
 abbrev pub returned_turn : Bool → Turn
 returned_turn true = Over

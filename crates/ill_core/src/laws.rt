@@ -24,4 +24,5 @@ pub use responder::{
 };
 pub use turns::{
     requester_verbs_are_exact, responder_verbs_are_exact, turns_have_verbs, what_is_over_stays,
+    who_waits_has_early_verbs,
 };

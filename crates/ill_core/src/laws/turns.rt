@@ -1,18 +1,19 @@
 //! States the laws of the verbs and the turns of both roles.
 
-ghost use Rattle.std.specs.Prelude.{◌≡◌, []};
+ghost use Rattle.std.specs.Prelude.{◌≡◌, true, []};
+ghost use Rattle.std.specs.List.{list_all};
 ghost use Rattle.ill_values.specs.Day.{Date};
 ghost use Rattle.ill_values.specs.declared.apdu.Apdu.{Apdu};
 ghost use Rattle.ill_core.specs.declared.requester.Wish.{Wish};
 ghost use Rattle.ill_core.specs.declared.responder.Deed.{Deed};
-ghost use Rattle.ill_core.specs.declared.turn.Turn.TheVariants.{Over, Mine};
+ghost use Rattle.ill_core.specs.declared.turn.Turn.TheVariants.{Over, Mine, Theirs};
 ghost use Rattle.ill_core.specs.Requester.{RequesterRecord};
 ghost use Rattle.ill_core.specs.RequesterActions as requester_actions;
 ghost use Rattle.ill_core.specs.RequesterDeliveries as requester_deliveries;
 ghost use Rattle.ill_core.specs.Responder.{ResponderRecord};
 ghost use Rattle.ill_core.specs.ResponderActions as responder_actions;
 ghost use Rattle.ill_core.specs.ResponderDeliveries as responder_deliveries;
-ghost use Rattle.ill_core.specs.Verbs.{wish_verb, deed_verb, is_verb_among, is_now, requester_verbs, responder_verbs, requester_turn, responder_turn};
+ghost use Rattle.ill_core.specs.Verbs.{wish_verb, deed_verb, is_verb_among, is_now, requester_verbs, responder_verbs, may_be_early, requester_turn, responder_turn};
 
 /// The verbs of a requester are the verbs of the wishes that are not refused as `NotNow`.
 pub fn requester_verbs_are_exact()
@@ -37,6 +38,15 @@ pub fn turns_have_verbs()
         responder_verbs y ≡ [] → ⊥ }
     ensures responder_is_done { (y : ResponderRecord) → responder_turn y ≡ Over →
         responder_verbs y ≡ [] }
+{}
+
+/// A side that waits for the other has only verbs that may be early: cancel, return, expire, overdue and recall. So a side
+/// with a request, an answer or a receipt to give does not wait.
+pub fn who_waits_has_early_verbs()
+    ensures requester { (x : RequesterRecord) → requester_turn x ≡ Theirs →
+        list_all may_be_early (requester_verbs x) ≡ true }
+    ensures responder { (y : ResponderRecord) → responder_turn y ≡ Theirs →
+        list_all may_be_early (responder_verbs y) ≡ true }
 {}
 
 /// If the loan is over for a requester, no message changes its record. If it is over for a responder, no message

@@ -14,3 +14,5 @@ pub mod Contents
 pub mod Files
 pub mod Sizes
 pub mod Places
+pub mod BadAnswers
+pub mod LandedMessages

@@ -134,6 +134,17 @@ IsBackedByRead backs (Err fault) live = ⊥
 abbrev pub IsBacked : {L K : Type 0} → Effects L K → (L → L → Type 0) → Option (List ℕ) → L → Type 0
 IsBacked effects backs landed live = IsBackedByRead backs (landed_live effects landed live) live
 
+-- Message `number` of the side `key` is `a`, and the desk may send it: it is issued and released.
+abbrev pub MaySend : {L K : Type 0} → Effects L K → L → K → ℕ → Apdu → Type 0
+MaySend effects live key number a =
+    (message (issued_of (effects.side_for key live).side) number ≡ Some a)
+    × (number ≤ (effects.side_for key live).released)
+
+-- Reading gave sides and no fault. Message `number` of the side `key` among them is `a`.
+abbrev pub ReadHas : {L K : Type 0} → Effects L K → Result L RecordFault → K → ℕ → Apdu → Type 0
+ReadHas effects (Ok read) key number a = message (issued_of (effects.side_for key read).side) number ≡ Some a
+ReadHas effects (Err fault) key number a = ⊥
+
 -- All landed bytes that back the old sides back the new ones.
 abbrev pub StaysBacked : {L K : Type 0} → Effects L K → (L → L → Type 0) → L → L → Type 0
 StaysBacked effects backs old new =

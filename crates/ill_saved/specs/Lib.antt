@@ -13,3 +13,4 @@ pub mod Holdings
 pub mod OneSide
 pub mod Desk
 pub mod ManySides
+pub mod BadAnswers

@@ -1,11 +1,23 @@
 //! Laws of saved records: contracts of functions that do nothing.
 
-ghost use Rattle.std.specs.Prelude.{◌≡◌, ℕ, ◌≤◌, List, false, length, Ok, Err};
+ghost use Rattle.std.specs.Prelude.{◌≡◌, ℕ, ◌≤◌, ◌<◌, List, Bool, true, false, length, Option, Result, Ok, Err};
+ghost use Rattle.ill_values.specs.TxnId.{Qualifiers};
+ghost use Rattle.ill_der.specs.declared.fault.DerFault.{DerFault};
 ghost use Rattle.ill_der.specs.Laws.{IsBytes};
 ghost use Rattle.ill_values.specs.declared.apdu.Apdu.{Apdu};
 ghost use Rattle.ill_core.specs.declared.refusal.Refusal.{Refusal};
 ghost use Rattle.ill_saved.specs.declared.side.Side.{Side};
 ghost use Rattle.ill_saved.specs.declared.side.Action.{Action};
+ghost use Rattle.ill_saved.specs.declared.fault.DeskFault.{DeskFault};
+ghost use Rattle.ill_saved.specs.declared.fault.DeskFault.TheVariants.{Store, OutOfMemory};
+ghost use Rattle.ill_saved.specs.declared.store.StoreFault.TheVariants.{Failed};
+ghost use Rattle.ill_saved.specs.declared.store.NextCall.{NextCall};
+ghost use Rattle.ill_saved.specs.BadAnswers.{CannotSave, CannotCreate, CannotLoad, CannotRead, LandsWrong, PlansWrong};
+ghost use Rattle.ill_saved.specs.Store.{StoreState, most_failures};
+ghost use Rattle.ill_saved.specs.Holdings.{DeskEntry, IsBacked, IsReadFault, MaySend, ReadHas, landed_live};
+ghost use Rattle.ill_saved.specs.OneSide.{OneBacks, one_side};
+ghost use Rattle.ill_saved.specs.ManySides.{DeskContents, ManyBack, many_sides};
+ghost use Rattle.ill_saved.specs.Desk.{DeskFailsCounted, DeskLoads, DeskTakes, IsCreateAnswer, IsLoadFault, IsSaveFault, PlanAfter, RestartLeaves, SaveLands};
 ghost use Rattle.ill_saved.specs.Side.{issued_of, is_idle, acts, takes, IsSideTransition, Grows, KeepsRequest, IsAfterTransitions, IsPrefix};
 ghost use Rattle.ill_saved.specs.Records.{side_spelled, record_at, record_spelling};
 ghost use Rattle.ill_saved.specs.RecordsV2.{sides_spelling, is_version_1, records_at, AreSides};
@@ -130,3 +142,46 @@ pub fn follows_issues()
 {
     rows_grow();
 }
+
+/// Message `number` that a desk may send is message `number` of its landed record: of the record of the same
+/// transaction, and the same APDU. So no message leaves a desk that its store does not have.
+pub fn what_may_be_sent_has_landed()
+    ensures one { (landed : Option (List ℕ)) (live : DeskEntry) (number : ℕ) (a : Apdu) →
+        IsBacked one_side OneBacks landed live → MaySend one_side live tt number a →
+        ReadHas one_side (landed_live one_side landed live) tt number a }
+    ensures many { (landed : Option (List ℕ)) (live : DeskContents) (txn : Qualifiers) (number : ℕ) (a : Apdu) →
+        IsBacked many_sides ManyBack landed live → MaySend many_sides live txn number a →
+        ReadHas many_sides (landed_live many_sides landed live) txn number a }
+{
+    follows_issues();
+}
+
+/// No call of a desk has a fault of another call. A save fails only by its store or by memory. Creating a desk also fails
+/// over a record, and loading by a record that is damaged.
+#[tactic(auto, using(crate::proofs::BadAnswers::none_saves, crate::proofs::BadAnswers::none_creates, crate::proofs::BadAnswers::none_loads, crate::proofs::BadAnswers::none_reads))]
+pub fn no_call_has_the_fault_of_another()
+    ensures saves { (fault : DeskFault) → CannotSave fault → IsSaveFault (Err fault) → ⊥ }
+    ensures creates { (fault : DeskFault) → CannotCreate fault → IsCreateAnswer (Err fault) → ⊥ }
+    ensures loads { (has_digest : Bool) (fault : DeskFault) →
+        CannotLoad has_digest fault → IsLoadFault has_digest fault → ⊥ }
+    ensures reads { (has_digest : Bool) (fault : DeskFault) →
+        CannotRead has_digest fault → IsReadFault has_digest fault → ⊥ }
+{}
+
+/// A save lands its bytes or leaves the old ones, as it answers. A load, a restart that fails and a message for which
+/// memory runs out change nothing. A failure is counted.
+#[tactic(auto, using(crate::proofs::BadAnswers::none_lands, crate::proofs::BadAnswers::none_plans))]
+pub fn no_call_changes_too_much()
+    ensures lands { (plan : Option NextCall) (bytes : List ℕ) (answer : Result (Unit {0}) DeskFault)
+        (old new : Option (List ℕ)) → LandsWrong bytes old new answer → SaveLands plan bytes answer old new → ⊥ }
+    ensures plans { (old new : Option NextCall) → PlansWrong old new →
+        PlanAfter (Err OutOfMemory) old new → ⊥ }
+    ensures loads { (old new : StoreState) (answer : Result (Option (List ℕ)) DeskFault) →
+        (new.landed ≡ old.landed → ⊥) → old.is_honest ≡ true → DeskLoads old answer new → ⊥ }
+    ensures restarts { (old new : DeskContents) (fault : DeskFault) →
+        (new ≡ old → ⊥) → RestartLeaves many_sides (Err fault) old new → ⊥ }
+    ensures takes { (found : Result (Apdu × List ℕ) DerFault) (old new : DeskContents) →
+        (new ≡ old → ⊥) → DeskTakes many_sides old found (Err OutOfMemory) new → ⊥ }
+    ensures counts { (old new : ℕ) → new ≤ old → new < most_failures →
+        DeskFailsCounted {X = Unit {0}} (Err (Store Failed)) old new → ⊥ }
+{}

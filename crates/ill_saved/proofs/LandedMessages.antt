@@ -46,7 +46,8 @@ side_held : (live : DeskContents) (txn : Qualifiers) → (held_for txn live).sid
 unfolding side_with
 side_held live txn =
     found_side live.role txn (found_by txn_held txn live.held)
-    ∙ ap (found_or (idle_side live.role txn)) (sym (found_mapped txn_held txn_of (λ held. held.side) (λ held. refl) txn live.held))
+    ∙ ap (found_or (idle_side live.role txn))
+    (sym (found_mapped txn_held txn_of (λ held. held.side) (λ held. refl) txn live.held))
 
 -- If a read record backs a desk of one side, it has each message that the desk may send.
 pub one_has : FollowsIssues → (read : Result DeskEntry RecordFault) (live : DeskEntry) (number : ℕ) (a : Apdu)

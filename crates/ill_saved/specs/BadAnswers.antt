@@ -10,7 +10,8 @@ use Rattle.ill_saved.specs.declared.store.StoreFault.TheVariants as stores
 use Rattle.ill_saved.specs.declared.store.NextCall.{NextCall}
 use Rattle.ill_saved.specs.declared.fault.DeskFault.{DeskFault}
 use Rattle.ill_saved.specs.declared.fault.DeskFault.TheVariants.{Core, Bytes, Trailing, Exists, NoRecord, Store, Saved}
-use Rattle.ill_saved.specs.declared.fault.DeskFault.TheVariants.{NoSuchMessage, NotSaved, NoSuchTransaction, DeskFull, OutOfMemory}
+use Rattle.ill_saved.specs.declared.fault.DeskFault.TheVariants.{NoSuchMessage, NotSaved, NoSuchTransaction, DeskFull}
+use Rattle.ill_saved.specs.declared.fault.DeskFault.TheVariants.{OutOfMemory}
 use Rattle.ill_saved.specs.Store.{plan_after_call}
 
 -- ---- faults

@@ -91,7 +91,7 @@ at_rest txn w stands over =
     (live_issues w.responder stands.responder.saved) (live_issues w.requester stands.requester.saved) over
 
 -- If two sides are at rest, the loan is over for the responder's.
-rests_responder : (x y : Side) → Facing AtRest x y → is_over y ≡ true
+pub rests_responder : (x y : Side) → Facing AtRest x y → is_over y ≡ true
 rests_responder (sides.Requester x) (sides.Responder y) rest = rest.responder
 rests_responder (sides.Responder x) y rest = absurd rest
 rests_responder (sides.Requester x) (sides.Requester y) rest = absurd rest
@@ -99,7 +99,7 @@ rests_responder (sides.Requester x) (sides.Requester y) rest = absurd rest
 -- ---- the sides that send
 
 -- A responder that was asked sends its messages.
-asked_wants : (txn : Qualifiers) (side : Side) (requester_sent : List (Option Apdu))
+pub asked_wants : (txn : Qualifiers) (side : Side) (requester_sent : List (Option Apdu))
     → ResponderSideInvariant txn side requester_sent
     → wants_sending true side ≡ true
 asked_wants txn (sides.Responder y) requester_sent stands = or_right (not (is_over (sides.Responder y))) true refl
@@ -111,7 +111,7 @@ idle_is_open states.Idle is = refl
 idle_is_open s is = search rules
 
 -- If the requester has issued nothing, the loan is not over for the responder.
-unasked_is_open : (txn : Qualifiers) (side : Side) (requester_sent : List (Option Apdu)) (apdus : List Apdu)
+pub unasked_is_open : (txn : Qualifiers) (side : Side) (requester_sent : List (Option Apdu)) (apdus : List Apdu)
     → ResponderSideInvariant txn side requester_sent → AreIssued requester_sent apdus → is_none apdus ≡ true
     → is_over side ≡ false
 unasked_is_open txn (sides.Responder y) requester_sent apdus stands heeded none = go (is_among (states.Idle ∷ []) y.state) refl
@@ -130,7 +130,7 @@ night_from w first = first ++ half_if (wants_sending (asks w.requester.live) (ru
     (run_of w first)
 
 -- The half of a requester that has issued nothing leaves the responder unchanged.
-nothing_passes : (w : Parties) (apdus : List Apdu) → issued_of w.requester.live ≡ apdus → is_none apdus ≡ true
+pub nothing_passes : (w : Parties) (apdus : List Apdu) → issued_of w.requester.live ≡ apdus → is_none apdus ≡ true
     → (run_of w (half_of who.Requester w)).responder.live ≡ w.responder.live
 unfolding run_by sends_and_delivers
 nothing_passes w [] is none = ap

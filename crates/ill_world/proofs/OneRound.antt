@@ -76,14 +76,14 @@ pub record TransitionsHear : Type 0 where
 -- ---- a side and its record
 
 -- A requester's side takes APDUs as its record does.
-requester_taking : (x : RequesterRecord) (apdus : List Apdu)
+pub requester_taking : (x : RequesterRecord) (apdus : List Apdu)
     → takes_all (sides.Requester x) apdus ≡ sides.Requester (taking asks x apdus)
 unfolding takes_all taking
 requester_taking x [] = refl
 requester_taking x (a ∷ apdus) = requester_taking (asks x a) apdus
 
 -- A responder's side takes APDUs as its record does.
-responder_taking : (y : ResponderRecord) (apdus : List Apdu)
+pub responder_taking : (y : ResponderRecord) (apdus : List Apdu)
     → takes_all (sides.Responder y) apdus ≡ sides.Responder (taking lends y apdus)
 unfolding takes_all taking
 responder_taking y [] = refl
@@ -100,7 +100,7 @@ same_responder y z same = search rules
 -- ---- lists
 
 -- If all APDUs of a list pass a test, each passes it.
-each : (p : Body → Bool) (apdus : List Apdu) (i : ℕ) (a : Apdu) → list_all (λ b. p b.body) apdus ≡ true
+pub each : (p : Body → Bool) (apdus : List Apdu) (i : ℕ) (a : Apdu) → list_all (λ b. p b.body) apdus ≡ true
     → slice_get apdus i ≡ Some a → p a.body ≡ true
 each p [] i a all at = search rules
 each p (b ∷ apdus) zero a all at = let same : b ≡ a = search rules in
@@ -117,7 +117,7 @@ none_there says apdus i a none at = go (says a.body) refl
     go true e = let both : true ≡ false = sym (message_says says apdus (suc i) a at e) ∙ none in search rules
 
 -- In a requester's list no message but the first is an ILL-Request.
-first_alone : (apdus : List Apdu) (j : ℕ) (b : Apdu) → begins_with_request apdus ≡ true
+pub first_alone : (apdus : List Apdu) (j : ℕ) (b : Apdu) → begins_with_request apdus ≡ true
     → slice_get apdus (suc j) ≡ Some b → is_ill_request b.body ≡ false
 first_alone [] j b begins at = search rules
 first_alone (a ∷ apdus) j b begins at = none_there is_ill_request apdus j b (not-true _ (and_parts _ _ begins).1) at
@@ -132,7 +132,7 @@ has_prefix says prefix apdus is there =
 -- ---- messages that reopen others
 
 -- Only an ILL-Request reopens another APDU at a responder.
-only_request : (first second : Body) → is_ill_request first ≡ false → records.reopens first second ≡ false
+pub only_request : (first second : Body) → is_ill_request first ≡ false → records.reopens first second ≡ false
 only_request (types.IllRequest expiry item) second is = search rules
 only_request first second is = refl
 
@@ -340,13 +340,13 @@ module _ (rows : TransitionsHear) where
   -- ---- worlds
 
   -- If `RequesterSideInvariant` holds of a side, the side has issued at most 255 messages.
-  requester_few : (txn : Qualifiers) (side : Side) (responder_sent : List (Option Apdu))
+  pub requester_few : (txn : Qualifiers) (side : Side) (responder_sent : List (Option Apdu))
       → RequesterSideInvariant txn side responder_sent → length (issued_of side) ≤ 255
   requester_few txn (sides.Requester x) responder_sent stands = stands.few
   requester_few txn (sides.Responder y) responder_sent stands = absurd stands
 
   -- If `ResponderSideInvariant` holds of a side, the side has issued at most 255 messages.
-  responder_few : (txn : Qualifiers) (side : Side) (requester_sent : List (Option Apdu))
+  pub responder_few : (txn : Qualifiers) (side : Side) (requester_sent : List (Option Apdu))
       → ResponderSideInvariant txn side requester_sent → length (issued_of side) ≤ 255
   responder_few txn (sides.Responder y) requester_sent stands = stands.few
   responder_few txn (sides.Requester x) requester_sent stands = absurd stands

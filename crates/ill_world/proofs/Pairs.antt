@@ -58,19 +58,19 @@ pub record HaveHeard (x : RequesterRecord) (y : ResponderRecord) : Type 0 where
 -- ---- Bools
 
 -- Two Bools are equal if each implies the other.
-alike : (a b : Bool) → (a ≡ true → b ≡ true) → (b ≡ true → a ≡ true) → a ≡ b
+pub alike : (a b : Bool) → (a ≡ true → b ≡ true) → (b ≡ true → a ≡ true) → a ≡ b
 alike true b there back = sym (there refl)
 alike false true there back = back refl
 alike false false there back = refl
 
 -- A Bool is true if a true one implies it.
-implied : (a b : Bool) → implies a b ≡ true → a ≡ true → b ≡ true
+pub implied : (a b : Bool) → implies a b ≡ true → a ≡ true → b ≡ true
 implied a b implies_it is = search rules
 
 -- ---- a message of which `has_heard` holds
 
 -- If `has_heard` holds of an ILL-Request, the responder is not in IDLE.
-request_heard : (y : ResponderRecord) (n : ℕ) (body : Body) → is_ill_request body ≡ true
+pub request_heard : (y : ResponderRecord) (n : ℕ) (body : Body) → is_ill_request body ≡ true
     → records.has_heard y n body ≡ true → is_among (states.Idle ∷ []) y.state ≡ false
 request_heard y n (types.IllRequest expiry item) is heard = not-true _ heard
 request_heard y n body is heard = search rules
@@ -89,39 +89,39 @@ shipped_heard x n (types.Shipped due) is heard = not-true _ heard
 shipped_heard x n body is heard = search rules
 
 -- If `has_heard` holds of a Cancel, an undecided responder has taken this one or a later one.
-cancel_heard : (y : ResponderRecord) (n : ℕ) (body : Body) → is_cancel body ≡ true → records.has_heard y n body ≡ true
+pub cancel_heard : (y : ResponderRecord) (n : ℕ) (body : Body) → is_cancel body ≡ true → records.has_heard y n body ≡ true
     → is_among records.undecided y.state ≡ true → is_at_most n y.last_cancel ≡ true
 cancel_heard y n types.Cancel is heard is_open = implied _ _ heard is_open
 cancel_heard y n body is heard is_open = search rules
 
 -- If `has_heard` holds of a Renew, a responder in SHIPPED or OVERDUE has taken this one or a later one.
-renew_heard : (y : ResponderRecord) (n : ℕ) (body : Body) → is_renew body ≡ true → records.has_heard y n body ≡ true
+pub renew_heard : (y : ResponderRecord) (n : ℕ) (body : Body) → is_renew body ≡ true → records.has_heard y n body ≡ true
     → is_among (states.Shipped ∷ states.Overdue ∷ []) y.state ≡ true
     → is_at_most n y.last_renew ≡ true
 renew_heard y n (types.Renew wished) is heard here = implied _ _ heard here
 renew_heard y n body is heard here = search rules
 
 -- If `has_heard` holds of a Returned, the responder is in no lent state.
-returned_heard : (y : ResponderRecord) (n : ℕ) (body : Body) → is_returned body ≡ true
+pub returned_heard : (y : ResponderRecord) (n : ℕ) (body : Body) → is_returned body ≡ true
     → records.has_heard y n body ≡ true → is_among records.lent y.state ≡ false
 returned_heard y n types.Returned is heard = not-true _ heard
 returned_heard y n body is heard = search rules
 
 -- If `has_heard` holds of a Received, a responder in SHIPPED or later has the received mark.
-received_heard : (y : ResponderRecord) (n : ℕ) (body : Body) → is_received body ≡ true
+pub received_heard : (y : ResponderRecord) (n : ℕ) (body : Body) → is_received body ≡ true
     → records.has_heard y n body ≡ true → is_among shipped_states y.state ≡ true → y.received ≡ true
 received_heard y n types.Received is heard shipped = implied _ _ heard shipped
 received_heard y n body is heard shipped = search rules
 
 -- If `has_heard` holds of a Conditional-Reply no, an undecided responder has no number left.
-no_heard : (y : ResponderRecord) (n : ℕ) (body : Body) → declines body ≡ true → records.has_heard y n body ≡ true
+pub no_heard : (y : ResponderRecord) (n : ℕ) (body : Body) → declines body ≡ true → records.has_heard y n body ≡ true
     → is_among records.undecided y.state ≡ true → nat_lt (length y.issued) 255 ≡ false
 no_heard y n (types.ConditionalReply c false) is heard is_open = not-true _ (implied _ _ heard is_open)
 no_heard y n (types.ConditionalReply c true) is heard is_open = search rules
 no_heard y n body is heard is_open = search rules
 
 -- If `has_heard` holds of a Conditional-Reply yes, the responder does not wait for an answer to these conditions.
-yes_heard : (y : ResponderRecord) (n c : ℕ) (body : Body) → accepts body ≡ Some c → records.has_heard y n body ≡ true
+pub yes_heard : (y : ResponderRecord) (n c : ℕ) (body : Body) → accepts body ≡ Some c → records.has_heard y n body ≡ true
     → is_equal_number c (outstanding_number y) ≡ false
 yes_heard y n c (types.ConditionalReply k true) is heard = let same : k ≡ c = search rules in
     subst (λ i. is_equal_number i (outstanding_number y) ≡ false) same (not-true _ heard)
@@ -208,17 +208,17 @@ tells_requested n (types.IllRequest expiry item) tells = refl
 tells_requested n body tells = search rules
 
 -- A message that attests a recall is a Recall.
-attests_recall : (n : ℕ) (body : Body) → notices.Attests n body notices.Recalled → is_recall body ≡ true
+pub attests_recall : (n : ℕ) (body : Body) → notices.Attests n body notices.Recalled → is_recall body ≡ true
 attests_recall n types.Recall attests = refl
 attests_recall n body attests = search rules
 
 -- A message that attests conditions has their number.
-attests_named : (n c : ℕ) (body : Body) → notices.Attests n body (notices.Named c) → n ≡ c
+pub attests_named : (n c : ℕ) (body : Body) → notices.Attests n body (notices.Named c) → n ≡ c
 attests_named n c (types.IllAnswer results.Conditional) attests = attests
 attests_named n c body attests = search rules
 
 -- A message that attests an answer to a Renew is that answer.
-attests_answered : (n renew : ℕ) (day : Date) (body : Body) → notices.Attests n body (notices.Answered renew day)
+pub attests_answered : (n renew : ℕ) (day : Date) (body : Body) → notices.Attests n body (notices.Answered renew day)
     → answered_number MayRenew body ≡ Some renew
 attests_answered n renew day (types.RenewAnswer c granted) attests = ap Some attests.0
 attests_answered n renew day body attests = search rules
@@ -274,7 +274,7 @@ not_supplied_alone states.NotSupplied is = (refl, refl, refl)
 not_supplied_alone t is = search rules
 
 -- A side in CANCEL-PENDING may have an open Cancel, and is in no other group of states.
-cancel_pending_alone : (s : State) → is_among (states.CancelPending ∷ []) s ≡ true
+pub cancel_pending_alone : (s : State) → is_among (states.CancelPending ∷ []) s ≡ true
     → (is_among (states.Idle ∷ []) s ≡ false) × (is_among (states.Cancelled ∷ []) s ≡ false)
     × (is_among (states.NotSupplied ∷ []) s ≡ false) × (is_among later s ≡ false) × (is_among shipped_states s ≡ false)
     × (is_among (states.CancelPending ∷ states.Cancelled ∷ []) s ≡ true)
@@ -311,7 +311,7 @@ renew_left states.RenewOverdue shipped recalled returned settled = refl
 renew_left t shipped recalled returned settled = search rules
 
 -- A side in RENEW/PENDING or RENEW/OVERDUE is in SHIPPED or later, and in none of RECALL, RETURNED and CHECKED-IN.
-renewing : (s : State) → is_among (states.RenewPending ∷ states.RenewOverdue ∷ []) s ≡ true
+pub renewing : (s : State) → is_among (states.RenewPending ∷ states.RenewOverdue ∷ []) s ≡ true
     → (is_among later s ≡ true) × (is_among shipped_states s ≡ true) × (is_among (states.Recall ∷ []) s ≡ false)
     × (is_among (states.Returned ∷ []) s ≡ false)
     × (is_among (states.Returned ∷ states.CheckedIn ∷ []) s ≡ false) × (is_among (states.Recall ∷ states.Returned ∷ []) s ≡ false)
@@ -378,33 +378,33 @@ open_left s t is faced = search rules
 -- ---- numbers
 
 -- An option that is not empty has a value.
-some_of : {X : Type 0} (o : Option X) → is_some o ≡ true → (v : X) × (o ≡ Some v)
+pub some_of : {X : Type 0} (o : Option X) → is_some o ≡ true → (v : X) × (o ≡ Some v)
 some_of None is = search rules
 some_of (Some v) is = (v, refl)
 
 -- A number that is at most an option is at most the value of this option.
-most : (k : ℕ) (o : Option ℕ) → is_at_most k o ≡ true → (m : ℕ) × (o ≡ Some m) × (k ≤ m)
+pub most : (k : ℕ) (o : Option ℕ) → is_at_most k o ≡ true → (m : ℕ) × (o ≡ Some m) × (k ≤ m)
 most k None is = search rules
 most k (Some m) is = (m, refl, leb-true k m is)
 
 -- If `o` has the value n, `is_equal_number` holds of n and `o`.
-itself : (n : ℕ) (o : Option ℕ) → o ≡ Some n → is_equal_number n o ≡ true
+pub itself : (n : ℕ) (o : Option ℕ) → o ≡ Some n → is_equal_number n o ≡ true
 itself n None is = search rules
 itself n (Some m) is = search rules
 
 -- If `o` has the value n, n is not below `o`.
-not_below : (n : ℕ) (o : Option ℕ) → o ≡ Some n → is_below n o ≡ true → ⊥
+pub not_below : (n : ℕ) (o : Option ℕ) → o ≡ Some n → is_below n o ≡ true → ⊥
 not_below n None is below = search rules
 not_below n (Some m) is below = search rules
 
 -- A state that is not NOT-SUPPLIED, and not SHIPPED or later, is none of these.
-neither : (s : State) → is_among (states.NotSupplied ∷ []) s ≡ false → is_among later s ≡ false
+pub neither : (s : State) → is_among (states.NotSupplied ∷ []) s ≡ false → is_among later s ≡ false
     → is_among (states.NotSupplied ∷ later) s ≡ false
 neither states.NotSupplied unsupplied shipped = search rules
 neither s unsupplied shipped = shipped
 
 -- A state that is neither RECALL nor RETURNED is in the list of neither.
-either_gone : (s : State) → is_among (states.Recall ∷ []) s ≡ false → is_among (states.Returned ∷ []) s ≡ false
+pub either_gone : (s : State) → is_among (states.Recall ∷ []) s ≡ false → is_among (states.Returned ∷ []) s ≡ false
     → is_among (states.Recall ∷ states.Returned ∷ []) s ≡ false
 either_gone states.Recall recalled returned = search rules
 either_gone s recalled returned = returned
@@ -416,7 +416,7 @@ home_is_back states.CheckedIn is = refl
 home_is_back t is = search rules
 
 -- The second of two Bools is false if the first is true and not both are.
-second_false : (a b : Bool) → (a && b) ≡ false → a ≡ true → b ≡ false
+pub second_false : (a b : Bool) → (a && b) ≡ false → a ≡ true → b ≡ false
 second_false a b none is = search rules
 
 -- If the last message of a list names conditions, the list has a last message, and it names them.
@@ -437,7 +437,7 @@ conditions_heard x n (types.IllAnswer results.Conditional) is heard pending = im
 conditions_heard x n body is heard pending = search rules
 
 -- The number of a message is at most the length of the list.
-message_within : (apdus : List Apdu) (n : ℕ) (a : Apdu) → message apdus n ≡ Some a → n ≤ length apdus
+pub message_within : (apdus : List Apdu) (n : ℕ) (a : Apdu) → message apdus n ≡ Some a → n ≤ length apdus
 message_within apdus zero a at = search rules
 message_within apdus (suc i) a at = omega (arith, slice_get_within apdus i a at)
 

@@ -1,11 +1,11 @@
 //! Performs command lines on the files of a folder.
 
-use crate::watched::{Seen, Watched};
+use crate::watched::{Rival, Seen, Watched};
 use ill_saved::LockFiles;
 use ill_session_kit::telling::{begin, tell_bytes, tell_compared, tell_line, tell_value};
 use ill_session_kit::words::Word;
 use ill_session_kit::{Call, Names, Phrase};
-use ill_test_kit::{Page, TestWriter, make_folder};
+use ill_test_kit::{Page, TestWriter, make_folder, named};
 use ill_tool::run_words;
 use std::alloc::Global;
 use std::env::Env;
@@ -104,15 +104,15 @@ impl<'a, R: LockFiles> Folder<'a, R> {
         Some(())
     }
 
-    /// Performs a command line on files that observe the record of its second word. The first word is the count of
-    /// tries of the lock that fail. Prints the output, the exit status and the observations.
+    /// Performs a command line on files that observe the record of its second word. The first word says what a rival
+    /// does to the lock. Prints the output, the exit status and the observations.
     pub fn watched_command(&self, page: &mut Page, call: &mut Call<'_>) -> Option<()> {
-        let (held, words) = call.words.split_first()?;
-        let held = held.text.as_str().parse::<u32>().ok()?;
+        let (rival, words) = call.words.split_first()?;
+        let rival = rival_of(rival.text.as_str())?;
         let line = self.command_line(words)?;
         let record = line.get(2)?.as_str();
         let lock = format!(in self.alloc; "{record}.lck").ok()?;
-        let watched = Watched::new(self.rt, record, lock.as_str(), held);
+        let watched = Watched::new(self.rt, record, lock.as_str(), rival);
         let status = run(&watched, self.alloc, &line, call)?;
         self.hide_path(call);
         call.tell_answer(page, &status);
@@ -163,6 +163,21 @@ impl<'a, R: LockFiles> Folder<'a, R> {
             Some(name) if !word.is_quoted => self.path_of(name),
             _ => String::from_str(self.alloc, text).ok(),
         }
+    }
+}
+
+/// The rivals that have a word.
+const RIVALS: [(&str, Rival); 3] = [
+    ("removed", Rival::Removes),
+    ("replaced", Rival::Replaces),
+    ("replaced-held", Rival::ReplacesHeld),
+];
+
+/// Returns the rival of a word, or of a count of tries that fail.
+fn rival_of(word: &str) -> Option<Rival> {
+    match named(&RIVALS, word) {
+        Some(rival) => Some(rival),
+        None => Some(Rival::Holds(word.parse::<u32>().ok()?)),
     }
 }
 

@@ -1,4 +1,4 @@
-//! Runs a command on files that observe its lock.
+//! Runs a command on files that observe its lock, beside a rival for this lock.
 
 use ill_saved::LockFiles;
 use std::alloc::Allocator;
@@ -16,11 +16,37 @@ pub struct Watched<'a, R: LockFiles> {
     record: &'a str,
     /// The path of the file whose lock is observed.
     lock: &'a str,
-    /// The first tries of the lock fail, this many, as if another program held it.
-    held: u32,
+    /// The other program that uses the lock.
+    rival: Rival,
     /// The observations so far.
     seen: Cell<Seen>,
 }
+
+/// Another program that uses the lock. It does one thing.
+#[derive(Clone, Copy)]
+pub enum Rival {
+    /// Holds the lock at the first tries, this many.
+    Holds(u32),
+    /// Removes the file of the lock after it was opened, before the first try.
+    Removes,
+    /// Replaces the file of the lock after it was opened, before the first try.
+    Replaces,
+    /// Replaces the file of the lock while the command holds it, before the record is replaced.
+    ReplacesHeld,
+}
+
+impl Rival {
+    /// Returns the number of first tries at which it holds the lock.
+    fn tries_held(self) -> u32 {
+        match self {
+            Rival::Holds(tries) => tries,
+            Rival::Removes | Rival::Replaces | Rival::ReplacesHeld => 0,
+        }
+    }
+}
+
+/// The content of the file by which a rival replaces that of the lock.
+const CONTENT: &str = "rival";
 
 /// The counts of observations.
 #[derive(Clone, Copy)]
@@ -36,8 +62,9 @@ pub struct Seen {
 }
 
 impl<'a, R: LockFiles> Watched<'a, R> {
-    /// Returns files that observe the record at the path `record`, and the lock of the file at the path `lock`.
-    pub fn new(rt: &'a R, record: &'a str, lock: &'a str, held: u32) -> Watched<'a, R> {
+    /// Returns files that observe the record at the path `record`, and the lock of the file at the path `lock`. The lock
+    /// has a rival.
+    pub fn new(rt: &'a R, record: &'a str, lock: &'a str, rival: Rival) -> Watched<'a, R> {
         let seen = Seen {
             openings: 0,
             replacements: 0,
@@ -48,7 +75,7 @@ impl<'a, R: LockFiles> Watched<'a, R> {
             rt,
             record,
             lock,
-            held,
+            rival,
             seen: Cell::new(seen),
         }
     }
@@ -79,12 +106,39 @@ impl<'a, R: LockFiles> Watched<'a, R> {
             Err(_) => true,
         }
     }
+
+    /// Lets the rival act before the first try of the lock.
+    fn act_before_the_first_try(&self) -> io::Result<()> {
+        match self.rival {
+            Rival::Removes => fs::remove_file(self.rt, self.lock),
+            Rival::Replaces => self.replace_lock(),
+            Rival::Holds(_) | Rival::ReplacesHeld => Ok(()),
+        }
+    }
+
+    /// Lets the rival act before a file is moved to `path`.
+    fn act_before_a_rename(&self, path: &str) -> io::Result<()> {
+        if path == self.record && matches!(self.rival, Rival::ReplacesHeld) {
+            return self.replace_lock();
+        }
+        Ok(())
+    }
+
+    /// Replaces the file of the lock by another file.
+    fn replace_lock(&self) -> io::Result<()> {
+        fs::remove_file(self.rt, self.lock)?;
+        fs::write(self.rt, self.lock, CONTENT.as_bytes())
+    }
 }
 
 impl<R: LockFiles> LockFiles for Watched<'_, R> {
     fn try_lock(&self, file: &R::File) -> io::Result<bool> {
-        if self.seen.get().pauses < self.held {
+        let pauses = self.seen.get().pauses;
+        if pauses < self.rival.tries_held() {
             return Ok(false);
+        }
+        if pauses == 0 {
+            self.act_before_the_first_try()?;
         }
         self.rt.try_lock(file)
     }
@@ -126,6 +180,7 @@ impl<R: LockFiles> Files for Watched<'_, R> {
 
     fn rename(&self, from: &str, to: &str) -> io::Result<()> {
         self.see(to, 0, 1);
+        self.act_before_a_rename(to)?;
         self.rt.rename(from, to)
     }
 

@@ -3,6 +3,7 @@
 ghost use Rattle.std.specs.Prelude.{◌≡◌, IfErr};
 ghost use Rattle.ill_text.specs.Fault.{IsFileFault};
 
+use crate::sending::SentAll;
 use ill_files::durable::Owner;
 use ill_files::machine::Machine;
 use ill_files::paths::is_there;
@@ -27,19 +28,33 @@ const NO_RECORD: &str = " is no record of a desk, and is not replaced: nothing i
 
 const NO_BEAT: &str = " is not made anew";
 
-/// Copies the desk in `file`, if `night` wants a copy. A copy that the desk does not extend is not replaced, which is a
-/// failure.
+/// The permit to put the messages of a desk into OUT: the copy of the desk was made, or none was asked for.
+#[derive(Drop)]
+pub(crate) struct SendPermit {
+    /// Keeps other modules from making one.
+    seal: (),
+}
+
+impl SendPermit {
+    /// Returns the permit of a command that nobody can ask for a copy.
+    pub(crate) fn without_copy() -> SendPermit {
+        SendPermit { seal: () }
+    }
+}
+
+/// Copies the desk in `file`, if `night` wants a copy, and returns the permit to send. A copy that the desk does not
+/// extend is not replaced, which is a failure.
 pub(crate) fn copy_desk<T: Files, S: Store, W: Write, E: Write>(
     machine: &mut Machine<'_, T, W, E>,
     file: &str,
     night: &Night<'_>,
     desk: &Desk<S>,
-) -> Result<(), ToolFault>
+) -> Result<SendPermit, ToolFault>
     ensures faults { IfErr result IsFileFault }
     ensures silent { machine.new.writer ≡ machine.old.writer }
 {
     let Some(path) = copy_path(machine.alloc, file, night)? else {
-        return Ok(());
+        return Ok(SendPermit { seal: () });
     };
     let path = path.as_str();
     let is_new = matches!(is_there(machine.rt, path), Ok(false));
@@ -48,7 +63,7 @@ pub(crate) fn copy_desk<T: Files, S: Store, W: Write, E: Write>(
         give_to_owner(machine.rt, path, file);
     }
     match copied {
-        Ok(Copied::Done) => Ok(()),
+        Ok(Copied::Done) => Ok(SendPermit { seal: () }),
         Ok(Copied::HasMore) => machine.blame(Err(STORE_FAILED), path, HAS_MORE),
         Ok(Copied::NoRecord) => machine.blame(Err(STORE_FAILED), path, NO_RECORD),
         Err(fault) => machine.blame(Err(fault), path, NO_COPY),
@@ -87,12 +102,13 @@ fn give_to_owner<T: Files>(rt: &T, path: &str, desk: &str) {
     }
 }
 
-/// Writes the file at `path` anew, if there is a path. Its time is then the time of the run, and its owner that of the
-/// file `desk`.
+/// Writes the file at `path` anew, if there is a path, after the run has sent all. Its time is then the time of the
+/// run, and its owner that of the file `desk`.
 pub fn beat<T: Files, W: Write, E: Write>(
     machine: &mut Machine<'_, T, W, E>,
     path: Option<&str>,
     desk: &str,
+    _sent: SentAll,
 ) -> Result<(), ToolFault>
     ensures faults { IfErr result IsFileFault }
     ensures silent { machine.new.writer ≡ machine.old.writer }

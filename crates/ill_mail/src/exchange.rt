@@ -2,17 +2,17 @@
 //! the lock of the desk's file from before the load to its end.
 
 ghost use Rattle.std.specs.Prelude.{◌≡◌, Ok, is_some, IfErr};
-ghost use Rattle.ill_mail.specs.Nights.{EndsAfterSending, ExchangesAt, ExchangesAtFile, FinishesNight, InboxAtFile, OutboxAtFile, PerformsDueDeeds, SendsAll, SendsAsked, SendsFrom, SendsOn, SendsTo, SettlesRun, TakesMails, ending_of, night_ending, taken_of};
+ghost use Rattle.ill_mail.specs.Nights.{EndsAfterSending, ExchangesAt, ExchangesAtFile, FinishesNight, InboxAtFile, OutboxAtFile, PerformsDueDeeds, SendsAll, SendsFrom, SendsOn, SendsTo, SettlesRun, TakesMails, ending_of, night_ending, taken_of};
 ghost use Rattle.ill_night.specs.Inbox.{EndedWell, answered_with};
 ghost use Rattle.ill_desk.specs.Performing.{command_state, view_of};
 ghost use Rattle.ill_text.specs.Fault.{IsFileFault, IsOpenFault};
 
-use crate::backup::{beat, copy_desk};
-use crate::blame::{NO_BOX, NO_RUN, NOT_READ, blame_mail};
+use crate::backup::{SendPermit, beat, copy_desk};
+use crate::blame::{NO_BOX, NO_RUN, NOT_READ};
 use crate::mail::{Incoming, Mails, begin_run, claim_mails, sorted_mails};
 use crate::mail_box::{MailBox, MailPaths, asked_bytes, open_box};
-use crate::mail_folder::MailFolder;
 use crate::places::{Places, look_at_out, look_at_places};
+use crate::sending::{SentAll, send_asked};
 use crate::settle::settle_mails;
 use ill_files::came::{CameFile, open_came};
 use ill_files::machine::Machine;
@@ -22,13 +22,12 @@ use ill_night::asked::asked_by;
 use ill_night::dates::{Dates, run_desk_dates};
 use ill_night::inbox::run_desk_inbox;
 use ill_night::night::Night;
-use ill_night::outbox::{run_desk_outbox, run_desk_outbox_stream};
+use ill_night::outbox::run_desk_outbox_stream;
 use ill_night::person::{tell_person, wants_person};
 use ill_night::tally::Tally;
 use ill_night::verdict::{Batch, Verdict};
 use ill_saved::{Desk, LockFiles, Role, Store};
 use ill_text::fault::ToolFault;
-use ill_text::output::write_and_flush;
 use ill_values::Day;
 use std::alloc::Global;
 use std::io::Write;
@@ -242,24 +241,10 @@ fn send_to<T: Files, S: Store, W: Write, E: Write>(
     ensures { SendsTo desk.now.live.held (W.contents machine.old.writer) (W.contents machine.new.writer) result }
 {
     let asking = machine.blame(asking(machine.rt, machine.alloc, file), file, NOT_ASKED)?;
-    send_asked(machine, desk, &asking, folder)
-}
-
-/// Puts the messages of the loans that want sending into `folder`, and writes their number. `asking` has the messages
-/// that ask, one after another.
-fn send_asked<T: Files, S: Store, W: Write, E: Write>(
-    machine: &mut Machine<'_, T, W, E>,
-    desk: &Desk<S>,
-    asking: &[u8],
-    folder: &str,
-) -> Result<(), ToolFault>
-    ensures { SendsAsked asking.now desk.now.live.held (W.contents machine.old.writer) (W.contents machine.new.writer) result }
-{
-    let mut out = MailFolder::at(machine.rt, machine.alloc, folder);
-    let sent = run_desk_outbox(machine.alloc, desk, asking, &mut out);
-    let sent = blame_mail(machine, sent, &out)?;
-    let line = format!(in machine.alloc; "sent {sent}\n")?;
-    write_and_flush(&mut machine.writer, line.as_bytes())
+    match send_asked(machine, desk, &asking, folder, SendPermit::without_copy()) {
+        Ok(_) => Ok(()),
+        Err(fault) => Err(fault),
+    }
 }
 
 /// Puts the messages of the loans that want sending into `folder`, if it exists, as `send_to` does.
@@ -385,29 +370,28 @@ fn send_all<T: Files, S: Store, W: Write, E: Write>(
     ensures { SendsAll (taken_of taken.now) desk.now.live (W.contents machine.old.writer) (W.contents machine.new.writer) (Ok tt)
         result }
 {
-    copy_desk(machine, file, night, desk)?;
+    let permit = copy_desk(machine, file, night, desk)?;
     let asked = asked_by(machine.alloc, desk, &taken.found.mails, &taken.verdicts)?;
-    let sent = send_asked(machine, desk, &asked, night.outgoing);
+    let sent = send_asked(machine, desk, &asked, night.outgoing, permit);
     match sent {
-        Ok(()) => finish(machine, file, night.beat, desk, taken),
+        Ok(sent) => finish(machine, file, night.beat, ending(desk, taken), sent),
         Err(fault) => Err(fault),
     }
 }
 
-/// Writes the file at `path` anew, if there is a path, and returns the ending of the run. All messages were sent
-/// before.
-fn finish<T: Files, S: Store, W: Write, E: Write>(
+/// Writes the file at `path` anew, if there is a path, and returns `ending`, the result of the night.
+fn finish<T: Files, W: Write, E: Write>(
     machine: &mut Machine<'_, T, W, E>,
     file: &str,
     path: Option<&str>,
-    desk: &Desk<S>,
-    taken: &Taken,
+    ending: Result<bool, ToolFault>,
+    sent: SentAll,
 ) -> Result<bool, ToolFault>
-    ensures ends { EndsAfterSending (night_ending desk.now.live.role (taken_of taken.now)) (Ok tt) result }
+    ensures ends { EndsAfterSending ending (Ok tt) result }
     ensures silent { machine.new.writer ≡ machine.old.writer }
 {
-    match beat(machine, path, file) {
-        Ok(()) => ending(desk, taken),
+    match beat(machine, path, file, sent) {
+        Ok(()) => ending,
         Err(fault) => Err(fault),
     }
 }

@@ -9,4 +9,5 @@ pub mod mail_box;
 pub mod mail_folder;
 pub mod places;
 pub mod reserved;
+pub mod sending;
 pub mod settle;

@@ -15,7 +15,7 @@ use std::{fs, io};
 
 /// A folder of mails, with one message in each file. Whoever moves the mails may put anything there at any moment.
 #[derive(Drop)]
-pub struct MailFolder<'a, R: Files> {
+pub(crate) struct MailFolder<'a, R: Files> {
     rt: &'a R,
     alloc: Global,
     path: &'a str,

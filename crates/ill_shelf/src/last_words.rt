@@ -2,20 +2,16 @@
 //! from the mark of the group.
 
 ghost use Rattle.std.specs.Prelude.{◌≡◌, IfErr};
-ghost use Rattle.ill_shelf.specs.Shelf.{IsFurther};
 ghost use Rattle.ill_text.specs.Fault.{IsFileFault};
 
-use ill_der::{ApduView, encode};
+use ill_der::ApduView;
 use ill_files::durable::error_of_store;
 use ill_files::machine::Machine;
 use ill_files::shelf::{Shelf, retired_path};
-use ill_mail::blame::blame_mail;
 use ill_mail::mail_box::asked_bytes;
-use ill_mail::mail_folder::MailFolder;
-use ill_night::outbox::mail_name;
-use ill_night::outgoing::Outgoing;
+use ill_mail::sending::{SentAll, send_words};
 use ill_night::retire::words_in;
-use ill_saved::{FileStore, RECORD_LIMIT, Role, Store};
+use ill_saved::{FileStore, RECORD_LIMIT, Store};
 use ill_text::fault::ToolFault;
 use ill_text::input::apdus_in;
 use ill_values::Apdu;
@@ -78,17 +74,12 @@ pub(crate) fn send_last_words<T: Files, W: Write, E: Write>(
     machine: &mut Machine<'_, T, W, E>,
     shelf: &Shelf<'_>,
     out: &str,
-) -> Result<bool, ToolFault>
-    ensures further { IsFurther result }
+) -> Result<SentAll, ToolFault>
+    ensures faults { IfErr result IsFileFault }
     ensures silent { machine.new.writer ≡ machine.old.writer }
 {
     let words = words_asked(machine.rt, machine.alloc, shelf)?;
-    let mut folder = MailFolder::at(machine.rt, machine.alloc, out);
-    let sent = put_words(machine.alloc, &words, &mut folder);
-    match blame_mail(machine, sent, &folder) {
-        Ok(_) => Ok(true),
-        Err(fault) => Err(fault),
-    }
+    send_words(machine, &words, out)
 }
 
 /// Returns the last words that were asked for at `shelf`.
@@ -96,25 +87,4 @@ fn words_asked<T: Files>(rt: &T, alloc: Global, shelf: &Shelf<'_>) -> io::Result
     let unsorted = shelf.unsorted(alloc)?;
     let bytes = asked_bytes(rt, alloc, unsorted.as_str())?;
     Ok(apdus_in(alloc, &bytes)?)
-}
-
-/// Puts `words`, which responders have issued, into `out`, and returns their number.
-fn put_words<O: Outgoing>(alloc: Global, words: &[Apdu], out: &mut O) -> Result<usize, ToolFault>
-    ensures { IfErr result IsFileFault }
-{
-    for word in words {
-        if let Err(fault) = put_word(alloc, word, out) {
-            return Err(fault);
-        }
-    }
-    Ok(words.len())
-}
-
-/// Puts the message `word`, which a responder has issued, into `out`.
-fn put_word<O: Outgoing>(alloc: Global, word: &Apdu, out: &mut O) -> Result<(), ToolFault>
-    ensures { IfErr result IsFileFault }
-{
-    let name = mail_name(alloc, Role::Responder, &word.txn, word.number)?;
-    let bytes = encode(alloc, word)?;
-    out.put(&name, &bytes)
 }

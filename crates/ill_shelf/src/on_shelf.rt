@@ -194,7 +194,10 @@ fn send_words_to<T: Files, W: Write, E: Write>(
     ensures silent { machine.new.writer ≡ machine.old.writer }
 {
     match outgoing {
-        Some(out) => send_last_words(machine, shelf, out),
+        Some(out) => match send_last_words(machine, shelf, out) {
+            Ok(_) => Ok(true),
+            Err(fault) => Err(fault),
+        },
         None => Ok(true),
     }
 }
@@ -288,17 +291,18 @@ fn end_night<T: Files, W: Write, E: Write>(
     ensures further { IsFurther result }
     ensures silent { machine.new.writer ≡ machine.old.writer }
 {
-    if let Err(fault) = send_last_words(machine, shelf, night.outgoing) {
-        return Err(fault);
-    }
+    let sent = match send_last_words(machine, shelf, night.outgoing) {
+        Ok(sent) => sent,
+        Err(fault) => return Err(fault),
+    };
     if let Some(folder) = night.copy
         && let Err(error) = copy_marks(machine.rt, machine.alloc, shelf, folder)
     {
         return machine.blame(Err(error.into()), folder, NO_MARKS);
     }
-    if let Ok(_) | Err(ToolFault::Left) = answer {
+    if let Some(sent) = sent.unless_failed(answer) {
         let own = shelf.own_desk(machine.alloc)?;
-        if let Err(fault) = beat(machine, night.beat, own.as_str()) {
+        if let Err(fault) = beat(machine, night.beat, own.as_str(), sent) {
             return Err(fault);
         }
     }

@@ -11,7 +11,7 @@ pub returns : goal.returns
 returns g c =
     let desk = c.args.desk.now.live in
     let sent = Err c.in-Err.fault in
-    let quiet = ap (λ writer. g.W.Write.contents writer) c.in_ok-copy_desk.ensures.silent in
+    let quiet = ap (λ writer. g.W.Write.contents writer) c.in_ok-permit.ensures.silent in
     let after = g.W.Write.contents c.send_asked-sent.new.machine.writer in
     let told = subst (λ (before : Option (List ℕ)). SendsAsked c.deref-3.result.now desk.held before after sent) quiet
     c.in-Err.ensures in

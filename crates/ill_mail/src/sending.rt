@@ -1,0 +1,98 @@
+//! The sending of messages into OUT, and the sign that it has ended well.
+
+ghost use Rattle.std.specs.Prelude.{◌≡◌, IfErr};
+ghost use Rattle.ill_mail.specs.Nights.{SendsAsked};
+ghost use Rattle.ill_night.specs.Inbox.{answered_with};
+ghost use Rattle.ill_text.specs.Fault.{IsFileFault};
+
+use crate::backup::SendPermit;
+use crate::blame::blame_mail;
+use crate::mail_folder::MailFolder;
+use ill_der::encode;
+use ill_files::machine::Machine;
+use ill_night::outbox::{mail_name, run_desk_outbox};
+use ill_night::outgoing::Outgoing;
+use ill_saved::{Desk, Role, Store};
+use ill_text::fault::ToolFault;
+use ill_text::output::write_and_flush;
+use ill_values::Apdu;
+use std::alloc::Global;
+use std::io::Write;
+use std::rt::Files;
+
+/// The sign that a run has sent all its messages. Only a sending that has ended well gives it.
+#[derive(Drop)]
+pub struct SentAll {
+    /// Keeps other modules from making one.
+    seal: (),
+}
+
+impl SentAll {
+    /// Returns this sign, unless `answer` is a failure. `answer` is the gravest of the desks of a shelf.
+    pub fn unless_failed(self, answer: Result<bool, ToolFault>) -> Option<SentAll> {
+        match answer {
+            Ok(_) | Err(ToolFault::Left) => Some(self),
+            Err(_) => None,
+        }
+    }
+}
+
+/// Puts the messages of the loans that want sending into `folder`, and writes their number. `asking` has the messages
+/// that ask, one after another.
+pub(crate) fn send_asked<T: Files, S: Store, W: Write, E: Write>(
+    machine: &mut Machine<'_, T, W, E>,
+    desk: &Desk<S>,
+    asking: &[u8],
+    folder: &str,
+    _permit: SendPermit,
+) -> Result<SentAll, ToolFault>
+    ensures { SendsAsked asking.now desk.now.live.held (W.contents machine.old.writer) (W.contents machine.new.writer)
+        (answered_with (λ sent. tt) result) }
+{
+    let mut out = MailFolder::at(machine.rt, machine.alloc, folder);
+    let sent = run_desk_outbox(machine.alloc, desk, asking, &mut out);
+    let sent = blame_mail(machine, sent, &out)?;
+    let line = format!(in machine.alloc; "sent {sent}\n")?;
+    match write_and_flush(&mut machine.writer, line.as_bytes()) {
+        Ok(()) => Ok(SentAll { seal: () }),
+        Err(fault) => Err(fault),
+    }
+}
+
+/// Puts `words`, the last words of retired groups, into `folder`.
+pub fn send_words<T: Files, W: Write, E: Write>(
+    machine: &mut Machine<'_, T, W, E>,
+    words: &[Apdu],
+    folder: &str,
+) -> Result<SentAll, ToolFault>
+    ensures faults { IfErr result IsFileFault }
+    ensures silent { machine.new.writer ≡ machine.old.writer }
+{
+    let mut out = MailFolder::at(machine.rt, machine.alloc, folder);
+    let sent = put_words(machine.alloc, words, &mut out);
+    match blame_mail(machine, sent, &out) {
+        Ok(_) => Ok(SentAll { seal: () }),
+        Err(fault) => Err(fault),
+    }
+}
+
+/// Puts `words`, which responders have issued, into `out`, and returns their number.
+fn put_words<O: Outgoing>(alloc: Global, words: &[Apdu], out: &mut O) -> Result<usize, ToolFault>
+    ensures { IfErr result IsFileFault }
+{
+    for word in words {
+        if let Err(fault) = put_word(alloc, word, out) {
+            return Err(fault);
+        }
+    }
+    Ok(words.len())
+}
+
+/// Puts the message `word`, which a responder has issued, into `out`.
+fn put_word<O: Outgoing>(alloc: Global, word: &Apdu, out: &mut O) -> Result<(), ToolFault>
+    ensures { IfErr result IsFileFault }
+{
+    let name = mail_name(alloc, Role::Responder, &word.txn, word.number)?;
+    let bytes = encode(alloc, word)?;
+    out.put(&name, &bytes)
+}

@@ -2,7 +2,9 @@
 -- was refused or in conflict. It is 2 if the arguments, the input or the record are invalid. It is 3 if a
 -- file, a stream or memory failed, or if mails are left. A lack of memory is always `ToolFault.OutOfMemory`,
 -- never a fault within another one.
-use Rattle.std.specs.Prelude.{◌≡◌, ◌⊎◌, ℕ, Bool, true, false, Result, Ok, Err}
+use Rattle.std.specs.Prelude.{◌≡◌, ◌⊎◌, ℕ, Bool, true, false, List, Option, Result, Ok, Err}
+use Rattle.clap.specs.declared.error.kind.ErrorKind.{ErrorKind}
+use Rattle.clap.specs.declared.error.kind.ErrorKind.TheVariants as kinds
 use Rattle.ill_saved.specs.declared.fault.DeskFault.{DeskFault}
 use Rattle.ill_saved.specs.declared.fault.DeskFault.TheVariants as desks
 use Rattle.ill_text.specs.declared.fault.ToolFault.{ToolFault}
@@ -45,3 +47,11 @@ exit_status (Err fault) = status_of fault
 -- `result` is `done`, or the fault `Write` of the flush.
 abbrev pub IsFlushed : Result Bool ToolFault → Result Bool ToolFault → Type 0
 IsFlushed done result = (result ≡ done) ⊎ (result ≡ Err Write)
+
+-- The text of `clap` for an error of this kind was written, and the exit status is `status`. Help and the version
+-- go to the output. Words that are refused leave it unchanged.
+abbrev pub TellsKind : ErrorKind → Option (List ℕ) → Option (List ℕ) → ℕ → Type 0
+TellsKind kinds.DisplayHelp before after status = (status ≡ 0) ⊎ (status ≡ 3)
+TellsKind kinds.DisplayVersion before after status = (status ≡ 0) ⊎ (status ≡ 3)
+TellsKind kinds.OutOfMemory before after status = (status ≡ 3) × (after ≡ before)
+TellsKind mistake before after status = (status ≡ 2) × (after ≡ before)

@@ -1,13 +1,16 @@
 -- The contract of each command line: the command that it asks for is run.
-use Rattle.std.specs.Prelude.{◌≡◌, ℕ, Bool, List, Option, is_some, Result, Err, ◌⊎◌, true, IsErrAnd}
+use Rattle.std.specs.Prelude.{◌≡◌, ℕ, Bool, List, Option, None, is_some, Result, Err, ◌⊎◌, true, IsErrAnd}
 use Rattle.ill_values.specs.TxnId.{txn_id_of}
 use Rattle.ill_text.specs.declared.fault.ToolFault.{ToolFault}
-use Rattle.ill_text.specs.declared.fault.ToolFault.TheVariants.{Arguments}
+use Rattle.ill_text.specs.declared.fault.ToolFault.TheVariants.{Arguments, OutOfMemory}
 use Rattle.ill_text.specs.Show.{RunsShow}
 use Rattle.ill_text.specs.Check.{Checks}
 use Rattle.ill_tool.specs.Simulate.{Performs, PerformsDesks}
-use Rattle.ill_line.specs.Asked.{Asked}
+use Rattle.ill_line.specs.Asked.{Asked, asked}
 use Rattle.ill_line.specs.Asked as asks
+use Rattle.ill_line.specs.declared.request.Call.{Call}
+use Rattle.ill_line.specs.declared.request.Call.TheVariants as calls
+use Rattle.ill_tool.specs.ExitStatus.{IsFlushed, exit_status}
 use Rattle.ill_files.specs.AtFile.{GoesWell, NewAtFile, ActsAtFile, TakesAtFile, SendsAtFile, ShowsFile, ListsPaths, LoanAtFile}
 use Rattle.ill_files.specs.AtFile.{VerifiesFile, ReportsPaths}
 use Rattle.ill_mail.specs.Nights.{InboxAtFile, OutboxAtFile, ExchangesAtFile}
@@ -72,3 +75,23 @@ RunsShelf (asks.Exchange folder incoming outgoing dates copy beat) left rest bef
     (rest ≡ left) × VisitsShelf true (ExchangesAtFile dates) before after result
 RunsShelf (asks.Retire folder group) left rest before after result = (rest ≡ left) × RetiresAtFile before after result
 RunsShelf other left rest before after result = (rest ≡ left) × (after ≡ before) × (result ≡ Err Arguments)
+
+-- The command of a call has this result: for one desk behind the guard, or on a shelf.
+abbrev pub RunsCall : Call → Option (List ℕ) → Option (List ℕ) → Option (List ℕ) → Option (List ℕ) →
+    Result Bool ToolFault → Type 0
+RunsCall (calls.Desk request) = RunsGuarded (asked request)
+RunsCall (calls.Shelf request) = RunsShelf (asked request)
+
+-- The command of a call was run, from the output `before`. `result` is its result, or the fault `Write` of the
+-- flush. Or there was no memory for the buffer of the output.
+abbrev pub PerformsCall : Call → Option (List ℕ) → Option (List ℕ) → Option (List ℕ) → Result Bool ToolFault → Type 0
+PerformsCall call left rest before result =
+    ((result ≡ Err OutOfMemory) × (rest ≡ left))
+    ⊎ ((after : Option (List ℕ)) × (done : Result Bool ToolFault) × RunsCall call left rest before after done
+    × IsFlushed done result)
+
+-- A call from the output `before` ends with the exit status of its result. The reader that counts the messages of
+-- the input tells nothing of their bytes, so the input is unknown.
+abbrev pub EndsCall : Call → Option (List ℕ) → ℕ → Type 0
+EndsCall call before status =
+    (result : Result Bool ToolFault) × PerformsCall call None None before result × (status ≡ exit_status result)

@@ -1,9 +1,10 @@
 //! One command line, from its words to its exit status.
 
-ghost use Rattle.std.specs.Prelude.{◌≡◌, ◌≤◌};
+ghost use Rattle.std.specs.Prelude.{◌≡◌, ◌≤◌, true, Ok};
+ghost use Rattle.clap.specs.Values.{kind_of};
 ghost use Rattle.ill_line.specs.Asked.{asked};
-ghost use Rattle.ill_tool.specs.Runs.{Runs, RunsGuarded, RunsShelf};
-ghost use Rattle.ill_tool.specs.ExitStatus.{IsFlushed, desk_status, exit_status, status_of};
+ghost use Rattle.ill_tool.specs.Runs.{EndsCall, PerformsCall, Runs, RunsCall, RunsGuarded, RunsShelf};
+ghost use Rattle.ill_tool.specs.ExitStatus.{IsFlushed, TellsKind, desk_status, exit_status, status_of};
 
 use crate::simulate::{run_simulate, run_simulate_desks};
 use clap::Error;
@@ -61,17 +62,28 @@ fn answer<T: LockFiles, R: Read, W: Write, E: Write>(
     ensures { result ≤ 3 }
 {
     match read_words(machine.alloc, words) {
-        Ok(call) => {
-            let mut reader = Watched::new(machine.alloc, reader, is_asked(words));
-            let done = perform(machine, &call, &mut reader);
-            conclude(machine, words, done, reader.passed())
-        }
+        Ok(call) => answer_call(machine, words, &call, reader),
         Err(Refusal::Usage(error)) => tell(&error, &mut machine.writer, &mut machine.errors),
         Err(Refusal::Fault(fault)) => {
             let done = flush(&mut machine.writer, Err(fault));
             conclude(machine, words, done, None)
         }
     }
+}
+
+/// Performs the call that the words ask for, and returns the exit status.
+fn answer_call<T: LockFiles, R: Read, W: Write, E: Write>(
+    machine: &mut Machine<'_, T, W, E>,
+    words: &[&str],
+    call: &Call<'_>,
+    reader: &mut R,
+) -> u8
+    ensures ends { EndsCall call.now (W.contents machine.old.writer) result }
+    ensures most { result ≤ 3 }
+{
+    let mut reader = Watched::new(machine.alloc, reader, is_asked(words));
+    let done = perform(machine, call, &mut reader);
+    conclude(machine, words, done, reader.passed())
 }
 
 /// Writes the line of a fault, if there is one. The reason comes after it, if the words ask for that. It returns the
@@ -82,7 +94,8 @@ fn conclude<T: LockFiles, W: Write, E: Write>(
     done: Result<bool, ToolFault>,
     passed: Option<Passed>,
 ) -> u8
-    ensures { result ≤ 3 }
+    ensures status { result ≡ exit_status done }
+    ensures most { result ≤ 3 }
 {
     let status = finish(done, &mut machine.errors);
     if let Err(fault) = done {
@@ -100,21 +113,35 @@ fn perform<T: LockFiles, R: Read, W: Write, E: Write>(
     machine: &mut Machine<'_, T, W, E>,
     call: &Call<'_>,
     reader: &mut R,
-) -> Result<bool, ToolFault> {
-    let buffer = BufWriter::with_capacity(machine.alloc, BUFFER, &mut machine.writer).map_err(
-        |_| ToolFault::OutOfMemory,
-    )?;
+) -> Result<bool, ToolFault>
+    ensures { PerformsCall call.now (R.remaining reader.old) (R.remaining reader.new) (W.contents machine.old.writer) result }
+{
+    let Ok(buffer) = BufWriter::with_capacity(machine.alloc, BUFFER, &mut machine.writer) else {
+        return Err(ToolFault::OutOfMemory);
+    };
     let mut buffered = Machine {
         rt: machine.rt,
         alloc: machine.alloc,
         writer: buffer,
         errors: &mut machine.errors,
     };
-    let done = match call {
-        Call::Desk(request) => run_guarded(&mut buffered, request, reader),
-        Call::Shelf(request) => run_on_shelf(&mut buffered, request, reader),
-    };
+    let done = run_call(&mut buffered, call, reader);
     finish_writing(buffered.writer, done)
+}
+
+/// Runs the command of a call, for one desk or on a shelf.
+fn run_call<T: LockFiles, R: Read, W: Write, E: Write>(
+    machine: &mut Machine<'_, T, W, E>,
+    call: &Call<'_>,
+    reader: &mut R,
+) -> Result<bool, ToolFault>
+    ensures { RunsCall call.now (R.remaining reader.old) (R.remaining reader.new) (W.contents machine.old.writer)
+        (W.contents machine.new.writer) result }
+{
+    match call {
+        Call::Desk(request) => run_guarded(machine, request, reader),
+        Call::Shelf(request) => run_on_shelf(machine, request, reader),
+    }
 }
 
 /// Writes the rest of the buffer, and returns `done`, or the fault of the writer. A writer that has failed is not
@@ -122,7 +149,9 @@ fn perform<T: LockFiles, R: Read, W: Write, E: Write>(
 fn finish_writing<W: Write>(
     mut writer: BufWriter<&mut W>,
     done: Result<bool, ToolFault>,
-) -> Result<bool, ToolFault> {
+) -> Result<bool, ToolFault>
+    ensures { IsFlushed done result }
+{
     let flushed = flush(&mut writer, done);
     let _ = writer.into_parts();
     flushed
@@ -273,7 +302,8 @@ fn run_on_shelf<T: LockFiles, R: Read, W: Write, E: Write>(
 /// Writes the text of `clap`, and returns the exit status. Help that was asked for goes to `writer`, and a refusal to
 /// `errors`.
 fn tell<W: Write, E: Write>(error: &Error, writer: &mut W, errors: &mut E) -> u8
-    ensures { result ≤ 3 }
+    ensures told { TellsKind (kind_of error.now) (W.contents writer.old) (W.contents writer.new) result }
+    ensures most { result ≤ 3 }
 {
     if error.kind() == ErrorKind::OutOfMemory {
         return finish(Err(ToolFault::OutOfMemory), errors);
@@ -286,7 +316,9 @@ fn tell<W: Write, E: Write>(error: &Error, writer: &mut W, errors: &mut E) -> u8
 }
 
 /// Writes the help that was asked for, and flushes it.
-fn help<W: Write>(error: &Error, writer: &mut W) -> Result<bool, ToolFault> {
+fn help<W: Write>(error: &Error, writer: &mut W) -> Result<bool, ToolFault>
+    ensures { IsFlushed (Ok true) result }
+{
     write!(writer, "{error}").map_err(|_| ToolFault::Write)?;
     writer.flush().map_err(|_| ToolFault::Write)?;
     Ok(true)

@@ -10,8 +10,8 @@ use Rattle.ill_world.specs.BadWorlds.{Contradicts}
 use Rattle.ill_world.specs.Desks.{DeskParty}
 use Rattle.ill_world.proofs.BadWorlds.{no_contradiction}
 use Rattle.ill_runs.specs.Mail.{IsOneOf, WasSent}
-use Rattle.ill_runs.specs.Libraries.{Library, Libraries, IsAt, AreSafe}
-use Rattle.ill_runs.specs.BadLibraries.{AreUnsafe, unread, contradicted}
+use Rattle.ill_runs.specs.Libraries.{Library, Libraries, IsAt, AreSafe, HasAllThatLeft, IsMessageOf}
+use Rattle.ill_runs.specs.BadLibraries.{AreUnsafe, unread, contradicted, HasForgotten, unreadable, forgotten}
 use Rattle.ill_runs.proofs.Lists.{each_at}
 
 -- If one file is read as `a` and as `b`, these are the same sides.
@@ -44,3 +44,10 @@ desk_is_in_file library p at = (
   λ held read. read_once _ held p.landed read at.file,
   λ a one. each_at (WasSent p.sent) library.left one.0 a at.left one.1,
 )
+
+-- A library that has forgotten what has left it does not have all of it.
+pub none_forgotten : (library : Library) → HasForgotten library → HasAllThatLeft library → ⊥
+none_forgotten library (unreadable fault is) has = not_read _ fault has.0 is has.1
+none_forgotten library (forgotten held a read one lacks) has =
+    let same = read_once _ has.0 held has.1 read in
+    lacks (subst (λ (h : SidesOf). IsMessageOf h a) same (each_at (IsMessageOf has.0) library.left one.0 a has.2 one.1))

@@ -1,23 +1,27 @@
 -- Proves that each history of two libraries is a run of the model, and that its libraries are safe.
-use Rattle.std.proofs.Common.{List, [], ◌∷◌, ◌++◌, refl, sym, subst, arith}
+use Rattle.std.proofs.Common.{◌≡◌, ℕ, List, [], ◌∷◌, ◌++◌, Some, refl, sym, subst, arith}
 use Rattle.ill_values.specs.TxnId.{Qualifiers}
+use Rattle.ill_values.specs.declared.apdu.Apdu.{Apdu}
+use Rattle.ill_core.specs.Issued.{message}
 use Rattle.ill_saved.specs.declared.role.Role.{Role as Who}
 use Rattle.ill_saved.specs.declared.role.Role.TheVariants as who
-use Rattle.ill_saved.specs.Side.{other}
-use Rattle.ill_saved.specs.Sides.{are_apart}
+use Rattle.ill_saved.specs.Side.{issued_of, other}
+use Rattle.ill_saved.specs.Sides.{SidesOf, are_apart}
 use Rattle.ill_saved.specs.Ranges.{Each}
 use Rattle.ill_saved.specs.RecordsV2.{AreSides}
+use Rattle.ill_saved.specs.ManySides.{side_for}
 use Rattle.ill_saved.proofs.Contents.{SidesReadAgain}
 use Rattle.ill_world.specs.declared.event.DeskEvent.{DeskEvent}
-use Rattle.ill_world.specs.World.{Parties, party, run_by}
-use Rattle.ill_world.specs.Desks.{DeskParties, first_desk, first_desks, desks_happen, desks_run, project}
+use Rattle.ill_world.specs.World.{Parties, party, run_by, sent_message}
+use Rattle.ill_world.specs.Desks.{DeskParties, Sending, sent_for, first_desk, first_desks, desks_happen, desks_run, project}
 use Rattle.ill_world.specs.Changes.{KeepsSent}
 use Rattle.ill_world.specs.Invariant.{Invariant}
 use Rattle.ill_world.specs.Safety.{OfBoth, EndsAlike, WasShipped, WasGranted}
 use Rattle.ill_world.specs.DeskSafety.{DesksInvariant}
 use Rattle.ill_world.proofs.Desks.{EachStands, desks_stand_on}
 use Rattle.ill_runs.specs.Libraries.{Libraries, first_library, first_libraries, Happens, IsHistory, libraries_after, IsAt, AreAt}
-use Rattle.ill_runs.specs.Libraries.{IsRunAt, AreSafe}
+use Rattle.ill_runs.specs.Mail.{WasSent}
+use Rattle.ill_runs.specs.Libraries.{IsRunAt, AreSafe, HasAllThatLeft, IsMessageOf}
 use Rattle.ill_runs.proofs.LibraryLemmas.{events_there, run_join, command_leads}
 
 -- ---- the first libraries
@@ -99,4 +103,32 @@ safe_at ends shipped granted libraries w stands at = (
     (shipped txn (project txn w) (stands.each txn)).landed,
     (granted txn (project txn w) (stands.each txn)).landed,
   ),
+)
+
+-- ---- what has left
+
+-- If each message that was sent has landed, each that has left is a message of the landed sides.
+left_landed : (sent : List Sending) (landed : SidesOf)
+    → ((txn : Qualifiers) (n : ℕ) (a : Apdu) → sent_message (sent_for txn sent) n ≡ Some a
+    → message (issued_of (side_for txn landed)) n ≡ Some a) → (left : List Apdu) → Each (WasSent sent) left
+    → Each (IsMessageOf landed) left
+unfolding Each
+left_landed sent landed lands [] each = tt
+left_landed sent landed lands (a ∷ left) each =
+    ((each.0.0, each.0.1, lands each.0.0 each.0.1 a each.0.2), left_landed sent landed lands left each.1)
+
+-- If two desks stand, the file of each library that is one of them has all that has left it.
+pub has_all_left : (libraries : Libraries) (w : DeskParties) → DesksInvariant w → AreAt libraries w → (role : Who)
+    → HasAllThatLeft (party libraries role)
+has_all_left libraries w stands at who.Requester = (
+  w.requester.landed,
+  at.requester.file,
+  left_landed w.requester.sent w.requester.landed (λ txn n a is. (stands.each txn).requester.saved.landed n a is)
+      libraries.requester.left at.requester.left,
+)
+has_all_left libraries w stands at who.Responder = (
+  w.responder.landed,
+  at.responder.file,
+  left_landed w.responder.sent w.responder.landed (λ txn n a is. (stands.each txn).responder.saved.landed n a is)
+      libraries.responder.left at.responder.left,
 )

@@ -7,7 +7,8 @@ use Rattle.ill_values.specs.declared.apdu.Apdu.{Apdu}
 use Rattle.ill_saved.specs.declared.role.Role.{Role as Who}
 use Rattle.ill_saved.specs.declared.role.Role.TheVariants.{Requester, Responder}
 use Rattle.ill_saved.specs.declared.side.Action.{Action}
-use Rattle.ill_saved.specs.Side.{other}
+use Rattle.ill_core.specs.Issued.{message}
+use Rattle.ill_saved.specs.Side.{issued_of, other}
 use Rattle.ill_saved.specs.Sides.{SidesOf}
 use Rattle.ill_saved.specs.Ranges.{Each}
 use Rattle.ill_saved.specs.RecordsV2.{records_at, sides_spelling}
@@ -156,3 +157,14 @@ abbrev pub AreSafe : Libraries → Type 0
 AreSafe libraries =
     (requester responder : SidesOf) × (records_at libraries.requester.file ≡ Ok requester)
     × (records_at libraries.responder.file ≡ Ok responder) × FaceEachOther requester responder
+
+-- ---- what has left
+
+-- `a` is a message of one of these sides, in its transaction and under its number.
+abbrev pub IsMessageOf : SidesOf → Apdu → Type 0
+IsMessageOf held a = (txn : Qualifiers) × (n : ℕ) × (message (issued_of (side_for txn held)) n ≡ Some a)
+
+-- The file of the library can be read, and has each message that has left it.
+abbrev pub HasAllThatLeft : Library → Type 0
+HasAllThatLeft library =
+    (held : SidesOf) × (records_at library.file ≡ Ok held) × Each (IsMessageOf held) library.left

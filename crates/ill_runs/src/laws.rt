@@ -10,9 +10,9 @@ ghost use Rattle.ill_saved.specs.Sides.{SidesOf};
 ghost use Rattle.ill_world.specs.World.{party};
 ghost use Rattle.ill_world.specs.Desks.{DeskParties, DeskParty};
 ghost use Rattle.ill_world.specs.DeskSafety.{DesksInvariant};
-ghost use Rattle.ill_runs.specs.BadLibraries.{AreUnsafe};
+ghost use Rattle.ill_runs.specs.BadLibraries.{AreUnsafe, HasForgotten};
 ghost use Rattle.ill_runs.specs.Mail.{IsOneOf, WasSent};
-ghost use Rattle.ill_runs.specs.Libraries.{AreSafe, Commands, IsAt, IsHistory, IsRunAt, LeadsTo, Libraries, Library, first_libraries, libraries_after};
+ghost use Rattle.ill_runs.specs.Libraries.{AreSafe, Commands, HasAllThatLeft, IsAt, IsHistory, IsRunAt, LeadsTo, Libraries, Library, first_libraries, libraries_after};
 
 /// Each command of a library is some events at its desk in the model: a restart, what the command does, its saves, and a
 /// Send for each message that leaves. The messages that come were sent by the other desk.
@@ -48,6 +48,21 @@ pub fn each_history_is_safe()
     ill_world::laws::was_shipped();
     ill_world::laws::was_granted();
 }
+
+/// After each history the file of either library can be read, and has each message that has left this library. So no
+/// library forgets a message that it has given out.
+pub fn what_has_left_is_in_the_file()
+    ensures { (later : List Libraries) → IsHistory first_libraries later → (who : Who) →
+        HasAllThatLeft (party (libraries_after first_libraries later) who) }
+{
+    each_history_is_a_run();
+    ill_world::desk_laws::desks_stand();
+}
+
+/// A library has not all that left if its file cannot be read, or lacks a message that has left.
+pub fn no_forgetful_library_has_all_that_left()
+    ensures { (library : Library) → HasForgotten library → HasAllThatLeft library → ⊥ }
+{}
 
 /// Libraries are not safe if a file cannot be read, or if a side in the responder's file contradicts the requester's.
 pub fn no_unsafe_libraries_are_safe()

@@ -1,0 +1,4 @@
+pub mod HeardMessages
+pub mod DeedLemmas
+pub mod WorkedNights
+pub mod BadNightWithPeople

@@ -1,0 +1,3 @@
+pub mod BadNightWithPeople
+pub mod NightFacts
+pub mod NightWithPeople

@@ -1,0 +1,4 @@
+//! Laws of what two libraries get done: nights with people in them, loans that end, and groups that retire.
+#![tactic(auto)]
+
+pub mod night_laws;

@@ -1,4 +1,13 @@
-pub mod HeardMessages
-pub mod DeedLemmas
-pub mod WorkedNights
+pub mod BadEnds
 pub mod BadNightWithPeople
+pub mod DeedLemmas
+pub mod EndsActs
+pub mod EndsDays
+pub mod EndsLast
+pub mod EndsNights
+pub mod EndsNumbers
+pub mod EndsRecords
+pub mod EndsRenewals
+pub mod EndsWorlds
+pub mod HeardMessages
+pub mod WorkedNights

@@ -1,4 +1,5 @@
 //! Laws of what two libraries get done: nights with people in them, loans that end, and groups that retire.
 #![tactic(auto)]
 
+pub mod end_laws;
 pub mod night_laws;

@@ -1,5 +1,6 @@
 pub mod BadEnds
 pub mod BadNightWithPeople
+pub mod BadRetirement
 pub mod DeedLemmas
 pub mod EndsActs
 pub mod EndsDays
@@ -10,4 +11,8 @@ pub mod EndsRecords
 pub mod EndsRenewals
 pub mod EndsWorlds
 pub mod HeardMessages
+pub mod LastWords
+pub mod Retirement
+pub mod RetirementLoans
+pub mod RetirementWords
 pub mod WorkedNights

@@ -1,6 +1,8 @@
 pub mod BadEnds
 pub mod BadNightWithPeople
+pub mod BadRetirement
 pub mod Ends
 pub mod LastNumbers
 pub mod NightFacts
 pub mod NightWithPeople
+pub mod Retirement

@@ -3,3 +3,4 @@
 
 pub mod end_laws;
 pub mod night_laws;
+pub mod retire_laws;

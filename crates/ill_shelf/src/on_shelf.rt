@@ -279,8 +279,9 @@ fn at_each<'a>(night: &Night<'a>) -> Night<'a>
     }
 }
 
-/// Sends the last words of retired groups, and copies the marks of these groups to the folder of copies. Then it gives the
-/// sign of life of the night, unless a desk has failed. It returns the fault `Left` if mails wait.
+/// Copies the marks of retired groups to the folder of copies, and sends the last words of these groups. So no last word
+/// leaves that the copies do not have. Then it gives the sign of life of the night, unless a desk has failed. It returns
+/// the fault `Left` if mails wait.
 fn end_night<T: Files, W: Write, E: Write>(
     machine: &mut Machine<'_, T, W, E>,
     shelf: &Shelf<'_>,
@@ -291,15 +292,15 @@ fn end_night<T: Files, W: Write, E: Write>(
     ensures further { IsFurther result }
     ensures silent { machine.new.writer ≡ machine.old.writer }
 {
-    let sent = match send_last_words(machine, shelf, night.outgoing) {
-        Ok(sent) => sent,
-        Err(fault) => return Err(fault),
-    };
     if let Some(folder) = night.copy
         && let Err(error) = copy_marks(machine.rt, machine.alloc, shelf, folder)
     {
         return machine.blame(Err(error.into()), folder, NO_MARKS);
     }
+    let sent = match send_last_words(machine, shelf, night.outgoing) {
+        Ok(sent) => sent,
+        Err(fault) => return Err(fault),
+    };
     if let Some(sent) = sent.unless_failed(answer) {
         let own = shelf.own_desk(machine.alloc)?;
         if let Err(fault) = beat(machine, night.beat, own.as_str(), sent) {

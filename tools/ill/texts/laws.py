@@ -51,12 +51,12 @@ def subject(path):
 
 
 def names_in(path):
-    """Returns what a source takes from `specs/`: single names by the word that it has for them, and whole files by
-    theirs."""
+    """Returns what a source takes from `specs/` of the crates here: single names by the word that it has for them, and
+    whole files by theirs."""
     single, whole = {}, {}
     for crate, module, names, word in re.findall(
             r"(?m)^(?:ghost |pub )?use Rattle\.(\w+)\.specs\.(\w+)(?:\.\{([^}]*)\}| as (\w+));?$", read(path)):
-        if crate != "std" and module != "declared":
+        if crate in repository.stand_on() and module != "declared":
             for name, _, other in (part.strip().partition(" as ") for part in names.split(",") if names):
                 single[other or name] = Named(crate, module, name)
             if word:

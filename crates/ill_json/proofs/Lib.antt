@@ -1,0 +1,11 @@
+pub mod Lexemes
+pub mod Labels
+pub mod Shown
+pub mod Strings
+pub mod Values
+pub mod Fields
+pub mod Found
+pub mod Names
+pub mod Sides
+pub mod LineLemmas
+pub mod BadLines

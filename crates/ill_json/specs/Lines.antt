@@ -1,0 +1,58 @@
+-- The fields of each line of the commands that write objects of JSON, in the order of the lines.
+use Rattle.std.specs.Prelude.{ℕ, ◌≤◌, List, [], ◌∷◌, ◌++◌, map, filter, Option}
+use Rattle.std.specs.List.{flat_map}
+use Rattle.ill_values.specs.Day.{Date}
+use Rattle.ill_values.specs.declared.apdu.Apdu.{Apdu}
+use Rattle.ill_core.specs.declared.turn.Turn.{Turn}
+use Rattle.ill_saved.specs.declared.side.Side.{Side}
+use Rattle.ill_saved.specs.Holdings.{DeskEntry}
+use Rattle.ill_saved.specs.Ranges.{IsSide}
+use Rattle.ill_text.specs.Json.{Field}
+use Rattle.ill_text.specs.ApduObject.{apdu_fields}
+use Rattle.ill_words.specs.Waiting.{most_urgent_first}
+use Rattle.ill_show.specs.declared.wanted.Wanted.{Wanted}
+use Rattle.ill_show.specs.List.{turns_of, is_listed, counts_of}
+use Rattle.ill_show.specs.Objects.{names_of, row_fields, counts_fields, file_fields, status_fields, loan_fields, came_fields}
+use Rattle.ill_show.specs.Objects.{leaves_fields}
+
+-- ---- `list`
+
+-- Returns the fields in the line of a listed loan of this turn.
+abbrev pub fields_of_row : Option (List ℕ) → Option Date → Turn → Side → List Field
+fields_of_row file today turn side = row_fields turn side (names_of today side) ++ file_fields file
+
+-- Returns the fields in the line of each listed loan of one turn.
+abbrev pub fields_of_turn : Option (List ℕ) → Wanted → List Side → Turn → List (List Field)
+fields_of_turn file wanted sides turn = map (fields_of_row file wanted.today turn) (filter (is_listed wanted turn) sides)
+
+-- Returns the fields in the line of the counts.
+abbrev pub fields_of_counts : Option (List ℕ) → Wanted → List Side → List Field
+fields_of_counts file wanted sides = counts_fields (counts_of wanted.today sides) ++ file_fields file
+
+-- Returns the fields in each line of a list of `sides`, within each turn in the order of `sides`. The counts come last.
+abbrev pub fields_in_order : Option (List ℕ) → Wanted → List Side → List (List Field)
+fields_in_order file wanted sides =
+    flat_map (fields_of_turn file wanted sides) (turns_of wanted.which) ++ fields_of_counts file wanted sides ∷ []
+
+-- Returns the fields in each line of `list`. Within each turn the most urgent loans come first.
+abbrev pub fields_of_list : Option (List ℕ) → Wanted → List Side → List (List Field)
+fields_of_list file wanted sides = fields_in_order file wanted (most_urgent_first sides)
+
+-- ---- `status` and `loan`
+
+-- A desk may hold the side of `entry`. The number of its released messages is a byte.
+pub record IsEntry (entry : DeskEntry) : Type 0 where
+  pub side : IsSide entry.side
+  pub released : entry.released ≤ 255
+
+-- Returns the fields in the line of `status` for a side.
+abbrev pub fields_of_status : DeskEntry → List Field
+fields_of_status entry = status_fields entry.side entry.released
+
+-- Returns the fields in the line of `loan`. `came` are the messages that came.
+abbrev pub fields_of_loan : DeskEntry → List Apdu → List Field
+fields_of_loan entry came = loan_fields entry.side entry.released ++ came_fields came
+
+-- Returns the fields of a message within the line of `loan`.
+abbrev pub fields_of_message : Option ℕ → Apdu → List Field
+fields_of_message released a = apdu_fields a ++ leaves_fields released a

@@ -1,0 +1,106 @@
+//! The laws of `--json`: each line that a command writes is an object of JSON. Its definition lists the members.
+
+ghost use Rattle.std.specs.Prelude.{◌≡◌, ◌<◌, ◌^◌, ◌++◌, ℕ, Bool, List, map, IsUtf8, Option, Some, None, option_map, decimal};
+ghost use Rattle.std.specs.List.{flat_map};
+ghost use Rattle.json.specs.Find.{get};
+ghost use Rattle.json.specs.Json.{Json, null, boolean, number, string, array, document};
+ghost use Rattle.ill_values.specs.Day.{Date, iso_text};
+ghost use Rattle.ill_values.specs.declared.apdu.Apdu.{Apdu};
+ghost use Rattle.ill_values.specs.Apdu.{IsApdu};
+ghost use Rattle.ill_saved.specs.declared.side.Side.{Side};
+ghost use Rattle.ill_saved.specs.Holdings.{DeskEntry, whole};
+ghost use Rattle.ill_saved.specs.Ranges.{Each, IsSide};
+ghost use Rattle.ill_saved.specs.RecordsV2.{AreSides};
+ghost use Rattle.ill_saved.specs.Sides.{SidesOf};
+ghost use Rattle.ill_text.specs.declared.form.Form.TheVariants as forms;
+ghost use Rattle.ill_text.specs.ApduObject.{apdu_fields, apdu_text};
+ghost use Rattle.ill_text.specs.Json as texts;
+ghost use Rattle.ill_text.specs.Json.{Field, flag, quoted};
+ghost use Rattle.ill_show.specs.declared.loan.LoanForm.TheVariants.{Object};
+ghost use Rattle.ill_show.specs.declared.wanted.Wanted.{Wanted};
+ghost use Rattle.ill_show.specs.Listing.{between, file_told, listed_desk};
+ghost use Rattle.ill_show.specs.Loan.{loan_text};
+ghost use Rattle.ill_show.specs.Objects.{message_object, status_of_desk};
+ghost use Rattle.ill_json.specs.BadLines.{AreBadLines, IsBadLine, broken_texts};
+ghost use Rattle.ill_json.specs.Lines.{IsEntry, fields_of_list, fields_of_loan, fields_of_message, fields_of_status};
+ghost use Rattle.ill_json.specs.Objects.{AreObjectLines, IsObject, IsObjectLine, items_of, strings};
+
+/// Each line of `list` is an object of JSON with the fields of a loan. The last line of a desk has the counts. The path
+/// of the desk is UTF-8.
+pub fn list_is_json()
+    ensures { (is_first is_headed : Bool) (wanted : Wanted) (path : List ℕ) (held : SidesOf) →
+        IsUtf8 path → AreSides held →
+        AreObjectLines (between forms.Json is_first ++ listed_desk forms.Json is_headed wanted path held.sides)
+        (fields_of_list (file_told is_headed path) wanted held.sides) }
+{}
+
+/// Each line of `status` is an object of JSON with the fields of a side.
+#[tactic(auto, using(crate::proofs::LineLemmas::status_are))]
+pub fn status_is_json()
+    ensures { (entries : List DeskEntry) → Each IsEntry entries →
+        AreObjectLines (status_of_desk forms.Json entries) (map fields_of_status entries) }
+{}
+
+/// The line of `loan` is an object of JSON with the fields of a side. It has the messages that came, too.
+#[tactic(auto, using(crate::proofs::LineLemmas::loan_is))]
+pub fn loan_is_json()
+    ensures { (entry : DeskEntry) (came : List Apdu) → IsEntry entry → Each IsApdu came →
+        IsObjectLine (loan_text Object entry came) (fields_of_loan entry came) }
+{}
+
+/// Each line of `show` is an object of JSON with the fields of an APDU.
+#[tactic(auto, using(crate::proofs::LineLemmas::apdus_are))]
+pub fn show_is_json()
+    ensures { (apdus : List Apdu) → Each IsApdu apdus →
+        AreObjectLines (flat_map (apdu_text forms.Json) apdus) (map apdu_fields apdus) }
+{}
+
+/// The text of a value is read as this value. It may be a text of UTF-8, a day, a number of 64 bits, a Bool, none, or a
+/// list of texts.
+#[tactic(auto, using(crate::proofs::LineLemmas::text_is, crate::proofs::LineLemmas::day_is, crate::proofs::LineLemmas::number_is, crate::proofs::LineLemmas::flag_is, crate::proofs::LineLemmas::null_is, crate::proofs::LineLemmas::words_are,))]
+pub fn values_are_json()
+    ensures text { (text : List ℕ) → IsUtf8 text → document (quoted text) ≡ Some (string text) }
+    ensures day { (d : Date) → document (texts.day d) ≡ Some (string (iso_text d)) }
+    ensures count { (n : ℕ) → n < 2 ^ 64 → document (decimal n) ≡ Some (number (decimal n)) }
+    ensures holds { (holds : Bool) → document (flag holds) ≡ Some (boolean holds) }
+    ensures none { document texts.null ≡ Some null }
+    ensures words { (words : List (List ℕ)) → Each IsUtf8 words →
+        document (texts.array quoted words) ≡ Some (array (strings words)) }
+{}
+
+/// A message within the line of `loan` is an object with the fields of the message. An array of messages is read as an
+/// array of these objects.
+#[tactic(auto, using(crate::proofs::LineLemmas::message_is, crate::proofs::LineLemmas::messages_are))]
+pub fn messages_are_json()
+    ensures each { (released : Option ℕ) (a : Apdu) → IsApdu a →
+        IsObject (message_object released a) (fields_of_message released a) }
+    ensures all { (released : Option ℕ) (apdus : List Apdu) → Each IsApdu apdus →
+        document (texts.array (message_object released) apdus)
+        ≡ option_map array (items_of (map (message_object released) apdus)) }
+{}
+
+/// A reader that looks for a label of an object finds what the text of this field is read as.
+pub fn fields_are_found()
+    ensures { (text : List ℕ) (fields : List Field) (value : Json) → IsObject text fields → document text ≡ Some value →
+        Each (λ field. get field.0 value ≡ document field.1) fields }
+{}
+
+/// Each side that a desk may hold is an entry, if all of its messages are released.
+#[tactic(auto, using(crate::proofs::LineLemmas::entry_is))]
+pub fn sides_are_entries()
+    ensures { (side : Side) → IsSide side → IsEntry (whole side) }
+{}
+
+/// A line is no object of JSON if it has no end, if it is no JSON, or if it is another value. A text is not such lines
+/// if one of them is bad.
+pub fn no_bad_line_is_json()
+    ensures line { (line : List ℕ) (fields : List Field) → IsBadLine line fields → IsObjectLine line fields → ⊥ }
+    ensures lines { (text : List ℕ) (lines : List (List Field)) →
+        AreBadLines text lines → AreObjectLines text lines → ⊥ }
+{}
+
+/// The reader of JSON refuses each text of `broken_texts`, which break its rules.
+#[tactic(auto, using(crate::proofs::BadLines::broken_are_none))]
+pub fn broken_texts_are_no_json()
+    ensures { Each (λ text. document text ≡ None) broken_texts }
+{}

@@ -6,3 +6,4 @@ pub mod LeavingLemmas
 pub mod LibraryLemmas
 pub mod Lists
 pub mod NightLemmas
+pub mod ShelfLemmas

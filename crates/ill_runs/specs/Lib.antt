@@ -2,3 +2,4 @@ pub mod BadLibraries
 pub mod Events
 pub mod Libraries
 pub mod Mail
+pub mod ShelfLibraries

@@ -1,0 +1,127 @@
+-- What a crash leaves of lists, of files and after each call.
+use Rattle.std.proofs.Common.{◌≡◌, ◌⊎◌, inl, inr, ⊎_elim, refl, ap, arith, ℕ, zero, suc, ◌<◌, List, [], ◌∷◌, ◌++◌, length, map, Option, Some, None}
+use Rattle.ill_disk.specs.Disk.{In, File, Name, Disk, AreLeft, Crash, flush_file, flush_found, found_at, bytes_of, after_change, after_flush, after_flush_names}
+
+-- An element of two lists together stands in one of them.
+pub in_append : {X : Type 0} (xs ys : List X) (x : X) → In (xs ++ ys) x → In xs x ⊎ In ys x
+in_append [] ys x here = inr here
+in_append (z ∷ xs) ys x (inl is) = inl (inl is)
+in_append (z ∷ xs) ys x (inr rest) = ⊎_elim (λ l. inl (inr l)) (λ r. inr r) (in_append xs ys x rest)
+
+-- An element of the first list stands in both together.
+pub in_first : {X : Type 0} (xs ys : List X) (x : X) → In xs x → In (xs ++ ys) x
+in_first [] ys x none = absurd none
+in_first (z ∷ xs) ys x (inl is) = inl is
+in_first (z ∷ xs) ys x (inr rest) = inr (in_first xs ys x rest)
+
+-- An element of the second list stands in both together.
+pub in_second : {X : Type 0} (xs ys : List X) (x : X) → In ys x → In (xs ++ ys) x
+in_second [] ys x here = here
+in_second (z ∷ xs) ys x here = inr (in_second xs ys x here)
+
+-- An element of a mapped list comes from one of the list.
+pub in_map : {X Y : Type 0} (f : X → Y) (xs : List X) (y : Y) → In (map f xs) y → (x : X) × In xs x × (y ≡ f x)
+in_map f [] y none = absurd none
+in_map f (x ∷ xs) y (inl is) = (x, inl refl, is)
+in_map f (x ∷ xs) y (inr rest) = let found = in_map f xs y rest in (found.0, inr found.1, found.2)
+
+-- Each element of a list stands in the mapped one after the map.
+pub in_mapped : {X Y : Type 0} (f : X → Y) (xs : List X) (x : X) → In xs x → In (map f xs) (f x)
+in_mapped f [] x none = absurd none
+in_mapped f (z ∷ xs) x (inl is) = inl (ap f is)
+in_mapped f (z ∷ xs) x (inr rest) = inr (in_mapped f xs x rest)
+
+-- ---- files
+
+-- A crash leaves as many files as there were.
+pub left_length : (before after : List File) → AreLeft before after → length after ≡ length before
+left_length [] [] left = refl
+left_length [] (g ∷ after) left = absurd left
+left_length (f ∷ before) [] left = absurd left
+left_length (f ∷ before) (g ∷ after) left = ap suc (left_length before after left.1)
+
+-- The files that a crash leaves without the last one, and the last.
+pub record LeftLast (files : List File) (after : List File) : Type 0 where
+  pub first : List File
+  pub last : File
+  pub is : after ≡ first ++ last ∷ []
+  pub left : AreLeft files first
+
+-- A crash leaves the files before a new one as if there were no new one.
+pub left_first : (files : List File) (f : File) (after : List File) → AreLeft (files ++ f ∷ []) after → LeftLast files after
+left_first [] f [] left = absurd left
+left_first [] f (g ∷ []) left = record { first = []; last = g; is = refl; left = tt }
+left_first [] f (g ∷ h ∷ after) left = absurd left.1
+left_first (e ∷ files) f [] left = absurd left
+left_first (e ∷ files) f (g ∷ after) left = let rest = left_first files f after left.1 in record {
+  first = g ∷ rest.first;
+  last = rest.last;
+  is = ap (λ (l : List File). g ∷ l) rest.is;
+  left = (left.0, rest.left);
+}
+
+-- What a crash leaves of a file that is flushed, it may leave without the flush.
+pub left_flushed : (files : List File) (k : ℕ) (after : List File) → AreLeft (flush_file files k) after → AreLeft files after
+left_flushed [] k after left = left
+left_flushed (f ∷ files) zero [] left = absurd left
+left_flushed (f ∷ files) zero (g ∷ after) left =
+    (record { bytes = λ was. left.0.bytes refl; flushed = left.0.flushed }, left.1)
+left_flushed (f ∷ files) (suc k) [] left = absurd left
+left_flushed (f ∷ files) (suc k) (g ∷ after) left = (left.0, left_flushed files k after left.1)
+
+-- The same of a file that may be found.
+pub left_flush_found : (files : List File) (found : Option ℕ) (after : List File) →
+    AreLeft (flush_found files found) after → AreLeft files after
+left_flush_found files None after left = left
+left_flush_found files (Some k) after left = left_flushed files k after left
+
+-- A crash leaves the bytes of a flushed file.
+pub left_bytes : (files : List File) (k : ℕ) (after : List File) → AreLeft (flush_file files k) after →
+    bytes_of after (Some k) ≡ bytes_of files (Some k)
+left_bytes [] k [] left = refl
+left_bytes [] k (g ∷ after) left = absurd left
+left_bytes (f ∷ files) zero [] left = absurd left
+left_bytes (f ∷ files) zero (g ∷ after) left = ap (λ (b : List ℕ). Some b) (left.0.bytes refl)
+left_bytes (f ∷ files) (suc k) [] left = absurd left
+left_bytes (f ∷ files) (suc k) (g ∷ after) left = left_bytes files k after left.1
+
+-- A new file has its bytes.
+pub last_bytes : (files : List File) (f : File) → bytes_of (files ++ f ∷ []) (Some (length files)) ≡ Some f.bytes
+last_bytes [] f = refl
+last_bytes (e ∷ files) f = last_bytes files f
+
+-- A new file changes no earlier one.
+pub first_bytes : (files : List File) (f : File) (k : ℕ) → k < length files →
+    bytes_of (files ++ f ∷ []) (Some k) ≡ bytes_of files (Some k)
+first_bytes [] f k lt = absurd (omega (arith, lt))
+first_bytes (e ∷ files) f zero lt = refl
+first_bytes (e ∷ files) f (suc k) lt = first_bytes files f k (omega (arith, lt))
+
+-- A flush changes no bytes.
+pub flushed_bytes : (files : List File) (k id : ℕ) → bytes_of (flush_file files k) (Some id) ≡ bytes_of files (Some id)
+flushed_bytes [] k id = refl
+flushed_bytes (f ∷ files) zero zero = refl
+flushed_bytes (f ∷ files) zero (suc id) = refl
+flushed_bytes (f ∷ files) (suc k) zero = refl
+flushed_bytes (f ∷ files) (suc k) (suc id) = flushed_bytes files k id
+
+-- ---- calls
+
+-- A crash after a change of names leaves a list that could stand before, with the change or without it.
+pub change_left : (change : List Name → List Name) (d after : Disk) → Crash (after_change change d) after →
+    In d.may_stand after.names ⊎ ((names : List Name) × In d.may_stand names × (after.names ≡ change names))
+change_left change d after crash =
+    ⊎_elim (λ before. inl before) (λ changed. inr (in_map change d.may_stand after.names changed))
+    (in_append d.may_stand (map change d.may_stand) after.names crash.names)
+
+-- What a crash leaves after a flush of a file, it may leave before it.
+pub flush_left : (path : List ℕ) (d after : Disk) → Crash (after_flush path d) after → Crash d after
+flush_left path d after crash = record {
+  names = crash.names;
+  only = crash.only;
+  files = left_flush_found d.files (found_at path d.names) after.files crash.files;
+}
+
+-- A crash after a flush of names leaves the names of now.
+pub names_left : (d after : Disk) → Crash (after_flush_names d) after → after.names ≡ d.names
+names_left d after crash = ⊎_elim (λ is. is) (λ none. absurd none) crash.names

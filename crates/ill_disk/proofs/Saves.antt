@@ -1,0 +1,117 @@
+-- What a crash leaves at each of the five disks on the way of a save.
+use Rattle.std.proofs.Common.{◌≡◌, inl, inr, ⊎_elim, refl, sym, ◌∙◌, ap, subst, ℕ, false, List, [], ◌∷◌, ◌++◌, length, Option, Some, None}
+use Rattle.ill_disk.specs.Disk.{In, File, Name, Disk, AreLeft, Crash, Leaves, AreMade, IsWhole, IsOldOr, on_the_way, after_save, flush_found, found_at, with_name, moved, bytes_of, content, after_create, after_rename, after_flush, after_flush_names}
+use Rattle.ill_disk.proofs.Names.{found_with, found_with_other, found_moved, made_found}
+use Rattle.ill_disk.proofs.Crashes.{left_length, left_first, left_bytes, last_bytes, first_bytes, flushed_bytes, change_left, flush_left, names_left}
+
+-- A new file changes no bytes that were found before.
+first_found : (files : List File) (f : File) (path : List ℕ) (names : List Name) (found : Option ℕ) →
+    found_at path names ≡ found → AreMade (length files) names → bytes_of (files ++ f ∷ []) found ≡ bytes_of files found
+first_found files f path names None is made = refl
+first_found files f path names (Some k) is made = first_bytes files f k (made_found (length files) path names k made is)
+
+module _ (aside path bytes : List ℕ) (d : Disk) (whole : IsWhole d) (differ : aside ≡ path → ⊥) where
+  -- The new file, before it is flushed.
+  abbrev new_file : File
+  new_file = record { bytes = bytes; is_flushed = false }
+
+  abbrev created : Disk
+  created = after_create aside bytes d
+
+  abbrev flushed : Disk
+  flushed = after_flush aside created
+
+  abbrev replaced : Disk
+  replaced = after_rename aside path flushed
+
+  -- If the path gives what it gave in a list that might stand, a crash might have left this content before.
+  old_content : (after : Disk) (names : List Name) → In d.may_stand names →
+      found_at path after.names ≡ found_at path names → AreLeft (d.files ++ new_file ∷ []) after.files →
+      Leaves d path (content path after)
+  old_content after names stands found left =
+      let parts = left_first d.files new_file after.files left in
+      let before : Disk = record { files = parts.first; names = names; may_stand = names ∷ [] } in
+      let made : AreMade (length parts.first) names =
+      subst (λ (n : ℕ). AreMade n names) (sym (left_length d.files parts.first parts.left)) (whole.made names stands) in (
+        before,
+        record { names = stands; only = refl; files = parts.left },
+        sym (ap (λ (o : Option ℕ). bytes_of after.files o) found
+            ∙ ap (λ (l : List File). bytes_of l (found_at path names)) parts.is
+            ∙ first_found parts.first parts.last path names (found_at path names) refl made),
+      )
+
+  -- A crash after the new file is made leaves an old record.
+  created_left : (after : Disk) → Crash created after → Leaves d path (content path after)
+  created_left after crash = ⊎_elim
+      (λ stands. old_content after after.names stands refl crash.files)
+      (λ changed. old_content after changed.0 changed.1
+      (ap (found_at path) changed.2 ∙ found_with_other path aside (length d.files) changed.0 differ) crash.files)
+      (change_left (with_name aside (length d.files)) (record d { files = d.files ++ new_file ∷ [] }) after crash)
+
+  -- The new file is found aside.
+  found_aside : found_at aside flushed.names ≡ Some (length d.files)
+  found_aside = found_with aside (length d.files) d.names
+
+  -- The new file is flushed.
+  is_flushed : flushed.files ≡ flush_found created.files (Some (length d.files))
+  is_flushed = ap (flush_found created.files) (found_with aside (length d.files) d.names)
+
+  -- If the path gives the new file, a crash leaves the new record whole.
+  new_content : (after : Disk) → found_at path after.names ≡ Some (length d.files) → AreLeft flushed.files after.files →
+      content path after ≡ Some bytes
+  new_content after found left =
+      ap (bytes_of after.files) found
+      ∙ left_bytes created.files (length d.files) after.files
+      (subst (λ (l : List File). AreLeft l after.files) is_flushed left)
+      ∙ last_bytes d.files new_file
+
+  -- A crash after the rename leaves an old record or the new one.
+  replaced_left : (after : Disk) → Crash replaced after → IsOldOr path d bytes (content path after)
+  replaced_left after crash = ⊎_elim
+      (λ stands. inl (created_left after (flush_left aside created after
+      (record { names = stands; only = crash.only; files = crash.files }))))
+      (λ changed. inr (new_content after (ap (found_at path) changed.2
+      ∙ found_moved aside path (length d.files) changed.0 (found_at aside flushed.names) found_aside) crash.files))
+      (change_left (moved aside path (found_at aside flushed.names)) flushed after crash)
+
+  -- A crash after the save leaves the new record.
+  saved_left : (after : Disk) → Crash (after_flush_names replaced) after → content path after ≡ Some bytes
+  saved_left after crash = new_content after (ap (found_at path) (names_left replaced after crash)
+      ∙ found_moved aside path (length d.files) flushed.names (found_at aside flushed.names) found_aside) crash.files
+
+  -- The content is that of a crash that has P.
+  from_content : (P : Option (List ℕ) → Type 0) (x : Disk) → ((after : Disk) → Crash x after → P (content path after)) →
+      (found : Option (List ℕ)) → Leaves x path found → P found
+  from_content P x each found left = subst P left.2 (each left.0 left.1)
+
+  -- A crash at any moment of a save leaves what one before might have left, or the new record whole.
+  pub save_moments : (x : Disk) → In (on_the_way aside path bytes d) x → (found : Option (List ℕ)) →
+      Leaves x path found → IsOldOr path d bytes found
+  save_moments x (inl is) found left = inl (subst (λ (y : Disk). Leaves y path found) is left)
+  save_moments x (inr (inl is)) found left =
+      from_content (IsOldOr path d bytes) created (λ after crash. inl (created_left after crash)) found
+      (subst (λ (y : Disk). Leaves y path found) is left)
+  save_moments x (inr (inr (inl is))) found left =
+      from_content (IsOldOr path d bytes) flushed
+      (λ after crash. inl (created_left after (flush_left aside created after crash))) found
+      (subst (λ (y : Disk). Leaves y path found) is left)
+  save_moments x (inr (inr (inr (inl is)))) found left =
+      from_content (IsOldOr path d bytes) replaced replaced_left found
+      (subst (λ (y : Disk). Leaves y path found) is left)
+  save_moments x (inr (inr (inr (inr (inl is))))) found left =
+      from_content (IsOldOr path d bytes) (after_flush_names replaced) (λ after crash. inr (saved_left after crash)) found
+      (subst (λ (y : Disk). Leaves y path found) is left)
+  save_moments x (inr (inr (inr (inr (inr none))))) found left = absurd none
+
+  -- Each crash after a save leaves the new record.
+  pub save_lasts : (found : Option (List ℕ)) → Leaves (after_save aside path bytes d) path found → found ≡ Some bytes
+  save_lasts found left = from_content (λ f. f ≡ Some bytes) (after_flush_names replaced) saved_left found left
+
+  -- A read after a save gives the new record.
+  pub save_is_read : content path (after_save aside path bytes d) ≡ Some bytes
+  save_is_read =
+      ap (bytes_of flushed.files)
+      (found_moved aside path (length d.files) flushed.names (found_at aside flushed.names) found_aside)
+      ∙ ap (λ (l : List File). bytes_of l (Some (length d.files))) is_flushed
+      ∙ flushed_bytes created.files (length d.files) (length d.files)
+      ∙ last_bytes d.files new_file

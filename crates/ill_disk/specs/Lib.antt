@@ -1,0 +1,2 @@
+pub mod BadDisk
+pub mod Disk

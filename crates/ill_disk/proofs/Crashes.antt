@@ -1,6 +1,10 @@
 -- What a crash leaves of lists, of files and after each call.
-use Rattle.std.proofs.Common.{◌≡◌, ◌⊎◌, inl, inr, ⊎_elim, refl, ap, arith, ℕ, zero, suc, ◌<◌, List, [], ◌∷◌, ◌++◌, length, map, Option, Some, None}
-use Rattle.ill_disk.specs.Disk.{In, File, Name, Disk, AreLeft, Crash, flush_file, flush_found, found_at, bytes_of, after_change, after_flush, after_flush_names}
+use Rattle.std.proofs.Common.{◌≡◌, ◌⊎◌, inl, inr, ⊎_elim, refl, sym, ◌∙◌, ap, arith, ℕ, zero, suc, ◌<◌, Bool, true, false, List}
+use Rattle.std.proofs.Common.{[], ◌∷◌, ◌++◌, length, map, slice_get, Option, Some, None}
+use Rattle.std.proofs.lemmas.Bool.{true≢false}
+use Rattle.std.proofs.lemmas.Option.{none-some}
+use Rattle.ill_disk.specs.Disk.{In, File, Name, Disk, AreLeft, Crash, Leaves, flush_file, flush_found, found_at, bytes_of}
+use Rattle.ill_disk.specs.Disk.{after_change, after_flush, after_flush_names, content}
 
 -- An element of two lists together stands in one of them.
 pub in_append : {X : Type 0} (xs ys : List X) (x : X) → In (xs ++ ys) x → In xs x ⊎ In ys x
@@ -125,3 +129,96 @@ flush_left path d after crash = record {
 -- A crash after a flush of names leaves the names of now.
 pub names_left : (d after : Disk) → Crash (after_flush_names d) after → after.names ≡ d.names
 names_left d after crash = ⊎_elim (λ is. is) (λ none. absurd none) crash.names
+
+-- ---- what each call leaves to a read
+
+-- A flush of a file that may be found changes no bytes.
+pub flush_found_bytes : (files : List File) (flush found : Option ℕ) →
+    bytes_of (flush_found files flush) found ≡ bytes_of files found
+flush_found_bytes files None found = refl
+flush_found_bytes files (Some k) None = refl
+flush_found_bytes files (Some k) (Some id) = flushed_bytes files k id
+
+-- A read gives the same after a flush of any file.
+pub flush_is_not_read : (path flushed : List ℕ) (d : Disk) → content path (after_flush flushed d) ≡ content path d
+flush_is_not_read path flushed d = flush_found_bytes d.files (found_at flushed d.names) (found_at path d.names)
+
+-- ---- lasting
+
+-- A crash leaves the bytes of a file that is found and flushed.
+left_found : (files : List File) (found : Option ℕ) (after : List File) → AreLeft (flush_found files found) after →
+    bytes_of after found ≡ bytes_of files found
+left_found files None after left = refl
+left_found files (Some k) after left = left_bytes files k after left
+
+-- A crash after a flush of a file and of names leaves what a read gave.
+pub flushes_last : (path : List ℕ) (d : Disk) (found : Option (List ℕ)) →
+    Leaves (after_flush_names (after_flush path d)) path found → found ≡ content path d
+flushes_last path d found left =
+    sym left.2 ∙ ap (λ (n : List Name). bytes_of left.0.files (found_at path n)) (names_left (after_flush path d) left.0 left.1)
+    ∙ left_found d.files (found_at path d.names) left.0.files left.1.files
+
+-- ---- crashes that happen
+
+-- Returns the files that a crash leaves with all their bytes.
+abbrev pub settled : List File → List File
+settled [] = []
+settled (f ∷ files) = record { bytes = f.bytes; is_flushed = true } ∷ settled files
+
+-- A crash may leave all bytes.
+pub settled_left : (files : List File) → AreLeft files (settled files)
+settled_left [] = tt
+settled_left (f ∷ files) = (record { bytes = λ was. refl; flushed = refl }, settled_left files)
+
+-- Each list of names that may stand is left by some crash.
+pub each_may_stand : (d : Disk) (names : List Name) → In d.may_stand names →
+    (after : Disk) × Crash d after × (after.names ≡ names)
+each_may_stand d names stands = (
+  record { files = settled d.files; names = names; may_stand = names ∷ [] },
+  record { names = stands; only = refl; files = settled_left d.files },
+  refl,
+)
+
+-- Returns the flag of a file, and true if there is none.
+abbrev flushed_or_none : Option File → Bool
+flushed_or_none None = true
+flushed_or_none (Some f) = f.is_flushed
+
+-- Some crash leaves a file that is not flushed with these bytes.
+pub record LeftWith (files : List File) (file : ℕ) (bytes : List ℕ) : Type 0 where
+  pub after : List File
+  pub left : AreLeft files after
+  pub is : bytes_of after (Some file) ≡ Some bytes
+
+-- A file that is not flushed may have any bytes after a crash.
+pub any_left : (files : List File) (file : ℕ) (f : File) (bytes : List ℕ) → slice_get files file ≡ Some f →
+    f.is_flushed ≡ false → LeftWith files file bytes
+any_left [] file f bytes found unflushed = absurd (none-some f found)
+any_left (e ∷ files) zero f bytes found unflushed = record {
+  after = record { bytes = bytes; is_flushed = true } ∷ settled files;
+  left = (
+    record {
+      bytes = λ was. absurd (true≢false (sym was ∙ ap flushed_or_none found ∙ unflushed));
+      flushed = refl;
+    },
+    settled_left files,
+  );
+  is = refl;
+}
+any_left (e ∷ files) (suc file) f bytes found unflushed =
+    let rest = any_left files file f bytes found unflushed in record {
+      after = record { bytes = e.bytes; is_flushed = true } ∷ rest.after;
+      left = (record { bytes = λ was. refl; flushed = refl }, rest.left);
+      is = rest.is;
+    }
+
+-- A path whose file is not flushed may give any bytes after a crash.
+pub any_bytes_left : (path : List ℕ) (d : Disk) (file : ℕ) (f : File) (bytes : List ℕ) → In d.may_stand d.names →
+    found_at path d.names ≡ Some file → slice_get d.files file ≡ Some f → f.is_flushed ≡ false →
+    Leaves d path (Some bytes)
+any_bytes_left path d file f bytes stands found is unflushed =
+    let some = any_left d.files file f bytes is unflushed in (
+      record { files = some.after; names = d.names; may_stand = d.names ∷ [] },
+      record { names = stands; only = refl; files = some.left },
+      ap (bytes_of some.after) found ∙ some.is,
+    )

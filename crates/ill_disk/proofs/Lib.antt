@@ -1,3 +1,5 @@
+pub mod BadDisk
 pub mod Crashes
 pub mod Names
 pub mod Saves
+pub mod Wholes

@@ -1,5 +1,6 @@
 -- What is found at a path after a change of names.
-use Rattle.std.proofs.Common.{◌≡◌, ◌⊎◌, inl, inr, ⊎_elim, refl, sym, ◌∙◌, ap, subst, ℕ, ◌<◌, Bool, true, false, if◌then◌else◌, List, [], ◌∷◌, Option, Some, None}
+use Rattle.std.proofs.Common.{◌≡◌, ◌⊎◌, inl, inr, ⊎_elim, refl, sym, ◌∙◌, ap, subst, ℕ, ◌<◌, Bool, true, false, if◌then◌else◌}
+use Rattle.std.proofs.Common.{List, [], ◌∷◌, Option, Some, None}
 use Rattle.std.specs.Str.{bytes_eq}
 use Rattle.std.proofs.lemmas.Slice.Eq.{bytes_eq-Decides}
 use Rattle.ill_disk.specs.Disk.{Name, found_at, without, with_name, moved, AreMade}
@@ -67,7 +68,7 @@ gone_moved from to file names found is differ =
     ∙ found_with_other from to file (without from names) (λ same. differ (sym same)) ∙ found_without from names
 
 -- The file, if there is one, is of the first so many.
-abbrev IsBelow : ℕ → Option ℕ → Type 0
+abbrev pub IsBelow : ℕ → Option ℕ → Type 0
 IsBelow count None = Unit {0}
 IsBelow count (Some file) = file < count
 
@@ -78,7 +79,7 @@ below_if count file true other first rest = first
 below_if count file false other first rest = rest
 
 -- What is found among names of files that were made was made.
-below_found : (count : ℕ) (path : List ℕ) (names : List Name) → AreMade count names → IsBelow count (found_at path names)
+pub below_found : (count : ℕ) (path : List ℕ) (names : List Name) → AreMade count names → IsBelow count (found_at path names)
 below_found count path [] made = tt
 below_found count path (name ∷ names) made =
     below_if count name.file (bytes_eq path name.path) (found_at path names) made.0 (below_found count path names made.1)

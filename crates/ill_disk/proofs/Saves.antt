@@ -1,8 +1,13 @@
 -- What a crash leaves at each of the five disks on the way of a save.
-use Rattle.std.proofs.Common.{◌≡◌, inl, inr, ⊎_elim, refl, sym, ◌∙◌, ap, subst, ℕ, false, List, [], ◌∷◌, ◌++◌, length, Option, Some, None}
-use Rattle.ill_disk.specs.Disk.{In, File, Name, Disk, AreLeft, Crash, Leaves, AreMade, IsWhole, IsOldOr, on_the_way, after_save, flush_found, found_at, with_name, moved, bytes_of, content, after_create, after_rename, after_flush, after_flush_names}
-use Rattle.ill_disk.proofs.Names.{found_with, found_with_other, found_moved, made_found}
-use Rattle.ill_disk.proofs.Crashes.{left_length, left_first, left_bytes, last_bytes, first_bytes, flushed_bytes, change_left, flush_left, names_left}
+use Rattle.std.proofs.Common.{◌≡◌, inl, inr, ⊎_elim, refl, sym, ◌∙◌, ap, subst, ℕ, false, List, [], ◌∷◌, ◌++◌, length, Option}
+use Rattle.std.proofs.Common.{Some, None}
+use Rattle.ill_disk.specs.Disk.{In, File, Name, Disk, AreLeft, Crash, Leaves, AreMade, IsWhole, IsOldOr, on_the_way, after_save}
+use Rattle.ill_disk.specs.Disk.{flush_found, found_at, without, with_name, moved, bytes_of, content, after_create, after_remove}
+use Rattle.ill_disk.specs.Disk.{after_rename, after_flush, after_flush_names}
+use Rattle.ill_disk.proofs.Names.{found_with, found_with_other, found_without, found_without_other, found_moved, gone_moved}
+use Rattle.ill_disk.proofs.Names.{made_found}
+use Rattle.ill_disk.proofs.Crashes.{left_length, left_first, left_bytes, last_bytes, first_bytes, flushed_bytes, change_left}
+use Rattle.ill_disk.proofs.Crashes.{flush_left, names_left}
 
 -- A new file changes no bytes that were found before.
 first_found : (files : List File) (f : File) (path : List ℕ) (names : List Name) (found : Option ℕ) →
@@ -115,3 +120,50 @@ module _ (aside path bytes : List ℕ) (d : Disk) (whole : IsWhole d) (differ : 
       ∙ ap (λ (l : List File). bytes_of l (Some (length d.files))) is_flushed
       ∙ flushed_bytes created.files (length d.files) (length d.files)
       ∙ last_bytes d.files new_file
+
+-- ---- what reads give after each call
+
+-- A new file gives its bytes.
+pub create_is_read : (path bytes : List ℕ) (d : Disk) → content path (after_create path bytes d) ≡ Some bytes
+create_is_read path bytes d =
+    ap (bytes_of (d.files ++ record { bytes = bytes; is_flushed = false } ∷ [])) (found_with path (length d.files) d.names)
+    ∙ last_bytes d.files (record { bytes = bytes; is_flushed = false })
+
+-- A new file changes nothing at another path.
+pub create_elsewhere : (path other bytes : List ℕ) (d : Disk) → IsWhole d → (path ≡ other → ⊥) →
+    content other (after_create path bytes d) ≡ content other d
+create_elsewhere path other bytes d whole differ =
+    let f : File = record { bytes = bytes; is_flushed = false } in
+    ap (bytes_of (d.files ++ f ∷ [])) (found_with_other other path (length d.files) d.names differ)
+    ∙ first_found d.files f other d.names (found_at other d.names) refl (whole.made d.names whole.now)
+
+-- A path that was removed gives nothing.
+pub remove_is_read : (path : List ℕ) (d : Disk) → content path (after_remove path d) ≡ None
+remove_is_read path d = ap (bytes_of d.files) (found_without path d.names)
+
+-- A removed path changes nothing at another.
+pub remove_elsewhere : (path other : List ℕ) (d : Disk) → (path ≡ other → ⊥) →
+    content other (after_remove path d) ≡ content other d
+remove_elsewhere path other d differ = ap (bytes_of d.files) (found_without_other other path d.names differ)
+
+-- After a rename the new path gives what the old one gave.
+pub rename_is_read : (from to : List ℕ) (d : Disk) (file : ℕ) → found_at from d.names ≡ Some file →
+    content to (after_rename from to d) ≡ content from d
+rename_is_read from to d file found =
+    ap (bytes_of d.files) (found_moved from to file d.names (found_at from d.names) found ∙ sym found)
+
+-- After a rename the old path gives nothing.
+pub rename_is_gone : (from to : List ℕ) (d : Disk) (file : ℕ) → found_at from d.names ≡ Some file →
+    (from ≡ to → ⊥) → content from (after_rename from to d) ≡ None
+rename_is_gone from to d file found differ =
+    ap (bytes_of d.files) (gone_moved from to file d.names (found_at from d.names) found differ)
+
+-- A rename changes nothing at a third path.
+pub rename_elsewhere : (from to other : List ℕ) (d : Disk) → (from ≡ other → ⊥) → (to ≡ other → ⊥) →
+    content other (after_rename from to d) ≡ content other d
+rename_elsewhere from to other d not_from not_to =
+    ap (bytes_of d.files) (elsewhere (found_at from d.names)) where
+      elsewhere : (found : Option ℕ) → found_at other (moved from to found d.names) ≡ found_at other d.names
+      elsewhere None = refl
+      elsewhere (Some file) = found_with_other other to file (without from d.names) not_to
+          ∙ found_without_other other from d.names not_from

@@ -1,7 +1,83 @@
 //! The laws of a disk that may lose its power are the contracts of functions that do nothing.
 
-ghost use Rattle.std.specs.Prelude.{◌≡◌, ◌⊎◌, ℕ, List, Option, Some};
-ghost use Rattle.ill_disk.specs.Disk.{In, Disk, Leaves, IsWhole, IsOldOr, content, after_save, on_the_way};
+ghost use Rattle.std.specs.Prelude.{◌≡◌, ◌⊎◌, ℕ, length, false, slice_get, List, Option, Some, None};
+ghost use Rattle.ill_disk.specs.Disk.{In, File, Name, Disk, Crash, Leaves, IsWhole, IsOldOr, content, found_at, moved, with_name, without, after_change, after_create, after_remove, after_rename, after_flush, after_flush_names, empty_disk, after_save, on_the_way};
+ghost use Rattle.ill_disk.specs.BadDisk.{IsBadCrash, IsHalfRenamed, LosesNames};
+
+/// A new file gives its bytes, and a removed path gives nothing. After a rename the new path gives what the old one
+/// gave, and the old path gives nothing. No other path changes, and a flush changes nothing that is read.
+#[tactic(auto, using(crate::proofs::Saves::create_is_read, crate::proofs::Saves::create_elsewhere, crate::proofs::Saves::remove_is_read, crate::proofs::Saves::remove_elsewhere, crate::proofs::Saves::rename_is_read, crate::proofs::Saves::rename_is_gone, crate::proofs::Saves::rename_elsewhere, crate::proofs::Crashes::flush_is_not_read))]
+pub fn reads_follow_calls()
+    ensures created { (path bytes : List ℕ) (d : Disk) → content path (after_create path bytes d) ≡ Some bytes }
+    ensures removed { (path : List ℕ) (d : Disk) → content path (after_remove path d) ≡ None }
+    ensures renamed { (from to : List ℕ) (d : Disk) (file : ℕ) → found_at from d.names ≡ Some file →
+        content to (after_rename from to d) ≡ content from d }
+    ensures gone { (from to : List ℕ) (d : Disk) (file : ℕ) → found_at from d.names ≡ Some file →
+        (from ≡ to → ⊥) → content from (after_rename from to d) ≡ None }
+    ensures create_elsewhere { (path other bytes : List ℕ) (d : Disk) → IsWhole d → (path ≡ other → ⊥) →
+        content other (after_create path bytes d) ≡ content other d }
+    ensures remove_elsewhere { (path other : List ℕ) (d : Disk) → (path ≡ other → ⊥) →
+        content other (after_remove path d) ≡ content other d }
+    ensures rename_elsewhere { (from to other : List ℕ) (d : Disk) → (from ≡ other → ⊥) → (to ≡ other → ⊥) →
+        content other (after_rename from to d) ≡ content other d }
+    ensures flushed { (path flushed : List ℕ) (d : Disk) → content path (after_flush flushed d) ≡ content path d }
+    ensures names_flushed { (path : List ℕ) (d : Disk) → content path (after_flush_names d) ≡ content path d }
+{}
+
+/// The empty disk is whole. Each call keeps a whole disk whole, and so does each crash.
+#[tactic(auto, using(crate::proofs::Wholes::empty_whole, crate::proofs::Wholes::remove_whole, crate::proofs::Wholes::rename_whole, crate::proofs::Wholes::flush_names_whole, crate::proofs::Wholes::crash_whole))]
+pub fn disks_stay_whole()
+    ensures empty { IsWhole empty_disk }
+    ensures created { (path bytes : List ℕ) (d : Disk) → IsWhole d → IsWhole (after_create path bytes d) }
+    ensures removed { (path : List ℕ) (d : Disk) → IsWhole d → IsWhole (after_remove path d) }
+    ensures renamed { (from to : List ℕ) (d : Disk) → IsWhole d → IsWhole (after_rename from to d) }
+    ensures flushed { (path : List ℕ) (d : Disk) → IsWhole d → IsWhole (after_flush path d) }
+    ensures names_flushed { (d : Disk) → IsWhole d → IsWhole (after_flush_names d) }
+    ensures crashed { (d after : Disk) → Crash d after → IsWhole d → IsWhole after }
+{}
+
+/// Each crash after a flush of a file and a flush of names leaves the names of now and the bytes of this file.
+#[tactic(auto, using(crate::proofs::Crashes::names_left))]
+pub fn what_is_flushed_lasts()
+    ensures names { (d after : Disk) → Crash (after_flush_names d) after → after.names ≡ d.names }
+    ensures bytes { (path : List ℕ) (d : Disk) (found : Option (List ℕ)) →
+        Leaves (after_flush_names (after_flush path d)) path found → found ≡ content path d }
+{}
+
+/// A crash may leave any bytes in a file that is not flushed. Each list of names that may stand is left by some crash.
+#[tactic(auto, using(crate::proofs::Crashes::each_may_stand))]
+pub fn what_is_not_flushed_may_be_lost()
+    ensures bytes { (path : List ℕ) (d : Disk) (file : ℕ) (f : File) (bytes : List ℕ) → In d.may_stand d.names →
+        found_at path d.names ≡ Some file → slice_get d.files file ≡ Some f → f.is_flushed ≡ false →
+        Leaves d path (Some bytes) }
+    ensures names { (d : Disk) (names : List Name) → In d.may_stand names →
+        (after : Disk) × Crash d after × (after.names ≡ names) }
+{}
+
+/// A crash after a rename leaves names that could stand before, with the whole rename or without it. A rename is never
+/// half done.
+#[tactic(auto, using(crate::proofs::Crashes::change_left))]
+pub fn a_rename_is_done_or_not()
+    ensures either { (from to : List ℕ) (d after : Disk) → Crash (after_rename from to d) after →
+        In d.may_stand after.names ⊎ ((names : List Name) × In d.may_stand names ×
+        (after.names ≡ moved from to (found_at from d.names) names)) }
+    ensures never_half { (from to : List ℕ) (file : ℕ) (names : List Name) → (from ≡ to → ⊥) →
+        IsHalfRenamed from to file (moved from to (Some file) names) → ⊥ }
+{}
+
+/// After a change each list of names that might stand before may stand, with the change and without it.
+pub fn no_change_loses_what_may_stand()
+    ensures created { (path bytes : List ℕ) (d : Disk) →
+        LosesNames (with_name path (length d.files)) d (after_create path bytes d) → ⊥ }
+    ensures removed { (path : List ℕ) (d : Disk) → LosesNames (without path) d (after_remove path d) → ⊥ }
+    ensures renamed { (from to : List ℕ) (d : Disk) →
+        LosesNames (moved from to (found_at from d.names)) d (after_rename from to d) → ⊥ }
+{}
+
+/// No crash leaves other names, other bytes of a flushed file, another number of files, or a file that is not flushed.
+pub fn no_crash_is_bad()
+    ensures { (before after : Disk) → Crash before after → IsBadCrash before after → ⊥ }
+{}
 
 /// A crash at any moment of a save leaves what a crash before it might have left, or the new record whole. Each crash
 /// after the save leaves the new record, and a read gives it.

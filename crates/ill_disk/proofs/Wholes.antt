@@ -1,0 +1,118 @@
+-- Each call keeps a whole disk whole, and each crash does.
+use Rattle.std.proofs.Common.{◌≡◌, inl, ⊎_elim, refl, sym, ap, subst, arith, ℕ, zero, suc, ◌+◌, ◌<◌, ◌≤◌, Bool, true, false, if◌then◌else◌, List, [], ◌∷◌, ◌++◌, length, map, Option, Some, None, length-append}
+use Rattle.std.specs.Str.{bytes_eq}
+use Rattle.ill_disk.specs.Disk.{In, File, Name, Disk, Crash, AreMade, IsWhole, flush_file, flush_found, found_at, without, with_name, moved, after_change, after_create, after_remove, after_rename, after_flush, after_flush_names, empty_disk}
+use Rattle.ill_disk.proofs.Names.{IsBelow, below_found}
+use Rattle.ill_disk.proofs.Crashes.{in_append, in_second, in_map, in_mapped, left_length}
+
+-- Names of files that were made stay so when more files are made.
+made_more : (count more : ℕ) (names : List Name) → count ≤ more → AreMade count names → AreMade more names
+made_more count more [] le made = tt
+made_more count more (name ∷ names) le made = (omega (arith, le, made.0), made_more count more names le made.1)
+
+-- A test between two lists of names of files that were made gives one.
+made_if : (count : ℕ) (b : Bool) (first second : List Name) → AreMade count first → AreMade count second →
+    AreMade count (if b then first else second)
+made_if count true first second one two = one
+made_if count false first second one two = two
+
+-- Names without one path are of files that were made.
+made_without : (count : ℕ) (path : List ℕ) (names : List Name) → AreMade count names → AreMade count (without path names)
+made_without count path [] made = tt
+made_without count path (name ∷ names) made =
+    let rest = made_without count path names made.1 in
+    made_if count (bytes_eq path name.path) (without path names) (name ∷ without path names) rest (made.0, rest)
+
+-- Names with one more file that was made are of files that were made.
+made_with : (count : ℕ) (path : List ℕ) (file : ℕ) (names : List Name) → file < count → AreMade count names →
+    AreMade count (with_name path file names)
+made_with count path file names lt made = (lt, made_without count path names made)
+
+-- Names after a rename are of files that were made.
+made_moved : (count : ℕ) (from to : List ℕ) (found : Option ℕ) (names : List Name) → IsBelow count found →
+    AreMade count names → AreMade count (moved from to found names)
+made_moved count from to None names below made = made
+made_moved count from to (Some file) names below made =
+    made_with count to file (without from names) below (made_without count from names made)
+
+-- A change of names keeps a disk whole if it keeps names to files that were made.
+change_whole : (change : List Name → List Name) (d : Disk) →
+    ((names : List Name) → AreMade (length d.files) names → AreMade (length d.files) (change names)) →
+    IsWhole d → IsWhole (after_change change d)
+change_whole change d keeps whole = record {
+  made = λ names stands. ⊎_elim (λ before. whole.made names before)
+      (λ changed. let from = in_map change d.may_stand names changed in
+      subst (λ (n : List Name). AreMade (length d.files) n) (sym from.2) (keeps from.0 (whole.made from.0 from.1)))
+      (in_append d.may_stand (map change d.may_stand) names stands);
+  now = in_second d.may_stand (map change d.may_stand) (change d.names) (in_mapped change d.may_stand d.names whole.now);
+}
+
+-- A whole disk is whole after a file is made.
+pub create_whole : (path bytes : List ℕ) (d : Disk) → IsWhole d → IsWhole (after_create path bytes d)
+create_whole path bytes d whole =
+    let new : File = record { bytes = bytes; is_flushed = false } in
+    let more : Disk = record d { files = d.files ++ new ∷ [] } in
+    let long : length (d.files ++ new ∷ []) ≡ length d.files + 1 = length-append d.files (new ∷ []) in
+    change_whole (with_name path (length d.files)) more
+    (λ names made. made_with (length more.files) path (length d.files) names (omega (arith, long)) made)
+    (record {
+      made = λ names stands. made_more (length d.files) (length more.files) names (omega (arith, long))
+          (whole.made names stands);
+      now = whole.now;
+    })
+
+-- A whole disk is whole after a path is removed.
+pub remove_whole : (path : List ℕ) (d : Disk) → IsWhole d → IsWhole (after_remove path d)
+remove_whole path d whole = change_whole (without path) d (made_without (length d.files) path) whole
+
+-- A whole disk is whole after a rename.
+pub rename_whole : (from to : List ℕ) (d : Disk) → IsWhole d → IsWhole (after_rename from to d)
+rename_whole from to d whole = change_whole (moved from to (found_at from d.names)) d
+    (λ names made. made_moved (length d.files) from to (found_at from d.names) names
+    (below_found (length d.files) from d.names (whole.made d.names whole.now)) made) whole
+
+-- A flush makes no file and loses none.
+flush_length : (files : List File) (k : ℕ) → length (flush_file files k) ≡ length files
+flush_length [] k = refl
+flush_length (f ∷ files) zero = refl
+flush_length (f ∷ files) (suc k) = ap suc (flush_length files k)
+
+-- The flush of a file that may be found makes no file and loses none.
+flush_found_length : (files : List File) (found : Option ℕ) → length (flush_found files found) ≡ length files
+flush_found_length files None = refl
+flush_found_length files (Some k) = flush_length files k
+
+-- A whole disk is whole after a flush of a file.
+pub flush_whole : (path : List ℕ) (d : Disk) → IsWhole d → IsWhole (after_flush path d)
+flush_whole path d whole = record {
+  made = λ names stands. subst (λ (n : ℕ). AreMade n names) (sym (flush_found_length d.files (found_at path d.names)))
+      (whole.made names stands);
+  now = whole.now;
+}
+
+-- A whole disk is whole after a flush of names.
+pub flush_names_whole : (d : Disk) → IsWhole d → IsWhole (after_flush_names d)
+flush_names_whole d whole = record {
+  made = λ names stands. ⊎_elim
+      (λ is. subst (λ (n : List Name). AreMade (length d.files) n) (sym is) (whole.made d.names whole.now))
+      (λ none. absurd none) stands;
+  now = inl refl;
+}
+
+-- A crash of a whole disk leaves a whole disk.
+pub crash_whole : (d after : Disk) → Crash d after → IsWhole d → IsWhole after
+crash_whole d after crash whole = record {
+  made = λ names stands. ⊎_elim
+      (λ is. subst (λ (n : List Name). AreMade (length after.files) n) (sym is)
+      (subst (λ (n : ℕ). AreMade n after.names) (sym (left_length d.files after.files crash.files))
+      (whole.made after.names crash.names)))
+      (λ none. absurd none) (subst (λ (l : List (List Name)). In l names) crash.only stands);
+  now = subst (λ (l : List (List Name)). In l after.names) (sym crash.only) (inl refl);
+}
+
+-- The empty disk is whole.
+pub empty_whole : IsWhole empty_disk
+empty_whole = record {
+  made = λ names stands. ⊎_elim (λ is. subst (λ (n : List Name). AreMade 0 n) (sym is) tt) (λ none. absurd none) stands;
+  now = inl refl;
+}

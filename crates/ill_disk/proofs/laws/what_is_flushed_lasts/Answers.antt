@@ -1,0 +1,5 @@
+use Rattle.ill_disk.proofs.Crashes.{flushes_last}
+use Rattle.ill_disk.proofs.laws.what_is_flushed_lasts.Goals as goal
+
+pub returns-clause-bytes : goal.returns-clause-bytes
+returns-clause-bytes c path d found left = flushes_last path d found left

@@ -1,4 +1,7 @@
-//! The model of a disk that may lose its power, and the laws of what it leaves.
+//! The model of a disk that may lose its power, the laws of what it leaves, and the trait of its calls.
 #![tactic(auto)]
 
+mod disk;
 pub mod laws;
+
+pub use disk::{Disk, DiskFault};

@@ -1,9 +1,11 @@
 -- The definitions of `Disk` exclude each case of `BadDisk`.
-use Rattle.std.proofs.Common.{◌≡◌, ⊎_elim, refl, sym, ◌∙◌, ap, subst, ℕ, zero, suc, true, List, [], ◌∷◌, map, slice_get, Option, Some, None}
+use Rattle.std.proofs.Common.{◌≡◌, ⊎_elim, refl, sym, ◌∙◌, ap, subst, ℕ, zero, suc, true, List, [], ◌∷◌, map, slice_get, Option}
+use Rattle.std.proofs.Common.{Some, None}
 use Rattle.std.proofs.lemmas.Bool.{true≢false}
 use Rattle.std.proofs.lemmas.Option.{none-some}
 use Rattle.ill_disk.specs.Disk.{In, File, Name, Disk, AreLeft, Crash, moved, after_change}
-use Rattle.ill_disk.specs.BadDisk.{IsBadCrash, IsHalfRenamed, LosesNames, other_names, other_bytes, more_names, not_flushed, other_count, still_there, not_there, other_file, without_change, with_change}
+use Rattle.ill_disk.specs.BadDisk.{IsBadCrash, IsHalfRenamed, LosesNames, other_names, other_bytes, more_names, not_flushed}
+use Rattle.ill_disk.specs.BadDisk.{other_count, still_there, not_there, other_file, without_change, with_change}
 use Rattle.ill_disk.proofs.Names.{found_moved, gone_moved}
 use Rattle.ill_disk.proofs.Crashes.{in_first, in_second, in_mapped, left_length}
 

@@ -1,5 +1,6 @@
 pub mod BadDisk
 pub mod Crashes
+pub mod Memory
 pub mod Names
 pub mod Saves
 pub mod Wholes

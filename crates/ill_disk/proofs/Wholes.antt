@@ -1,7 +1,10 @@
 -- Each call keeps a whole disk whole, and each crash does.
-use Rattle.std.proofs.Common.{◌≡◌, inl, ⊎_elim, refl, sym, ap, subst, arith, ℕ, zero, suc, ◌+◌, ◌<◌, ◌≤◌, Bool, true, false, if◌then◌else◌, List, [], ◌∷◌, ◌++◌, length, map, Option, Some, None, length-append}
+use Rattle.std.proofs.Common.{◌≡◌, inl, ⊎_elim, refl, sym, ap, subst, arith, ℕ, zero, suc, ◌+◌, ◌<◌, ◌≤◌, Bool, true, false}
+use Rattle.std.proofs.Common.{if◌then◌else◌, List, [], ◌∷◌, ◌++◌, length, map, Option, Some, None, length-append}
 use Rattle.std.specs.Str.{bytes_eq}
-use Rattle.ill_disk.specs.Disk.{In, File, Name, Disk, Crash, AreMade, IsWhole, flush_file, flush_found, found_at, without, with_name, moved, after_change, after_create, after_remove, after_rename, after_flush, after_flush_names, empty_disk}
+use Rattle.ill_disk.specs.Disk.{In, File, Name, Disk, Crash, AreMade, IsWhole, flush_file, flush_found, found_at, without}
+use Rattle.ill_disk.specs.Disk.{with_name, moved, after_change, after_create, after_remove, after_rename, after_flush}
+use Rattle.ill_disk.specs.Disk.{after_flush_names, empty_disk}
 use Rattle.ill_disk.proofs.Names.{IsBelow, below_found}
 use Rattle.ill_disk.proofs.Crashes.{in_append, in_second, in_map, in_mapped, left_length}
 

@@ -1,2 +1,3 @@
 pub mod BadDisk
 pub mod Disk
+pub mod MemoryDisk

@@ -3,5 +3,7 @@
 
 mod disk;
 pub mod laws;
+mod memory_disk;
 
 pub use disk::{Disk, DiskFault};
+pub use memory_disk::MemoryDisk;

@@ -1,0 +1,51 @@
+-- What a disk in memory does to its files.
+use Rattle.std.proofs.Common.{◌≡◌, inl, inr, refl, sym, ap, subst, arith, ℕ, zero, suc, ◌<◌, ◌≤◌, Bool, true, false, List, [], ◌∷◌, length, map, get_or, slice_set, slice_get, Option, Some, None}
+use Rattle.std.proofs.lemmas.Bool.{true≢false}
+use Rattle.std.proofs.lemmas.Option.{none-some}
+use Rattle.ill_disk.specs.Disk.{In, File, Disk, IsLeft, AreLeft, Crash, flush_file}
+use Rattle.ill_disk.specs.MemoryDisk.{crashed}
+
+-- A file that is flushed in its place is the flush of this file.
+pub flush_sets : (files : List File) (k : ℕ) (other new : File) → k < length files →
+    new ≡ record { bytes = (get_or files k other).bytes; is_flushed = true } → slice_set files k new ≡ flush_file files k
+flush_sets [] k other new lt is = absurd (omega (arith, lt))
+flush_sets (f ∷ files) zero other new lt is = ap (λ (x : File). x ∷ files) is
+flush_sets (f ∷ files) (suc k) other new lt is =
+    ap (λ (l : List File). f ∷ l) (flush_sets files k other new (omega (arith, lt)) is)
+
+-- The flush of a file that was never made changes nothing.
+pub flush_past : (files : List File) (k : ℕ) → length files ≤ k → files ≡ flush_file files k
+flush_past [] k le = refl
+flush_past (f ∷ files) zero le = absurd (omega (arith, le))
+flush_past (f ∷ files) (suc k) le = ap (λ (l : List File). f ∷ l) (flush_past files k (omega (arith, le)))
+
+-- Returns the value that was found, or `other` if there is none.
+abbrev value_or : {A : Type 0} → A → Option A → A
+value_or other None = other
+value_or other (Some value) = value
+
+-- An element at a place of a list stands in it.
+pub got_in : {X : Type 0} (xs : List X) (k : ℕ) (x : X) → slice_get xs k ≡ Some x → In xs x
+got_in [] k x is = absurd (none-some x is)
+got_in (y ∷ xs) zero x is = inl (sym (ap (value_or y) is))
+got_in (y ∷ xs) (suc k) x is = inr (got_in xs k x is)
+
+-- A file of a flag and bytes is left by a crash as it is said.
+left_if : (b : Bool) (bytes : List ℕ) → IsLeft (record { bytes = bytes; is_flushed = b })
+    (crashed (record { bytes = bytes; is_flushed = b }))
+left_if true bytes = record { bytes = λ was. refl; flushed = refl }
+left_if false bytes = record { bytes = λ was. absurd (true≢false (sym was)); flushed = refl }
+
+-- The files of a disk in memory are left by a crash as it is said.
+pub crashed_left : (files : List File) → AreLeft files (map crashed files)
+crashed_left [] = tt
+crashed_left (f ∷ files) = (left_if f.is_flushed f.bytes, crashed_left files)
+
+-- The disk that is given back is one that a crash may leave.
+pub memory_crash : (d after : Disk) (which : ℕ) → slice_get d.may_stand which ≡ Some after.names →
+    after.may_stand ≡ after.names ∷ [] → after.files ≡ map crashed d.files → Crash d after
+memory_crash d after which stands only files = record {
+  names = got_in d.may_stand which after.names stands;
+  only = only;
+  files = subst (AreLeft d.files) (sym files) (crashed_left d.files);
+}

@@ -1,0 +1,20 @@
+-- The state of a disk in memory.
+use Rattle.std.specs.Prelude.{true, if◌then◌else◌, List, [], map, Vec}
+use Rattle.std.specs.declared.alloc.Global.{Global}
+use Rattle.ill_disk.specs.Disk.{File, Name, with_name, without}
+use Rattle.ill_disk.specs.declared.memory_disk.Change.{Change}
+use Rattle.ill_disk.specs.declared.memory_disk.Change.TheVariants.{Make, Remove, Rename}
+
+-- Returns the lists of names that are kept.
+abbrev pub lists_of : List (Vec Name Global) → List (List Name)
+lists_of lists = map (λ names. names.items) lists
+
+-- Returns the names after a change.
+abbrev pub names_after : Change → List Name → List Name
+names_after (Make path file) names = with_name path.now file names
+names_after (Remove path) names = without path.now names
+names_after (Rename from to file) names = with_name to.now file (without from.now names)
+
+-- Returns a file as a crash leaves it: its bytes if it was flushed, and else none.
+abbrev pub crashed : File → File
+crashed f = record { bytes = if f.is_flushed then f.bytes else []; is_flushed = true }

@@ -1,0 +1,443 @@
+//! A disk in memory, which keeps what a crash may leave.
+
+ghost use Rattle.std.specs.Prelude.{◌≡◌, ◌≤◌, ◌++◌, [], ◌∷◌, map, length, IfOk, IfSome, OnOk, OnErr, true, false, slice_get, Option, Some, None, option_map, bytes_eq};
+ghost use Rattle.ill_disk.specs.Disk as disks;
+ghost use Rattle.ill_disk.specs.Disk.{Crash, found_at, without, with_name, bytes_of, after_change, flush_found, empty_disk};
+ghost use Rattle.ill_disk.specs.MemoryDisk.{lists_of, names_after, crashed};
+
+use crate::disk::{Disk, DiskFault};
+use std::alloc::Global;
+use std::marker::Model;
+
+/// A file in memory.
+#[derive(Drop)]
+struct MemoryFile {
+    bytes: Vec<u8>,
+    is_flushed: bool,
+}
+
+impl Model for MemoryFile {
+    ghost Value = { disks.File };
+
+    ghost view = { λ f. record { bytes = f.bytes.items; is_flushed = f.is_flushed } };
+}
+
+/// A name in memory.
+#[derive(Drop)]
+struct MemoryName {
+    path: Vec<u8>,
+    file: usize,
+}
+
+impl Model for MemoryName {
+    ghost Value = { disks.Name };
+
+    ghost view = { λ n. record { path = n.path.items; file = n.file } };
+}
+
+/// A change of names.
+#[derive(Clone, Copy)]
+enum Change<'a> {
+    /// A file is made at a path.
+    Make(&'a [u8], usize),
+    /// A path is removed.
+    Remove(&'a [u8]),
+    /// A path is renamed to another, which then gives this file.
+    Rename(&'a [u8], &'a [u8], usize),
+}
+
+/// A disk in memory, for tests. It keeps each list of names that a crash may leave.
+#[derive(Drop)]
+pub struct MemoryDisk {
+    alloc: Global,
+    files: Vec<MemoryFile>,
+    names: Vec<MemoryName>,
+    may_stand: Vec<Vec<MemoryName>>,
+}
+
+impl Model for MemoryDisk {
+    ghost Value = { disks.Disk };
+
+    ghost view = { λ d. record { files = d.files.items; names = d.names.items; may_stand = lists_of d.may_stand.items } };
+}
+
+impl MemoryFile {
+    /// Returns a file of these bytes that is not flushed.
+    fn new(alloc: Global, bytes: &[u8]) -> Result<MemoryFile, DiskFault>
+        ensures { IfOk result (λ file. file ≡ record { bytes = bytes.now; is_flushed = false }) }
+    {
+        Ok(MemoryFile {
+            bytes: Vec::from_slice(alloc, bytes)?,
+            is_flushed: false,
+        })
+    }
+
+    /// Returns the bytes. More than `limit` are a failure.
+    fn read(&self, alloc: Global, limit: usize) -> Result<Vec<u8>, DiskFault>
+        ensures bytes { IfOk result (λ bytes. bytes.items ≡ self.now.bytes) }
+        ensures within { IfOk result (λ bytes. length bytes.items ≤ limit) }
+    {
+        if self.bytes.len() > limit {
+            return Err(DiskFault::Failed);
+        }
+        Ok(Vec::from_slice(alloc, &self.bytes)?)
+    }
+
+    /// Flushes the file.
+    fn flush(&mut self)
+        ensures { self.new ≡ record self.old { is_flushed = true } }
+    {
+        self.is_flushed = true;
+    }
+}
+
+impl MemoryName {
+    /// Returns a name of this file at this path.
+    fn new(alloc: Global, path: &[u8], file: usize) -> Result<MemoryName, DiskFault>
+        ensures { IfOk result (λ name. name ≡ record { path = path.now; file = file }) }
+    {
+        Ok(MemoryName {
+            path: Vec::from_slice(alloc, path)?,
+            file,
+        })
+    }
+
+    /// Returns a copy of the name.
+    fn copy(&self, alloc: Global) -> Result<MemoryName, DiskFault>
+        ensures { IfOk result (λ name. name ≡ self.now) }
+    {
+        MemoryName::new(alloc, &self.path, self.file)
+    }
+
+    /// Returns the file, if the name is at this path.
+    fn is_at(&self, path: &[u8]) -> bool
+        ensures { result ≡ bytes_eq path.now self.now.path }
+    {
+        path == self.path.as_slice()
+    }
+
+    /// Returns the file.
+    fn file(&self) -> usize
+        ensures { result ≡ self.now.file }
+    {
+        self.file
+    }
+}
+
+/// Returns the file that stands at a path.
+fn find(names: &[MemoryName], path: &[u8]) -> Option<usize>
+    ensures { result ≡ found_at path.now names.now }
+{
+    for name in names {
+        if name.is_at(path) {
+            return Some(name.file());
+        }
+    }
+    None
+}
+
+/// Adds copies of the names to others.
+fn add_names(
+    alloc: Global,
+    all: &mut Vec<MemoryName>,
+    names: &[MemoryName],
+) -> Result<(), DiskFault>
+    ensures { IfOk result (λ _. all.new.items ≡ all.old.items ++ names.now) }
+{
+    for name in names {
+        all.push(name.copy(alloc)?)?;
+    }
+    Ok(())
+}
+
+/// Adds copies of the names without the one of a path to others.
+fn add_without(
+    alloc: Global,
+    all: &mut Vec<MemoryName>,
+    path: &[u8],
+    names: &[MemoryName],
+) -> Result<(), DiskFault>
+    ensures { IfOk result (λ _. all.new.items ≡ all.old.items ++ without path.now names.now) }
+{
+    for name in names {
+        if !name.is_at(path) {
+            all.push(name.copy(alloc)?)?;
+        }
+    }
+    Ok(())
+}
+
+/// Returns copies of the names with a file put at a path.
+fn put(
+    alloc: Global,
+    names: &[MemoryName],
+    path: &[u8],
+    file: usize,
+) -> Result<Vec<MemoryName>, DiskFault>
+    ensures { IfOk result (λ put. put.items ≡ with_name path.now file names.now) }
+{
+    let mut put = Vec::new(alloc);
+    put.push(MemoryName::new(alloc, path, file)?)?;
+    add_without(alloc, &mut put, path, names)?;
+    Ok(put)
+}
+
+/// Returns copies of the names without the one of a path.
+fn take_out(alloc: Global, names: &[MemoryName], path: &[u8]) -> Result<Vec<MemoryName>, DiskFault>
+    ensures { IfOk result (λ rest. rest.items ≡ without path.now names.now) }
+{
+    let mut rest = Vec::new(alloc);
+    add_without(alloc, &mut rest, path, names)?;
+    Ok(rest)
+}
+
+/// Returns copies of the names after a change.
+fn change_names(
+    alloc: Global,
+    names: &[MemoryName],
+    change: Change<'_>,
+) -> Result<Vec<MemoryName>, DiskFault>
+    ensures { IfOk result (λ changed. changed.items ≡ names_after change.entry names.now) }
+{
+    match change {
+        Change::Make(path, file) => put(alloc, names, path, file),
+        Change::Remove(path) => take_out(alloc, names, path),
+        Change::Rename(from, to, file) => {
+            let rest = take_out(alloc, names, from)?;
+            put(alloc, &rest, to, file)
+        }
+    }
+}
+
+/// Adds copies of the lists to others.
+fn add_lists(
+    alloc: Global,
+    all: &mut Vec<Vec<MemoryName>>,
+    lists: &[Vec<MemoryName>],
+) -> Result<(), DiskFault>
+    ensures { IfOk result (λ _. lists_of all.new.items ≡ lists_of all.old.items ++ lists_of lists.now) }
+{
+    for names in lists {
+        let mut copy = Vec::new(alloc);
+        add_names(alloc, &mut copy, names)?;
+        all.push(copy)?;
+    }
+    Ok(())
+}
+
+/// Adds copies of the lists after a change to others.
+fn add_changed(
+    alloc: Global,
+    all: &mut Vec<Vec<MemoryName>>,
+    lists: &[Vec<MemoryName>],
+    change: Change<'_>,
+) -> Result<(), DiskFault>
+    ensures { IfOk result (λ _. lists_of all.new.items ≡
+        lists_of all.old.items ++ map (names_after change.entry) (lists_of lists.now)) }
+{
+    for names in lists {
+        all.push(change_names(alloc, names, change)?)?;
+    }
+    Ok(())
+}
+
+/// Returns the lists that may stand after a change: each as it is, and each with the change.
+fn both(
+    alloc: Global,
+    lists: &[Vec<MemoryName>],
+    change: Change<'_>,
+) -> Result<Vec<Vec<MemoryName>>, DiskFault>
+    ensures { IfOk result (λ all. lists_of all.items ≡
+        lists_of lists.now ++ map (names_after change.entry) (lists_of lists.now)) }
+{
+    let mut all = Vec::new(alloc);
+    add_lists(alloc, &mut all, lists)?;
+    add_changed(alloc, &mut all, lists, change)?;
+    Ok(all)
+}
+
+/// Returns a copy of the list at a place. Fails if there is none.
+fn copy_list(
+    alloc: Global,
+    lists: &[Vec<MemoryName>],
+    which: usize,
+) -> Result<Vec<MemoryName>, DiskFault>
+    ensures { IfOk result (λ names. slice_get (lists_of lists.now) which ≡ Some names.items) }
+{
+    let Some(list) = lists.get(which) else {
+        return Err(DiskFault::Failed);
+    };
+    let mut names = Vec::new(alloc);
+    add_names(alloc, &mut names, list)?;
+    Ok(names)
+}
+
+/// Returns a copy of the names as the one list that may stand.
+fn one_list(alloc: Global, names: &[MemoryName]) -> Result<Vec<Vec<MemoryName>>, DiskFault>
+    ensures { IfOk result (λ lists. lists_of lists.items ≡ names.now ∷ []) }
+{
+    let mut copy = Vec::new(alloc);
+    add_names(alloc, &mut copy, names)?;
+    let mut lists = Vec::new(alloc);
+    lists.push(copy)?;
+    Ok(lists)
+}
+
+/// Flushes a file.
+fn flush_at(files: &mut [MemoryFile], file: usize)
+    ensures { files.new ≡ flush_found files.old (Some file) }
+{
+    if file < files.len() {
+        files[file].flush();
+    }
+}
+
+/// Returns a file as a crash leaves it.
+fn crash_file(alloc: Global, file: &MemoryFile) -> Result<MemoryFile, DiskFault>
+    ensures { IfOk result (λ after. after ≡ crashed file.now) }
+{
+    let bytes = if file.is_flushed {
+        Vec::from_slice(alloc, &file.bytes)?
+    } else {
+        Vec::new(alloc)
+    };
+    Ok(MemoryFile {
+        bytes,
+        is_flushed: true,
+    })
+}
+
+/// Returns the files as a crash leaves them.
+fn crash_files(alloc: Global, files: &[MemoryFile]) -> Result<Vec<MemoryFile>, DiskFault>
+    ensures { IfOk result (λ after. after.items ≡ map crashed files.now) }
+{
+    let mut after = Vec::new(alloc);
+    for file in files {
+        after.push(crash_file(alloc, file)?)?;
+    }
+    Ok(after)
+}
+
+/// Returns the bytes of a file, if it was made. More than `limit` bytes are a failure.
+fn read_at(
+    alloc: Global,
+    files: &[MemoryFile],
+    file: usize,
+    limit: usize,
+) -> Result<Option<Vec<u8>>, DiskFault>
+    ensures bytes { IfOk result (λ found. option_map (λ b. b.items) found ≡ bytes_of files.now (Some file)) }
+    ensures within { IfOk result (λ found. IfSome found (λ b. length b.items ≤ limit)) }
+{
+    match files.get(file) {
+        None => Ok(None),
+        Some(found) => Ok(Some(found.read(alloc, limit)?)),
+    }
+}
+
+impl MemoryDisk {
+    /// Returns a disk on which no file was ever made.
+    pub fn new(alloc: Global) -> Result<MemoryDisk, DiskFault>
+        ensures { IfOk result (λ disk. disk ≡ empty_disk) }
+    {
+        let mut may_stand = Vec::new(alloc);
+        may_stand.push(Vec::new(alloc))?;
+        Ok(MemoryDisk {
+            alloc,
+            files: Vec::new(alloc),
+            names: Vec::new(alloc),
+            may_stand,
+        })
+    }
+
+    /// Returns the number of lists of names that a crash may leave.
+    pub fn count_lists(&self) -> usize
+        ensures { result ≡ length self.now.may_stand }
+    {
+        self.may_stand.len()
+    }
+
+    /// Returns a disk that a crash may leave. It has the list of names at place `which`, and no bytes in files that are
+    /// not flushed. Fails if there is no such list.
+    pub fn after_crash(&self, alloc: Global, which: usize) -> Result<MemoryDisk, DiskFault>
+        ensures crash { IfOk result (λ after. Crash self.now after) }
+        ensures names { IfOk result (λ after. slice_get self.now.may_stand which ≡ Some after.names) }
+    {
+        let names = copy_list(alloc, &self.may_stand, which)?;
+        Ok(MemoryDisk {
+            alloc,
+            files: crash_files(alloc, &self.files)?,
+            may_stand: one_list(alloc, &names)?,
+            names,
+        })
+    }
+
+    /// Changes the names, or nothing if memory runs out.
+    fn change(&mut self, change: Change<'_>) -> Result<(), DiskFault>
+        ensures done { OnOk result (self.new ≡ after_change (names_after change.entry) self.old) }
+        ensures failed { OnErr result (self.new ≡ self.old) }
+    {
+        let names = change_names(self.alloc, &self.names, change)?;
+        self.may_stand = both(self.alloc, &self.may_stand, change)?;
+        self.names = names;
+        Ok(())
+    }
+}
+
+/// No call changes anything if it fails. All memory is taken before the first change.
+impl Disk for MemoryDisk {
+    ghost state = { λ disk. disk };
+
+    fn read(
+        &mut self,
+        alloc: Global,
+        path: &[u8],
+        limit: usize,
+    ) -> Result<Option<Vec<u8>>, DiskFault> {
+        match find(&self.names, path) {
+            None => Ok(None),
+            Some(file) => read_at(alloc, &self.files, file, limit),
+        }
+    }
+
+    fn create_new(&mut self, path: &[u8], bytes: &[u8]) -> Result<(), DiskFault> {
+        if find(&self.names, path).is_some() {
+            return Err(DiskFault::Failed);
+        }
+        let change = Change::Make(path, self.files.len());
+        let names = change_names(self.alloc, &self.names, change)?;
+        let may_stand = both(self.alloc, &self.may_stand, change)?;
+        self.files.push(MemoryFile::new(self.alloc, bytes)?)?;
+        self.names = names;
+        self.may_stand = may_stand;
+        Ok(())
+    }
+
+    fn flush(&mut self, path: &[u8]) -> Result<(), DiskFault> {
+        match find(&self.names, path) {
+            None => Err(DiskFault::Failed),
+            Some(file) => {
+                flush_at(&mut self.files, file);
+                Ok(())
+            }
+        }
+    }
+
+    fn rename(&mut self, from: &[u8], to: &[u8]) -> Result<(), DiskFault> {
+        match find(&self.names, from) {
+            None => Err(DiskFault::Failed),
+            Some(file) => self.change(Change::Rename(from, to, file)),
+        }
+    }
+
+    fn remove(&mut self, path: &[u8]) -> Result<(), DiskFault> {
+        match find(&self.names, path) {
+            None => Err(DiskFault::Failed),
+            Some(_) => self.change(Change::Remove(path)),
+        }
+    }
+
+    fn flush_names(&mut self) -> Result<(), DiskFault> {
+        self.may_stand = one_list(self.alloc, &self.names)?;
+        Ok(())
+    }
+}

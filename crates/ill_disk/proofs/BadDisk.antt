@@ -1,6 +1,6 @@
 -- The definitions of `Disk` exclude each case of `BadDisk`.
-use Rattle.std.proofs.Common.{◌≡◌, ⊎_elim, refl, sym, ◌∙◌, ap, subst, ℕ, zero, suc, true, List, [], ◌∷◌, map, slice_get, Option}
-use Rattle.std.proofs.Common.{Some, None}
+use Rattle.std.proofs.Common.{◌≡◌, ⊎_elim, refl, sym, ◌∙◌, ap, subst, ℕ, zero, suc, true, List, [], ◌∷◌, map, slice_get}
+use Rattle.std.proofs.Common.{Some}
 use Rattle.std.proofs.lemmas.Bool.{true≢false}
 use Rattle.std.proofs.lemmas.Option.{none-some}
 use Rattle.ill_disk.specs.Disk.{In, File, Name, Disk, AreLeft, Crash, moved, after_change}
@@ -8,11 +8,7 @@ use Rattle.ill_disk.specs.BadDisk.{IsBadCrash, IsHalfRenamed, LosesNames, other_
 use Rattle.ill_disk.specs.BadDisk.{other_count, still_there, not_there, other_file, without_change, with_change}
 use Rattle.ill_disk.proofs.Names.{found_moved, gone_moved}
 use Rattle.ill_disk.proofs.Crashes.{in_first, in_second, in_mapped, left_length}
-
--- Returns the value that was found, or `other` if there is none.
-abbrev value_or : {A : Type 0} → A → Option A → A
-value_or other None = other
-value_or other (Some value) = value
+use Rattle.ill_disk.proofs.Memory.{value_or}
 
 -- A crash leaves the bytes of a flushed file.
 same_bytes : (files after : List File) (k : ℕ) (f g : File) → AreLeft files after → slice_get files k ≡ Some f →

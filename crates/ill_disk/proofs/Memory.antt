@@ -1,5 +1,6 @@
 -- What a disk in memory does to its files.
-use Rattle.std.proofs.Common.{◌≡◌, inl, inr, refl, sym, ap, subst, arith, ℕ, zero, suc, ◌<◌, ◌≤◌, Bool, true, false, List, [], ◌∷◌, length, map, get_or, slice_set, slice_get, Option, Some, None}
+use Rattle.std.proofs.Common.{◌≡◌, inl, inr, refl, sym, ap, subst, arith, ℕ, zero, suc, ◌<◌, ◌≤◌, Bool, true, false, List, []}
+use Rattle.std.proofs.Common.{◌∷◌, length, map, get_or, slice_set, slice_get, Option, Some, None}
 use Rattle.std.proofs.lemmas.Bool.{true≢false}
 use Rattle.std.proofs.lemmas.Option.{none-some}
 use Rattle.ill_disk.specs.Disk.{In, File, Disk, IsLeft, AreLeft, Crash, flush_file}
@@ -20,7 +21,7 @@ flush_past (f ∷ files) zero le = absurd (omega (arith, le))
 flush_past (f ∷ files) (suc k) le = ap (λ (l : List File). f ∷ l) (flush_past files k (omega (arith, le)))
 
 -- Returns the value that was found, or `other` if there is none.
-abbrev value_or : {A : Type 0} → A → Option A → A
+abbrev pub value_or : {A : Type 0} → A → Option A → A
 value_or other None = other
 value_or other (Some value) = value
 

@@ -1,13 +1,16 @@
 -- What a crash leaves at each of the five disks on the way of a save.
-use Rattle.std.proofs.Common.{◌≡◌, inl, inr, ⊎_elim, refl, sym, ◌∙◌, ap, subst, ℕ, false, List, [], ◌∷◌, ◌++◌, length, Option}
-use Rattle.std.proofs.Common.{Some, None}
+use Rattle.std.proofs.Common.{◌≡◌, inl, inr, ⊎_elim, refl, sym, ◌∙◌, ap, subst, ℕ, true, false, List, [], ◌∷◌, ◌++◌, length, map}
+use Rattle.std.proofs.Common.{slice_get, Option, Some, None}
+use Rattle.std.proofs.lemmas.Option.{none-some}
 use Rattle.ill_disk.specs.Disk.{In, File, Name, Disk, AreLeft, Crash, Leaves, AreMade, IsWhole, IsOldOr, on_the_way, after_save}
-use Rattle.ill_disk.specs.Disk.{flush_found, found_at, without, with_name, moved, bytes_of, content, after_create, after_remove}
-use Rattle.ill_disk.specs.Disk.{after_rename, after_flush, after_flush_names}
+use Rattle.ill_disk.specs.Disk.{flush_file, flush_found, found_at}
+use Rattle.ill_disk.specs.Disk.{without, with_name, moved, bytes_of, content, after_create, after_remove, after_rename}
+use Rattle.ill_disk.specs.Disk.{after_flush, after_flush_names, empty_disk}
 use Rattle.ill_disk.proofs.Names.{found_with, found_with_other, found_without, found_without_other, found_moved, gone_moved}
 use Rattle.ill_disk.proofs.Names.{made_found}
-use Rattle.ill_disk.proofs.Crashes.{left_length, left_first, left_bytes, last_bytes, first_bytes, flushed_bytes, change_left}
-use Rattle.ill_disk.proofs.Crashes.{flush_left, names_left}
+use Rattle.ill_disk.proofs.Crashes.{in_first, left_length, left_first, left_bytes, last_bytes, first_bytes, flushed_bytes}
+use Rattle.ill_disk.proofs.Crashes.{change_left, flush_left, names_left, any_bytes_left}
+use Rattle.ill_disk.proofs.Memory.{value_or}
 
 -- A new file changes no bytes that were found before.
 first_found : (files : List File) (f : File) (path : List ℕ) (names : List Name) (found : Option ℕ) →
@@ -120,6 +123,69 @@ module _ (aside path bytes : List ℕ) (d : Disk) (whole : IsWhole d) (differ : 
       ∙ ap (λ (l : List File). bytes_of l (Some (length d.files))) is_flushed
       ∙ flushed_bytes created.files (length d.files) (length d.files)
       ∙ last_bytes d.files new_file
+
+-- ---- what the flushes of a save are for
+
+-- A new file is the last of all files.
+last_get : (files : List File) (f : File) → slice_get (files ++ f ∷ []) (length files) ≡ Some f
+last_get [] f = refl
+last_get (e ∷ files) f = last_get files f
+
+-- A crash may leave a new file that is flushed after what it might have left before.
+left_new : (files : List File) (f : File) (after : List File) → AreLeft files after →
+    AreLeft (flush_file (files ++ f ∷ []) (length files)) (after ++ record { bytes = f.bytes; is_flushed = true } ∷ [])
+left_new [] f [] left = (record { bytes = λ was. refl; flushed = refl }, tt)
+left_new [] f (g ∷ after) left = absurd left
+left_new (e ∷ files) f [] left = absurd left
+left_new (e ∷ files) f (g ∷ after) left = (left.0, left_new files f after left.1)
+
+-- Without the flush of the new file a crash may leave any bytes in the record.
+pub unflushed_tears : (aside path bytes other : List ℕ) (d : Disk) →
+    Leaves (after_flush_names (after_rename aside path (after_create aside bytes d))) path (Some other)
+unflushed_tears aside path bytes other d =
+    let created : Disk = after_create aside bytes d in
+    any_bytes_left path (after_flush_names (after_rename aside path created)) (length d.files)
+    (record { bytes = bytes; is_flushed = false }) other (inl refl)
+    (found_moved aside path (length d.files) created.names (found_at aside created.names)
+    (found_with aside (length d.files) d.names))
+    (last_get d.files (record { bytes = bytes; is_flushed = false })) refl
+
+-- Without the flush of names a crash may leave each record that it might have left before the save.
+pub unflushed_names_return : (aside path bytes : List ℕ) (d : Disk) (found : Option (List ℕ)) → IsWhole d →
+    Leaves d path found → Leaves (after_rename aside path (after_flush aside (after_create aside bytes d))) path found
+unflushed_names_return aside path bytes d found whole left =
+    let new_one : File = record { bytes = bytes; is_flushed = false } in
+    let created : Disk = after_create aside bytes d in
+    let flushed : Disk = after_flush aside created in
+    let file : File = record { bytes = bytes; is_flushed = true } in
+    let before : Disk = left.0 in
+    let stands : In created.may_stand before.names =
+    in_first d.may_stand (map (with_name aside (length d.files)) d.may_stand) before.names left.1.names in (
+      record { files = before.files ++ file ∷ []; names = before.names; may_stand = before.names ∷ [] },
+      record {
+        names = in_first created.may_stand (map (moved aside path (found_at aside flushed.names)) created.may_stand)
+            before.names stands;
+        only = refl;
+        files = subst (λ (l : List File). AreLeft l (before.files ++ file ∷ []))
+            (sym (ap (flush_found created.files) (found_with aside (length d.files) d.names)))
+            (left_new d.files new_one before.files left.1.files);
+      },
+      first_found before.files file path before.names (found_at path before.names) refl
+          (subst (λ (n : ℕ). AreMade n before.names) (sym (left_length d.files before.files left.1.files))
+          (whole.made before.names left.1.names))
+          ∙ left.2,
+    )
+
+-- On the empty disk no crash leaves a record.
+pub empty_leaves_none : (path other : List ℕ) → Leaves empty_disk path (Some other) → ⊥
+empty_leaves_none path other left =
+    none-some other (sym (ap (λ (n : List Name). bytes_of left.0.files (found_at path n))
+    (⊎_elim (λ is. is) (λ none. absurd none) left.1.names)) ∙ left.2)
+
+-- On the empty disk an old record or a new one is the new one.
+pub empty_is_new : (path bytes other : List ℕ) → IsOldOr path empty_disk bytes (Some other) → other ≡ bytes
+empty_is_new path bytes other (inl old) = absurd (empty_leaves_none path other old)
+empty_is_new path bytes other (inr new) = ap (value_or other) new
 
 -- ---- what reads give after each call
 

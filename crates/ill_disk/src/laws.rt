@@ -1,7 +1,7 @@
 //! The laws of a disk that may lose its power are the contracts of functions that do nothing.
 
 ghost use Rattle.std.specs.Prelude.{◌≡◌, ◌⊎◌, ℕ, length, false, slice_get, List, Option, Some, None};
-ghost use Rattle.ill_disk.specs.Disk.{In, File, Name, Disk, Crash, Leaves, IsWhole, IsOldOr, content, found_at, moved, with_name, without, after_change, after_create, after_remove, after_rename, after_flush, after_flush_names, empty_disk, after_save, on_the_way};
+ghost use Rattle.ill_disk.specs.Disk.{In, File, Name, Disk, Crash, Leaves, IsWhole, IsOldOr, content, found_at, moved, with_name, without, after_create, after_remove, after_rename, after_flush, after_flush_names, empty_disk, after_save, on_the_way};
 ghost use Rattle.ill_disk.specs.BadDisk.{IsBadCrash, IsHalfRenamed, LosesNames};
 
 /// A new file gives its bytes, and a removed path gives nothing. After a rename the new path gives what the old one
@@ -92,4 +92,21 @@ pub fn a_save_is_old_or_new()
         content path (after_save aside path bytes d) ≡ Some bytes }
     ensures ends { (aside path bytes : List ℕ) (d : Disk) →
         In (on_the_way aside path bytes d) (after_save aside path bytes d) }
+{}
+
+/// Both flushes of a save count. Without the flush of the new file a crash may leave any bytes in the record. Without
+/// the flush of names it may leave each record that it might have left before the save.
+#[tactic(auto, using(crate::proofs::Saves::unflushed_tears))]
+pub fn each_flush_of_a_save_counts()
+    ensures bytes { (aside path bytes other : List ℕ) (d : Disk) →
+        Leaves (after_flush_names (after_rename aside path (after_create aside bytes d))) path (Some other) }
+    ensures names { (aside path bytes : List ℕ) (d : Disk) (found : Option (List ℕ)) → IsWhole d →
+        Leaves d path found →
+        Leaves (after_rename aside path (after_flush aside (after_create aside bytes d))) path found }
+{}
+
+/// What is old or new is no third record: on the empty disk it is the new one.
+#[tactic(auto, using(crate::proofs::Saves::empty_is_new))]
+pub fn no_third_record_is_old_or_new()
+    ensures { (path bytes other : List ℕ) → IsOldOr path empty_disk bytes (Some other) → other ≡ bytes }
 {}

@@ -5,4 +5,5 @@ use Rattle.ill_disk.proofs.memory_disk.add_changed.Given as goal
 
 -- The lists so far are added with the change.
 abbrev pub invariant-loop-names : goal.invariant-loop-names
-invariant-loop-names l = lists_of l.all.items ≡ lists_of l.initial.all.items ++ map (names_after l.change) (lists_of (take l.names-index l.lists))
+invariant-loop-names l = lists_of l.all.items
+    ≡ lists_of l.initial.all.items ++ map (names_after l.change) (lists_of (take l.names-index l.lists))

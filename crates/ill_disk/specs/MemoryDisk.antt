@@ -1,5 +1,5 @@
 -- The state of a disk in memory.
-use Rattle.std.specs.Prelude.{true, if◌then◌else◌, List, [], map, Vec}
+use Rattle.std.specs.Prelude.{ℕ, ◌<◌, true, if◌then◌else◌, List, [], length, map, Vec, Option, Some, None}
 use Rattle.std.specs.declared.alloc.Global.{Global}
 use Rattle.ill_disk.specs.Disk.{File, Name, with_name, without}
 use Rattle.ill_disk.specs.declared.memory_disk.Change.{Change}
@@ -18,3 +18,8 @@ names_after (Rename from to file) names = with_name to.now file (without from.no
 -- Returns a file as a crash leaves it: its bytes if it was flushed, and else none.
 abbrev pub crashed : File → File
 crashed f = record { bytes = if f.is_flushed then f.bytes else []; is_flushed = true }
+
+-- What was found has more bytes than this.
+abbrev pub IsLonger : ℕ → Option (List ℕ) → Type 0
+IsLonger limit None = ⊥
+IsLonger limit (Some bytes) = limit < length bytes

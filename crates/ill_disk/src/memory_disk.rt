@@ -1,12 +1,13 @@
 //! A disk in memory, which keeps what a crash may leave.
 
-ghost use Rattle.std.specs.Prelude.{◌≡◌, ◌≤◌, ◌++◌, [], ◌∷◌, map, length, IfOk, IfSome, OnOk, OnErr, true, false, slice_get, Option, Some, None, option_map, bytes_eq};
+ghost use Rattle.std.specs.Prelude.{◌≡◌, ◌<◌, ◌≤◌, ◌++◌, [], ◌∷◌, map, length, IfOk, IfSome, OnOk, OnErr, IsErrOf, is_some, true, false, slice_get, Option, Some, None, option_map, bytes_eq};
 ghost use Rattle.ill_disk.specs.Disk as disks;
-ghost use Rattle.ill_disk.specs.Disk.{Crash, found_at, without, with_name, bytes_of, after_change, flush_found, empty_disk};
-ghost use Rattle.ill_disk.specs.MemoryDisk.{lists_of, names_after, crashed};
+ghost use Rattle.ill_disk.specs.Disk.{Crash, found_at, without, with_name, bytes_of, content, after_change, after_flush, after_flush_names, after_remove, after_rename, flush_found, empty_disk, Changes, Creates};
+ghost use Rattle.ill_disk.specs.MemoryDisk.{IsLonger, lists_of, names_after, crashed};
+ghost use Rattle.ill_disk.specs.declared.disk.DiskFault.TheVariants.{Failed};
 
 use crate::disk::{Disk, DiskFault};
-use std::alloc::Global;
+use std::alloc::{AllocError, Global};
 use std::marker::Model;
 
 /// A file in memory.
@@ -63,7 +64,7 @@ impl Model for MemoryDisk {
 
 impl MemoryFile {
     /// Returns a file of these bytes that is not flushed.
-    fn new(alloc: Global, bytes: &[u8]) -> Result<MemoryFile, DiskFault>
+    fn new(alloc: Global, bytes: &[u8]) -> Result<MemoryFile, AllocError>
         ensures { IfOk result (λ file. file ≡ record { bytes = bytes.now; is_flushed = false }) }
     {
         Ok(MemoryFile {
@@ -76,6 +77,7 @@ impl MemoryFile {
     fn read(&self, alloc: Global, limit: usize) -> Result<Vec<u8>, DiskFault>
         ensures bytes { IfOk result (λ bytes. bytes.items ≡ self.now.bytes) }
         ensures within { IfOk result (λ bytes. length bytes.items ≤ limit) }
+        ensures cause { IsErrOf result Failed → limit < length self.now.bytes }
     {
         if self.bytes.len() > limit {
             return Err(DiskFault::Failed);
@@ -93,7 +95,7 @@ impl MemoryFile {
 
 impl MemoryName {
     /// Returns a name of this file at this path.
-    fn new(alloc: Global, path: &[u8], file: usize) -> Result<MemoryName, DiskFault>
+    fn new(alloc: Global, path: &[u8], file: usize) -> Result<MemoryName, AllocError>
         ensures { IfOk result (λ name. name ≡ record { path = path.now; file = file }) }
     {
         Ok(MemoryName {
@@ -103,7 +105,7 @@ impl MemoryName {
     }
 
     /// Returns a copy of the name.
-    fn copy(&self, alloc: Global) -> Result<MemoryName, DiskFault>
+    fn copy(&self, alloc: Global) -> Result<MemoryName, AllocError>
         ensures { IfOk result (λ name. name ≡ self.now) }
     {
         MemoryName::new(alloc, &self.path, self.file)
@@ -141,7 +143,7 @@ fn add_names(
     alloc: Global,
     all: &mut Vec<MemoryName>,
     names: &[MemoryName],
-) -> Result<(), DiskFault>
+) -> Result<(), AllocError>
     ensures { IfOk result (λ _. all.new.items ≡ all.old.items ++ names.now) }
 {
     for name in names {
@@ -156,7 +158,7 @@ fn add_without(
     all: &mut Vec<MemoryName>,
     path: &[u8],
     names: &[MemoryName],
-) -> Result<(), DiskFault>
+) -> Result<(), AllocError>
     ensures { IfOk result (λ _. all.new.items ≡ all.old.items ++ without path.now names.now) }
 {
     for name in names {
@@ -173,7 +175,7 @@ fn put(
     names: &[MemoryName],
     path: &[u8],
     file: usize,
-) -> Result<Vec<MemoryName>, DiskFault>
+) -> Result<Vec<MemoryName>, AllocError>
     ensures { IfOk result (λ put. put.items ≡ with_name path.now file names.now) }
 {
     let mut put = Vec::new(alloc);
@@ -183,7 +185,7 @@ fn put(
 }
 
 /// Returns copies of the names without the one of a path.
-fn take_out(alloc: Global, names: &[MemoryName], path: &[u8]) -> Result<Vec<MemoryName>, DiskFault>
+fn take_out(alloc: Global, names: &[MemoryName], path: &[u8]) -> Result<Vec<MemoryName>, AllocError>
     ensures { IfOk result (λ rest. rest.items ≡ without path.now names.now) }
 {
     let mut rest = Vec::new(alloc);
@@ -196,7 +198,7 @@ fn change_names(
     alloc: Global,
     names: &[MemoryName],
     change: Change<'_>,
-) -> Result<Vec<MemoryName>, DiskFault>
+) -> Result<Vec<MemoryName>, AllocError>
     ensures { IfOk result (λ changed. changed.items ≡ names_after change.entry names.now) }
 {
     match change {
@@ -214,7 +216,7 @@ fn add_lists(
     alloc: Global,
     all: &mut Vec<Vec<MemoryName>>,
     lists: &[Vec<MemoryName>],
-) -> Result<(), DiskFault>
+) -> Result<(), AllocError>
     ensures { IfOk result (λ _. lists_of all.new.items ≡ lists_of all.old.items ++ lists_of lists.now) }
 {
     for names in lists {
@@ -231,7 +233,7 @@ fn add_changed(
     all: &mut Vec<Vec<MemoryName>>,
     lists: &[Vec<MemoryName>],
     change: Change<'_>,
-) -> Result<(), DiskFault>
+) -> Result<(), AllocError>
     ensures { IfOk result (λ _. lists_of all.new.items ≡
         lists_of all.old.items ++ map (names_after change.entry) (lists_of lists.now)) }
 {
@@ -246,7 +248,7 @@ fn both(
     alloc: Global,
     lists: &[Vec<MemoryName>],
     change: Change<'_>,
-) -> Result<Vec<Vec<MemoryName>>, DiskFault>
+) -> Result<Vec<Vec<MemoryName>>, AllocError>
     ensures { IfOk result (λ all. lists_of all.items ≡
         lists_of lists.now ++ map (names_after change.entry) (lists_of lists.now)) }
 {
@@ -262,7 +264,8 @@ fn copy_list(
     lists: &[Vec<MemoryName>],
     which: usize,
 ) -> Result<Vec<MemoryName>, DiskFault>
-    ensures { IfOk result (λ names. slice_get (lists_of lists.now) which ≡ Some names.items) }
+    ensures list { IfOk result (λ names. slice_get (lists_of lists.now) which ≡ Some names.items) }
+    ensures cause { IsErrOf result Failed → length lists.now ≤ which }
 {
     let Some(list) = lists.get(which) else {
         return Err(DiskFault::Failed);
@@ -273,7 +276,7 @@ fn copy_list(
 }
 
 /// Returns a copy of the names as the one list that may stand.
-fn one_list(alloc: Global, names: &[MemoryName]) -> Result<Vec<Vec<MemoryName>>, DiskFault>
+fn one_list(alloc: Global, names: &[MemoryName]) -> Result<Vec<Vec<MemoryName>>, AllocError>
     ensures { IfOk result (λ lists. lists_of lists.items ≡ names.now ∷ []) }
 {
     let mut copy = Vec::new(alloc);
@@ -293,7 +296,7 @@ fn flush_at(files: &mut [MemoryFile], file: usize)
 }
 
 /// Returns a file as a crash leaves it.
-fn crash_file(alloc: Global, file: &MemoryFile) -> Result<MemoryFile, DiskFault>
+fn crash_file(alloc: Global, file: &MemoryFile) -> Result<MemoryFile, AllocError>
     ensures { IfOk result (λ after. after ≡ crashed file.now) }
 {
     let bytes = if file.is_flushed {
@@ -308,7 +311,7 @@ fn crash_file(alloc: Global, file: &MemoryFile) -> Result<MemoryFile, DiskFault>
 }
 
 /// Returns the files as a crash leaves them.
-fn crash_files(alloc: Global, files: &[MemoryFile]) -> Result<Vec<MemoryFile>, DiskFault>
+fn crash_files(alloc: Global, files: &[MemoryFile]) -> Result<Vec<MemoryFile>, AllocError>
     ensures { IfOk result (λ after. after.items ≡ map crashed files.now) }
 {
     let mut after = Vec::new(alloc);
@@ -327,6 +330,7 @@ fn read_at(
 ) -> Result<Option<Vec<u8>>, DiskFault>
     ensures bytes { IfOk result (λ found. option_map (λ b. b.items) found ≡ bytes_of files.now (Some file)) }
     ensures within { IfOk result (λ found. IfSome found (λ b. length b.items ≤ limit)) }
+    ensures cause { IsErrOf result Failed → IsLonger limit (bytes_of files.now (Some file)) }
 {
     match files.get(file) {
         None => Ok(None),
@@ -337,7 +341,8 @@ fn read_at(
 impl MemoryDisk {
     /// Returns a disk on which no file was ever made.
     pub fn new(alloc: Global) -> Result<MemoryDisk, DiskFault>
-        ensures { IfOk result (λ disk. disk ≡ empty_disk) }
+        ensures empty { IfOk result (λ disk. disk ≡ empty_disk) }
+        ensures cause { IsErrOf result Failed → ⊥ }
     {
         let mut may_stand = Vec::new(alloc);
         may_stand.push(Vec::new(alloc))?;
@@ -361,6 +366,7 @@ impl MemoryDisk {
     pub fn after_crash(&self, alloc: Global, which: usize) -> Result<MemoryDisk, DiskFault>
         ensures crash { IfOk result (λ after. Crash self.now after) }
         ensures names { IfOk result (λ after. slice_get self.now.may_stand which ≡ Some after.names) }
+        ensures cause { IsErrOf result Failed → length self.now.may_stand ≤ which }
     {
         let names = copy_list(alloc, &self.may_stand, which)?;
         Ok(MemoryDisk {
@@ -372,7 +378,7 @@ impl MemoryDisk {
     }
 
     /// Changes the names, or nothing if memory runs out.
-    fn change(&mut self, change: Change<'_>) -> Result<(), DiskFault>
+    fn change(&mut self, change: Change<'_>) -> Result<(), AllocError>
         ensures done { OnOk result (self.new ≡ after_change (names_after change.entry) self.old) }
         ensures failed { OnErr result (self.new ≡ self.old) }
     {
@@ -383,7 +389,8 @@ impl MemoryDisk {
     }
 }
 
-/// No call changes anything if it fails. All memory is taken before the first change.
+/// A call that fails changes nothing: all memory is taken before the first change. A call answers `Failed` only if a path
+/// stands that has to be free, if none stands where one has to be, or if a file is longer than the limit of a read.
 impl Disk for MemoryDisk {
     ghost state = { λ disk. disk };
 
@@ -392,14 +399,24 @@ impl Disk for MemoryDisk {
         alloc: Global,
         path: &[u8],
         limit: usize,
-    ) -> Result<Option<Vec<u8>>, DiskFault> {
+    ) -> Result<Option<Vec<u8>>, DiskFault>
+        ensures bytes { IfOk result (λ found. option_map (λ b. b.items) found ≡ content path.now self.old) }
+        ensures within { IfOk result (λ found. IfSome found (λ b. length b.items ≤ limit)) }
+        ensures state { self.new ≡ self.old }
+        ensures cause { IsErrOf result Failed → IsLonger limit (content path.now self.old) }
+    {
         match find(&self.names, path) {
             None => Ok(None),
             Some(file) => read_at(alloc, &self.files, file, limit),
         }
     }
 
-    fn create_new(&mut self, path: &[u8], bytes: &[u8]) -> Result<(), DiskFault> {
+    fn create_new(&mut self, path: &[u8], bytes: &[u8]) -> Result<(), DiskFault>
+        ensures free { OnOk result (found_at path.now self.old.names ≡ None) }
+        ensures state { Creates path.now bytes.now self.old result self.new }
+        ensures unchanged { OnErr result (self.new ≡ self.old) }
+        ensures cause { IsErrOf result Failed → is_some (found_at path.now self.old.names) ≡ true }
+    {
         if find(&self.names, path).is_some() {
             return Err(DiskFault::Failed);
         }
@@ -412,7 +429,12 @@ impl Disk for MemoryDisk {
         Ok(())
     }
 
-    fn flush(&mut self, path: &[u8]) -> Result<(), DiskFault> {
+    fn flush(&mut self, path: &[u8]) -> Result<(), DiskFault>
+        ensures found { OnOk result (is_some (found_at path.now self.old.names) ≡ true) }
+        ensures state { Changes (after_flush path.now) self.old result self.new }
+        ensures unchanged { OnErr result (self.new ≡ self.old) }
+        ensures cause { OnErr result (found_at path.now self.old.names ≡ None) }
+    {
         match find(&self.names, path) {
             None => Err(DiskFault::Failed),
             Some(file) => {
@@ -422,21 +444,35 @@ impl Disk for MemoryDisk {
         }
     }
 
-    fn rename(&mut self, from: &[u8], to: &[u8]) -> Result<(), DiskFault> {
+    fn rename(&mut self, from: &[u8], to: &[u8]) -> Result<(), DiskFault>
+        ensures found { OnOk result (is_some (found_at from.now self.old.names) ≡ true) }
+        ensures state { Changes (after_rename from.now to.now) self.old result self.new }
+        ensures unchanged { OnErr result (self.new ≡ self.old) }
+        ensures cause { IsErrOf result Failed → found_at from.now self.old.names ≡ None }
+    {
         match find(&self.names, from) {
             None => Err(DiskFault::Failed),
-            Some(file) => self.change(Change::Rename(from, to, file)),
+            Some(file) => Ok(self.change(Change::Rename(from, to, file))?),
         }
     }
 
-    fn remove(&mut self, path: &[u8]) -> Result<(), DiskFault> {
+    fn remove(&mut self, path: &[u8]) -> Result<(), DiskFault>
+        ensures found { OnOk result (is_some (found_at path.now self.old.names) ≡ true) }
+        ensures state { Changes (after_remove path.now) self.old result self.new }
+        ensures unchanged { OnErr result (self.new ≡ self.old) }
+        ensures cause { IsErrOf result Failed → found_at path.now self.old.names ≡ None }
+    {
         match find(&self.names, path) {
             None => Err(DiskFault::Failed),
-            Some(_) => self.change(Change::Remove(path)),
+            Some(_) => Ok(self.change(Change::Remove(path))?),
         }
     }
 
-    fn flush_names(&mut self) -> Result<(), DiskFault> {
+    fn flush_names(&mut self) -> Result<(), DiskFault>
+        ensures state { Changes after_flush_names self.old result self.new }
+        ensures unchanged { OnErr result (self.new ≡ self.old) }
+        ensures cause { IsErrOf result Failed → ⊥ }
+    {
         self.may_stand = one_list(self.alloc, &self.names)?;
         Ok(())
     }

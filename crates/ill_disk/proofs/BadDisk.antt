@@ -3,7 +3,7 @@ use Rattle.std.proofs.Common.{◌≡◌, ⊎_elim, refl, sym, ◌∙◌, ap, sub
 use Rattle.std.proofs.Common.{Some}
 use Rattle.std.proofs.lemmas.Bool.{true≢false}
 use Rattle.std.proofs.lemmas.Option.{none-some}
-use Rattle.ill_disk.specs.Disk.{In, File, Name, Disk, AreLeft, Crash, moved, after_change}
+use Rattle.ill_disk.specs.Disk.{In, File, Name, Disk, AreLeft, Crash, with_rename, after_change}
 use Rattle.ill_disk.specs.BadDisk.{IsBadCrash, IsHalfRenamed, LosesNames, other_names, other_bytes, more_names, not_flushed}
 use Rattle.ill_disk.specs.BadDisk.{other_count, still_there, not_there, other_file, without_change, with_change}
 use Rattle.ill_disk.proofs.Names.{found_moved, gone_moved}
@@ -46,7 +46,7 @@ none_bad before after crash (other_count differ) = differ (left_length before.fi
 
 -- No rename is half done.
 pub none_half : (from to : List ℕ) (file : ℕ) (names : List Name) → (from ≡ to → ⊥) →
-    IsHalfRenamed from to file (moved from to (Some file) names) → ⊥
+    IsHalfRenamed from to file (with_rename from to (Some file) names) → ⊥
 none_half from to file names differ (still_there other found) =
     none-some other (sym (gone_moved from to file names (Some file) refl differ) ∙ found)
 none_half from to file names differ (not_there gone) =

@@ -1,4 +1,4 @@
--- What a crash leaves of lists, of files and after each call.
+-- Lemmas on the files and names that a crash leaves, and on each call.
 use Rattle.std.proofs.Common.{◌≡◌, ◌⊎◌, inl, inr, ⊎_elim, refl, sym, ◌∙◌, ap, arith, ℕ, zero, suc, ◌<◌, Bool, true, false, List}
 use Rattle.std.proofs.Common.{[], ◌∷◌, ◌++◌, length, map, slice_get, Option, Some, None}
 use Rattle.std.proofs.lemmas.Bool.{true≢false}
@@ -64,7 +64,7 @@ left_first (e ∷ files) f (g ∷ after) left = let rest = left_first files f af
   left = (left.0, rest.left);
 }
 
--- What a crash leaves of a file that is flushed, it may leave without the flush.
+-- Each file that a crash leaves after a flush may be left without the flush.
 pub left_flushed : (files : List File) (k : ℕ) (after : List File) → AreLeft (flush_file files k) after → AreLeft files after
 left_flushed [] k after left = left
 left_flushed (f ∷ files) zero [] left = absurd left
@@ -118,7 +118,7 @@ change_left change d after crash =
     ⊎_elim (λ before. inl before) (λ changed. inr (in_map change d.may_stand after.names changed))
     (in_append d.may_stand (map change d.may_stand) after.names crash.names)
 
--- What a crash leaves after a flush of a file, it may leave before it.
+-- Each disk that a crash leaves after a flush of a file may be left before it.
 pub flush_left : (path : List ℕ) (d after : Disk) → Crash (after_flush path d) after → Crash d after
 flush_left path d after crash = record {
   names = crash.names;
@@ -161,12 +161,12 @@ flushes_last path d found left =
 -- ---- crashes that happen
 
 -- Returns the files that a crash leaves with all their bytes.
-abbrev pub settled : List File → List File
-settled [] = []
-settled (f ∷ files) = record { bytes = f.bytes; is_flushed = true } ∷ settled files
+abbrev pub with_all_bytes : List File → List File
+with_all_bytes [] = []
+with_all_bytes (f ∷ files) = record { bytes = f.bytes; is_flushed = true } ∷ with_all_bytes files
 
 -- A crash may leave all bytes.
-pub settled_left : (files : List File) → AreLeft files (settled files)
+pub settled_left : (files : List File) → AreLeft files (with_all_bytes files)
 settled_left [] = tt
 settled_left (f ∷ files) = (record { bytes = λ was. refl; flushed = refl }, settled_left files)
 
@@ -174,7 +174,7 @@ settled_left (f ∷ files) = (record { bytes = λ was. refl; flushed = refl }, s
 pub each_may_stand : (d : Disk) (names : List Name) → In d.may_stand names →
     (after : Disk) × Crash d after × (after.names ≡ names)
 each_may_stand d names stands = (
-  record { files = settled d.files; names = names; may_stand = names ∷ [] },
+  record { files = with_all_bytes d.files; names = names; may_stand = names ∷ [] },
   record { names = stands; only = refl; files = settled_left d.files },
   refl,
 )
@@ -195,7 +195,7 @@ pub any_left : (files : List File) (file : ℕ) (f : File) (bytes : List ℕ) �
     f.is_flushed ≡ false → LeftWith files file bytes
 any_left [] file f bytes found unflushed = absurd (none-some f found)
 any_left (e ∷ files) zero f bytes found unflushed = record {
-  after = record { bytes = bytes; is_flushed = true } ∷ settled files;
+  after = record { bytes = bytes; is_flushed = true } ∷ with_all_bytes files;
   left = (
     record {
       bytes = λ was. absurd (true≢false (sym was ∙ ap flushed_or_none found ∙ unflushed));

@@ -1,10 +1,10 @@
--- What a disk in memory does to its files.
+-- Lemmas on the files of a disk in memory.
 use Rattle.std.proofs.Common.{◌≡◌, inl, inr, refl, sym, ap, subst, arith, ℕ, zero, suc, ◌<◌, ◌≤◌, Bool, true, false, List, []}
 use Rattle.std.proofs.Common.{◌∷◌, length, map, get_or, slice_set, slice_get, Option, Some, None}
 use Rattle.std.proofs.lemmas.Bool.{true≢false}
 use Rattle.std.proofs.lemmas.Option.{none-some}
 use Rattle.ill_disk.specs.Disk.{In, File, Disk, IsLeft, AreLeft, Crash, flush_file}
-use Rattle.ill_disk.specs.MemoryDisk.{crashed}
+use Rattle.ill_disk.specs.MemoryDisk.{file_after_crash}
 
 -- A file that is flushed in its place is the flush of this file.
 pub flush_sets : (files : List File) (k : ℕ) (other new : File) → k < length files →
@@ -31,20 +31,20 @@ got_in [] k x is = absurd (none-some x is)
 got_in (y ∷ xs) zero x is = inl (sym (ap (value_or y) is))
 got_in (y ∷ xs) (suc k) x is = inr (got_in xs k x is)
 
--- A file of a flag and bytes is left by a crash as it is said.
+-- A crash may leave the file that a disk in memory gives, flushed or not.
 left_if : (b : Bool) (bytes : List ℕ) → IsLeft (record { bytes = bytes; is_flushed = b })
-    (crashed (record { bytes = bytes; is_flushed = b }))
+    (file_after_crash (record { bytes = bytes; is_flushed = b }))
 left_if true bytes = record { bytes = λ was. refl; flushed = refl }
 left_if false bytes = record { bytes = λ was. absurd (true≢false (sym was)); flushed = refl }
 
--- The files of a disk in memory are left by a crash as it is said.
-pub crashed_left : (files : List File) → AreLeft files (map crashed files)
+-- A crash may leave the files that a disk in memory gives.
+pub crashed_left : (files : List File) → AreLeft files (map file_after_crash files)
 crashed_left [] = tt
 crashed_left (f ∷ files) = (left_if f.is_flushed f.bytes, crashed_left files)
 
 -- The disk that is given back is one that a crash may leave.
 pub memory_crash : (d after : Disk) (which : ℕ) → slice_get d.may_stand which ≡ Some after.names →
-    after.may_stand ≡ after.names ∷ [] → after.files ≡ map crashed d.files → Crash d after
+    after.may_stand ≡ after.names ∷ [] → after.files ≡ map file_after_crash d.files → Crash d after
 memory_crash d after which stands only files = record {
   names = got_in d.may_stand which after.names stands;
   only = only;

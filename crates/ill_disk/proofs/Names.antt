@@ -1,9 +1,9 @@
--- What is found at a path after a change of names.
+-- Lemmas on the file that is found at a path after a change of names.
 use Rattle.std.proofs.Common.{◌≡◌, ◌⊎◌, inl, inr, ⊎_elim, refl, sym, ◌∙◌, ap, subst, ℕ, ◌<◌, Bool, true, false, if◌then◌else◌}
 use Rattle.std.proofs.Common.{List, [], ◌∷◌, Option, Some, None}
 use Rattle.std.specs.Str.{bytes_eq}
 use Rattle.std.proofs.lemmas.Slice.Eq.{bytes_eq-Decides}
-use Rattle.ill_disk.specs.Disk.{Name, found_at, without, with_name, moved, AreMade}
+use Rattle.ill_disk.specs.Disk.{Name, found_at, without, with_name, with_rename, AreMade}
 
 -- A test is true or false.
 either : (b : Bool) → (b ≡ true) ⊎ (b ≡ false)
@@ -56,15 +56,15 @@ found_with_other p q file names differ =
 
 -- A file that was renamed is found at its new path.
 pub found_moved : (from to : List ℕ) (file : ℕ) (names : List Name) (found : Option ℕ) → found ≡ Some file →
-    found_at to (moved from to found names) ≡ Some file
+    found_at to (with_rename from to found names) ≡ Some file
 found_moved from to file names found is =
-    ap (λ (o : Option ℕ). found_at to (moved from to o names)) is ∙ found_with to file (without from names)
+    ap (λ (o : Option ℕ). found_at to (with_rename from to o names)) is ∙ found_with to file (without from names)
 
 -- A file that was renamed is no longer found at its old path.
 pub gone_moved : (from to : List ℕ) (file : ℕ) (names : List Name) (found : Option ℕ) → found ≡ Some file →
-    (from ≡ to → ⊥) → found_at from (moved from to found names) ≡ None
+    (from ≡ to → ⊥) → found_at from (with_rename from to found names) ≡ None
 gone_moved from to file names found is differ =
-    ap (λ (o : Option ℕ). found_at from (moved from to o names)) is
+    ap (λ (o : Option ℕ). found_at from (with_rename from to o names)) is
     ∙ found_with_other from to file (without from names) (λ same. differ (sym same)) ∙ found_without from names
 
 -- The file, if there is one, is of the first so many.

@@ -1,10 +1,10 @@
--- What a crash leaves at each of the five disks on the way of a save.
+-- Lemmas on the record that a crash leaves at each of the five disks on the way of a save.
 use Rattle.std.proofs.Common.{◌≡◌, inl, inr, ⊎_elim, refl, sym, ◌∙◌, ap, subst, ℕ, true, false, List, [], ◌∷◌, ◌++◌, length, map}
 use Rattle.std.proofs.Common.{slice_get, Option, Some, None}
 use Rattle.std.proofs.lemmas.Option.{none-some}
 use Rattle.ill_disk.specs.Disk.{In, File, Name, Disk, AreLeft, Crash, Leaves, AreMade, IsWhole, IsOldOr, on_the_way, after_save}
 use Rattle.ill_disk.specs.Disk.{flush_file, flush_found, found_at}
-use Rattle.ill_disk.specs.Disk.{without, with_name, moved, bytes_of, content, after_create, after_remove, after_rename}
+use Rattle.ill_disk.specs.Disk.{without, with_name, with_rename, bytes_of, content, after_create, after_remove, after_rename}
 use Rattle.ill_disk.specs.Disk.{after_flush, after_flush_names, empty_disk}
 use Rattle.ill_disk.proofs.Names.{found_with, found_with_other, found_without, found_without_other, found_moved, gone_moved}
 use Rattle.ill_disk.proofs.Names.{made_found}
@@ -23,14 +23,14 @@ module _ (aside path bytes : List ℕ) (d : Disk) (whole : IsWhole d) (differ : 
   abbrev new_file : File
   new_file = record { bytes = bytes; is_flushed = false }
 
-  abbrev created : Disk
-  created = after_create aside bytes d
+  abbrev created_disk : Disk
+  created_disk = after_create aside bytes d
 
-  abbrev flushed : Disk
-  flushed = after_flush aside created
+  abbrev flushed_disk : Disk
+  flushed_disk = after_flush aside created_disk
 
-  abbrev replaced : Disk
-  replaced = after_rename aside path flushed
+  abbrev replaced_disk : Disk
+  replaced_disk = after_rename aside path flushed_disk
 
   -- If the path gives what it gave in a list that might stand, a crash might have left this content before.
   old_content : (after : Disk) (names : List Name) → In d.may_stand names →
@@ -49,7 +49,7 @@ module _ (aside path bytes : List ℕ) (d : Disk) (whole : IsWhole d) (differ : 
       )
 
   -- A crash after the new file is made leaves an old record.
-  created_left : (after : Disk) → Crash created after → Leaves d path (content path after)
+  created_left : (after : Disk) → Crash created_disk after → Leaves d path (content path after)
   created_left after crash = ⊎_elim
       (λ stands. old_content after after.names stands refl crash.files)
       (λ changed. old_content after changed.0 changed.1
@@ -57,35 +57,35 @@ module _ (aside path bytes : List ℕ) (d : Disk) (whole : IsWhole d) (differ : 
       (change_left (with_name aside (length d.files)) (record d { files = d.files ++ new_file ∷ [] }) after crash)
 
   -- The new file is found aside.
-  found_aside : found_at aside flushed.names ≡ Some (length d.files)
+  found_aside : found_at aside flushed_disk.names ≡ Some (length d.files)
   found_aside = found_with aside (length d.files) d.names
 
   -- The new file is flushed.
-  is_flushed : flushed.files ≡ flush_found created.files (Some (length d.files))
-  is_flushed = ap (flush_found created.files) (found_with aside (length d.files) d.names)
+  is_flushed : flushed_disk.files ≡ flush_found created_disk.files (Some (length d.files))
+  is_flushed = ap (flush_found created_disk.files) (found_with aside (length d.files) d.names)
 
   -- If the path gives the new file, a crash leaves the new record whole.
-  new_content : (after : Disk) → found_at path after.names ≡ Some (length d.files) → AreLeft flushed.files after.files →
+  new_content : (after : Disk) → found_at path after.names ≡ Some (length d.files) → AreLeft flushed_disk.files after.files →
       content path after ≡ Some bytes
   new_content after found left =
       ap (bytes_of after.files) found
-      ∙ left_bytes created.files (length d.files) after.files
+      ∙ left_bytes created_disk.files (length d.files) after.files
       (subst (λ (l : List File). AreLeft l after.files) is_flushed left)
       ∙ last_bytes d.files new_file
 
   -- A crash after the rename leaves an old record or the new one.
-  replaced_left : (after : Disk) → Crash replaced after → IsOldOr path d bytes (content path after)
+  replaced_left : (after : Disk) → Crash replaced_disk after → IsOldOr path d bytes (content path after)
   replaced_left after crash = ⊎_elim
-      (λ stands. inl (created_left after (flush_left aside created after
+      (λ stands. inl (created_left after (flush_left aside created_disk after
       (record { names = stands; only = crash.only; files = crash.files }))))
       (λ changed. inr (new_content after (ap (found_at path) changed.2
-      ∙ found_moved aside path (length d.files) changed.0 (found_at aside flushed.names) found_aside) crash.files))
-      (change_left (moved aside path (found_at aside flushed.names)) flushed after crash)
+      ∙ found_moved aside path (length d.files) changed.0 (found_at aside flushed_disk.names) found_aside) crash.files))
+      (change_left (with_rename aside path (found_at aside flushed_disk.names)) flushed_disk after crash)
 
   -- A crash after the save leaves the new record.
-  saved_left : (after : Disk) → Crash (after_flush_names replaced) after → content path after ≡ Some bytes
-  saved_left after crash = new_content after (ap (found_at path) (names_left replaced after crash)
-      ∙ found_moved aside path (length d.files) flushed.names (found_at aside flushed.names) found_aside) crash.files
+  saved_left : (after : Disk) → Crash (after_flush_names replaced_disk) after → content path after ≡ Some bytes
+  saved_left after crash = new_content after (ap (found_at path) (names_left replaced_disk after crash)
+      ∙ found_moved aside path (length d.files) flushed_disk.names (found_at aside flushed_disk.names) found_aside) crash.files
 
   -- The content is that of a crash that has P.
   from_content : (P : Option (List ℕ) → Type 0) (x : Disk) → ((after : Disk) → Crash x after → P (content path after)) →
@@ -97,31 +97,31 @@ module _ (aside path bytes : List ℕ) (d : Disk) (whole : IsWhole d) (differ : 
       Leaves x path found → IsOldOr path d bytes found
   save_moments x (inl is) found left = inl (subst (λ (y : Disk). Leaves y path found) is left)
   save_moments x (inr (inl is)) found left =
-      from_content (IsOldOr path d bytes) created (λ after crash. inl (created_left after crash)) found
+      from_content (IsOldOr path d bytes) created_disk (λ after crash. inl (created_left after crash)) found
       (subst (λ (y : Disk). Leaves y path found) is left)
   save_moments x (inr (inr (inl is))) found left =
-      from_content (IsOldOr path d bytes) flushed
-      (λ after crash. inl (created_left after (flush_left aside created after crash))) found
+      from_content (IsOldOr path d bytes) flushed_disk
+      (λ after crash. inl (created_left after (flush_left aside created_disk after crash))) found
       (subst (λ (y : Disk). Leaves y path found) is left)
   save_moments x (inr (inr (inr (inl is)))) found left =
-      from_content (IsOldOr path d bytes) replaced replaced_left found
+      from_content (IsOldOr path d bytes) replaced_disk replaced_left found
       (subst (λ (y : Disk). Leaves y path found) is left)
   save_moments x (inr (inr (inr (inr (inl is))))) found left =
-      from_content (IsOldOr path d bytes) (after_flush_names replaced) (λ after crash. inr (saved_left after crash)) found
+      from_content (IsOldOr path d bytes) (after_flush_names replaced_disk) (λ after crash. inr (saved_left after crash)) found
       (subst (λ (y : Disk). Leaves y path found) is left)
   save_moments x (inr (inr (inr (inr (inr none))))) found left = absurd none
 
   -- Each crash after a save leaves the new record.
   pub save_lasts : (found : Option (List ℕ)) → Leaves (after_save aside path bytes d) path found → found ≡ Some bytes
-  save_lasts found left = from_content (λ f. f ≡ Some bytes) (after_flush_names replaced) saved_left found left
+  save_lasts found left = from_content (λ f. f ≡ Some bytes) (after_flush_names replaced_disk) saved_left found left
 
   -- A read after a save gives the new record.
   pub save_is_read : content path (after_save aside path bytes d) ≡ Some bytes
   save_is_read =
-      ap (bytes_of flushed.files)
-      (found_moved aside path (length d.files) flushed.names (found_at aside flushed.names) found_aside)
+      ap (bytes_of flushed_disk.files)
+      (found_moved aside path (length d.files) flushed_disk.names (found_at aside flushed_disk.names) found_aside)
       ∙ ap (λ (l : List File). bytes_of l (Some (length d.files))) is_flushed
-      ∙ flushed_bytes created.files (length d.files) (length d.files)
+      ∙ flushed_bytes created_disk.files (length d.files) (length d.files)
       ∙ last_bytes d.files new_file
 
 -- ---- what the flushes of a save are for
@@ -163,7 +163,7 @@ unflushed_names_return aside path bytes d found whole left =
     in_first d.may_stand (map (with_name aside (length d.files)) d.may_stand) before.names left.1.names in (
       record { files = before.files ++ file ∷ []; names = before.names; may_stand = before.names ∷ [] },
       record {
-        names = in_first created.may_stand (map (moved aside path (found_at aside flushed.names)) created.may_stand)
+        names = in_first created.may_stand (map (with_rename aside path (found_at aside flushed.names)) created.may_stand)
             before.names stands;
         only = refl;
         files = subst (λ (l : List File). AreLeft l (before.files ++ file ∷ []))
@@ -229,7 +229,7 @@ pub rename_elsewhere : (from to other : List ℕ) (d : Disk) → (from ≡ other
     content other (after_rename from to d) ≡ content other d
 rename_elsewhere from to other d not_from not_to =
     ap (bytes_of d.files) (elsewhere (found_at from d.names)) where
-      elsewhere : (found : Option ℕ) → found_at other (moved from to found d.names) ≡ found_at other d.names
+      elsewhere : (found : Option ℕ) → found_at other (with_rename from to found d.names) ≡ found_at other d.names
       elsewhere None = refl
       elsewhere (Some file) = found_with_other other to file (without from d.names) not_to
           ∙ found_without_other other from d.names not_from

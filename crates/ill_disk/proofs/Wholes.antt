@@ -3,7 +3,7 @@ use Rattle.std.proofs.Common.{◌≡◌, inl, ⊎_elim, refl, sym, ap, subst, ar
 use Rattle.std.proofs.Common.{if◌then◌else◌, List, [], ◌∷◌, ◌++◌, length, map, Option, Some, None, length-append}
 use Rattle.std.specs.Str.{bytes_eq}
 use Rattle.ill_disk.specs.Disk.{In, File, Name, Disk, Crash, AreMade, IsWhole, flush_file, flush_found, found_at, without}
-use Rattle.ill_disk.specs.Disk.{with_name, moved, after_change, after_create, after_remove, after_rename, after_flush}
+use Rattle.ill_disk.specs.Disk.{with_name, with_rename, after_change, after_create, after_remove, after_rename, after_flush}
 use Rattle.ill_disk.specs.Disk.{after_flush_names, empty_disk}
 use Rattle.ill_disk.proofs.Names.{IsBelow, below_found}
 use Rattle.ill_disk.proofs.Crashes.{in_append, in_second, in_map, in_mapped, left_length}
@@ -33,7 +33,7 @@ made_with count path file names lt made = (lt, made_without count path names mad
 
 -- Names after a rename are of files that were made.
 made_moved : (count : ℕ) (from to : List ℕ) (found : Option ℕ) (names : List Name) → IsBelow count found →
-    AreMade count names → AreMade count (moved from to found names)
+    AreMade count names → AreMade count (with_rename from to found names)
 made_moved count from to None names below made = made
 made_moved count from to (Some file) names below made =
     made_with count to file (without from names) below (made_without count from names made)
@@ -70,7 +70,7 @@ remove_whole path d whole = change_whole (without path) d (made_without (length 
 
 -- A whole disk is whole after a rename.
 pub rename_whole : (from to : List ℕ) (d : Disk) → IsWhole d → IsWhole (after_rename from to d)
-rename_whole from to d whole = change_whole (moved from to (found_at from d.names)) d
+rename_whole from to d whole = change_whole (with_rename from to (found_at from d.names)) d
     (λ names made. made_moved (length d.files) from to (found_at from d.names) names
     (below_found (length d.files) from d.names (whole.made d.names whole.now)) made) whole
 

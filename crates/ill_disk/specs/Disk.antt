@@ -62,13 +62,13 @@ abbrev pub after_remove : List ℕ → Disk → Disk
 after_remove path d = after_change (without path) d
 
 -- Returns the names after the file of one path is put at another. This is one change.
-abbrev pub moved : List ℕ → List ℕ → Option ℕ → List Name → List Name
-moved from to None names = names
-moved from to (Some file) names = with_name to file (without from names)
+abbrev pub with_rename : List ℕ → List ℕ → Option ℕ → List Name → List Name
+with_rename from to None names = names
+with_rename from to (Some file) names = with_name to file (without from names)
 
 -- Returns the disk after a file is renamed, over what stood at the new path.
 abbrev pub after_rename : List ℕ → List ℕ → Disk → Disk
-after_rename from to d = after_change (moved from to (found_at from d.names)) d
+after_rename from to d = after_change (with_rename from to (found_at from d.names)) d
 
 -- Returns the files after one of them is flushed.
 abbrev pub flush_file : List File → ℕ → List File

@@ -16,8 +16,8 @@ names_after (Remove path) names = without path.now names
 names_after (Rename from to file) names = with_name to.now file (without from.now names)
 
 -- Returns a file as a crash leaves it: its bytes if it was flushed, and else none.
-abbrev pub crashed : File → File
-crashed f = record { bytes = if f.is_flushed then f.bytes else []; is_flushed = true }
+abbrev pub file_after_crash : File → File
+file_after_crash f = record { bytes = if f.is_flushed then f.bytes else []; is_flushed = true }
 
 -- What was found has more bytes than this.
 abbrev pub IsLonger : ℕ → Option (List ℕ) → Type 0

@@ -1,7 +1,7 @@
 //! The laws of a disk that may lose its power are the contracts of functions that do nothing.
 
 ghost use Rattle.std.specs.Prelude.{◌≡◌, ◌⊎◌, ℕ, length, false, slice_get, List, Option, Some, None};
-ghost use Rattle.ill_disk.specs.Disk.{In, File, Name, Disk, Crash, Leaves, IsWhole, IsOldOr, content, found_at, moved, with_name, without, after_create, after_remove, after_rename, after_flush, after_flush_names, empty_disk, after_save, on_the_way};
+ghost use Rattle.ill_disk.specs.Disk.{In, File, Name, Disk, Crash, Leaves, IsWhole, IsOldOr, content, found_at, with_rename, with_name, without, after_create, after_remove, after_rename, after_flush, after_flush_names, empty_disk, after_save, on_the_way};
 ghost use Rattle.ill_disk.specs.BadDisk.{IsBadCrash, IsHalfRenamed, LosesNames};
 
 /// A new file gives its bytes, and a removed path gives nothing. After a rename the new path gives what the old one
@@ -60,9 +60,9 @@ pub fn what_is_not_flushed_may_be_lost()
 pub fn a_rename_is_done_or_not()
     ensures either { (from to : List ℕ) (d after : Disk) → Crash (after_rename from to d) after →
         In d.may_stand after.names ⊎ ((names : List Name) × In d.may_stand names ×
-        (after.names ≡ moved from to (found_at from d.names) names)) }
+        (after.names ≡ with_rename from to (found_at from d.names) names)) }
     ensures never_half { (from to : List ℕ) (file : ℕ) (names : List Name) → (from ≡ to → ⊥) →
-        IsHalfRenamed from to file (moved from to (Some file) names) → ⊥ }
+        IsHalfRenamed from to file (with_rename from to (Some file) names) → ⊥ }
 {}
 
 /// After a change each list of names that might stand before may stand, with the change and without it.
@@ -71,16 +71,16 @@ pub fn no_change_loses_what_may_stand()
         LosesNames (with_name path (length d.files)) d (after_create path bytes d) → ⊥ }
     ensures removed { (path : List ℕ) (d : Disk) → LosesNames (without path) d (after_remove path d) → ⊥ }
     ensures renamed { (from to : List ℕ) (d : Disk) →
-        LosesNames (moved from to (found_at from d.names)) d (after_rename from to d) → ⊥ }
+        LosesNames (with_rename from to (found_at from d.names)) d (after_rename from to d) → ⊥ }
 {}
 
-/// No crash leaves other names, other bytes of a flushed file, another number of files, or a file that is not flushed.
+/// No crash leaves other names, other bytes of a flushed file, more or fewer files, or an unflushed file.
 pub fn no_crash_is_bad()
     ensures { (before after : Disk) → Crash before after → IsBadCrash before after → ⊥ }
 {}
 
-/// A crash at any moment of a save leaves what a crash before it might have left, or the new record whole. Each crash
-/// after the save leaves the new record, and a read gives it.
+/// A crash during a save leaves what one before it might have left, or the new record whole. Each crash after the save
+/// leaves the new record, and a read gives it.
 #[tactic(auto, using(crate::proofs::Saves::save_is_read))]
 pub fn a_save_is_old_or_new()
     ensures moments { (aside path bytes : List ℕ) (d moment : Disk) (found : Option (List ℕ)) → IsWhole d →
@@ -105,7 +105,7 @@ pub fn each_flush_of_a_save_counts()
         Leaves (after_rename aside path (after_flush aside (after_create aside bytes d))) path found }
 {}
 
-/// What is old or new is no third record: on the empty disk it is the new one.
+/// A record that is old or new is no third one: on the empty disk it is the new one.
 #[tactic(auto, using(crate::proofs::Saves::empty_is_new))]
 pub fn no_third_record_is_old_or_new()
     ensures { (path bytes other : List ℕ) → IsOldOr path empty_disk bytes (Some other) → other ≡ bytes }

@@ -3,7 +3,7 @@
 ghost use Rattle.std.specs.Prelude.{◌≡◌, ◌<◌, ◌≤◌, ◌++◌, [], ◌∷◌, map, length, IfOk, IfSome, OnOk, OnErr, IsErrOf, is_some, true, false, slice_get, Option, Some, None, option_map, bytes_eq};
 ghost use Rattle.ill_disk.specs.Disk as disks;
 ghost use Rattle.ill_disk.specs.Disk.{Crash, found_at, without, with_name, bytes_of, content, after_change, after_flush, after_flush_names, after_remove, after_rename, flush_found, empty_disk, Changes, Creates};
-ghost use Rattle.ill_disk.specs.MemoryDisk.{IsLonger, lists_of, names_after, crashed};
+ghost use Rattle.ill_disk.specs.MemoryDisk.{IsLonger, lists_of, names_after, file_after_crash};
 ghost use Rattle.ill_disk.specs.declared.disk.DiskFault.TheVariants.{Failed};
 
 use crate::disk::{Disk, DiskFault};
@@ -297,7 +297,7 @@ fn flush_at(files: &mut [MemoryFile], file: usize)
 
 /// Returns a file as a crash leaves it.
 fn crash_file(alloc: Global, file: &MemoryFile) -> Result<MemoryFile, AllocError>
-    ensures { IfOk result (λ after. after ≡ crashed file.now) }
+    ensures { IfOk result (λ after. after ≡ file_after_crash file.now) }
 {
     let bytes = if file.is_flushed {
         Vec::from_slice(alloc, &file.bytes)?
@@ -312,7 +312,7 @@ fn crash_file(alloc: Global, file: &MemoryFile) -> Result<MemoryFile, AllocError
 
 /// Returns the files as a crash leaves them.
 fn crash_files(alloc: Global, files: &[MemoryFile]) -> Result<Vec<MemoryFile>, AllocError>
-    ensures { IfOk result (λ after. after.items ≡ map crashed files.now) }
+    ensures { IfOk result (λ after. after.items ≡ map file_after_crash files.now) }
 {
     let mut after = Vec::new(alloc);
     for file in files {
@@ -389,8 +389,8 @@ impl MemoryDisk {
     }
 }
 
-/// A call that fails changes nothing: all memory is taken before the first change. A call answers `Failed` only if a path
-/// stands that has to be free, if none stands where one has to be, or if a file is longer than the limit of a read.
+/// A call that fails changes nothing: all memory is taken before the first change. A call answers `Failed` for these
+/// reasons alone: a path stands that has to be free, none stands where one has to be, or a file is too long to read.
 impl Disk for MemoryDisk {
     ghost state = { λ disk. disk };
 

@@ -1,5 +1,5 @@
 use Rattle.std.proofs.Common.{false, [], ◌∷◌, ◌++◌, length}
-use Rattle.ill_disk.specs.Disk.{after_create, found_at, moved, with_name, without}
+use Rattle.ill_disk.specs.Disk.{after_create, found_at, with_rename, with_name, without}
 use Rattle.ill_disk.specs.BadDisk.{LosesNames, without_change, with_change}
 use Rattle.ill_disk.proofs.BadDisk.{none_lost}
 use Rattle.ill_disk.proofs.laws.no_change_loses_what_may_stand.Goals as goal
@@ -18,4 +18,4 @@ pub returns-clause-removed : goal.returns-clause-removed
 returns-clause-removed c path d lost = none_lost (without path) d lost
 
 pub returns-clause-renamed : goal.returns-clause-renamed
-returns-clause-renamed c from to d lost = none_lost (moved from to (found_at from d.names)) d lost
+returns-clause-renamed c from to d lost = none_lost (with_rename from to (found_at from d.names)) d lost

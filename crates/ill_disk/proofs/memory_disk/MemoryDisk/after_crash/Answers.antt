@@ -1,12 +1,12 @@
 use Rattle.std.proofs.Common.{◌≡◌, [], ◌∷◌, map, rules, slice_get, Some}
-use Rattle.ill_disk.specs.MemoryDisk.{crashed, lists_of}
+use Rattle.ill_disk.specs.MemoryDisk.{file_after_crash, lists_of}
 use Rattle.ill_disk.proofs.Memory.{memory_crash}
 use Rattle.ill_disk.proofs.memory_disk.MemoryDisk.after_crash.Goals as goal
 
 pub returns-clause-crash : goal.returns-clause-crash
 returns-clause-crash c =
     let stands : slice_get c.args.self.now.may_stand c.args.which ≡ Some c.in_ok-names.names.items = search rules in
-    let files : c.in_ok-crash_files.field-0.items ≡ map crashed c.args.self.now.files = search rules in
+    let files : c.in_ok-crash_files.field-0.items ≡ map file_after_crash c.args.self.now.files = search rules in
     let only : lists_of c.in_ok-one_list.field-0.items ≡ c.in_ok-names.names.items ∷ [] = search rules in
     memory_crash c.args.self.now (record {
       files = c.in_ok-crash_files.field-0.items;

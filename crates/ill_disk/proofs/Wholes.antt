@@ -5,6 +5,9 @@ use Rattle.std.specs.Str.{bytes_eq}
 use Rattle.ill_disk.specs.Disk.{In, File, Name, Disk, Crash, AreMade, IsWhole, flush_file, flush_found, found_at, without}
 use Rattle.ill_disk.specs.Disk.{with_name, with_rename, after_change, after_create, after_remove, after_rename, after_flush}
 use Rattle.ill_disk.specs.Disk.{after_flush_names, empty_disk}
+use Rattle.ill_disk.specs.MemoryDisk.{IsMadeBy, names_after}
+use Rattle.ill_disk.specs.declared.memory_disk.Change.{Change}
+use Rattle.ill_disk.specs.declared.memory_disk.Change.TheVariants.{Make, Remove, Rename}
 use Rattle.ill_disk.proofs.Names.{IsBelow, below_found}
 use Rattle.ill_disk.proofs.Crashes.{in_append, in_second, in_map, in_mapped, left_length}
 
@@ -20,14 +23,14 @@ made_if count true first second one two = one
 made_if count false first second one two = two
 
 -- Names without one path are of files that were made.
-made_without : (count : ℕ) (path : List ℕ) (names : List Name) → AreMade count names → AreMade count (without path names)
+pub made_without : (count : ℕ) (path : List ℕ) (names : List Name) → AreMade count names → AreMade count (without path names)
 made_without count path [] made = tt
 made_without count path (name ∷ names) made =
     let rest = made_without count path names made.1 in
     made_if count (bytes_eq path name.path) (without path names) (name ∷ without path names) rest (made.0, rest)
 
 -- Names with one more file that was made are of files that were made.
-made_with : (count : ℕ) (path : List ℕ) (file : ℕ) (names : List Name) → file < count → AreMade count names →
+pub made_with : (count : ℕ) (path : List ℕ) (file : ℕ) (names : List Name) → file < count → AreMade count names →
     AreMade count (with_name path file names)
 made_with count path file names lt made = (lt, made_without count path names made)
 
@@ -39,7 +42,7 @@ made_moved count from to (Some file) names below made =
     made_with count to file (without from names) below (made_without count from names made)
 
 -- A change of names keeps a disk whole if it keeps names to files that were made.
-change_whole : (change : List Name → List Name) (d : Disk) →
+pub change_whole : (change : List Name → List Name) (d : Disk) →
     ((names : List Name) → AreMade (length d.files) names → AreMade (length d.files) (change names)) →
     IsWhole d → IsWhole (after_change change d)
 change_whole change d keeps whole = record {
@@ -119,3 +122,19 @@ empty_whole = record {
   made = λ names stands. ⊎_elim (λ is. subst (λ (n : List Name). AreMade 0 n) (sym is) tt) (λ none. absurd none) stands;
   now = inl refl;
 }
+
+-- On a whole disk a file that is found was made.
+pub found_made : (d : Disk) (path : List ℕ) (file : ℕ) → IsWhole d → found_at path d.names ≡ Some file →
+    file < length d.files
+found_made d path file whole found = subst (IsBelow (length d.files)) found
+    (below_found (length d.files) path d.names (whole.made d.names whole.now))
+
+-- A whole disk is whole after a change in memory by a file that was made.
+pub change_by_whole : (change : Change) (d : Disk) → IsMadeBy (length d.files) change → IsWhole d →
+    IsWhole (after_change (names_after change) d)
+change_by_whole (Make path file) d lt whole = change_whole (with_name path.now file) d
+    (λ names made. made_with (length d.files) path.now file names lt made) whole
+change_by_whole (Remove path) d lt whole = change_whole (without path.now) d (made_without (length d.files) path.now) whole
+change_by_whole (Rename from to file) d lt whole = change_whole (λ names. with_name to.now file (without from.now names)) d
+    (λ names made. made_with (length d.files) to.now file (without from.now names) lt
+    (made_without (length d.files) from.now names made)) whole

@@ -23,3 +23,9 @@ file_after_crash f = record { bytes = if f.is_flushed then f.bytes else []; is_f
 abbrev pub IsLonger : ℕ → Option (List ℕ) → Type 0
 IsLonger limit None = ⊥
 IsLonger limit (Some bytes) = limit < length bytes
+
+-- The file of the change is one of the first so many.
+abbrev pub IsMadeBy : ℕ → Change → Type 0
+IsMadeBy count (Make path file) = file < count
+IsMadeBy count (Remove path) = Unit {0}
+IsMadeBy count (Rename from to file) = file < count

@@ -2,8 +2,8 @@
 
 ghost use Rattle.std.specs.Prelude.{◌≡◌, ◌<◌, ◌≤◌, ◌++◌, [], ◌∷◌, map, length, IfOk, IfSome, OnOk, OnErr, IsErrOf, is_some, true, false, slice_get, Option, Some, None, option_map, bytes_eq};
 ghost use Rattle.ill_disk.specs.Disk as disks;
-ghost use Rattle.ill_disk.specs.Disk.{Crash, found_at, without, with_name, bytes_of, content, after_change, after_flush, after_flush_names, after_remove, after_rename, flush_found, empty_disk, Changes, Creates};
-ghost use Rattle.ill_disk.specs.MemoryDisk.{IsLonger, lists_of, names_after, file_after_crash};
+ghost use Rattle.ill_disk.specs.Disk.{Crash, found_at, without, with_name, bytes_of, content, after_change, after_flush, after_flush_names, after_remove, after_rename, flush_found, empty_disk, Changes, Creates, IsWhole};
+ghost use Rattle.ill_disk.specs.MemoryDisk.{IsLonger, IsMadeBy, lists_of, names_after, file_after_crash};
 ghost use Rattle.ill_disk.specs.declared.disk.DiskFault.TheVariants.{Failed};
 
 use crate::disk::{Disk, DiskFault};
@@ -60,6 +60,8 @@ impl Model for MemoryDisk {
     ghost Value = { disks.Disk };
 
     ghost view = { λ d. record { files = d.files.items; names = d.names.items; may_stand = lists_of d.may_stand.items } };
+
+    ghost invariant = { λ d. IsWhole (record { files = d.files.items; names = d.names.items; may_stand = lists_of d.may_stand.items }) };
 }
 
 impl MemoryFile {
@@ -379,6 +381,7 @@ impl MemoryDisk {
 
     /// Changes the names, or nothing if memory runs out.
     fn change(&mut self, change: Change<'_>) -> Result<(), AllocError>
+        requires { IsMadeBy (length self.old.files) change }
         ensures done { OnOk result (self.new ≡ after_change (names_after change.entry) self.old) }
         ensures failed { OnErr result (self.new ≡ self.old) }
     {
@@ -404,6 +407,7 @@ impl Disk for MemoryDisk {
         ensures within { IfOk result (λ found. IfSome found (λ b. length b.items ≤ limit)) }
         ensures state { self.new ≡ self.old }
         ensures cause { IsErrOf result Failed → IsLonger limit (content path.now self.old) }
+        ensures whole { IsWhole self.old }
     {
         match find(&self.names, path) {
             None => Ok(None),
@@ -416,6 +420,7 @@ impl Disk for MemoryDisk {
         ensures state { Creates path.now bytes.now self.old result self.new }
         ensures unchanged { OnErr result (self.new ≡ self.old) }
         ensures cause { IsErrOf result Failed → is_some (found_at path.now self.old.names) ≡ true }
+        ensures whole { IsWhole self.old }
     {
         if find(&self.names, path).is_some() {
             return Err(DiskFault::Failed);
@@ -434,6 +439,7 @@ impl Disk for MemoryDisk {
         ensures state { Changes (after_flush path.now) self.old result self.new }
         ensures unchanged { OnErr result (self.new ≡ self.old) }
         ensures cause { OnErr result (found_at path.now self.old.names ≡ None) }
+        ensures whole { IsWhole self.old }
     {
         match find(&self.names, path) {
             None => Err(DiskFault::Failed),
@@ -449,6 +455,7 @@ impl Disk for MemoryDisk {
         ensures state { Changes (after_rename from.now to.now) self.old result self.new }
         ensures unchanged { OnErr result (self.new ≡ self.old) }
         ensures cause { IsErrOf result Failed → found_at from.now self.old.names ≡ None }
+        ensures whole { IsWhole self.old }
     {
         match find(&self.names, from) {
             None => Err(DiskFault::Failed),
@@ -461,6 +468,7 @@ impl Disk for MemoryDisk {
         ensures state { Changes (after_remove path.now) self.old result self.new }
         ensures unchanged { OnErr result (self.new ≡ self.old) }
         ensures cause { IsErrOf result Failed → found_at path.now self.old.names ≡ None }
+        ensures whole { IsWhole self.old }
     {
         match find(&self.names, path) {
             None => Err(DiskFault::Failed),
@@ -472,6 +480,7 @@ impl Disk for MemoryDisk {
         ensures state { Changes after_flush_names self.old result self.new }
         ensures unchanged { OnErr result (self.new ≡ self.old) }
         ensures cause { IsErrOf result Failed → ⊥ }
+        ensures whole { IsWhole self.old }
     {
         self.may_stand = one_list(self.alloc, &self.names)?;
         Ok(())

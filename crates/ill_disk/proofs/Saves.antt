@@ -49,7 +49,7 @@ module _ (aside path bytes : List ℕ) (d : Disk) (whole : IsWhole d) (differ : 
       )
 
   -- A crash after the new file is made leaves an old record.
-  created_left : (after : Disk) → Crash created_disk after → Leaves d path (content path after)
+  pub created_left : (after : Disk) → Crash created_disk after → Leaves d path (content path after)
   created_left after crash = ⊎_elim
       (λ stands. old_content after after.names stands refl crash.files)
       (λ changed. old_content after changed.0 changed.1

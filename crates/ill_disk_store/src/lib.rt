@@ -1,0 +1,7 @@
+//! A store of one record in a file of a disk that may lose its power.
+#![tactic(auto)]
+
+mod disk_store;
+mod lasting;
+
+pub use disk_store::DiskStore;

@@ -1,6 +1,8 @@
 //! A store of one record in a file of a disk that may lose its power.
 #![tactic(auto)]
 
+#[cfg(test)]
+mod crashes;
 mod disk_store;
 mod lasting;
 

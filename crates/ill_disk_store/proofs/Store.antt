@@ -1,4 +1,4 @@
--- What a load and a save do to a disk, call by call.
+-- States how a load and a save change a disk, call by call.
 use Rattle.std.proofs.Common.{◌≡◌, inl, inr, ⊎_elim, refl, sym, ◌∙◌, ap, subst, arith, ℕ, zero, suc, ◌<◌, List, [], ◌∷◌}
 use Rattle.std.proofs.Common.{length}
 use Rattle.std.proofs.Common.{Option, Some, None, Result, Ok, Err, OnOk}
@@ -11,14 +11,14 @@ use Rattle.ill_disk.proofs.Crashes.{change_left, flush_left, flushes_last, names
 use Rattle.ill_disk.proofs.Saves.{created_left, create_elsewhere, remove_elsewhere, save_moments, save_is_read, save_lasts}
 use Rattle.ill_disk_store.specs.DiskStore.{Lasts, LeavesOld, LeavesOldOr, ReadsOldOr}
 
--- What holds of a disk with a change and without it holds after the call, done or failed.
+-- A property of a disk with a change and without it holds after the call, done or failed.
 pub either_way : {E : Type 0} (P : Disk → Type 0) (change : Disk → Disk) (old new : Disk) (result : Result (Unit {0}) E) →
     Changes change old result new → P old → P (change old) → P new
 either_way P change old new (Ok done) is without_it with_it = subst P (sym is) with_it
 either_way P change old new (Err fault) is without_it with_it =
     ⊎_elim (λ same. subst P (sym same) without_it) (λ changed. subst P (sym changed) with_it) is
 
--- What holds of a disk with a change holds after the call that is done.
+-- A property of a disk with a change holds after the call that is done.
 pub done_gives : {E : Type 0} (P : Disk → Type 0) (change : Disk → Disk) (old new : Disk) (result : Result (Unit {0}) E) →
     Changes change old result new → P (change old) → OnOk result (P new)
 done_gives P change old new (Ok done) is with_it = subst P (sym is) with_it
@@ -43,11 +43,11 @@ none_lasts path d whole none found left = go (found_at path d.names) refl where
 pub old_left : (path : List ℕ) (d : Disk) → LeavesOld path d d
 old_left path d found left = left
 
--- What a crash leaves after a flush of a file, it may leave before it.
+-- A crash before a flush of a file may leave all that a crash after it leaves.
 pub flush_leaves : (path flushed : List ℕ) (old d : Disk) → LeavesOld path old d → LeavesOld path old (after_flush flushed d)
 flush_leaves path flushed old d lefts found left = lefts found (left.0, flush_left flushed d left.0 left.1, left.2)
 
--- What a crash leaves after a flush of the names of a whole disk, it may leave before it.
+-- A crash before a flush of the names of a whole disk may leave all that a crash after it leaves.
 pub names_leave : (path : List ℕ) (old d : Disk) → IsWhole d → LeavesOld path old d → LeavesOld path old (after_flush_names d)
 names_leave path old d whole lefts found left = lefts found (
   left.0,
@@ -59,7 +59,7 @@ names_leave path old d whole lefts found left = lefts found (
   left.2,
 )
 
--- What a crash leaves at a path after another was removed, it may leave before that.
+-- A crash before another path was removed may leave all that a crash after it leaves at this path.
 pub remove_leaves : (aside path : List ℕ) (d : Disk) → (aside ≡ path → ⊥) → LeavesOld path d (after_remove aside d)
 remove_leaves aside path d differ found left = ⊎_elim
     (λ stands. (left.0, record { names = stands; only = left.1.only; files = left.1.files }, left.2))
@@ -120,13 +120,13 @@ pub lasts_at : (p q : List ℕ) (d e : Disk) (found : Option (List ℕ)) → p �
 lasts_at p q d e found path new lasts =
     subst (λ (r : List ℕ). Lasts r e found) path (subst (λ (x : Disk). Lasts p x found) new lasts)
 
--- What is left of old disks is left at an equal path of equal disks.
+-- Equal disks leave the same at equal paths.
 pub leaves_at : (p q : List ℕ) (a b d e : Disk) → p ≡ q → a ≡ b → d ≡ e → LeavesOld p a d → LeavesOld q b e
 leaves_at p q a b d e path old new lefts =
     subst (λ (r : List ℕ). LeavesOld r b e) path
     (subst (λ (x : Disk). LeavesOld p x e) old (subst (LeavesOld p a) new lefts))
 
--- What is left of old disks, or these bytes, is left at an equal path of equal disks.
+-- Equal disks leave the same at equal paths, or these bytes.
 pub leaves_or_at : (p q bytes : List ℕ) (a b d e : Disk) → p ≡ q → a ≡ b → d ≡ e → LeavesOldOr p bytes a d →
     LeavesOldOr q bytes b e
 leaves_or_at p q bytes a b d e path old new lefts =
@@ -181,7 +181,7 @@ module _ (aside path bytes : List ℕ) (first d : Disk) (whole : IsWhole d) (dif
 
 -- ---- a save that ends at a call
 
--- What stood at `aside` was removed from the disk `old`, or not, which gives the disk `cleared`. A save went on from there.
+-- A removal of `aside` from the disk `old`, done or failed, gave the disk `cleared`. A save went on from there.
 module _ {E : Type 0} (aside path bytes : List ℕ) (old cleared : Disk) (removal : Result (Unit {0}) E)
     (differ : aside ≡ path → ⊥) (clears : Changes (after_remove aside) old removal cleared) (whole : IsWhole cleared) where
   -- A read of the disk `last` gives the old record or these bytes, and so does each crash.

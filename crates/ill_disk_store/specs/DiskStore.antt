@@ -1,4 +1,4 @@
--- What a store on a disk does, and what a crash leaves of it.
+-- Defines the state of a store on a disk, and the records that a crash leaves in it.
 use Rattle.std.specs.Prelude.{◌≡◌, ◌⊎◌, ℕ, ◌++◌, true, List, codes, Option, Some, None}
 use Rattle.ill_disk.specs.Disk.{Disk, Leaves, IsOldOr, content}
 use Rattle.ill_saved.specs.Store.{StoreState}
@@ -14,7 +14,7 @@ pub record DiskStoreOf (D : Type 0) : Type 0 where
 abbrev pub aside_of : List ℕ → List ℕ
 aside_of path = path ++ codes ".new"
 
--- Returns the state of a store on a disk. What a read of its path would give has landed.
+-- Returns the state of a store on a disk. The record that a read of its path would give has landed.
 abbrev pub store_state : {D : Type 0} → (D → Disk) → DiskStoreOf D → StoreState
 store_state state store = record {
   landed = content store.path (state store.disk);

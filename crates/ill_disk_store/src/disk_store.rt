@@ -14,7 +14,7 @@ use std::marker::Model;
 
 /// A store of one record in a file of a disk. The file whose name ends with `.new` belongs to the store.
 ///
-/// What a load gives lasts, and so does what a save that is done has written: each crash leaves it.
+/// Each crash leaves the record that a load gave. It leaves the record of a save that is done, too.
 #[derive(Drop)]
 pub struct DiskStore<D: Disk> {
     disk: D,
@@ -83,8 +83,8 @@ impl<D: Disk> DiskStore<D> {
     }
 }
 
-/// It has no plan, and is as honest as the clauses of its disk are. A load flushes what it gives. A save that wants
-/// memory counts as failed, since the disk may have changed.
+/// This store has no plan. Its honesty rests on the clauses of its disk. A load flushes the record that it gives. A save
+/// that runs out of memory counts as failed, since the disk may have changed.
 impl<D: Disk> Store for DiskStore<D> {
     ghost state = { store_state D.state };
 

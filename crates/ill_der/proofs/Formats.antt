@@ -5,8 +5,8 @@ use Rattle.std.specs.Prelude.{IfSome}
 use Rattle.std.proofs.lemmas.List.{append-nil, length-append}
 use Rattle.ill_der.specs.declared.fault.DerFault.{DerFault}
 use Rattle.ill_der.specs.Contents.{Contents}
-use Rattle.ill_der.specs.Format.{◌>>=◌, element, Cursor, cursor_at, element_at, begins_with, ended, Format, value_of, required}
-use Rattle.ill_der.specs.Format.{optional, followed_by, where_yes, constructed}
+use Rattle.ill_der.specs.Format.{◌>>=◌, element, Cursor, cursor_at, element_at, begins_with, ended, Codec, Format, value_of}
+use Rattle.ill_der.specs.Format.{required, optional, followed_by, where_yes, constructed}
 use Rattle.ill_der.proofs.Chains.{bind_ok, bind_err, chosen, ok_is, no_value, IsInside, field_inside}
 use Rattle.ill_der.specs.Laws.{IsBytes}
 use Rattle.ill_der.proofs.Lengths.{overhead}
@@ -24,19 +24,22 @@ pub record IsContents {V : Type 0} (P : V → Type 0) (most : ℕ) (kind : Conte
 -- ---- fields
 
 -- `bytes` is the encoding of `v` followed by `rest`, `v` satisfies `P`, and `rest` are octets.
-abbrev pub Takes : {V : Type 0} → Format V → (V → Type 0) → List ℕ → V → List ℕ → Type 0
+abbrev pub Takes : {E V : Type 0} → Codec E V → (V → Type 0) → List ℕ → V → List ℕ → Type 0
 Takes f P bytes v rest = (bytes ≡ f.spell v ++ rest) × P v × IsBytes rest
 
 -- `f` reads `v` from its encoding at the offset `at`, and leaves the bytes `more` after it.
-abbrev pub ReadsAgain : {V : Type 0} → Format V → V → ℕ → List ℕ → Type 0
+abbrev pub ReadsAgain : {E V : Type 0} → Codec E V → V → ℕ → List ℕ → Type 0
 ReadsAgain f v at more = (after : ℕ) × (f.read (cursor_at at (f.spell v ++ more)) ≡ Ok (v, cursor_at after more))
 
 -- `f` reads only encodings of values that satisfy `P`. It reads each of them if the bytes after it satisfy `Follows`.
--- An encoding has at most `most` bytes, and each fault of reading is Tag, Length or Field.
-pub record IsFormat {V : Type 0} (P : V → Type 0) (Follows : List ℕ → Type 0) (most : ℕ) (f : Format V) : Type 0 where
+pub record IsCodec {E V : Type 0} (P : V → Type 0) (Follows : List ℕ → Type 0) (f : Codec E V) : Type 0 where
   pub takes : (left : Cursor) (v : V) (rest : Cursor) → IsBytes left.bytes → f.read left ≡ Ok (v, rest)
       → Takes f P left.bytes v rest.bytes
   pub again : (v : V) (at : ℕ) (more : List ℕ) → P v → Follows more → ReadsAgain f v at more
+
+-- `f` obeys `IsCodec`. An encoding has at most `most` bytes, and each fault of reading is Tag, Length or Field.
+pub record IsFormat {V : Type 0} (P : V → Type 0) (Follows : List ℕ → Type 0) (most : ℕ) (f : Format V) : Type 0 where
+  pub codec : IsCodec P Follows f
   pub bound : (v : V) → P v → length (f.spell v) ≤ most
   pub faults : (left : Cursor) (d : DerFault) → f.read left ≡ Err d → IsInside d
 
@@ -100,8 +103,10 @@ pub required_is : {V : Type 0} (P : V → Type 0) (most : ℕ) (kind : Contents 
     → IsContents P most kind
     → IsFormat P Any (overhead most + most) (required identifier kind)
 required_is P most kind identifier small is = record {
-  takes = required_takes P most kind identifier is;
-  again = λ v at more p any. required_again P most kind identifier small is v at more p;
+  codec = record {
+    takes = required_takes P most kind identifier is;
+    again = λ v at more p any. required_again P most kind identifier small is v at more p;
+  };
   bound = λ v p. element_bound identifier most (kind.spell v) (is.bound v p);
   faults = required_faults kind identifier;
 }
@@ -167,8 +172,7 @@ pub optional_is : {V : Type 0} (P : V → Type 0) (most : ℕ) (kind : Contents 
     → IsContents P most kind
     → IsFormat (λ o. IfSome o P) (Begins false identifier) (overhead most + most) (optional identifier kind)
 optional_is P most kind identifier small is = record {
-  takes = optional_takes P most kind identifier is;
-  again = optional_again P most kind identifier small is;
+  codec = record { takes = optional_takes P most kind identifier is; again = optional_again P most kind identifier small is };
   bound = optional_bound P most kind identifier is;
   faults = optional_faults kind identifier;
 }
@@ -180,15 +184,15 @@ abbrev pub Both : {V W : Type 0} → (V → Type 0) → (W → Type 0) → V × 
 Both P Q v = P v.0 × Q v.1
 
 -- If `followed_by f g` reads `v` from `left`, `left` is the encoding of `v` followed by `rest`, and `v` is in range.
-followed_takes : {V W : Type 0} (P : V → Type 0) (Q : W → Type 0) (F G : List ℕ → Type 0) (m n : ℕ) (f : Format V) (g : Format W)
-    → IsFormat P F m f → IsFormat Q G n g
+followed_takes : {E V W : Type 0} (P : V → Type 0) (Q : W → Type 0) (F G : List ℕ → Type 0) (f : Codec E V) (g : Codec E W)
+    → IsCodec P F f → IsCodec Q G g
     → (left : Cursor) (v : V × W) (rest : Cursor) → IsBytes left.bytes → (followed_by f g).read left ≡ Ok (v, rest)
     → Takes (followed_by f g) (Both P Q) left.bytes v rest.bytes
-followed_takes {V} {W} P Q F G m n f g fs gs left v rest fits e =
+followed_takes {E} {V} {W} P Q F G f g fs gs left v rest fits e =
     let former = bind_ok (f.read left) (λ a. g.read a.1 >>= λ b. Ok ((a.0, b.0), b.1)) (v, rest) e in
     let latter = bind_ok (g.read former.value.1) (λ b. Ok ((former.value.0, b.0), b.1)) (v, rest) former.follows in
     let both : ((former.value.0, latter.value.0), latter.value.1) ≡ (v, rest) =
-    ok_is ((former.value.0, latter.value.0), latter.value.1) (v, rest) latter.follows in
+    ok_is {E = E} ((former.value.0, latter.value.0), latter.value.1) (v, rest) latter.follows in
     let first = fs.takes left former.value.0 former.value.1 fits former.given in
     let second = gs.takes former.value.1 latter.value.0 latter.value.1 first.2 latter.given in
     let parts : left.bytes ≡ (f.spell former.value.0 ++ g.spell latter.value.0) ++ latter.value.1.bytes =
@@ -197,15 +201,17 @@ followed_takes {V} {W} P Q F G m n f g fs gs left v rest fits e =
     subst (λ (x : (V × W) × Cursor). Takes (followed_by f g) (Both P Q) left.bytes x.0 x.1.bytes) both
     (parts, (first.1, second.1), second.2)
 
--- If `g` may follow `f` and `more` may follow `g`, `followed_by f g` reads each pair from its encoding.
-followed_again : {V W : Type 0} (P : V → Type 0) (Q : W → Type 0) (F G : List ℕ → Type 0) (m n : ℕ) (f : Format V) (g : Format W)
-    → IsFormat P F m f → IsFormat Q G n g
-    → ((w : W) (more : List ℕ) → Q w → F (g.spell w ++ more))
-    → (v : V × W) (at : ℕ) (more : List ℕ) → Both P Q v → G more → ReadsAgain (followed_by f g) v at more
-followed_again P Q F G m n f g fs gs joins v at more p follows =
-    let first = fs.again v.0 at (g.spell v.1 ++ more) p.0 (joins v.1 more p.1) in
-    let second = gs.again v.1 first.0 more p.1 follows in
-    (second.0, rw (append_assoc (f.spell v.0) (g.spell v.1) more, first.1, second.1) refl)
+-- If `f` and `g` obey `IsCodec`, and `g` may follow `f`, `followed_by f g` obeys it.
+pub followed_codec : {E V W : Type 0} (P : V → Type 0) (Q : W → Type 0) (F G : List ℕ → Type 0) (f : Codec E V) (g : Codec E W)
+    → IsCodec P F f → IsCodec Q G g
+    → ((w : W) (more : List ℕ) → Q w → F (g.spell w ++ more)) → IsCodec (Both P Q) G (followed_by f g)
+followed_codec P Q F G f g fs gs joins = record {
+  takes = followed_takes P Q F G f g fs gs;
+  again = λ v at more p follows.
+      let first = fs.again v.0 at (g.spell v.1 ++ more) p.0 (joins v.1 more p.1) in
+      let second = gs.again v.1 first.0 more p.1 follows in
+      (second.0, rw (append_assoc (f.spell v.0) (g.spell v.1) more, first.1, second.1) refl);
+}
 
 -- Each fault of `followed_by f g` is Tag, Length or Field.
 followed_faults : {V W : Type 0} (P : V → Type 0) (Q : W → Type 0) (F G : List ℕ → Type 0) (m n : ℕ) (f : Format V) (g : Format W)
@@ -225,8 +231,7 @@ pub followed_is : {V W : Type 0} (P : V → Type 0) (Q : W → Type 0) (F G : Li
     → IsFormat P F m f → IsFormat Q G n g
     → ((w : W) (more : List ℕ) → Q w → F (g.spell w ++ more)) → IsFormat (Both P Q) G (m + n) (followed_by f g)
 followed_is P Q F G m n f g fs gs joins = record {
-  takes = followed_takes P Q F G m n f g fs gs;
-  again = followed_again P Q F G m n f g fs gs joins;
+  codec = followed_codec P Q F G f g fs.codec gs.codec joins;
   bound = λ v p. omega (arith, length-append (f.spell v.0) (g.spell v.1), fs.bound v.0 p.0, gs.bound v.1 p.1);
   faults = followed_faults P Q F G m n f g fs gs;
 }
@@ -234,23 +239,23 @@ followed_is P Q F G m n f g fs gs joins = record {
 -- ---- a yes or no, with a further field after a yes
 
 -- If `where_yes` reads `o` from `left`, `left` is the encoding of `o` followed by `rest`. A value in `o` satisfies `P`.
-where_takes : {V : Type 0} (Q : Bool → Type 0) (P : V → Type 0) (F G : List ℕ → Type 0) (m n : ℕ) (yes_no : Format Bool)
-    (field : Format V)
-    → IsFormat Q F m yes_no → IsFormat P G n field
+where_takes : {E V : Type 0} (Q : Bool → Type 0) (P : V → Type 0) (F G : List ℕ → Type 0) (yes_no : Codec E Bool)
+    (field : Codec E V)
+    → IsCodec Q F yes_no → IsCodec P G field
     → (left : Cursor) (o : Option V) (rest : Cursor) → IsBytes left.bytes
     → (where_yes yes_no field).read left ≡ Ok (o, rest)
     → Takes (where_yes yes_no field) (λ o. IfSome o P) left.bytes o rest.bytes
-where_takes {V} Q P F G m n yes_no field qs fs left o rest fits e =
+where_takes {E} {V} Q P F G yes_no field qs fs left o rest fits e =
     let flag = bind_ok (yes_no.read left)
     (λ is_yes. cond is_yes.0 (field.read is_yes.1 >>= λ found. Ok (Some found.0, found.1)) (Ok (None, is_yes.1))) (o, rest)
     e in
     let first = qs.takes left flag.value.0 flag.value.1 fits flag.given in
-    elim (chosen {A = Result (Option V × Cursor) DerFault} flag.value.0
+    elim (chosen {A = Result (Option V × Cursor) E} flag.value.0
     (field.read flag.value.1 >>= λ found. Ok (Some found.0, found.1)) (Ok (None, flag.value.1)) (Ok (o, rest)) flag.follows) [
       | inl h ↦
           let found = bind_ok (field.read flag.value.1) (λ found. Ok (Some found.0, found.1)) (o, rest) h.1 in
           let both : (Some found.value.0, found.value.1) ≡ (o, rest) =
-          ok_is (Some found.value.0, found.value.1) (o, rest) found.follows in
+          ok_is {E = E} (Some found.value.0, found.value.1) (o, rest) found.follows in
           let second = fs.takes flag.value.1 found.value.0 found.value.1 first.2 found.given in
           let parts : left.bytes ≡ (yes_no.spell true ++ field.spell found.value.0) ++ found.value.1.bytes =
           first.0 ∙ ap (λ (b : Bool). yes_no.spell b ++ flag.value.1.bytes) h.0
@@ -259,7 +264,7 @@ where_takes {V} Q P F G m n yes_no field qs fs left o rest fits e =
           subst (λ (x : Option V × Cursor). Takes (where_yes yes_no field) (λ o. IfSome o P) left.bytes x.0 x.1.bytes) both
           (parts, second.1, second.2)
       | inr h ↦
-          let both : (None, flag.value.1) ≡ (o, rest) = ok_is (None, flag.value.1) (o, rest) h.1 in
+          let both : (None, flag.value.1) ≡ (o, rest) = ok_is {E = E} (None, flag.value.1) (o, rest) h.1 in
           let parts : left.bytes ≡ (yes_no.spell false ++ []) ++ flag.value.1.bytes =
           first.0 ∙ ap (λ (b : Bool). yes_no.spell b ++ flag.value.1.bytes) h.0
           ∙ ap (λ (x : List ℕ). x ++ flag.value.1.bytes) (sym (append-nil (yes_no.spell false))) in
@@ -268,18 +273,28 @@ where_takes {V} Q P F G m n yes_no field qs fs left o rest fits e =
     ]
 
 -- If yes and no are in range and `more` may follow `field`, `where_yes` reads each `o` from its encoding.
-where_again : {V : Type 0} (Q : Bool → Type 0) (P : V → Type 0) (G : List ℕ → Type 0) (m n : ℕ) (yes_no : Format Bool)
-    (field : Format V)
-    → IsFormat Q Any m yes_no → IsFormat P G n field
+where_again : {E V : Type 0} (Q : Bool → Type 0) (P : V → Type 0) (G : List ℕ → Type 0) (yes_no : Codec E Bool)
+    (field : Codec E V)
+    → IsCodec Q Any yes_no → IsCodec P G field
     → ((b : Bool) → Q b) → (o : Option V) (at : ℕ) (more : List ℕ) → IfSome o P → G more
     → ReadsAgain (where_yes yes_no field) o at more
-where_again Q P G m n yes_no field qs fs each None at more p follows =
+where_again Q P G yes_no field qs fs each None at more p follows =
     let first = qs.again false at more (each false) tt in
     (first.0, rw (append-nil (yes_no.spell false), first.1) refl)
-where_again Q P G m n yes_no field qs fs each (Some v) at more p follows =
+where_again Q P G yes_no field qs fs each (Some v) at more p follows =
     let first = qs.again true at (field.spell v ++ more) (each true) tt in
     let second = fs.again v first.0 more p follows in
     (second.0, rw (append_assoc (yes_no.spell true) (field.spell v) more, first.1, second.1) refl)
+
+-- If `yes_no` and `field` obey `IsCodec`, and yes and no are in range, `where_yes` obeys it.
+pub where_codec : {E V : Type 0} (Q : Bool → Type 0) (P : V → Type 0) (G : List ℕ → Type 0) (yes_no : Codec E Bool)
+    (field : Codec E V)
+    → IsCodec Q Any yes_no → IsCodec P G field
+    → ((b : Bool) → Q b) → IsCodec (λ o. IfSome o P) G (where_yes yes_no field)
+where_codec Q P G yes_no field qs fs each = record {
+  takes = where_takes Q P Any G yes_no field qs fs;
+  again = where_again Q P G yes_no field qs fs each;
+}
 
 -- The encoding of `o` by `where_yes` has at most `m + n` bytes.
 where_bound : {V : Type 0} (Q : Bool → Type 0) (P : V → Type 0) (F G : List ℕ → Type 0) (m n : ℕ) (yes_no : Format Bool)
@@ -316,8 +331,7 @@ pub where_is : {V : Type 0} (Q : Bool → Type 0) (P : V → Type 0) (G : List �
     → IsFormat Q Any m yes_no → IsFormat P G n field
     → ((b : Bool) → Q b) → IsFormat (λ o. IfSome o P) G (m + n) (where_yes yes_no field)
 where_is Q P G m n yes_no field qs fs each = record {
-  takes = where_takes Q P Any G m n yes_no field qs fs;
-  again = where_again Q P G m n yes_no field qs fs each;
+  codec = where_codec Q P G yes_no field qs.codec fs.codec each;
   bound = where_bound Q P Any G m n yes_no field qs fs each;
   faults = where_faults Q P Any G m n yes_no field qs fs;
 }
@@ -336,7 +350,7 @@ constructed_takes {V} P F m f identifier fs left v rest fits e =
     let over = bind_ok (ended found.value.1) (λ _. Ok (found.value.0, part.value.1)) (v, rest) found.follows in
     let both : (found.value.0, part.value.1) ≡ (v, rest) = ok_is (found.value.0, part.value.1) (v, rest) over.follows in
     let taken = element_takes identifier left part.value.0 part.value.1 fits part.given in
-    let inside = fs.takes part.value.0 found.value.0 found.value.1 taken.inside_fits found.given in
+    let inside = fs.codec.takes part.value.0 found.value.0 found.value.1 taken.inside_fits found.given in
     let whole : part.value.0.bytes ≡ f.spell found.value.0 =
     inside.0 ∙ ap (λ (x : List ℕ). f.spell found.value.0 ++ x) (ended_is found.value.1 over.value over.given)
     ∙ append-nil (f.spell found.value.0) in
@@ -351,7 +365,7 @@ constructed_again : {V : Type 0} (P : V → Type 0) (F : List ℕ → Type 0) (m
     → (v : V) (at : ℕ) (more : List ℕ) → P v → ReadsAgain (constructed identifier f) v at more
 constructed_again P F m f identifier small fs closes v at more p =
     let read = element_again identifier at (f.spell v) more (omega (arith, fs.bound v p)) in
-    let inside = fs.again v read.0 [] p closes in
+    let inside = fs.codec.again v read.0 [] p closes in
     let whole : f.read (cursor_at read.0 (f.spell v)) ≡ Ok (v, cursor_at inside.0 []) =
     ap (λ (x : List ℕ). f.read (cursor_at read.0 x)) (sym (append-nil (f.spell v))) ∙ inside.1 in
     (read.1, rw (read.2, whole) refl)
@@ -379,8 +393,10 @@ pub constructed_is : {V : Type 0} (P : V → Type 0) (F : List ℕ → Type 0) (
     → m < 65536 → IsFormat P F m f → F []
     → IsFormat P Any (overhead m + m) (constructed identifier f)
 constructed_is P F m f identifier small fs closes = record {
-  takes = constructed_takes P F m f identifier fs;
-  again = λ v at more p any. constructed_again P F m f identifier small fs closes v at more p;
+  codec = record {
+    takes = constructed_takes P F m f identifier fs;
+    again = λ v at more p any. constructed_again P F m f identifier small fs closes v at more p;
+  };
   bound = λ v p. element_bound identifier m (f.spell v) (fs.bound v p);
   faults = constructed_faults P F m f identifier fs;
 }

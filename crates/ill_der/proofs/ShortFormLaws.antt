@@ -130,7 +130,7 @@ made_takes P F n f make apdu_type fs spells ranges types left body rest fits e =
     let fields = bind_ok (f.read left) (λ found. Ok (make found.0, found.1)) (body, rest) e in
     let both : (make fields.value.0, fields.value.1) ≡ (body, rest) =
     ok_is (make fields.value.0, fields.value.1) (body, rest) fields.follows in
-    let taken = fs.takes left fields.value.0 fields.value.1 fits fields.given in
+    let taken = fs.codec.takes left fields.value.0 fields.value.1 fits fields.given in
     let parts : left.bytes ≡ spell_body (make fields.value.0) ++ fields.value.1.bytes =
     taken.0 ∙ ap (λ (x : List ℕ). x ++ fields.value.1.bytes) (sym (spells fields.value.0)) in
     subst (λ (x : Body × Cursor). TakesBody apdu_type left.bytes x.0 x.1.bytes) both
@@ -187,7 +187,7 @@ made_again : {V : Type 0} (P : V → Type 0) (F : List ℕ → Type 0) (n : ℕ)
     → IsFormat P F n f → F []
     → (v : V) (at : ℕ) → P v → (after : ℕ) × (made_of f make (cursor_at at (f.spell v)) ≡ Ok (make v, cursor_at after []))
 made_again P F n f make fs closes v at p =
-    let read = fs.again v at [] p closes in
+    let read = fs.codec.again v at [] p closes in
     let whole : f.read (cursor_at at (f.spell v)) ≡ Ok (v, cursor_at read.0 []) =
     ap (λ (x : List ℕ). f.read (cursor_at at x)) (sym (append-nil (f.spell v))) ∙ read.1 in
     (read.0, rw whole refl)
@@ -327,7 +327,7 @@ inside_takes values apdu_type left apdu fits e =
     let prefix = bind_ok (head.read left) (λ prefix. body_of apdu_type prefix.1 >>= λ body. Ok (made prefix.0 body)) apdu e in
     let body = bind_ok (body_of apdu_type prefix.value.1) (λ body. Ok (made prefix.value.0 body)) apdu prefix.follows in
     let is : made prefix.value.0 body.value ≡ apdu = ok_is (made prefix.value.0 body.value) apdu body.follows in
-    let first = (head_is values).takes left prefix.value.0 prefix.value.1 fits prefix.given in
+    let first = (head_is values).codec.takes left prefix.value.0 prefix.value.1 fits prefix.given in
     let second = whole_body_takes values apdu_type prefix.value.1 body.value first.2 body.given in
     let whole : left.bytes ≡ contents_of (made prefix.value.0 body.value) =
     first.0 ∙ ap (λ (x : List ℕ). head.spell prefix.value.0 ++ x) second.0 in
@@ -347,8 +347,8 @@ inside_again : Values → (apdu : Apdu) (at : ℕ) → IsApdu apdu
 unfolding inside_of
 inside_again values apdu at is =
     let prefix : Unit {0} × ((List ℕ × List ℕ) × ℕ) = (tt, ((apdu.txn.group, apdu.txn.transaction), apdu.number)) in
-    let first = (head_is values).again prefix at (spell_body apdu.body) (tt, ((is.txn.group, is.txn.transaction), is.number))
-    tt in
+    let first = (head_is values).codec.again prefix at (spell_body apdu.body)
+    (tt, ((is.txn.group, is.txn.transaction), is.number)) tt in
     rw (first.1, whole_body_again values apdu.body first.0 is.body) refl
 
 -- The contents of an APDU in range have at most 142 bytes more than the further fields.

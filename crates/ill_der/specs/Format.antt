@@ -91,10 +91,14 @@ ended left = if length left.bytes == 0 then Ok tt else Err (Tag left.at)
 
 -- ---- descriptions of fields
 
--- Describes fields: `spell` encodes a value, and `read` reads a value and returns the bytes after it.
-pub record Format (V : Type 0) : Type 0 where
+-- Describes fields: `spell` encodes a value. `read` reads a value and returns the bytes after it, or a fault.
+pub record Codec (E V : Type 0) : Type 0 where
   pub spell : V → List ℕ
-  pub read : Cursor → Result (V × Cursor) DerFault
+  pub read : Cursor → Result (V × Cursor) E
+
+-- Describes fields of an APDU.
+abbrev pub Format : Type 0 → Type 0
+Format V = Codec DerFault V
 
 -- Returns the value of contents, or, if they have none, the fault Field at their offset `at`.
 abbrev pub value_of : {V : Type 0} → Option V → ℕ → Result V DerFault
@@ -124,14 +128,14 @@ optional identifier kind = record {
 }
 
 -- Describes the fields of `first`, and after them those of `second`.
-abbrev pub followed_by : {V W : Type 0} → Format V → Format W → Format (V × W)
+abbrev pub followed_by : {E V W : Type 0} → Codec E V → Codec E W → Codec E (V × W)
 followed_by first second = record {
   spell = λ value. first.spell value.0 ++ second.spell value.1;
   read = λ left. first.read left >>= λ a. second.read a.1 >>= λ b. Ok ((a.0, b.0), b.1);
 }
 
 -- Describes a yes or no, followed by a further field if it is yes.
-abbrev pub where_yes : {V : Type 0} → Format Bool → Format V → Format (Option V)
+abbrev pub where_yes : {E V : Type 0} → Codec E Bool → Codec E V → Codec E (Option V)
 where_yes yes_no field = record {
   spell = λ o. yes_no.spell (is_some o) ++ spell_some field.spell o;
   read = λ left. yes_no.read left >>= λ is_yes. if is_yes.0
@@ -154,7 +158,6 @@ constructed identifier inside = record {
 -- ---- the results of the code
 
 -- A reader of the code gives the fault of `read`, or its value through `view` and the cursor `left` after it.
-abbrev pub Reads : {X V : Type 0} → (X → V) → Result X DerFault → Cursor → Result (V × Cursor) DerFault →
-    Type 0
+abbrev pub Reads : {E X V : Type 0} → (X → V) → Result X E → Cursor → Result (V × Cursor) E → Type 0
 Reads view (Ok value) left read = read ≡ Ok (view value, left)
 Reads view (Err fault) left read = read ≡ Err fault

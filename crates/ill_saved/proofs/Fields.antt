@@ -15,7 +15,7 @@ use Rattle.ill_values.specs.Text.{IsQualifier, qualifier_check}
 use Rattle.ill_der.specs.declared.fault.DerFault.{DerFault}
 use Rattle.ill_der.specs.declared.fault.DerFault.TheVariants as der
 use Rattle.ill_der.specs.Contents.{Contents, qualifier}
-use Rattle.ill_der.specs.Format.{◌>>=◌, Cursor, cursor_at}
+use Rattle.ill_der.specs.Format.{◌>>=◌, Cursor, cursor_at, followed_by}
 use Rattle.ill_der.specs.ShortForm.{spelling, apdu_at}
 use Rattle.ill_der.specs.Laws.{IsBytes, BeginsWithOne}
 use Rattle.ill_core.specs.declared.state.State.{State}
@@ -24,13 +24,14 @@ use Rattle.ill_saved.specs.declared.fault.LayoutFault.{LayoutFault}
 use Rattle.ill_saved.specs.declared.fault.LayoutFault.TheVariants.{Short, Bad}
 use Rattle.ill_saved.specs.declared.role.Role.{Role}
 use Rattle.ill_saved.specs.declared.role.Role.TheVariants as roles
-use Rattle.ill_saved.specs.Layout.{Field, bytes_at, value_at, sized, one_octet, octet, followed_by, constant, count, number_octet}
+use Rattle.ill_saved.specs.Layout.{Field, bytes_at, value_at, sized, one_octet, octet, constant, count, number_octet}
 use Rattle.ill_saved.specs.Layout.{optional_number, mark, text_size, counted_text, apdu_by, apdu, ill_request, marked, spell_all}
 use Rattle.ill_saved.specs.Layout.{read_all, counted_by, counted}
 use Rattle.ill_saved.specs.Records.{state_code, state_with, state_in, role_octet, role_with, role}
 use Rattle.ill_saved.specs.Ranges.{Each}
 use Rattle.ill_der.proofs.Chains.{bind_ok, passed, went_on, chosen, ok_is}
 use Rattle.ill_der.proofs.ContentsLaws.{found_with}
+use Rattle.ill_der.proofs.Formats.{IsCodec, Both, followed_codec, where_codec}
 use Rattle.ill_saved.proofs.Steps.{IsBytes-take, IsBytes-rest}
 
 -- The laws of the crates below on dates, qualifiers and APDUs.
@@ -240,38 +241,26 @@ state_is states = octet_is (IsAmong states) state_code (state_with states) (stat
 
 -- ---- a field followed by another
 
--- The first value satisfies `P`, and the second satisfies `Q`.
-abbrev pub Both : {V W : Type 0} → (V → Type 0) → (W → Type 0) → V × W → Type 0
-Both P Q v = P v.0 × Q v.1
+-- A field obeys the laws of a codec, whatever bytes follow it.
+codec_of : {V : Type 0} (P : V → Type 0) (f : Field V) → IsField P f → IsCodec P Any f
+codec_of P f is = record {
+  takes = λ left v rest fits e.
+      let taken = is.takes left v rest fits e in (taken.0, taken.1, rest_fits P f is left v rest fits e);
+  again = λ v at more p follows. is.again v at more p;
+}
 
--- If two fields are read, the bytes read are the encodings of both values.
-followed_takes : {V W : Type 0} (P : V → Type 0) (Q : W → Type 0) (f : Field V) (g : Field W) → IsField P f → IsField Q g
-    → (left : Cursor) (v : V × W) (rest : Cursor) → IsBytes left.bytes → (followed_by f g).read left ≡ Ok (v, rest)
-    → Takes (followed_by f g) (Both P Q) left.bytes v rest.bytes
-followed_takes {V} {W} P Q f g fs gs left v rest fits e =
-    let a = bind_ok (f.read left) (λ a. g.read a.1 >>= λ b. Ok ((a.0, b.0), b.1)) (v, rest) e in
-    let b = bind_ok (g.read a.value.1) (λ b. Ok ((a.value.0, b.0), b.1)) (v, rest) a.follows in
-    let both : ((a.value.0, b.value.0), b.value.1) ≡ (v, rest) = ok_is ((a.value.0, b.value.0), b.value.1) (v, rest) b.follows in
-    let first = fs.takes left a.value.0 a.value.1 fits a.given in
-    let second = gs.takes a.value.1 b.value.0 b.value.1 (rest_fits P f fs left a.value.0 a.value.1 fits a.given) b.given in
-    let parts : left.bytes ≡ (f.spell a.value.0 ++ g.spell b.value.0) ++ b.value.1.bytes =
-    first.0 ∙ ap (λ (x : List ℕ). f.spell a.value.0 ++ x) second.0
-    ∙ sym (append_assoc (f.spell a.value.0) (g.spell b.value.0) b.value.1.bytes) in
-    subst (λ (x : (V × W) × Cursor). Takes (followed_by f g) (Both P Q) left.bytes x.0 x.1.bytes) both
-    (parts, (first.1, second.1))
-
--- If both fields obey the laws, two values are read from their encodings.
-followed_again : {V W : Type 0} (P : V → Type 0) (Q : W → Type 0) (f : Field V) (g : Field W) → IsField P f → IsField Q g
-    → (v : V × W) (at : ℕ) (more : List ℕ) → Both P Q v → ReadsAgain (followed_by f g) v at more
-followed_again P Q f g fs gs v at more p =
-    let first = fs.again v.0 at (g.spell v.1 ++ more) p.0 in
-    let second = gs.again v.1 first.0 more p.1 in
-    (second.0, rw (append_assoc (f.spell v.0) (g.spell v.1) more, first.1, second.1) refl)
+-- If a field obeys the laws of a codec, whatever bytes follow it, it obeys the laws of a field.
+field_of : {V : Type 0} (P : V → Type 0) (f : Field V) → IsCodec P Any f → IsField P f
+field_of P f is = record {
+  takes = λ left v rest fits e. let taken = is.takes left v rest fits e in (taken.0, taken.1);
+  again = λ v at more p. is.again v at more p tt;
+}
 
 -- If two fields obey the laws, the first followed by the second obeys them.
 pub followed_is : {V W : Type 0} (P : V → Type 0) (Q : W → Type 0) (f : Field V) (g : Field W) → IsField P f
     → IsField Q g → IsField (Both P Q) (followed_by f g)
-followed_is P Q f g fs gs = record { takes = followed_takes P Q f g fs gs; again = followed_again P Q f g fs gs }
+followed_is P Q f g fs gs =
+    field_of (Both P Q) (followed_by f g) (followed_codec P Q Any Any f g (codec_of P f fs) (codec_of Q g gs) (λ w more q. tt))
 
 -- ---- a qualifier, preceded by its length
 
@@ -369,48 +358,10 @@ ill_request_is below = record { takes = request_takes below; again = request_aga
 
 -- ---- a field after a mark
 
--- If an optional value is read after its mark, the bytes read are its encoding.
-marked_takes : {V : Type 0} (P : V → Type 0) (f : Field V) → IsField P f
-    → (left : Cursor) (o : Option V) (rest : Cursor) → IsBytes left.bytes → (marked f).read left ≡ Ok (o, rest)
-    → Takes (marked f) (λ o. IfSome o P) left.bytes o rest.bytes
-marked_takes {V} P f fs left o rest fits e =
-    let is = bind_ok (mark.read left) (λ is. cond is.0 (f.read is.1 >>= λ found. Ok (Some found.0, found.1)) (Ok (None, is.1)))
-    (o, rest) e in
-    let first = mark_is.takes left is.value.0 is.value.1 fits is.given in
-    let after_fits = rest_fits Any mark mark_is left is.value.0 is.value.1 fits is.given in
-    elim (chosen {A = Result (Option V × Cursor) LayoutFault} is.value.0
-    (f.read is.value.1 >>= λ found. Ok (Some found.0, found.1))
-    (Ok (None, is.value.1)) (Ok (o, rest)) is.follows) [
-      | inl h ↦
-          let found = bind_ok (f.read is.value.1) (λ found. Ok (Some found.0, found.1)) (o, rest) h.1 in
-          let both : (Some found.value.0, found.value.1) ≡ (o, rest) =
-          ok_is (Some found.value.0, found.value.1) (o, rest) found.follows in
-          let second = fs.takes is.value.1 found.value.0 found.value.1 after_fits found.given in
-          let parts : left.bytes ≡ (mark.spell true ++ f.spell found.value.0) ++ found.value.1.bytes =
-          first.0 ∙ ap (λ (b : Bool). mark.spell b ++ is.value.1.bytes) h.0
-          ∙ ap (λ (x : List ℕ). mark.spell true ++ x) second.0 in
-          subst (λ (x : Option V × Cursor). Takes (marked f) (λ o. IfSome o P) left.bytes x.0 x.1.bytes) both (parts, second.1)
-      | inr h ↦
-          let both : (None, is.value.1) ≡ (o, rest) = ok_is (None, is.value.1) (o, rest) h.1 in
-          let parts : left.bytes ≡ mark.spell false ++ is.value.1.bytes =
-          first.0 ∙ ap (λ (b : Bool). mark.spell b ++ is.value.1.bytes) h.0 in
-          subst (λ (x : Option V × Cursor). Takes (marked f) (λ o. IfSome o P) left.bytes x.0 x.1.bytes) both (parts, tt)
-    ]
-
--- An optional value is read from its mark and its encoding.
-marked_again : {V : Type 0} (P : V → Type 0) (f : Field V) → IsField P f → (o : Option V) (at : ℕ) (more : List ℕ)
-    → IfSome o P → ReadsAgain (marked f) o at more
-marked_again P f fs None at more p =
-    let is = mark_is.again false at more tt in
-    (is.0, rw is.1 refl)
-marked_again P f fs (Some v) at more p =
-    let is = mark_is.again true at (f.spell v ++ more) tt in
-    let found = fs.again v is.0 more p in
-    (found.0, rw (is.1, found.1) refl)
-
 -- If a field obeys the laws, the field of an optional value obeys them.
 pub marked_is : {V : Type 0} (P : V → Type 0) (f : Field V) → IsField P f → IsField (λ o. IfSome o P) (marked f)
-marked_is P f fs = record { takes = marked_takes P f fs; again = marked_again P f fs }
+marked_is P f fs =
+    field_of (λ o. IfSome o P) (marked f) (where_codec Any P Any mark f (codec_of Any mark mark_is) (codec_of P f fs) (λ b. tt))
 
 -- ---- `n` values of a field
 

@@ -14,7 +14,7 @@ use Rattle.ill_values.specs.Apdu.{IsApdu, IsNumber}
 use Rattle.ill_values.specs.Text.{IsQualifier}
 use Rattle.ill_values.specs.TxnId.{Qualifiers}
 use Rattle.ill_values.specs.declared.fault.DayFault.{DayFault}
-use Rattle.ill_der.specs.Format.{◌>>=◌, Cursor, cursor_at}
+use Rattle.ill_der.specs.Format.{◌>>=◌, Cursor, cursor_at, followed_by}
 use Rattle.ill_der.specs.Laws.{IsBytes}
 use Rattle.ill_core.specs.declared.state.State.{State}
 use Rattle.ill_core.specs.declared.state.State.TheVariants.{Idle, Pending, InProcess, Received, NotReceivedOverdue, CheckedIn}
@@ -29,14 +29,14 @@ use Rattle.ill_saved.specs.declared.side.Side.{Side}
 use Rattle.ill_saved.specs.declared.side.Side.TheVariants as sides
 use Rattle.ill_saved.specs.Side.{role_of}
 use Rattle.ill_saved.specs.Layout.{ended, apdu, ill_request, marked, counted, counted_text, optional_number, mark, constant}
-use Rattle.ill_saved.specs.Layout.{followed_by}
 use Rattle.ill_saved.specs.Records.{no_date, due_octets, due_from, found_date, due, heading, requester_states, responder_states}
 use Rattle.ill_saved.specs.Records.{requester_rest, responder_rest, requester_fields, responder_fields, version, role, start}
 use Rattle.ill_saved.specs.Records.{spell_start, spell_fields, record_spelling, read_requester, read_responder, read_fields}
 use Rattle.ill_saved.specs.Records.{side_at, side_spelled, record_at, state_in}
 use Rattle.ill_saved.specs.Ranges.{IsInRange, IsSide}
 use Rattle.ill_der.proofs.Chains.{bind_ok, chosen, passed, ok_is}
-use Rattle.ill_saved.proofs.Fields.{Below, IsField, Any, Both, Counted, IsAmong, IsRequest, rest_fits, sized_is, constant_is}
+use Rattle.ill_der.proofs.Formats.{Both}
+use Rattle.ill_saved.proofs.Fields.{Below, IsField, Any, Counted, IsAmong, IsRequest, rest_fits, sized_is, constant_is}
 use Rattle.ill_saved.proofs.Fields.{optional_number_is, mark_is, role_is, state_is, followed_is, counted_text_is, apdu_is}
 use Rattle.ill_saved.proofs.Fields.{ill_request_is, marked_is, counted_is}
 use Rattle.ill_saved.proofs.Rules.{requester_state, responder_state, responder_request}

@@ -32,7 +32,8 @@ use Rattle.ill_saved.specs.RecordsV2.{is_version_1, records_at, AreSides}
 use Rattle.ill_saved.specs.Ranges.{IsSide}
 use Rattle.ill_der.proofs.Chains.{bind_ok, ok_is, passed, went_on}
 use Rattle.ill_saved.proofs.Steps.{IsBytes-take, IsBytes-rest}
-use Rattle.ill_saved.proofs.Fields.{ReadsAgain, Takes, IsField, IsSized, Any, Both, CountedBy, rest_fits, sized_is, followed_is}
+use Rattle.ill_der.proofs.Formats.{Both}
+use Rattle.ill_saved.proofs.Fields.{ReadsAgain, Takes, IsField, IsSized, Any, CountedBy, rest_fits, sized_is, followed_is}
 use Rattle.ill_saved.proofs.Fields.{counted_by_is, role_is}
 
 -- The laws of the record of one side. Bytes that are read as a side are its encoding.

@@ -6,7 +6,7 @@ use Rattle.ill_values.specs.declared.apdu.Apdu.{Apdu}
 use Rattle.ill_der.specs.declared.fault.DerFault.{DerFault}
 use Rattle.ill_der.specs.declared.fault.DerFault.TheVariants as der
 use Rattle.ill_der.specs.Contents.{Contents, qualifier}
-use Rattle.ill_der.specs.Format.{◌>>=◌, Cursor, cursor_at}
+use Rattle.ill_der.specs.Format.{◌>>=◌, Codec, Cursor, cursor_at, where_yes}
 use Rattle.ill_der.specs.ShortForm.{spelling, apdu_at}
 use Rattle.ill_values.specs.Bodies.{is_ill_request}
 use Rattle.ill_saved.specs.declared.fault.LayoutFault.{LayoutFault}
@@ -14,10 +14,9 @@ use Rattle.ill_saved.specs.declared.fault.LayoutFault.TheVariants.{Short, Bad}
 use Rattle.ill_saved.specs.declared.fault.RecordFault.{RecordFault}
 use Rattle.ill_saved.specs.declared.fault.RecordFault.TheVariants as faults
 
--- A field: `spell` encodes a value, and `read` reads one from the rest of a record.
-pub record Field (V : Type 0) : Type 0 where
-  pub spell : V → List ℕ
-  pub read : Cursor → Result (V × Cursor) LayoutFault
+-- Describes fields of a saved record.
+abbrev pub Field : Type 0 → Type 0
+Field V = Codec LayoutFault V
 
 -- Returns the next `n` bytes and the cursor after them, or `Short` if fewer are left.
 abbrev pub bytes_at : ℕ → Cursor → Result (List ℕ × Cursor) LayoutFault
@@ -47,13 +46,6 @@ one_octet value_of (n ∷ more ∷ rest) = None
 -- Returns the field of one octet, which `code` encodes and `value_of` reads.
 abbrev pub octet : {V : Type 0} → (V → ℕ) → (ℕ → Option V) → Field V
 octet code value_of = sized 1 (record { spell = λ value. code value ∷ []; read = one_octet value_of })
-
--- Returns the field of the first value, followed by the second.
-abbrev pub followed_by : {V W : Type 0} → Field V → Field W → Field (V × W)
-followed_by first second = record {
-  spell = λ value. first.spell value.0 ++ second.spell value.1;
-  read = λ left. first.read left >>= λ a. second.read a.1 >>= λ b. Ok ((a.0, b.0), b.1);
-}
 
 -- Returns the field of the octet `n`. Any other octet is a fault.
 abbrev pub constant : ℕ → Field (Unit {0})
@@ -109,19 +101,9 @@ ill_request = record {
       if is_ill_request found.0.body then Ok found else Err (Bad left.at);
 }
 
--- Returns the encoding of an optional value: a mark, followed by the encoding of the value if there is one.
-abbrev pub spell_marked : {V : Type 0} → (V → List ℕ) → Option V → List ℕ
-spell_marked spell None = mark.spell false
-spell_marked spell (Some value) = mark.spell true ++ spell value
-
 -- Returns the field of an optional value: a mark, followed by the field of the value if the mark is true.
 abbrev pub marked : {V : Type 0} → Field V → Field (Option V)
-marked field = record {
-  spell = spell_marked field.spell;
-  read = λ left. mark.read left >>= λ is. if is.0
-      then (field.read is.1 >>= λ found. Ok (Some found.0, found.1))
-      else Ok (None, is.1);
-}
+marked field = where_yes mark field
 
 -- Returns the encodings of the values, one after another.
 unfoldable pub spell_all : {V : Type 0} → (V → List ℕ) → List V → List ℕ
@@ -149,12 +131,6 @@ counted = counted_by count
 -- Checks that no byte is left. Otherwise the fault is `Bad` at the cursor.
 abbrev pub ended : Cursor → Result (Unit {0}) LayoutFault
 ended left = if length left.bytes == 0 then Ok tt else Err (Bad left.at)
-
--- A reader of the code gives the fault of `read`, or its value through `view` and the cursor `left` after it.
-abbrev pub Reads : {X V : Type 0} → (X → V) → Result X LayoutFault → Cursor →
-    Result (V × Cursor) LayoutFault → Type 0
-Reads view (Ok value) left read = read ≡ Ok (view value, left)
-Reads view (Err fault) left read = read ≡ Err fault
 
 -- Returns the fault of a record for a fault of a field.
 abbrev pub record_fault : LayoutFault → RecordFault

@@ -5,7 +5,7 @@ use Rattle.std.specs.Str.{bytes_eq}
 use Rattle.std.specs.Result.{result_ok}
 use Rattle.ill_values.specs.Day.{Date, date_text, read_date}
 use Rattle.ill_values.specs.declared.apdu.Apdu.{Apdu}
-use Rattle.ill_der.specs.Format.{◌>>=◌, Cursor, cursor_at}
+use Rattle.ill_der.specs.Format.{◌>>=◌, Cursor, cursor_at, followed_by}
 use Rattle.ill_core.specs.declared.state.State.{State}
 use Rattle.ill_core.specs.declared.state.State.TheVariants.{Idle, Pending, InProcess, Conditional, CancelPending, Cancelled}
 use Rattle.ill_core.specs.declared.state.State.TheVariants.{NotSupplied, Shipped, Received, RenewPending, Overdue, RenewOverdue}
@@ -20,7 +20,7 @@ use Rattle.ill_saved.specs.declared.role.Role.TheVariants as roles
 use Rattle.ill_saved.specs.declared.side.Side.{Side}
 use Rattle.ill_saved.specs.declared.side.Side.TheVariants as sides
 use Rattle.ill_saved.specs.Side.{role_of, is_consistent}
-use Rattle.ill_saved.specs.Layout.{Field, sized, octet, followed_by, constant, optional_number, mark, counted_text, apdu}
+use Rattle.ill_saved.specs.Layout.{Field, sized, octet, constant, optional_number, mark, counted_text, apdu}
 use Rattle.ill_saved.specs.Layout.{ill_request, marked, counted, ended, record_fault}
 
 -- Returns the octet of a state. PENDING and IN-PROCESS have one octet, since no role has both.

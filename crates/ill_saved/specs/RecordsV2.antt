@@ -8,7 +8,7 @@ use Rattle.std.specs.Str.{bytes_eq}
 use Rattle.std.specs.Result.{result_ok}
 use Rattle.sha2.specs.Sha256.{sha256}
 use Rattle.ill_der.specs.Contents.{Contents}
-use Rattle.ill_der.specs.Format.{◌>>=◌, Cursor, cursor_at}
+use Rattle.ill_der.specs.Format.{◌>>=◌, Cursor, cursor_at, followed_by}
 use Rattle.ill_saved.specs.declared.role.Role.{Role}
 use Rattle.ill_saved.specs.declared.side.Side.{Side}
 use Rattle.ill_saved.specs.declared.fault.LayoutFault.{LayoutFault}
@@ -18,7 +18,7 @@ use Rattle.ill_saved.specs.declared.fault.RecordFault.TheVariants as faults
 use Rattle.ill_saved.specs.Side.{role_of, is_idle}
 use Rattle.ill_saved.specs.Sides.{SidesOf, most_sides, may_be_held, put_refusal, put_last}
 use Rattle.ill_saved.specs.Ranges.{Each, IsSide}
-use Rattle.ill_saved.specs.Layout.{Field, sized, followed_by, counted_by, record_fault}
+use Rattle.ill_saved.specs.Layout.{Field, sized, counted_by, record_fault}
 use Rattle.ill_saved.specs.Records.{role, all_of, record_at, record_spelling, begins_as_record}
 
 -- The four octets `ILL1`.

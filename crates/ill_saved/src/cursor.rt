@@ -4,8 +4,8 @@ ghost use Rattle.std.specs.Prelude.{◌≡◌, ◌+◌, ◌*◌, ◌≤◌, leng
 ghost use Rattle.ill_values.specs.Text.{IsQualifier};
 ghost use Rattle.ill_der.specs.Contents.{qualifier};
 ghost use Rattle.ill_der.specs.Format as model;
-ghost use Rattle.ill_der.specs.Format.{cursor_at};
-ghost use Rattle.ill_saved.specs.Layout.{Reads, ReadsInMemory, bytes_at, sized, constant, count, optional_number, mark, text_size, counted_text, apdu, ill_request, marked, counted, ended};
+ghost use Rattle.ill_der.specs.Format.{cursor_at, Reads};
+ghost use Rattle.ill_saved.specs.Layout.{ReadsInMemory, bytes_at, sized, constant, count, optional_number, mark, text_size, counted_text, apdu, ill_request, marked, counted, ended};
 ghost use Rattle.ill_saved.specs.Records.{state_in, requester_states, responder_states, due, role};
 ghost use Rattle.ill_saved.specs.RecordsV2.{two_octets, side_count};
 ghost use Rattle.ill_saved.specs.Sides.{most_sides};

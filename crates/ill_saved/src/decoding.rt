@@ -2,7 +2,8 @@
 
 ghost use Rattle.std.specs.Prelude.{◌≡◌, ◌+◌, ◌≤◌, true, is_ok, Err, OnOk};
 ghost use Rattle.ill_saved.specs.declared.fault.RecordFault.TheVariants as faults;
-ghost use Rattle.ill_saved.specs.Layout.{Reads, ReadsInMemory, followed_by, counted_text, counted, apdu, read_all};
+ghost use Rattle.ill_der.specs.Format.{Reads, followed_by};
+ghost use Rattle.ill_saved.specs.Layout.{ReadsInMemory, counted_text, counted, apdu, read_all};
 ghost use Rattle.ill_saved.specs.Records.{start, heading, requester_states, responder_states, read_requester, read_responder, all_of, consistent_side, record_at, begins_as_record, Decodes};
 
 use crate::cursor::Cursor;

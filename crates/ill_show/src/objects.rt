@@ -1,7 +1,7 @@
 //! The objects that the commands write with `--json`.
 
 ghost use Rattle.std.specs.Prelude.{◌≡◌, [], ◌++◌, map, codes, OnOk};
-ghost use Rattle.ill_text.specs.Json.{array, joined, member, optional, quoted, value_text};
+ghost use Rattle.ill_text.specs.Json.{joined, member, optional, quoted, value_text};
 ghost use Rattle.ill_words.specs.Possible.{item_asked, request_of};
 ghost use Rattle.ill_text.specs.ApduObject.{apdu_fields, object_line};
 ghost use Rattle.ill_show.specs.Objects.{came_fields, leaves_fields, loan_fields, message_object, messages_fields, names_of, standing_fields, status_fields, taken_fields, turn_fields};
@@ -9,7 +9,7 @@ ghost use Rattle.ill_show.specs.Objects.{came_fields, leaves_fields, loan_fields
 use crate::marks::marks;
 use ill_saved::Side;
 use ill_text::apdu_object::push_apdu;
-use ill_text::json::{Value, push_label, push_members, push_plain};
+use ill_text::json::{ItemForm, Value, push_array, push_label, push_members, push_plain};
 use ill_text::lines::view;
 use ill_values::{Apdu, OutOfMemory};
 use ill_words::names::names;
@@ -169,23 +169,21 @@ fn push_messages(
 {
     push_plain(text, ",")?;
     push_label(text, label)?;
-    push_array(text, apdus, released)
+    push_array(text, apdus, &MessageObjects { released })
 }
 
-/// Appends the array of the messages `apdus`.
-fn push_array(text: &mut Vec<u8>, apdus: &[Apdu], released: Option<u8>) -> Result<(), OutOfMemory>
-    ensures { OnOk result (text.new.items ≡ text.old.items
-        ++ array (message_object released) apdus.now) }
-{
-    text.push(b'[')?;
-    let mut before: &[u8] = b"";
-    for apdu in apdus {
-        text.extend_from_slice(before)?;
-        push_message(text, apdu, released)?;
-        before = b",";
+/// Messages as objects. With a number `released`, each has a field that is true if it may be sent.
+#[derive(Clone, Copy)]
+struct MessageObjects {
+    released: Option<u8>,
+}
+
+impl ItemForm<Apdu> for MessageObjects {
+    ghost text_of = { λ objects apdu. message_object objects.released apdu };
+
+    fn push(&self, text: &mut Vec<u8>, apdu: &Apdu) -> Result<(), OutOfMemory> {
+        push_message(text, apdu, self.released)
     }
-    text.push(b']')?;
-    Ok(())
 }
 
 /// Appends the object of the message `apdu`.

@@ -1,20 +1,27 @@
 -- Proves how a text of items, with a comma between two, grows item by item.
-use Rattle.std.proofs.Common.{◌≡◌, ℕ, ◌+◌, ◌≤◌, length, drop, List, [], ◌∷◌, ◌++◌, map, codes, refl, ap, sym, ◌∙◌, append_assoc}
-use Rattle.std.proofs.Common.{append-nil}
-use Rattle.std.proofs.lemmas.List.{at_drop_all}
+use Rattle.std.proofs.Common.{◌≡◌, ℕ, ◌+◌, ◌<◌, ◌≤◌, length, drop, List, [], ◌∷◌, ◌++◌, map, codes, refl, ap, sym, ◌∙◌}
+use Rattle.std.proofs.Common.{append_assoc, append-nil}
+use Rattle.std.proofs.Math.ListN.{get_or}
+use Rattle.std.proofs.lemmas.List.{at_drop_all, drop_more}
 use Rattle.ill_text.specs.Json.{joined}
+
+-- The items from `place` on begin with the item at `place`.
+from_place : {X : Type 0} (items : List X) (place : ℕ) (item : X) → place < length items → item ≡ get_or items place item
+    → drop place items ≡ item ∷ drop (place + 1) items
+from_place items place item within there =
+    drop_more items place item within ∙ ap (λ first. first ∷ drop (place + 1) items) (sym there)
 
 -- After the text of the item at `place` is appended, the texts of the later items are left.
 pub one_joined : {X : Type 0} (text : X → List ℕ) (before shown : List ℕ) (items : List X) (place : ℕ) (item : X)
-    → drop place items ≡ item ∷ drop (place + 1) items
+    → place < length items → item ≡ get_or items place item
     → ((shown ++ before) ++ text item) ++ joined text (codes ",") (drop (place + 1) items)
     ≡ shown ++ joined text before (drop place items)
 unfolding joined
-one_joined text before shown items place item there =
+one_joined text before shown items place item within there =
     let left = joined text (codes ",") (drop (place + 1) items) in
     ap (λ prefix. prefix ++ left) (append_assoc shown before (text item))
     ∙ append_assoc shown (before ++ text item) left
-    ∙ ap (λ items. shown ++ joined text before items) (sym there)
+    ∙ ap (λ items. shown ++ joined text before items) (sym (from_place items place item within there))
 
 -- After the last item no text is left to append.
 pub all_joined : {X : Type 0} (text : X → List ℕ) (before shown : List ℕ) (items : List X) (place : ℕ)

@@ -1,6 +1,6 @@
 //! Objects of JSON, whose values are of few kinds.
 
-ghost use Rattle.std.specs.Prelude.{◌≡◌, ◌++◌, map, codes, OnOk};
+ghost use Rattle.std.specs.Prelude.{◌≡◌, ℕ, List, ◌++◌, map, codes, OnOk};
 ghost use Rattle.std.specs.Fmt.{decimal};
 ghost use Rattle.ill_text.specs.Json.{array, day, joined, optional, member, quoted, value_text};
 
@@ -44,6 +44,49 @@ impl<'a> Value<'a> {
 /// A field of an object: its label and its value.
 pub(crate) type Field<'a> = (&'a str, Value<'a>);
 
+/// A form in which the items of a list are written.
+pub trait ItemForm<T> {
+    /// Gives the text of an item.
+    ghost text_of: { Self → T → List ℕ };
+
+    /// Appends `item` to `text`.
+    fn push(&self, text: &mut Vec<u8>, item: &T) -> Result<(), OutOfMemory>
+        ensures { OnOk result (text.new.items ≡ text.old.items ++ text_of self.now item.now) };
+}
+
+/// Appends `items` in the given form, with `before` ahead of the first and a comma between two.
+fn push_joined<T, F: ItemForm<T>>(
+    text: &mut Vec<u8>,
+    before: &[u8],
+    items: &[T],
+    form: &F,
+) -> Result<(), OutOfMemory>
+    ensures { OnOk result (text.new.items ≡ text.old.items
+        ++ joined (F.text_of form.now) before.now items.now) }
+{
+    let mut before = before;
+    for item in items {
+        text.extend_from_slice(before)?;
+        form.push(text, item)?;
+        before = b",";
+    }
+    Ok(())
+}
+
+/// Appends an array of `items` in the given form.
+pub fn push_array<T, F: ItemForm<T>>(
+    text: &mut Vec<u8>,
+    items: &[T],
+    form: &F,
+) -> Result<(), OutOfMemory>
+    ensures { OnOk result (text.new.items ≡ text.old.items ++ array (F.text_of form.now) items.now) }
+{
+    text.push(b'[')?;
+    push_joined(text, b"", items, form)?;
+    text.push(b']')?;
+    Ok(())
+}
+
 /// Appends `fields` to `text`, with `before` ahead of the first and a comma between two.
 pub fn push_members(
     text: &mut Vec<u8>,
@@ -53,21 +96,19 @@ pub fn push_members(
     ensures { OnOk result (text.new.items ≡ text.old.items
         ++ joined (λ field. member (field.0.now, value_text field.1)) before.now fields.now) }
 {
-    let mut before = before;
-    for field in fields {
-        text.extend_from_slice(before)?;
-        push_member(text, field.0, &field.1)?;
-        before = b",";
-    }
-    Ok(())
+    push_joined(text, before, fields, &Members)
 }
 
-/// Appends the field of `label` and `value`.
-fn push_member(text: &mut Vec<u8>, label: &str, value: &Value<'_>) -> Result<(), OutOfMemory>
-    ensures { OnOk result (text.new.items ≡ text.old.items ++ member (label.now, value_text value.now)) }
-{
-    push_label(text, label)?;
-    push_value(text, value)
+/// Fields as members of an object.
+struct Members;
+
+impl<'a> ItemForm<Field<'a>> for Members {
+    ghost text_of = { λ _ field. member (field.0.now, value_text field.1) };
+
+    fn push(&self, text: &mut Vec<u8>, field: &Field<'a>) -> Result<(), OutOfMemory> {
+        push_label(text, field.0)?;
+        push_value(text, &field.1)
+    }
 }
 
 /// Appends `label` as a string, and a colon.
@@ -116,13 +157,16 @@ fn push_words(text: &mut Vec<u8>, words: &[&str]) -> Result<(), OutOfMemory>
     ensures { OnOk result (text.new.items ≡ text.old.items
         ++ array quoted (map (λ word. word.now) words.now)) }
 {
-    text.push(b'[')?;
-    let mut before: &[u8] = b"";
-    for word in words {
-        text.extend_from_slice(before)?;
-        push_quoted(text, word.as_bytes())?;
-        before = b",";
+    push_array(text, words, &Strings)
+}
+
+/// Words as strings.
+struct Strings;
+
+impl<'a> ItemForm<&'a str> for Strings {
+    ghost text_of = { λ _ word. quoted word.now };
+
+    fn push(&self, text: &mut Vec<u8>, word: &&'a str) -> Result<(), OutOfMemory> {
+        push_quoted(text, word.as_bytes())
     }
-    text.push(b']')?;
-    Ok(())
 }

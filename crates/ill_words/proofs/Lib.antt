@@ -1,6 +1,5 @@
 pub mod BadSendings
 pub mod HeldLemmas
-pub mod LoanLemmas
 pub mod OrderLemmas
 pub mod PossibleLemmas
 pub mod SendingLemmas

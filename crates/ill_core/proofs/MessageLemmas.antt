@@ -3,7 +3,7 @@ use Rattle.std.proofs.Common.{rules, arith, ◌≡◌, ◌⊎◌, inl, inr, ℕ,
 use Rattle.std.proofs.Common.{Some, refl, ap, ◌∙◌}
 use Rattle.std.proofs.lemmas.Bool.{or_cases, or_left, or_right}
 use Rattle.ill_values.specs.declared.apdu.Apdu.{Apdu}
-use Rattle.ill_values.specs.declared.apdu.Body.{Body}
+use Rattle.ill_values.specs.Body.{Body}
 use Rattle.ill_core.specs.Issued.{message, has_message_with}
 
 -- If message n + 1 is old or new, so is message n + 2 after an APDU is put first.

@@ -6,7 +6,7 @@ use Rattle.std.proofs.lemmas.Bool.{and_parts, and_from, eq-eqb, eqb-true}
 use Rattle.std.proofs.lemmas.Option.{same_Some}
 use Rattle.ill_values.specs.Day.{Date}
 use Rattle.ill_values.specs.declared.apdu.Apdu.{Apdu}
-use Rattle.ill_values.specs.declared.apdu.Body.{Body}
+use Rattle.ill_values.specs.Body.{Body}
 use Rattle.ill_core.specs.declared.state.State.TheVariants.{Conditional, RenewPending, Overdue, RenewOverdue, NotReceivedOverdue}
 use Rattle.ill_core.specs.declared.state.State.TheVariants.{Recall, Returned}
 use Rattle.ill_core.specs.declared.requester.Wish.{Wish}

@@ -4,8 +4,8 @@ use Rattle.std.proofs.Common.{Ok, Err, IsOk, if◌then◌else◌, refl, ap, subs
 use Rattle.ill_values.specs.Day.{Date}
 use Rattle.ill_values.specs.TxnId.{Qualifiers}
 use Rattle.ill_values.specs.declared.apdu.Apdu.{Apdu}
-use Rattle.ill_values.specs.declared.apdu.Body.{Body}
-use Rattle.ill_values.specs.declared.apdu.Body.TheVariants as types
+use Rattle.ill_values.specs.Body.{Body}
+use Rattle.ill_values.specs.declared.apdu.BodyWith.TheVariants as types
 use Rattle.ill_values.specs.declared.apdu.AnswerResult.TheVariants as results
 use Rattle.ill_core.specs.declared.kind.RequesterKind.{RequesterKind}
 use Rattle.ill_core.specs.declared.kind.ResponderKind.{ResponderKind}

@@ -3,7 +3,7 @@ use Rattle.std.proofs.Common.{◌≡◌, ℕ, true, false, not, ◌&&◌, List, 
 use Rattle.std.specs.Option.{unwrap_or}
 use Rattle.std.proofs.lemmas.Bool.{and_parts}
 use Rattle.ill_values.specs.Day.{Date}
-use Rattle.ill_values.specs.declared.apdu.Body.TheVariants as types
+use Rattle.ill_values.specs.declared.apdu.BodyWith.TheVariants as types
 use Rattle.ill_core.specs.declared.state.State.TheVariants.{Idle, Pending, Conditional, CancelPending, Shipped, Received}
 use Rattle.ill_core.specs.declared.state.State.TheVariants.{RenewPending, Overdue, RenewOverdue, NotReceivedOverdue, Recall}
 use Rattle.ill_core.specs.declared.state.State.TheVariants.{Returned}

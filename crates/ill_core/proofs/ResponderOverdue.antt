@@ -8,8 +8,8 @@ use Rattle.std.proofs.lemmas.Bool.{or_right, false_from_ne_true}
 use Rattle.std.proofs.Math.Bool.{or-false}
 use Rattle.ill_values.specs.Day.{Date}
 use Rattle.ill_values.specs.declared.apdu.Apdu.{Apdu}
-use Rattle.ill_values.specs.declared.apdu.Body.{Body}
-use Rattle.ill_values.specs.declared.apdu.Body.TheVariants as types
+use Rattle.ill_values.specs.Body.{Body}
+use Rattle.ill_values.specs.declared.apdu.BodyWith.TheVariants as types
 use Rattle.ill_values.specs.declared.apdu.AnswerResult.TheVariants as results
 use Rattle.ill_core.specs.declared.state.State.{State}
 use Rattle.ill_core.specs.declared.state.State.TheVariants.{NotSupplied, Shipped, RenewPending, Overdue, RenewOverdue, Recall}
@@ -80,7 +80,7 @@ never_overdue : {P : Type 0} (body : Body) (day : Date) → ((due : Date) → is
 never_overdue body day other is = not_both _ (other day) (ap (is_overdue_of day) is ∙ same_itself day)
 
 -- If two Overdues are equal, so are their dates.
-overdue_same : (due day : Date) → types.Overdue due ≡ types.Overdue day → due ≡ day
+overdue_same : (due day : Date) → ◌≡◌ {A = Body} (types.Overdue due) (types.Overdue day) → due ≡ day
 overdue_same due day is = search rules
 
 -- If an option is both `Some d` and `Some e`, `d` equals `e`.

@@ -2,7 +2,7 @@
 use Rattle.std.proofs.Common.{rules, ◌≡◌, Bool, true, false, [], ◌∷◌, Some, None, Ok, refl, subst}
 use Rattle.std.specs.Option.{unwrap_or}
 use Rattle.ill_values.specs.Day.{Date}
-use Rattle.ill_values.specs.declared.apdu.Body.TheVariants as types
+use Rattle.ill_values.specs.declared.apdu.BodyWith.TheVariants as types
 use Rattle.ill_values.specs.declared.apdu.AnswerResult.{AnswerResult}
 use Rattle.ill_core.specs.declared.state.State.TheVariants.{InProcess, Conditional, CancelPending, Cancelled, NotSupplied}
 use Rattle.ill_core.specs.declared.state.State.TheVariants.{Shipped, RenewPending, Overdue, RenewOverdue, Recall, Returned}

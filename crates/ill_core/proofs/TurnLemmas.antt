@@ -1,7 +1,7 @@
 -- Proves that a message does not reopen a loan that is over.
 use Rattle.std.proofs.Common.{rules, ◌≡◌, ℕ, true, [], ◌∷◌, ap, sym, refl}
 use Rattle.ill_values.specs.declared.apdu.Apdu.{Apdu}
-use Rattle.ill_values.specs.declared.apdu.Body.{Body}
+use Rattle.ill_values.specs.Body.{Body}
 use Rattle.ill_core.specs.declared.state.State.TheVariants.{Returned}
 use Rattle.ill_core.specs.declared.turn.Turn.TheVariants.{Over}
 use Rattle.ill_core.specs.State.{is_among}

@@ -5,7 +5,7 @@ use Rattle.std.specs.List.{list_any, filter_map, last_or}
 use Rattle.std.specs.Str.{bytes_eq}
 use Rattle.ill_values.specs.TxnId.{Qualifiers}
 use Rattle.ill_values.specs.declared.apdu.Apdu.{Apdu}
-use Rattle.ill_values.specs.declared.apdu.Body.{Body}
+use Rattle.ill_values.specs.Body.{Body}
 use Rattle.ill_values.specs.Day.{Date}
 use Rattle.ill_values.specs.Bodies.{is_cancel, is_renew, is_end, grant_in, accepts}
 use Rattle.ill_core.specs.declared.issued.Sought.{Sought}

@@ -1,8 +1,8 @@
 -- Defines the kinds of messages that the tables distinguish (this profile's own).
 use Rattle.std.specs.Prelude.{ℕ, true, false, Option, Some, None}
 use Rattle.ill_values.specs.declared.apdu.Apdu.{Apdu}
-use Rattle.ill_values.specs.declared.apdu.Body.{Body}
-use Rattle.ill_values.specs.declared.apdu.Body.TheVariants as types
+use Rattle.ill_values.specs.Body.{Body}
+use Rattle.ill_values.specs.declared.apdu.BodyWith.TheVariants as types
 use Rattle.ill_values.specs.declared.apdu.AnswerResult.{AnswerResult}
 use Rattle.ill_values.specs.declared.apdu.AnswerResult.TheVariants.{Conditional, WillSupply, HoldPlaced}
 use Rattle.ill_core.specs.declared.requester.Wish.{Wish}

@@ -4,8 +4,8 @@
 use Rattle.std.specs.Prelude.{◌≡◌, ℕ, Bool, not, ◌&&◌, [], ◌∷◌, List, Option, None, Result, Ok, Err, IsOk, if◌then◌else◌}
 use Rattle.std.specs.Option.{unwrap_or}
 use Rattle.ill_values.specs.Day.{Date}
-use Rattle.ill_values.specs.declared.apdu.Body.{Body}
-use Rattle.ill_values.specs.declared.apdu.Body.TheVariants as types
+use Rattle.ill_values.specs.Body.{Body}
+use Rattle.ill_values.specs.declared.apdu.BodyWith.TheVariants as types
 use Rattle.ill_core.specs.declared.state.State.{State}
 use Rattle.ill_core.specs.declared.state.State.TheVariants.{Idle, Pending, Conditional, CancelPending, Shipped, Received}
 use Rattle.ill_core.specs.declared.state.State.TheVariants.{RenewPending, Overdue, RenewOverdue, NotReceivedOverdue, Recall}

@@ -3,8 +3,8 @@
 use Rattle.std.specs.Prelude.{◌≡◌, ◌⊎◌, ℕ, Bool, true, false, ◌&&◌, List, [], ◌∷◌, ◌++◌, Option, Some, None, Result, Ok}
 use Rattle.ill_values.specs.Day.{Date}
 use Rattle.ill_values.specs.declared.apdu.Apdu.{Apdu}
-use Rattle.ill_values.specs.declared.apdu.Body.{Body}
-use Rattle.ill_values.specs.declared.apdu.Body.TheVariants as types
+use Rattle.ill_values.specs.Body.{Body}
+use Rattle.ill_values.specs.declared.apdu.BodyWith.TheVariants as types
 use Rattle.ill_core.specs.declared.state.State.TheVariants as states
 use Rattle.ill_core.specs.State.{is_among}
 use Rattle.ill_core.specs.Numbers.{is_equal_number, is_at_most, is_below, are_distinct}

@@ -7,10 +7,10 @@ use Rattle.std.proofs.lemmas.Bool.{cases_lt, ltb-true, ltb-false, lt-ltb, le-ltb
 use Rattle.std.proofs.lemmas.List.{append-nil, take_at, drop_at, length-append, length-take, length-drop, take-append-drop}
 use Rattle.std.proofs.lemmas.List.{drop-drop, drop-append-le, take-append-le}
 use Rattle.ill_values.specs.declared.apdu.Apdu.{Apdu}
-use Rattle.ill_values.specs.declared.apdu.Body.{Body}
-use Rattle.ill_values.specs.declared.apdu.Body.TheVariants.{IllRequest, Cancel, IllAnswer, ConditionalReply, CancelReply, Shipped}
-use Rattle.ill_values.specs.declared.apdu.Body.TheVariants.{Received, Recall, Returned, CheckedIn, Overdue, Renew, RenewAnswer}
-use Rattle.ill_values.specs.declared.apdu.Body.TheVariants.{Expired}
+use Rattle.ill_values.specs.Body.{Body}
+use Rattle.ill_values.specs.declared.apdu.BodyWith.TheVariants.{IllRequest, Cancel, IllAnswer, ConditionalReply, CancelReply}
+use Rattle.ill_values.specs.declared.apdu.BodyWith.TheVariants.{Shipped, Received, Recall, Returned, CheckedIn, Overdue, Renew}
+use Rattle.ill_values.specs.declared.apdu.BodyWith.TheVariants.{RenewAnswer, Expired}
 use Rattle.ill_values.specs.Apdu.{IsNumber, IsBody, IsApdu}
 use Rattle.ill_values.specs.Day.{Date, IsDate}
 use Rattle.ill_values.specs.Text.{IsQualifier, IsItem}

@@ -7,7 +7,7 @@ use Rattle.std.proofs.lemmas.Str.{IsUtf8-from_ascii, is_utf8-from_IsUtf8}
 use Rattle.std.specs.Str.{is_utf8}
 use Rattle.ill_values.specs.Text.{IsItem}
 use Rattle.ill_values.specs.declared.apdu.Apdu.{Apdu}
-use Rattle.ill_values.specs.declared.apdu.Body.TheVariants as bodies
+use Rattle.ill_values.specs.declared.apdu.BodyWith.TheVariants as bodies
 use Rattle.ill_values.specs.Day.{Date, IsDate}
 use Rattle.ill_values.specs.TxnId.{Qualifiers}
 use Rattle.ill_values.specs.Apdu.{IsApdu}

@@ -3,10 +3,10 @@
 ghost use Rattle.std.specs.Prelude.{◌≡◌, IfOk};
 ghost use Rattle.ill_values.specs.declared.apdu.Apdu.{Apdu};
 ghost use Rattle.ill_values.specs.Text.{IsQualifier};
-ghost use Rattle.ill_values.specs.Types.{type_of, type_name};
-ghost use Rattle.ill_der.specs.View.{apdu_of, body_in, HasItem};
+ghost use Rattle.ill_values.specs.Body.{body_in};
+ghost use Rattle.ill_der.specs.View.{apdu_of, HasItem};
 
-use ill_values::{AnswerResult, Apdu, ApduType, Body, Day, Item, Number, OutOfMemory, TxnId};
+use ill_values::{Apdu, BodyView, Number, OutOfMemory, TxnId};
 use std::alloc::Global;
 use std::marker::Model;
 
@@ -26,71 +26,6 @@ impl<'a> Model for ApduView<'a> {
 
     ghost invariant = { λ v. IsQualifier v.group.now × IsQualifier v.transaction.now
         × HasItem (body_in v.body) };
-}
-
-/// A view of the body of an APDU: `Body`, with its text borrowed.
-#[derive(Clone, Copy, Debug)]
-pub enum BodyView<'a> {
-    /// `Body::IllRequest`.
-    IllRequest {
-        /// The last day of the request, if it has one.
-        expiry: Option<Day>,
-        /// The bytes of the item that is asked for: 1 to 200 bytes of UTF-8.
-        item: &'a [u8],
-    },
-    /// `Body::Shipped`.
-    Shipped {
-        /// The day on which the item is due.
-        due: Day,
-    },
-    /// `Body::IllAnswer`.
-    IllAnswer {
-        /// The answer.
-        result: AnswerResult,
-    },
-    /// `Body::ConditionalReply`.
-    ConditionalReply {
-        /// The number of the ILL-Answer that named the conditions.
-        answers: Number,
-        /// True if the requester accepts the conditions.
-        yes: bool,
-    },
-    /// `Body::Cancel`.
-    Cancel,
-    /// `Body::CancelReply`.
-    CancelReply {
-        /// The number of the Cancel.
-        answers: Number,
-        /// True if the request is cancelled.
-        yes: bool,
-    },
-    /// `Body::Received`.
-    Received,
-    /// `Body::Recall`.
-    Recall,
-    /// `Body::Returned`.
-    Returned,
-    /// `Body::CheckedIn`.
-    CheckedIn,
-    /// `Body::Overdue`.
-    Overdue {
-        /// The due date that has passed.
-        due: Day,
-    },
-    /// `Body::Renew`.
-    Renew {
-        /// The due date that the requester would like, if it names one.
-        wished: Option<Day>,
-    },
-    /// `Body::RenewAnswer`.
-    RenewAnswer {
-        /// The number of the Renew.
-        answers: Number,
-        /// The new due date, if the answer is yes.
-        granted: Option<Day>,
-    },
-    /// `Body::Expired`.
-    Expired,
 }
 
 impl<'a> ApduView<'a> {
@@ -127,76 +62,11 @@ impl<'a> ApduView<'a> {
         ensures { IfOk result (λ apdu. apdu ≡ self.now) }
     {
         let txn = TxnId::new(alloc, self.group, self.transaction).map_err(|_| OutOfMemory)?;
-        let body = self.body.to_body(alloc)?;
+        let body = self.body.to_body(alloc).map_err(|_| OutOfMemory)?;
         Ok(Apdu {
             txn,
             number: self.number,
             body,
-        })
-    }
-}
-
-impl BodyView<'_> {
-    /// Returns the type of the message.
-    pub fn apdu_type(&self) -> ApduType
-        ensures { result ≡ type_of (body_in self.now) }
-    {
-        match self {
-            BodyView::IllRequest { .. } => ApduType::IllRequest,
-            BodyView::Shipped { .. } => ApduType::Shipped,
-            BodyView::IllAnswer { .. } => ApduType::IllAnswer,
-            BodyView::ConditionalReply { .. } => ApduType::ConditionalReply,
-            BodyView::Cancel => ApduType::Cancel,
-            BodyView::CancelReply { .. } => ApduType::CancelReply,
-            BodyView::Received => ApduType::Received,
-            BodyView::Recall => ApduType::Recall,
-            BodyView::Returned => ApduType::Returned,
-            BodyView::CheckedIn => ApduType::CheckedIn,
-            BodyView::Overdue { .. } => ApduType::Overdue,
-            BodyView::Renew { .. } => ApduType::Renew,
-            BodyView::RenewAnswer { .. } => ApduType::RenewAnswer,
-            BodyView::Expired => ApduType::Expired,
-        }
-    }
-
-    /// Returns the name of the type of the message, such as `ILL-Request`.
-    pub fn type_name(&self) -> &'static str
-        ensures { result.now ≡ type_name (body_in self.now) }
-    {
-        self.apdu_type().name()
-    }
-
-    /// Returns the body, with its text copied to memory of its own.
-    fn to_body(&self, alloc: Global) -> Result<Body, OutOfMemory>
-        ensures { IfOk result (λ body. body ≡ body_in self.now) }
-    {
-        Ok(match self {
-            BodyView::IllRequest { expiry, item } => Body::IllRequest {
-                expiry: *expiry,
-                item: Item::new(alloc, item).map_err(|_| OutOfMemory)?,
-            },
-            BodyView::Shipped { due } => Body::Shipped { due: *due },
-            BodyView::IllAnswer { result } => Body::IllAnswer { result: *result },
-            BodyView::ConditionalReply { answers, yes } => Body::ConditionalReply {
-                answers: *answers,
-                yes: *yes,
-            },
-            BodyView::Cancel => Body::Cancel,
-            BodyView::CancelReply { answers, yes } => Body::CancelReply {
-                answers: *answers,
-                yes: *yes,
-            },
-            BodyView::Received => Body::Received,
-            BodyView::Recall => Body::Recall,
-            BodyView::Returned => Body::Returned,
-            BodyView::CheckedIn => Body::CheckedIn,
-            BodyView::Overdue { due } => Body::Overdue { due: *due },
-            BodyView::Renew { wished } => Body::Renew { wished: *wished },
-            BodyView::RenewAnswer { answers, granted } => Body::RenewAnswer {
-                answers: *answers,
-                granted: *granted,
-            },
-            BodyView::Expired => Body::Expired,
         })
     }
 }

@@ -1,18 +1,19 @@
 //! Viewing and decoding of the APDU with which bytes begin.
 
 ghost use Rattle.std.specs.Prelude.{◌≢◌, ◌<◌, ◌≤◌, length, IfOk, IfErr};
+ghost use Rattle.ill_values.specs.Body.{body_in};
 ghost use Rattle.ill_der.specs.declared.fault.DerFault.TheVariants.{OutOfMemory};
 ghost use Rattle.ill_der.specs.Contents.{yes_no, date, number};
 ghost use Rattle.ill_der.specs.Format.{Reads, required, where_yes};
 ghost use Rattle.ill_der.specs.ShortForm.{outer_view, outer_at, read_body, reply, body_of, inside_of, apdu_at, DecodesAs, Views, Decodes};
-ghost use Rattle.ill_der.specs.View.{body_in, HasItem};
+ghost use Rattle.ill_der.specs.View.{HasItem};
 
-use crate::apdu_view::{ApduView, BodyView};
+use crate::apdu_view::ApduView;
 use crate::cursor::Cursor;
 use crate::fault::DerFault;
 use crate::header::header_at;
 use crate::{laws, tags};
-use ill_values::{Apdu, ApduType, Day, Number};
+use ill_values::{Apdu, ApduType, BodyView, Day, Number};
 use std::alloc::Global;
 
 /// A complete APDU: its type, its contents, and its size in bytes.

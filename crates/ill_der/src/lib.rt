@@ -19,13 +19,14 @@ mod steps;
 mod tags;
 mod writing;
 
-pub use apdu_view::{ApduView, BodyView};
+pub use apdu_view::ApduView;
 pub use decoding::{decode, view};
 pub use encoding::{encode, encode_onto};
 pub use fault::{DerFault, ReadFault, WriteFault};
 pub use feed::{Feed, Pushed};
 pub use handling::Handler;
 pub use header::APDU_LIMIT;
+pub use ill_values::BodyView;
 pub use reading::{read_apdu, read_apdu_counted};
 pub use sizing::size;
 pub use steps::Steps;

@@ -8,10 +8,10 @@ use Rattle.std.proofs.lemmas.List.Sums.{count_by-le-length}
 use Rattle.ill_values.specs.Day.{Date}
 use Rattle.ill_values.specs.TxnId.{AreQualifiers}
 use Rattle.ill_values.specs.declared.apdu.Apdu.{Apdu}
-use Rattle.ill_values.specs.declared.apdu.Body.{Body}
-use Rattle.ill_values.specs.declared.apdu.Body.TheVariants.{IllRequest, IllAnswer, ConditionalReply, Cancel, CancelReply, Shipped}
-use Rattle.ill_values.specs.declared.apdu.Body.TheVariants.{Received, Recall, Returned, CheckedIn, Overdue, Renew, RenewAnswer}
-use Rattle.ill_values.specs.declared.apdu.Body.TheVariants.{Expired}
+use Rattle.ill_values.specs.Body.{Body}
+use Rattle.ill_values.specs.declared.apdu.BodyWith.TheVariants.{IllRequest, IllAnswer, ConditionalReply, Cancel, CancelReply}
+use Rattle.ill_values.specs.declared.apdu.BodyWith.TheVariants.{Shipped, Received, Recall, Returned, CheckedIn, Overdue, Renew}
+use Rattle.ill_values.specs.declared.apdu.BodyWith.TheVariants.{RenewAnswer, Expired}
 use Rattle.ill_values.specs.Apdu.{IsApdu, IsBody, IsNumber}
 use Rattle.ill_values.specs.Types.{type_of}
 use Rattle.ill_values.proofs.Texts.{item_utf8, qualifier_utf8}

@@ -3,7 +3,7 @@ use Rattle.std.specs.Prelude.{◌≡◌, ℕ, true, false, [], ◌∷◌}
 use Rattle.ill_values.specs.TxnId.{Qualifiers}
 use Rattle.ill_values.specs.Bodies.{is_requesters}
 use Rattle.ill_values.specs.declared.apdu.Apdu.{Apdu}
-use Rattle.ill_values.specs.declared.apdu.Body.{Body}
+use Rattle.ill_values.specs.Body.{Body}
 use Rattle.ill_core.specs.declared.turn.Turn.TheVariants.{Over}
 use Rattle.ill_core.specs.Issued.{is_same_txn}
 use Rattle.ill_core.specs.Requester.{RequesterRecord}

@@ -20,8 +20,8 @@ use Rattle.ill_core.specs.Responder.{ResponderRecord, responder_of}
 use Rattle.ill_core.specs.ResponderDeliveries.{take_message, takes as responder_takes}
 use Rattle.ill_core.specs.State.{is_among}
 use Rattle.ill_saved.specs.declared.fault.SidesFault.TheVariants as sides_faults
-use Rattle.ill_values.specs.declared.apdu.Body.{Body}
-use Rattle.ill_values.specs.declared.apdu.Body.TheVariants as types
+use Rattle.ill_values.specs.Body.{Body}
+use Rattle.ill_values.specs.declared.apdu.BodyWith.TheVariants as types
 use Rattle.ill_core.specs.Issued.{is_same_txn}
 use Rattle.ill_saved.specs.declared.role.Role.{Role}
 use Rattle.ill_saved.specs.declared.role.Role.TheVariants as roles

@@ -4,9 +4,9 @@ use Rattle.std.specs.Prelude.{take, drop, fold, codes, Option, None, Some}
 use Rattle.std.specs.List.{flat_map}
 use Rattle.std.specs.Fmt.{decimal}
 use Rattle.ill_values.specs.declared.apdu.Apdu.{Apdu}
-use Rattle.ill_values.specs.declared.apdu.Body.{Body}
-use Rattle.ill_values.specs.declared.apdu.Body.TheVariants.{IllRequest, ConditionalReply, CancelReply, Shipped, Received}
-use Rattle.ill_values.specs.declared.apdu.Body.TheVariants.{Returned, CheckedIn, Renew, RenewAnswer}
+use Rattle.ill_values.specs.Body.{Body}
+use Rattle.ill_values.specs.declared.apdu.BodyWith.TheVariants.{IllRequest, ConditionalReply, CancelReply, Shipped, Received}
+use Rattle.ill_values.specs.declared.apdu.BodyWith.TheVariants.{Returned, CheckedIn, Renew, RenewAnswer}
 use Rattle.ill_values.specs.Bodies.{is_requesters}
 use Rattle.ill_saved.specs.declared.side.Side.{Side}
 use Rattle.ill_saved.specs.declared.side.Side.TheVariants.{Requester, Responder}

@@ -9,9 +9,9 @@ use Rattle.ill_values.specs.Day.{Date, iso_text}
 use Rattle.ill_values.specs.Types.{type_name}
 use Rattle.ill_values.specs.Results.{result_name}
 use Rattle.ill_values.specs.declared.apdu.Apdu.{Apdu}
-use Rattle.ill_values.specs.declared.apdu.Body.{Body}
-use Rattle.ill_values.specs.declared.apdu.Body.TheVariants.{IllAnswer, ConditionalReply, CancelReply, Shipped, Overdue, Renew}
-use Rattle.ill_values.specs.declared.apdu.Body.TheVariants.{RenewAnswer}
+use Rattle.ill_values.specs.Body.{Body}
+use Rattle.ill_values.specs.declared.apdu.BodyWith.TheVariants.{IllAnswer, ConditionalReply, CancelReply, Shipped, Overdue, Renew}
+use Rattle.ill_values.specs.declared.apdu.BodyWith.TheVariants.{RenewAnswer}
 use Rattle.ill_core.specs.declared.turn.Turn.{Turn}
 use Rattle.ill_core.specs.declared.turn.Turn.TheVariants.{Over, Mine, Theirs}
 use Rattle.ill_core.specs.declared.verb.Verb.{Verb}

@@ -10,7 +10,6 @@ use crate::marks::marks;
 use ill_saved::Side;
 use ill_text::apdu_object::push_apdu;
 use ill_text::json::{ItemForm, Value, push_array, push_label, push_members, push_plain};
-use ill_text::lines::view;
 use ill_values::{Apdu, OutOfMemory};
 use ill_words::names::names;
 use ill_words::possible::{expiry, item_asked, possible_on};
@@ -202,7 +201,7 @@ fn push_issued(text: &mut Vec<u8>, apdu: &Apdu) -> Result<(), OutOfMemory>
         ++ joined member [] (apdu_fields apdu.now)) }
 {
     let (group, transaction) = (apdu.txn.group(), apdu.txn.transaction());
-    push_apdu(text, &view(&apdu.body), group, transaction, apdu.number)
+    push_apdu(text, &apdu.body.view(), group, transaction, apdu.number)
 }
 
 /// Appends the field that is true if `apdu` may be sent, if there is a number `released`.

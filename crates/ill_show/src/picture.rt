@@ -6,7 +6,7 @@ ghost use Rattle.ill_show.specs.Picture.{answers, arrow, arrows, comes_before, d
 
 use crate::kept::is_among;
 use ill_saved::Side;
-use ill_text::lines::{push_shown_fields, view};
+use ill_text::lines::push_shown_fields;
 use ill_values::{Apdu, Body, Number, OutOfMemory};
 use itoa::Buffer;
 use std::alloc::Global;
@@ -183,7 +183,7 @@ fn way(body: &Body) -> &'static str
 fn push_label(label: &mut Vec<u8>, apdu: &Apdu) -> Result<(), OutOfMemory>
     ensures { OnOk result (label.new.items ≡ label.old.items ++ label_of apdu.now) }
 {
-    let body = view(&apdu.body);
+    let body = apdu.body.view();
     label.extend_from_slice(Buffer::new().format(apdu.number.get()).as_bytes())?;
     label.push(b' ')?;
     label.extend_from_slice(body.type_name().as_bytes())?;

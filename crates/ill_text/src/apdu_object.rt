@@ -1,8 +1,9 @@
 //! The JSON object of an APDU.
 
 ghost use Rattle.std.specs.Prelude.{◌≡◌, [], ◌++◌, codes, OnOk};
-ghost use Rattle.ill_values.specs.declared.apdu.Body.TheVariants.{IllRequest};
-ghost use Rattle.ill_der.specs.View.{apdu_of, body_in};
+ghost use Rattle.ill_values.specs.declared.apdu.BodyWith.TheVariants.{IllRequest};
+ghost use Rattle.ill_values.specs.Body.{body_in};
+ghost use Rattle.ill_der.specs.View.{apdu_of};
 ghost use Rattle.ill_text.specs.Json.{joined, member};
 ghost use Rattle.ill_text.specs.ApduObject.{apdu_fields, body_fields, head_fields, object_line, optional_date_fields, reply_fields};
 

@@ -1,14 +1,15 @@
 //! The lines that the commands write.
 
 ghost use Rattle.std.specs.Prelude.{◌≡◌, ◌++◌, codes, OnOk};
-ghost use Rattle.ill_values.specs.declared.apdu.Body.TheVariants.{IllRequest};
-ghost use Rattle.ill_der.specs.View.{apdu_of, body_in};
+ghost use Rattle.ill_values.specs.declared.apdu.BodyWith.TheVariants.{IllRequest};
+ghost use Rattle.ill_values.specs.Body.{body_in};
+ghost use Rattle.ill_der.specs.View.{apdu_of};
 ghost use Rattle.ill_text.specs.Escape.{escaped};
 ghost use Rattle.ill_text.specs.Lines.{line, shown_fields, shown_lines, reply_word, number_line, date_line, optional_date_line, reply_lines, grant_lines, field_lines, id_lines, head_lines, lines_of, count_line};
 
 use crate::escape::push_escaped;
 use ill_der::{ApduView, BodyView};
-use ill_values::{Apdu, Body, Day, Number, OutOfMemory};
+use ill_values::{Apdu, Day, Number, OutOfMemory};
 use itoa::Buffer;
 
 /// Appends the lines of `apdu`.
@@ -31,7 +32,7 @@ pub fn push_apdu(lines: &mut Vec<u8>, apdu: &ApduView<'_>) -> Result<(), OutOfMe
 pub fn push_shown(lines: &mut Vec<u8>, apdu: &Apdu) -> Result<(), OutOfMemory>
     ensures { OnOk result (lines.new.items ≡ lines.old.items ++ shown_lines apdu.now) }
 {
-    let body = view(&apdu.body);
+    let body = apdu.body.view();
     push_head(
         lines,
         &body,
@@ -199,38 +200,4 @@ pub fn push_line(lines: &mut Vec<u8>, label: &str, value: &[u8]) -> Result<(), O
     lines.extend_from_slice(value)?;
     lines.push(b'\n')?;
     Ok(())
-}
-
-/// Returns a view of `body`.
-pub fn view(body: &Body) -> BodyView<'_>
-    ensures { body_in result ≡ body.now }
-{
-    match body {
-        Body::IllRequest { expiry, item } => BodyView::IllRequest {
-            expiry: *expiry,
-            item: item.text(),
-        },
-        Body::IllAnswer { result } => BodyView::IllAnswer { result: *result },
-        Body::ConditionalReply { answers, yes } => BodyView::ConditionalReply {
-            answers: *answers,
-            yes: *yes,
-        },
-        Body::Cancel => BodyView::Cancel,
-        Body::CancelReply { answers, yes } => BodyView::CancelReply {
-            answers: *answers,
-            yes: *yes,
-        },
-        Body::Shipped { due } => BodyView::Shipped { due: *due },
-        Body::Received => BodyView::Received,
-        Body::Recall => BodyView::Recall,
-        Body::Returned => BodyView::Returned,
-        Body::CheckedIn => BodyView::CheckedIn,
-        Body::Overdue { due } => BodyView::Overdue { due: *due },
-        Body::Renew { wished } => BodyView::Renew { wished: *wished },
-        Body::RenewAnswer { answers, granted } => BodyView::RenewAnswer {
-            answers: *answers,
-            granted: *granted,
-        },
-        Body::Expired => BodyView::Expired,
-    }
 }

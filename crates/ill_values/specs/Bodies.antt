@@ -1,9 +1,9 @@
 -- Tests the type and the fields of an APDU (this profile's own).
 use Rattle.std.specs.Prelude.{ℕ, Bool, true, false, ◌||◌, Option, Some, None}
-use Rattle.ill_values.specs.declared.apdu.Body.{Body}
-use Rattle.ill_values.specs.declared.apdu.Body.TheVariants.{IllRequest, IllAnswer, ConditionalReply, Cancel, CancelReply, Shipped}
-use Rattle.ill_values.specs.declared.apdu.Body.TheVariants.{Overdue}
-use Rattle.ill_values.specs.declared.apdu.Body.TheVariants.{Received, Returned, CheckedIn, Renew, RenewAnswer, Expired}
+use Rattle.ill_values.specs.Body.{Body}
+use Rattle.ill_values.specs.declared.apdu.BodyWith.TheVariants.{IllRequest, IllAnswer, ConditionalReply, Cancel, CancelReply}
+use Rattle.ill_values.specs.declared.apdu.BodyWith.TheVariants.{Shipped, Overdue, Received, Returned, CheckedIn, Renew}
+use Rattle.ill_values.specs.declared.apdu.BodyWith.TheVariants.{RenewAnswer, Expired}
 use Rattle.ill_values.specs.declared.apdu.AnswerResult.{AnswerResult}
 use Rattle.ill_values.specs.declared.apdu.AnswerResult.TheVariants.{Conditional, WillSupply, HoldPlaced}
 use Rattle.ill_values.specs.Day.{Date}

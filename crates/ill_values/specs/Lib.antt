@@ -1,6 +1,7 @@
 pub mod Day
 pub mod Text
 pub mod TxnId
+pub mod Body
 pub mod Apdu
 pub mod Bodies
 pub mod Names

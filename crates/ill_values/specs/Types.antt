@@ -1,7 +1,7 @@
 -- Defines the fourteen types of APDU, and their names.
 use Rattle.std.specs.Prelude.{ℕ, List, [], ◌∷◌, Option, codes}
-use Rattle.ill_values.specs.declared.apdu.Body.{Body}
-use Rattle.ill_values.specs.declared.apdu.Body.TheVariants as bodies
+use Rattle.ill_values.specs.declared.apdu.BodyWith.{BodyWith}
+use Rattle.ill_values.specs.declared.apdu.BodyWith.TheVariants as bodies
 use Rattle.ill_values.specs.declared.apdu_type.ApduType.{ApduType}
 use Rattle.ill_values.specs.declared.apdu_type.ApduType.TheVariants.{IllRequest, Shipped, IllAnswer, ConditionalReply, Cancel}
 use Rattle.ill_values.specs.declared.apdu_type.ApduType.TheVariants.{CancelReply, Received, Recall, Returned, CheckedIn, Overdue}
@@ -15,7 +15,7 @@ all_types =
     ∷ Returned ∷ CheckedIn ∷ Overdue ∷ Renew ∷ RenewAnswer ∷ Expired ∷ []
 
 -- Returns the type of a body.
-abbrev pub type_of : Body → ApduType
+abbrev pub type_of : {I : Type 0} → BodyWith I → ApduType
 type_of (bodies.IllRequest expiry item) = IllRequest
 type_of (bodies.Shipped due) = Shipped
 type_of (bodies.IllAnswer result) = IllAnswer
@@ -53,5 +53,5 @@ abbrev pub apdu_type_named : List ℕ → Option ApduType
 apdu_type_named = named_by apdu_type_name all_types
 
 -- Returns the name of the type of a body.
-abbrev pub type_name : Body → List ℕ
+abbrev pub type_name : {I : Type 0} → BodyWith I → List ℕ
 type_name body = apdu_type_name (type_of body)

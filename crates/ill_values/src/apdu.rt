@@ -1,18 +1,22 @@
 //! Defines the messages of the protocol.
 
-ghost use Rattle.std.specs.Prelude.{◌≡◌, Some, IfOk};
+ghost use Rattle.std.specs.Prelude.{◌≡◌, ℕ, List, Some, IfOk};
 ghost use Rattle.std.specs.Result.{result_ok};
 ghost use Rattle.std.specs.Fmt.{padded};
+ghost use Rattle.std.specs.Fn.{FnOnceReturnsAt};
+ghost use Rattle.ill_values.specs.Body.{map_item, body_in, checked_body, Maps};
 ghost use Rattle.ill_values.specs.Results.{result_name, result_named};
-ghost use Rattle.ill_values.specs.Types.{type_name};
+ghost use Rattle.ill_values.specs.Text.{ReturnsText};
+ghost use Rattle.ill_values.specs.Types.{type_of, type_name};
 
 use crate::apdu_type::ApduType;
 use crate::day::Day;
-use crate::fault::UnknownName;
+use crate::fault::{TextFault, UnknownName};
 use crate::item::Item;
 use crate::number::Number;
 use crate::txn_id::TxnId;
 use std::alloc::{AllocError as OutOfMemory, Global};
+use std::convert::Infallible;
 use std::fmt;
 use std::str::FromStr;
 
@@ -46,14 +50,20 @@ impl Apdu {
 ///
 /// A requester issues `IllRequest`, `ConditionalReply`, `Cancel`, `Received`, `Renew` and `Returned`, and a responder
 /// the other eight.
-#[derive(Debug, PartialEq, Eq, Drop)]
-pub enum Body {
+pub type Body = BodyWith<Item>;
+
+/// A view of the body of a message: `Body`, with the bytes of its item borrowed.
+pub type BodyView<'a> = BodyWith<&'a [u8]>;
+
+/// The body of a message, with an `I` for its item.
+#[derive(Clone, Copy, Debug, PartialEq, Eq, Drop)]
+pub enum BodyWith<I> {
     /// The requester asks for an item.
     IllRequest {
         /// The last day of the request: the responder may let it expire from the next day on.
         expiry: Option<Day>,
         /// The item that is asked for.
-        item: Item,
+        item: I,
     },
     /// The responder reports a result: conditions, a promise, or the end of the request.
     IllAnswer {
@@ -110,46 +120,108 @@ pub enum Body {
     Expired,
 }
 
-impl Body {
+impl<I> BodyWith<I> {
+    /// Returns the type of the message.
+    pub fn apdu_type(&self) -> ApduType
+        ensures value { result ≡ type_of self.now }
+        ensures mapped { (text : I → List ℕ) → result ≡ type_of (map_item text self.now) }
+    {
+        match self {
+            BodyWith::IllRequest { .. } => ApduType::IllRequest,
+            BodyWith::Shipped { .. } => ApduType::Shipped,
+            BodyWith::IllAnswer { .. } => ApduType::IllAnswer,
+            BodyWith::ConditionalReply { .. } => ApduType::ConditionalReply,
+            BodyWith::Cancel => ApduType::Cancel,
+            BodyWith::CancelReply { .. } => ApduType::CancelReply,
+            BodyWith::Received => ApduType::Received,
+            BodyWith::Recall => ApduType::Recall,
+            BodyWith::Returned => ApduType::Returned,
+            BodyWith::CheckedIn => ApduType::CheckedIn,
+            BodyWith::Overdue { .. } => ApduType::Overdue,
+            BodyWith::Renew { .. } => ApduType::Renew,
+            BodyWith::RenewAnswer { .. } => ApduType::RenewAnswer,
+            BodyWith::Expired => ApduType::Expired,
+        }
+    }
+
     /// Returns the name of the type of the message, as `ILL-Request`.
     pub fn type_name(&self) -> &'static str
-        ensures { result.now ≡ type_name self.now }
+        ensures value { result.now ≡ type_name self.now }
+        ensures mapped { (text : I → List ℕ) → result.now ≡ type_name (map_item text self.now) }
     {
-        ApduType::of(self).name()
+        self.apdu_type().name()
+    }
+
+    /// Returns the body with what `make` makes of its item, or the error of `make`. Only an `IllRequest` has an item.
+    fn try_map<'a, J, E, Make: FnOnce(&'a I) -> Result<J, E>>(
+        &'a self,
+        make: Make,
+    ) -> Result<BodyWith<J>, E>
+    where
+        Make: Drop,
+        requires { Make.IsAlwaysCallable make }
+        ensures { Maps (λ item made. FnOnceReturnsAt Make.FnOnce make item made) self.now result }
+    {
+        Ok(match self {
+            BodyWith::IllRequest { expiry, item } => BodyWith::IllRequest {
+                expiry: *expiry,
+                item: match make(item) {
+                    Ok(made) => made,
+                    Err(fault) => return Err(fault),
+                },
+            },
+            BodyWith::IllAnswer { result } => BodyWith::IllAnswer { result: *result },
+            BodyWith::ConditionalReply { answers, yes } => BodyWith::ConditionalReply {
+                answers: *answers,
+                yes: *yes,
+            },
+            BodyWith::Cancel => BodyWith::Cancel,
+            BodyWith::CancelReply { answers, yes } => BodyWith::CancelReply {
+                answers: *answers,
+                yes: *yes,
+            },
+            BodyWith::Shipped { due } => BodyWith::Shipped { due: *due },
+            BodyWith::Received => BodyWith::Received,
+            BodyWith::Recall => BodyWith::Recall,
+            BodyWith::Returned => BodyWith::Returned,
+            BodyWith::CheckedIn => BodyWith::CheckedIn,
+            BodyWith::Overdue { due } => BodyWith::Overdue { due: *due },
+            BodyWith::Renew { wished } => BodyWith::Renew { wished: *wished },
+            BodyWith::RenewAnswer { answers, granted } => BodyWith::RenewAnswer {
+                answers: *answers,
+                granted: *granted,
+            },
+            BodyWith::Expired => BodyWith::Expired,
+        })
+    }
+}
+
+impl Body {
+    /// Returns a view of the body. It allocates nothing.
+    pub fn view(&self) -> BodyView<'_>
+        ensures { body_in result ≡ self.now }
+    {
+        match self.try_map(|item| Ok::<_, Infallible>(item.text())) {
+            Ok(view) => view,
+            Err(never) => match never {},
+        }
     }
 
     /// Returns a copy of the body, in memory of its own. Only an `IllRequest` allocates.
     fn copy(&self, alloc: Global) -> Result<Body, OutOfMemory>
         ensures { IfOk result (λ body. body ≡ self.now) }
     {
-        Ok(match self {
-            Body::IllRequest { expiry, item } => Body::IllRequest {
-                expiry: *expiry,
-                item: item.copy(alloc)?,
-            },
-            Body::IllAnswer { result } => Body::IllAnswer { result: *result },
-            Body::ConditionalReply { answers, yes } => Body::ConditionalReply {
-                answers: *answers,
-                yes: *yes,
-            },
-            Body::Cancel => Body::Cancel,
-            Body::CancelReply { answers, yes } => Body::CancelReply {
-                answers: *answers,
-                yes: *yes,
-            },
-            Body::Shipped { due } => Body::Shipped { due: *due },
-            Body::Received => Body::Received,
-            Body::Recall => Body::Recall,
-            Body::Returned => Body::Returned,
-            Body::CheckedIn => Body::CheckedIn,
-            Body::Overdue { due } => Body::Overdue { due: *due },
-            Body::Renew { wished } => Body::Renew { wished: *wished },
-            Body::RenewAnswer { answers, granted } => Body::RenewAnswer {
-                answers: *answers,
-                granted: *granted,
-            },
-            Body::Expired => Body::Expired,
-        })
+        self.try_map(|item| item.copy(alloc))
+    }
+}
+
+impl BodyView<'_> {
+    /// Returns the body with the item in memory of its own, or the first fault of the item. Only an `IllRequest`
+    /// allocates.
+    pub fn to_body(&self, alloc: Global) -> Result<Body, TextFault>
+        ensures { ReturnsText (checked_body self.now) result }
+    {
+        self.try_map(|item| Item::new(alloc, item))
     }
 }
 

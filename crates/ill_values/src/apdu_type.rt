@@ -3,7 +3,6 @@
 ghost use Rattle.std.specs.Prelude.{◌≡◌, Some};
 ghost use Rattle.std.specs.Result.{result_ok};
 ghost use Rattle.std.specs.Fmt.{padded};
-ghost use Rattle.ill_values.specs.declared.apdu.Body.{Body};
 ghost use Rattle.ill_values.specs.Types.{type_of, apdu_type_name, apdu_type_named};
 
 use crate::apdu::Body;
@@ -99,22 +98,7 @@ impl ApduType {
     pub fn of(body: &Body) -> ApduType
         ensures { result ≡ type_of body.now }
     {
-        match body {
-            Body::IllRequest { .. } => ApduType::IllRequest,
-            Body::Shipped { .. } => ApduType::Shipped,
-            Body::IllAnswer { .. } => ApduType::IllAnswer,
-            Body::ConditionalReply { .. } => ApduType::ConditionalReply,
-            Body::Cancel => ApduType::Cancel,
-            Body::CancelReply { .. } => ApduType::CancelReply,
-            Body::Received => ApduType::Received,
-            Body::Recall => ApduType::Recall,
-            Body::Returned => ApduType::Returned,
-            Body::CheckedIn => ApduType::CheckedIn,
-            Body::Overdue { .. } => ApduType::Overdue,
-            Body::Renew { .. } => ApduType::Renew,
-            Body::RenewAnswer { .. } => ApduType::RenewAnswer,
-            Body::Expired => ApduType::Expired,
-        }
+        body.apdu_type()
     }
 }
 

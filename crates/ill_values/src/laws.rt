@@ -4,7 +4,7 @@ ghost use Rattle.std.specs.Prelude.{◌≡◌, ◌≤◌, ◌↔◌, ℕ, List, 
 ghost use Rattle.ill_values.specs.Text.{IsQualifier, IsItem};
 ghost use Rattle.ill_values.specs.TxnId.{Qualifiers};
 ghost use Rattle.ill_values.specs.declared.apdu.Apdu.{Apdu};
-ghost use Rattle.ill_values.specs.declared.apdu.Body.{Body};
+ghost use Rattle.ill_values.specs.Body.{Body};
 ghost use Rattle.ill_values.specs.declared.apdu.AnswerResult.{AnswerResult};
 ghost use Rattle.ill_values.specs.declared.apdu_type.ApduType.{ApduType};
 ghost use Rattle.ill_values.specs.Names.{named_by};

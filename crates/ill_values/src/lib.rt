@@ -15,7 +15,7 @@ mod number;
 mod text;
 mod txn_id;
 
-pub use apdu::{AnswerResult, Apdu, Body};
+pub use apdu::{AnswerResult, Apdu, Body, BodyView, BodyWith};
 pub use apdu_type::ApduType;
 pub use day::Day;
 pub use fault::{DayFault, NotANumber, TextFault, UnknownName};

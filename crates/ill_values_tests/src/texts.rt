@@ -1,6 +1,8 @@
 //! Tests of transaction ids, items and numbers.
 
-use ill_values::{ITEM_LIMIT, Item, NotANumber, Number, QUALIFIER_LIMIT, TextFault, TxnId};
+use ill_values::{
+    BodyView, ITEM_LIMIT, Item, NotANumber, Number, QUALIFIER_LIMIT, TextFault, TxnId,
+};
 use std::alloc::Global;
 use std::process::Abort;
 use std::test::Fail;
@@ -171,6 +173,29 @@ fn expect_item(rt: &impl Abort, alloc: Global, row: &Row) {
             assert!(rt; item.text() == row.text, "text of {}", row.case);
             assert!(rt; item.as_str().as_bytes() == row.text, "str of {}", row.case);
         }
+        Err(fault) => assert!(rt; row.fault == Some(fault), "fault of {}", row.case),
+    }
+}
+
+#[test]
+fn views_are_judged_by_their_item(rt: HostRuntime) {
+    for row in &ITEMS {
+        expect_body(&rt, rt.alloc(), row);
+    }
+}
+
+/// Asserts that a view of the request of the text of `row` is accepted or refused as a body.
+fn expect_body(rt: &impl Abort, alloc: Global, row: &Row) {
+    let view = BodyView::IllRequest {
+        expiry: None,
+        item: row.text,
+    };
+    match view.to_body(alloc) {
+        Ok(body) => assert!(rt;
+            row.fault.is_none() && body.is_ill_request(),
+            "{}",
+            row.case
+        ),
         Err(fault) => assert!(rt; row.fault == Some(fault), "fault of {}", row.case),
     }
 }

@@ -10,8 +10,8 @@ use Rattle.ill_saved.specs.declared.side.Side.{Side}
 use Rattle.ill_saved.specs.declared.side.Side.TheVariants.{Requester, Responder}
 use Rattle.ill_saved.specs.Side.{due_date_of}
 use Rattle.ill_saved.specs.SideVerbs.{verbs_of}
-use Rattle.ill_values.specs.declared.apdu.Body.{Body}
-use Rattle.ill_values.specs.declared.apdu.Body.TheVariants.{IllRequest}
+use Rattle.ill_values.specs.Body.{Body}
+use Rattle.ill_values.specs.declared.apdu.BodyWith.TheVariants.{IllRequest}
 
 -- Returns the request of a loan: a requester's first message, or the request in a responder's record.
 abbrev pub request_of : Side → Option Apdu

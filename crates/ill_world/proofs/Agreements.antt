@@ -4,8 +4,8 @@ use Rattle.std.proofs.Common.{refl, sym, ap, ◌∙◌, arith}
 use Rattle.std.proofs.lemmas.Bool.{and_parts, eq-eqb}
 use Rattle.ill_values.specs.TxnId.{Qualifiers}
 use Rattle.ill_values.specs.declared.apdu.Apdu.{Apdu}
-use Rattle.ill_values.specs.declared.apdu.Body.{Body}
-use Rattle.ill_values.specs.declared.apdu.Body.TheVariants as types
+use Rattle.ill_values.specs.Body.{Body}
+use Rattle.ill_values.specs.declared.apdu.BodyWith.TheVariants as types
 use Rattle.ill_core.specs.declared.state.State.{State}
 use Rattle.ill_core.specs.declared.state.State.TheVariants as states
 use Rattle.ill_core.specs.State.{is_among}
@@ -171,7 +171,8 @@ cancel_is_open txn x y responder_sent requester_sent requester_stands responder_
         let place : m ≡ other.0 = answers_once (responder.answered_number responder.MayCancel) y.issued
         responder_stands.cancels.distinct m other.0 c a refused.0 at other.1 yes_answers no_answers in
         let same : ◌≡◌ {A = Option Apdu} (Some a) (Some refused.0) = sym at ∙ ap (message y.issued) place ∙ other.1 in
-        let bodies : types.CancelReply c true ≡ types.CancelReply c false = sym is ∙ body_of a refused.0 same ∙ no in
+        let bodies : ◌≡◌ {A = Body} (types.CancelReply c true) (types.CancelReply c false) =
+            sym is ∙ body_of a refused.0 same ∙ no in
         search rules
 
 -- `SaysTrue` holds of two such records: each record's claims on the other side are right.

@@ -4,8 +4,8 @@ use Rattle.std.proofs.Common.{Ok, refl, sym, ap, ◌∙◌, subst}
 use Rattle.ill_values.specs.Day.{Date}
 use Rattle.ill_values.specs.TxnId.{Qualifiers}
 use Rattle.ill_values.specs.declared.apdu.Apdu.{Apdu}
-use Rattle.ill_values.specs.declared.apdu.Body.{Body}
-use Rattle.ill_values.specs.declared.apdu.Body.TheVariants as types
+use Rattle.ill_values.specs.Body.{Body}
+use Rattle.ill_values.specs.declared.apdu.BodyWith.TheVariants as types
 use Rattle.ill_core.specs.declared.state.State.{State}
 use Rattle.ill_core.specs.declared.state.State.TheVariants as states
 use Rattle.ill_core.specs.declared.refusal.Refusal.{Refusal}

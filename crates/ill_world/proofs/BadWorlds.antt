@@ -5,9 +5,9 @@ use Rattle.ill_values.specs.Day.{Date}
 use Rattle.ill_values.specs.declared.apdu.AnswerResult.{AnswerResult}
 use Rattle.ill_values.specs.declared.apdu.Apdu.{Apdu}
 use Rattle.ill_core.specs.Dates.{is_after_due}
-use Rattle.ill_values.specs.declared.apdu.Body.{Body}
-use Rattle.ill_values.specs.declared.apdu.Body.TheVariants.{IllAnswer, ConditionalReply, CancelReply, Shipped, RenewAnswer}
-use Rattle.ill_values.specs.declared.apdu.Body.TheVariants.{Expired}
+use Rattle.ill_values.specs.Body.{Body}
+use Rattle.ill_values.specs.declared.apdu.BodyWith.TheVariants.{IllAnswer, ConditionalReply, CancelReply, Shipped, RenewAnswer}
+use Rattle.ill_values.specs.declared.apdu.BodyWith.TheVariants.{Expired}
 use Rattle.ill_core.specs.declared.state.State.{State}
 use Rattle.ill_core.specs.declared.state.State.TheVariants as states
 use Rattle.ill_core.specs.State.{is_among}

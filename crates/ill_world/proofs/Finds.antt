@@ -6,7 +6,7 @@ use Rattle.std.specs.List.{list_any, list_all, filter_map, cons_option, last_or}
 use Rattle.std.proofs.lemmas.Bool.{and_parts, eqb-true}
 use Rattle.ill_values.specs.TxnId.{Qualifiers}
 use Rattle.ill_values.specs.declared.apdu.Apdu.{Apdu}
-use Rattle.ill_values.specs.declared.apdu.Body.{Body}
+use Rattle.ill_values.specs.Body.{Body}
 use Rattle.ill_core.specs.Issued.{message, last_of, are_numbered}
 use Rattle.ill_world.proofs.Uniqueness.{at_number, message_number, same_apdu}
 

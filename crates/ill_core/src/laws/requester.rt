@@ -3,8 +3,8 @@
 ghost use Rattle.std.specs.Prelude.{◌≡◌, ◌↔◌, ◌⊎◌, ◌+◌, ◌≤◌, ◌&&◌, ℕ, List, [], ◌∷◌, ◌++◌, length, Option, Some, is_some, true, false, Ok};
 ghost use Rattle.ill_values.specs.Day.{Date};
 ghost use Rattle.ill_values.specs.declared.apdu.Apdu.{Apdu};
-ghost use Rattle.ill_values.specs.declared.apdu.Body.{Body};
-ghost use Rattle.ill_values.specs.declared.apdu.Body.TheVariants as types;
+ghost use Rattle.ill_values.specs.Body.{Body};
+ghost use Rattle.ill_values.specs.declared.apdu.BodyWith.TheVariants as types;
 ghost use Rattle.ill_core.specs.declared.requester.Wish.{Wish};
 ghost use Rattle.ill_core.specs.declared.state.State.TheVariants as states;
 ghost use Rattle.ill_core.specs.declared.taking.Taking.TheVariants.{Taken};

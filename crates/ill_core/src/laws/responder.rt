@@ -3,7 +3,7 @@
 ghost use Rattle.std.specs.Prelude.{◌≡◌, ◌↔◌, ◌⊎◌, ◌≤◌, ℕ, [], ◌∷◌, length, is_some, true, false, Ok};
 ghost use Rattle.ill_values.specs.Day.{Date};
 ghost use Rattle.ill_values.specs.declared.apdu.Apdu.{Apdu};
-ghost use Rattle.ill_values.specs.declared.apdu.Body.TheVariants as types;
+ghost use Rattle.ill_values.specs.declared.apdu.BodyWith.TheVariants as types;
 ghost use Rattle.ill_core.specs.declared.responder.Deed.{Deed};
 ghost use Rattle.ill_core.specs.declared.state.State.TheVariants as states;
 ghost use Rattle.ill_core.specs.declared.taking.Taking.TheVariants.{Taken};
@@ -15,7 +15,7 @@ ghost use Rattle.ill_core.specs.Responder.{ResponderRecord, IsResponder, later};
 ghost use Rattle.ill_core.specs.ResponderRules.{ResponderRules};
 ghost use Rattle.ill_core.specs.ResponderActions.{acts};
 ghost use Rattle.ill_core.specs.ResponderDeliveries.{takes};
-ghost use Rattle.ill_values.specs.declared.apdu.Body.{Body};
+ghost use Rattle.ill_values.specs.Body.{Body};
 ghost use Rattle.ill_core.specs.ResponderNotices.{WasAsked, HasAnsweredLast, RecallFits, ShipsBeforeRecall, GrantsRise, OverdueFits, GrantsBeforeOverdue, has_heard, reopens};
 ghost use Rattle.ill_core.specs.ResponderEvidence.{Fact, Claims, IsEvidence, KeepsRequest, IssuesUnfilled, StaysLater, Ends, EntersByEnd, EndsOnce, Question, MayCancel, MayRenew, asks, is_question_open, last_asked, AnswersLast, KeepsLast, TakesNew, AnswersOnce, LeadsTo};
 

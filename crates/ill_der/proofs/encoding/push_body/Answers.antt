@@ -1,7 +1,7 @@
 -- Proves the clause `prefix` of `encoding::push_body`: at an error, a proper prefix of the further fields was appended.
 -- Complete fields followed by a proper prefix of the next field are a proper prefix of all fields.
 use Rattle.std.proofs.Common.{OnErr, ℕ, List, sym, subst}
-use Rattle.ill_values.specs.declared.apdu.Body.{Body}
+use Rattle.ill_values.specs.Body.{Body}
 use Rattle.ill_der.specs.Adding.{AddsPrefix}
 use Rattle.ill_der.specs.Contents.{date}
 use Rattle.ill_der.specs.Format.{element, optional}

@@ -6,6 +6,8 @@ use Rattle.ill_core.specs.declared.refusal.Refusal.{Refusal}
 use Rattle.ill_core.specs.declared.refusal.Refusal.TheVariants as refusals
 use Rattle.ill_saved.specs.declared.store.StoreFault.{StoreFault}
 use Rattle.ill_saved.specs.declared.store.StoreFault.TheVariants as stores
+use Rattle.ill_saved.specs.declared.file_lock.LockFault.{LockFault}
+use Rattle.ill_saved.specs.declared.file_lock.LockFault.TheVariants as locks
 use Rattle.ill_saved.specs.declared.fault.RecordFault.{RecordFault}
 use Rattle.ill_saved.specs.declared.fault.RecordFault.TheVariants as records
 use Rattle.ill_saved.specs.declared.fault.DeskFault.{DeskFault}
@@ -25,6 +27,11 @@ of_core other = Core other
 abbrev pub of_store : StoreFault → DeskFault
 of_store stores.OutOfMemory = OutOfMemory
 of_store other = Store other
+
+-- Returns the fault of a store whose lock was not taken.
+abbrev pub of_lock : LockFault → StoreFault
+of_lock locks.OutOfMemory = stores.OutOfMemory
+of_lock other = stores.Failed
 
 -- Returns the fault of a desk for a fault of its record. A lack of memory becomes the desk's own `OutOfMemory`.
 abbrev pub of_record : RecordFault → DeskFault

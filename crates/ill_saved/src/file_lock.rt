@@ -1,17 +1,21 @@
 //! The lock of a desk's file, which one command at a time holds.
 
 ghost use Rattle.std.specs.Prelude.{◌≡◌, ◌⊎◌, IfErr};
+ghost use Rattle.ill_saved.specs.declared.file_lock.LockFault.TheVariants as locks;
 ghost use Rattle.ill_saved.specs.declared.store.StoreFault.TheVariants.{Failed, OutOfMemory};
+ghost use Rattle.ill_saved.specs.Faults.{of_lock};
 
+use crate::file_store::{FileStore, RECORD_LIMIT};
 use crate::regular_file;
 use crate::store::StoreFault;
-use std::alloc::Global;
+use std::alloc::{AllocError, AllocFailed, Global};
 use std::fs::{File, Metadata, OpenFile, TryLockError};
 use std::io::ErrorKind;
 use std::os::unix::fs::MetadataExt;
 use std::rt::Files;
 use std::time::Duration;
 use std::{fs, io, thread};
+use thiserror::Error;
 
 /// Files that can be locked, and a way to wait.
 pub trait LockFiles: Files {
@@ -37,6 +41,48 @@ impl LockFiles for HostRuntime {
     }
 }
 
+/// The fault of a lock that was not taken.
+#[derive(Clone, Copy, Debug, PartialEq, Eq, Hash, Error)]
+pub enum LockFault {
+    /// Another program held the lock for ten seconds.
+    #[error("busy")]
+    Busy,
+    /// The file of the lock cannot be made, opened or locked, or the path is one of a file beside a record.
+    #[error("failed")]
+    Failed,
+    /// Memory ran out.
+    #[error("memory")]
+    OutOfMemory,
+}
+
+impl From<AllocError> for LockFault {
+    ghost from_gives = { λ _ fault. fault ≡ locks.OutOfMemory };
+
+    fn from(_error: AllocError) -> LockFault {
+        LockFault::OutOfMemory
+    }
+}
+
+impl<T: Drop> From<AllocFailed<T>> for LockFault {
+    ghost from_gives = { λ _ fault. fault ≡ locks.OutOfMemory };
+
+    fn from(_error: AllocFailed<T>) -> LockFault {
+        LockFault::OutOfMemory
+    }
+}
+
+/// Returns the fault of a store whose lock was not taken.
+impl From<LockFault> for StoreFault {
+    ghost from_gives = { λ lock fault. fault ≡ of_lock lock };
+
+    fn from(fault: LockFault) -> StoreFault {
+        match fault {
+            LockFault::Busy | LockFault::Failed => StoreFault::Failed,
+            LockFault::OutOfMemory => StoreFault::OutOfMemory,
+        }
+    }
+}
+
 /// The number of attempts at a lock, with a pause between: ten seconds in all.
 const TRIES: u32 = 100;
 
@@ -47,46 +93,64 @@ const TRIES: u32 = 100;
 /// this file without a lock.
 pub struct FileLock<'a, R: LockFiles> {
     rt: &'a R,
+    /// The path of the file that the lock guards.
     path: String,
+    /// The path of the file beside it.
+    lock_path: String,
     /// The file that is locked, or `None` in a folder in which nothing can be saved.
     file: Option<R::File>,
 }
 
 impl<'a, R: LockFiles> FileLock<'a, R> {
-    /// Takes the lock of the file at `path`, which need not exist. While another program holds it, waits, ten seconds
-    /// at most, and then answers `Failed`.
-    ///
-    /// In a folder that does not exist, or in which no file may be created, succeeds at once without a lock. Its holder
-    /// cannot save there.
+    /// Takes the lock as `wait_for` does. It also answers `Failed` if another program holds the lock.
     pub fn take(rt: &'a R, alloc: Global, path: &str) -> Result<FileLock<'a, R>, StoreFault>
         ensures { IfErr result (λ fault. (fault ≡ Failed) ⊎ (fault ≡ OutOfMemory)) }
     {
+        Ok(FileLock::wait_for(rt, alloc, path)?)
+    }
+
+    /// Takes the lock of the file at `path`, which need not exist. While another program holds it, waits, ten seconds
+    /// at most, and then answers `Busy`.
+    ///
+    /// In a folder that does not exist, or in which no file may be created, succeeds at once without a lock. Its holder
+    /// cannot save there.
+    pub fn wait_for(rt: &'a R, alloc: Global, path: &str) -> Result<FileLock<'a, R>, LockFault> {
+        let own_path = String::from_str(alloc, path)?;
         let mut lock_path = String::from_str(alloc, path)?;
         lock_path.push_str(regular_file::LOCK)?;
-        match wait(rt, path, lock_path.as_str()) {
-            Ok(Attempt::Busy) | Err(_) => Err(StoreFault::Failed),
-            Ok(Attempt::Needless) => Ok(FileLock {
-                rt,
-                path: lock_path,
-                file: None,
-            }),
-            Ok(Attempt::Taken(file)) => Ok(FileLock {
-                rt,
-                path: lock_path,
-                file: Some(file),
-            }),
-        }
+        let file = match wait(rt, path, lock_path.as_str()) {
+            Ok(Attempt::Busy) => return Err(LockFault::Busy),
+            Err(_) => return Err(LockFault::Failed),
+            Ok(Attempt::Needless) => None,
+            Ok(Attempt::Taken(file)) => Some(file),
+        };
+        Ok(FileLock {
+            rt,
+            path: own_path,
+            lock_path,
+            file,
+        })
+    }
+
+    /// Returns the store in the file that the lock guards, for every record of a desk.
+    pub(crate) fn store(&self, alloc: Global) -> Result<FileStore<'a, R>, AllocError> {
+        FileStore::at(self.rt, alloc, self.path.as_str(), RECORD_LIMIT)
     }
 }
 
 impl<R: LockFiles> Drop for FileLock<'_, R> {
     /// Removes the file of the lock, if it still exists, and then releases the lock.
     fn drop(self) {
-        let FileLock { rt, path, file } = self;
+        let FileLock {
+            rt,
+            path: _path,
+            lock_path,
+            file,
+        } = self;
         if let Some(file) = &file
-            && is_at(rt, path.as_str(), file).unwrap_or(false)
+            && is_at(rt, lock_path.as_str(), file).unwrap_or(false)
         {
-            let _ = fs::remove_file(rt, path.as_str());
+            let _ = fs::remove_file(rt, lock_path.as_str());
         }
         drop(file);
     }

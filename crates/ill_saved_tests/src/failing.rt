@@ -1,5 +1,6 @@
 //! Wraps the files of the system, so that one call fails, or a lookup tells something false.
 
+use ill_saved::LockFiles;
 use std::alloc::{AllocError, Allocator, Global};
 use std::cell::Cell;
 use std::fs::{File, Metadata, OpenFile, OpenOptions, Permissions};
@@ -190,6 +191,15 @@ impl<'a> Files for Failing<'a> {
     fn remove_dir_all<B: Allocator>(&self, alloc: B, path: &str) -> io::Result<()> {
         self.rt.remove_dir_all(alloc, path)
     }
+}
+
+impl LockFiles for Failing<'_> {
+    fn try_lock(&self, file: &FailingFile) -> io::Result<bool> {
+        self.left.pass()?;
+        self.rt.try_lock(&file.file)
+    }
+
+    fn pause(&self) {}
 }
 
 impl OpenFile for FailingFile {

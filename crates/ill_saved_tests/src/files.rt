@@ -5,7 +5,7 @@ ghost use Rattle.ill_saved.specs.declared.store.StoreFault.TheVariants.{Failed};
 ghost use Rattle.ill_saved.specs.Store.{failed_file};
 
 use crate::failing::{Deceit, Failing};
-use ill_saved::{FileLock, FileStore, Store, StoreFault};
+use ill_saved::{FileLock, FileStore, LockFault, LockFiles, Store, StoreFault};
 use ill_saved_kit::{FileCall, Folder, Line, Names, write_loaded, write_saved};
 use ill_test_kit::marks::TRIES;
 use ill_test_kit::{marks, named};
@@ -70,7 +70,8 @@ impl<'a> FileBench<'a> {
                 self.folder.rt.symlink(call.words, call.path()),
             ),
             "shows" => self.folder.show(line, call.path()),
-            "lock" => self.lock(line, call.path()),
+            "lock" => self.lock(line, self.folder.rt, call.path()),
+            "held" => self.held(line, call.path()),
             "mode" => self.mode(line, call.path()),
             "change" => self.change_mode(line, call.path(), call.words),
             _ => None,
@@ -96,25 +97,31 @@ impl<'a> FileBench<'a> {
         Some(())
     }
 
-    /// Performs `lock NAME`: takes the lock of the file, and frees it again.
-    fn lock(&self, line: &mut Line, path: &str) -> Option<()> {
+    /// Takes the lock of the file over `files`, frees it again, and writes the answer.
+    fn lock<R: LockFiles>(&self, line: &mut Line, files: &R, path: &str) -> Option<()> {
         for _ in 0..TRIES {
             marks::begin(self.folder.alloc);
-            let taken = FileLock::take(self.folder.rt, self.folder.alloc, path);
-            let says_memory = matches!(&taken, Err(StoreFault::OutOfMemory));
-            let is_refused = marks::is_refused(self.folder.alloc, says_memory);
-            let is_taken = taken.is_ok();
-            drop(taken);
-            if !is_refused {
-                line.text(if is_taken { "taken" } else { "NOT TAKEN" });
+            let taken = taken_or_fault(files, self.folder.alloc, path);
+            let says_memory = matches!(taken, Err(LockFault::OutOfMemory));
+            if !marks::is_refused(self.folder.alloc, says_memory) {
+                write_lock(line, taken);
                 return Some(());
             }
         }
         None
     }
 
-    /// Performs `failing NAME COUNT FAULT load` or `failing NAME COUNT FAULT save BYTES`. The call has a new store,
-    /// over files of which one call fails with this fault, after COUNT others.
+    /// Performs `held NAME`: takes the lock of the file, while another opening holds it.
+    fn held(&self, line: &mut Line, path: &str) -> Option<()> {
+        let holder = FileLock::take(self.folder.rt, self.folder.alloc, path).ok()?;
+        let files = self.failing_files("4294967295", "fault")?;
+        let told = self.lock(line, &files, path);
+        drop(holder);
+        told
+    }
+
+    /// Performs `failing NAME COUNT FAULT load`, `failing NAME COUNT FAULT save BYTES` or `failing NAME COUNT FAULT lock`.
+    /// The call has a new store or lock, over files of which one call fails with this fault, after COUNT others.
     fn failing(&self, line: &mut Line, names: &Names, call: &FileCall<'_>) -> Option<()> {
         let (count, words) = call.words.split_once(' ')?;
         let (fault, words) = words.split_once(' ')?;
@@ -122,6 +129,7 @@ impl<'a> FileBench<'a> {
         let files = self.failing_files(count, fault)?;
         match word {
             "load" => self.load_over(line, &files, call.path()),
+            "lock" => self.lock(line, &files, call.path()),
             "save" => self.save_over(line, &files, call.path(), &names.bytes(bytes, 0)?),
             _ => None,
         }
@@ -268,6 +276,20 @@ fn save_quietly(
     let saved = save(store, alloc, bytes);
     marks::end_quiet(alloc);
     saved
+}
+
+/// Takes the lock of the file at `path`, frees it again, and returns the fault, if it was not taken.
+fn taken_or_fault<R: LockFiles>(files: &R, alloc: Global, path: &str) -> Result<(), LockFault> {
+    drop(FileLock::wait_for(files, alloc, path)?);
+    Ok(())
+}
+
+/// Writes `taken`, or the fault of a lock.
+fn write_lock(line: &mut Line, taken: Result<(), LockFault>) {
+    match taken {
+        Ok(()) => line.text("taken"),
+        Err(fault) => line.show(&fault),
+    }
 }
 
 /// Loads. The contract proves that a failure only raises the count of failures.

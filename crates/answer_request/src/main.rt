@@ -9,7 +9,7 @@ ghost use Rattle.ill_saved.specs.ManySides.{found_by, txn_held};
 use anyhow::{Context, Result, bail};
 use ill_core::{Deed, Taking};
 use ill_der::{read_apdu, write_bytes};
-use ill_saved::{Action, Desk, DeskFault, FileLock, FileStore, RECORD_LIMIT, Role, Store};
+use ill_saved::{Action, Desk, FileLock, LockedDesk, Role, Store};
 use ill_values::{AnswerResult, Apdu, Body, Day, Item, Number};
 use std::alloc::Global;
 use std::env;
@@ -27,26 +27,14 @@ fn main(rt: HostRuntime) -> Result<()> {
     answer_all(&rt, path.as_str(), Day::read(today.as_bytes())?)
 }
 
-/// Answers all requests at the desk in the file at `path`, under the lock of the file.
+/// Answers all requests at the desk in the file at `path`, under the lock of the file. If the file does not exist, it
+/// creates a desk.
 fn answer_all(rt: &HostRuntime, path: &str, today: Day) -> Result<()> {
-    let lock = FileLock::take(rt, rt.alloc(), path)?;
-    let mut desk = open(rt, path)?;
-    let answered = answer_each(rt, &mut desk, today);
-    drop(desk);
-    drop(lock);
+    let lock = FileLock::wait_for(rt, rt.alloc(), path)?;
+    let mut locked = LockedDesk::open_or_create(rt.alloc(), lock, Role::Responder)?;
+    let answered = answer_each(rt, &mut locked.desk, today);
+    drop(locked);
     answered
-}
-
-/// Opens the desk in the file at `path`, or creates one if the file does not exist.
-fn open<'a>(
-    rt: &'a HostRuntime,
-    path: &str,
-) -> Result<Desk<FileStore<'a, HostRuntime>>, DeskFault> {
-    let store = FileStore::at(rt, rt.alloc(), path, RECORD_LIMIT)?;
-    match Desk::start(rt.alloc(), store) {
-        Err((DeskFault::NoRecord, store)) => Ok(Desk::create(rt.alloc(), store, Role::Responder)?),
-        started => Ok(started?),
-    }
 }
 
 /// Reads one message after another, and answers each request.

@@ -5,7 +5,7 @@
 use anyhow::{Context, Result, bail};
 use ill_core::{Taking, Wish};
 use ill_der::encode;
-use ill_saved::{Action, Desk, DeskFault, FileStore, RECORD_LIMIT, Role, Side, Store};
+use ill_saved::{Action, Desk, FileLock, LockedDesk, Role, Side, Store};
 use ill_values::{Apdu, Body, Day, Item, Number, TxnId};
 use std::alloc::Global;
 use std::fs;
@@ -27,23 +27,20 @@ fn lend(rt: &HostRuntime) -> Result<()> {
 
 /// Begins the desk, which has no file before its first save, and asks.
 fn begin(rt: &HostRuntime, loan: &TxnId) -> Result<()> {
-    let mut desk = Desk::create(rt.alloc(), store(rt)?, Role::Requester).map_err(DeskFault::from)?;
-    let asked = ask(rt, &mut desk, loan);
-    drop(desk);
+    let lock = FileLock::wait_for(rt, rt.alloc(), PATH)?;
+    let mut locked = LockedDesk::create(rt.alloc(), lock, Role::Requester)?;
+    let asked = ask(rt, &mut locked.desk, loan);
+    drop(locked);
     asked
 }
 
 /// Opens the desk again, and takes the answer.
 fn go_on(rt: &HostRuntime, loan: &TxnId) -> Result<()> {
-    let mut desk = Desk::start(rt.alloc(), store(rt)?).map_err(DeskFault::from)?;
-    let taken = take(rt, &mut desk, loan);
-    drop(desk);
+    let lock = FileLock::wait_for(rt, rt.alloc(), PATH)?;
+    let mut locked = LockedDesk::open(rt.alloc(), lock)?;
+    let taken = take(rt, &mut locked.desk, loan);
+    drop(locked);
     taken
-}
-
-/// Returns the store in the desk's file.
-fn store(rt: &HostRuntime) -> Result<FileStore<'_, HostRuntime>> {
-    Ok(FileStore::at(rt, rt.alloc(), PATH, RECORD_LIMIT)?)
 }
 
 /// Asks for the book. The desk gives the message only after the save.

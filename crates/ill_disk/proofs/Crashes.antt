@@ -73,7 +73,7 @@ left_flushed (f ∷ files) zero (g ∷ after) left =
 left_flushed (f ∷ files) (suc k) [] left = absurd left
 left_flushed (f ∷ files) (suc k) (g ∷ after) left = (left.0, left_flushed files k after left.1)
 
--- The same of a file that may be found.
+-- Each file that a crash leaves after a flush of a file that may be found may be left without the flush.
 pub left_flush_found : (files : List File) (found : Option ℕ) (after : List File) →
     AreLeft (flush_found files found) after → AreLeft files after
 left_flush_found files None after left = left

@@ -151,12 +151,12 @@ IsOldOr path d bytes found = Leaves d path found ⊎ (found ≡ Some bytes)
 
 -- ---- answers
 
--- A call that is done has made this change of the disk. One that failed has made it, or has not.
+-- A call that is done has made this change of the disk. A call that failed has made it, or has not.
 abbrev pub Changes : {E : Type 0} → (Disk → Disk) → Disk → Result (Unit {0}) E → Disk → Type 0
 Changes change old (Ok done) new = new ≡ change old
 Changes change old (Err fault) new = (new ≡ old) ⊎ (new ≡ change old)
 
--- A new file that is done has its bytes. One that failed is not there, or it has any bytes.
+-- A call that is done has made a new file of these bytes. If it failed, there is none, or it has any bytes.
 abbrev pub Creates : {E : Type 0} → List ℕ → List ℕ → Disk → Result (Unit {0}) E → Disk → Type 0
 Creates path bytes old (Ok done) new = new ≡ after_create path bytes old
 Creates path bytes old (Err fault) new = (new ≡ old) ⊎ ((some : List ℕ) × (new ≡ after_create path some old))

@@ -19,7 +19,7 @@ names_after (Rename from to file) names = with_name to.now file (without from.no
 abbrev pub file_after_crash : File → File
 file_after_crash f = record { bytes = if f.is_flushed then f.bytes else []; is_flushed = true }
 
--- What was found has more bytes than this.
+-- A file was found, and it has more bytes than this.
 abbrev pub IsLonger : ℕ → Option (List ℕ) → Type 0
 IsLonger limit None = ⊥
 IsLonger limit (Some bytes) = limit < length bytes

@@ -1,6 +1,6 @@
 -- A disk that may lose its power: its files, its names, and what a crash may leave of them.
 use Rattle.std.specs.Prelude.{◌≡◌, ◌⊎◌, ℕ, zero, suc, ◌<◌, Bool, true, false, if◌then◌else◌, List, [], ◌∷◌, ◌++◌, length, map}
-use Rattle.std.specs.Prelude.{slice_get, bytes_eq, Option, Some, None, option_map, Result, Ok, Err}
+use Rattle.std.specs.Prelude.{slice_get, bytes_eq, Option, Some, None, option_map}
 
 -- The element stands in the list.
 abbrev pub In : {X : Type 0} → List X → X → Type 0
@@ -148,15 +148,3 @@ after_save aside path bytes d =
 -- The content is what a crash of the disk might have left, or it is these bytes.
 abbrev pub IsOldOr : List ℕ → Disk → List ℕ → Option (List ℕ) → Type 0
 IsOldOr path d bytes found = Leaves d path found ⊎ (found ≡ Some bytes)
-
--- ---- answers
-
--- A call that is done has made this change of the disk. A call that failed has made it, or has not.
-abbrev pub Changes : {E : Type 0} → (Disk → Disk) → Disk → Result (Unit {0}) E → Disk → Type 0
-Changes change old (Ok done) new = new ≡ change old
-Changes change old (Err fault) new = (new ≡ old) ⊎ (new ≡ change old)
-
--- A call that is done has made a new file of these bytes. If it failed, there is none, or it has any bytes.
-abbrev pub Creates : {E : Type 0} → List ℕ → List ℕ → Disk → Result (Unit {0}) E → Disk → Type 0
-Creates path bytes old (Ok done) new = new ≡ after_create path bytes old
-Creates path bytes old (Err fault) new = (new ≡ old) ⊎ ((some : List ℕ) × (new ≡ after_create path some old))

@@ -1,3 +1,4 @@
 pub mod BadDisk
+pub mod Calls
 pub mod Disk
 pub mod MemoryDisk

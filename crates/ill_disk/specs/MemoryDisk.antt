@@ -1,9 +1,14 @@
 -- The state of a disk in memory.
 use Rattle.std.specs.Prelude.{ℕ, ◌<◌, true, if◌then◌else◌, List, [], length, map, Vec, Option, Some, None}
 use Rattle.std.specs.declared.alloc.Global.{Global}
-use Rattle.ill_disk.specs.Disk.{File, Name, with_name, without}
+use Rattle.ill_disk.specs.Disk.{File, Name, Disk, with_name, without}
+use Rattle.ill_disk.specs.Calls.{DiskState}
 use Rattle.ill_disk.specs.declared.memory_disk.Change.{Change}
 use Rattle.ill_disk.specs.declared.memory_disk.Change.TheVariants.{Make, Remove, Rename}
+
+-- Returns the state of a disk in memory, which is honest.
+abbrev pub memory_state : Disk → DiskState
+memory_state disk = record { now = disk; is_honest = true }
 
 -- Returns the lists of names that are kept.
 abbrev pub lists_of : List (Vec Name Global) → List (List Name)

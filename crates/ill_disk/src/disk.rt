@@ -1,8 +1,8 @@
 //! The calls of a disk, each with its clause on the model.
 
-ghost use Rattle.std.specs.Prelude.{◌≡◌, ◌≤◌, true, length, IfOk, OnOk, IfSome, is_some, option_map, None};
-ghost use Rattle.ill_disk.specs.Disk as disks;
-ghost use Rattle.ill_disk.specs.Disk.{Changes, Creates, IsWhole, content, found_at, after_remove, after_rename, after_flush, after_flush_names};
+ghost use Rattle.std.specs.Prelude.{◌≡◌, ◌≤◌, length, IfOk, IfSome};
+ghost use Rattle.ill_disk.specs.Disk.{after_remove, after_rename, after_flush, after_flush_names};
+ghost use Rattle.ill_disk.specs.Calls.{DiskState, Reads, Creates, Changes, Answers, WantsFile, WantsNoFile};
 ghost use Rattle.ill_disk.specs.declared.disk.DiskFault.TheVariants.{OutOfMemory};
 
 use std::alloc::{AllocError, AllocFailed, Global};
@@ -38,10 +38,12 @@ impl<T: Drop> From<AllocFailed<T>> for DiskFault {
 /// A disk that may lose its power. It is one folder: a path is a name in it.
 ///
 /// A call that is done has changed the disk as its clause says. A call that failed has done so too, or has changed
-/// nothing. `Crash` of the state is what a crash may leave. The disk is whole at each call.
+/// nothing. `Crash` of the disk now is what a crash may leave. The disk is whole at each call. The clauses say this of
+/// an honest disk alone.
 pub trait Disk {
-    /// Returns the state: the files, the names, and the lists of names that a crash may leave.
-    ghost state: { Self → disks.Disk };
+    /// Returns the state: the disk now, its files, its names, and the lists of names that a crash may leave. Its part
+    /// `is_honest` is true if the disk does as it answers.
+    ghost state: { Self → DiskState };
 
     /// Returns the bytes of the file at `path`, or `None` if there is none. A file of more than `limit` bytes is a
     /// failure.
@@ -51,37 +53,30 @@ pub trait Disk {
         path: &[u8],
         limit: usize,
     ) -> Result<Option<Vec<u8>>, DiskFault>
-        ensures bytes { IfOk result (λ found. option_map (λ b. b.items) found ≡ content path.now (state self.old)) }
-        ensures within { IfOk result (λ found. IfSome found (λ b. length b.items ≤ limit)) }
-        ensures state { state self.new ≡ state self.old }
-        ensures whole { IsWhole (state self.old) };
+        ensures reads { Answers (Reads (λ b. b.items) path.now) (state self.old) result (state self.new) }
+        ensures within { IfOk result (λ found. IfSome found (λ b. length b.items ≤ limit)) };
 
     /// Makes a new file of `bytes` at a path where none stands. If it fails, a file with any bytes may stand there.
     fn create_new(&mut self, path: &[u8], bytes: &[u8]) -> Result<(), DiskFault>
-        ensures free { OnOk result (found_at path.now (state self.old).names ≡ None) }
-        ensures state { Creates path.now bytes.now (state self.old) result (state self.new) }
-        ensures whole { IsWhole (state self.old) };
+        ensures creates { Answers (Creates path.now bytes.now) (state self.old) result (state self.new) }
+        ensures free { WantsNoFile path.now (state self.old) result };
 
     /// Flushes the bytes of the file at `path`.
     fn flush(&mut self, path: &[u8]) -> Result<(), DiskFault>
-        ensures found { OnOk result (is_some (found_at path.now (state self.old).names) ≡ true) }
-        ensures state { Changes (after_flush path.now) (state self.old) result (state self.new) }
-        ensures whole { IsWhole (state self.old) };
+        ensures changes { Answers (Changes (after_flush path.now)) (state self.old) result (state self.new) }
+        ensures found { WantsFile path.now (state self.old) result };
 
     /// Renames the file at `from` to `to`, over what stands there.
     fn rename(&mut self, from: &[u8], to: &[u8]) -> Result<(), DiskFault>
-        ensures found { OnOk result (is_some (found_at from.now (state self.old).names) ≡ true) }
-        ensures state { Changes (after_rename from.now to.now) (state self.old) result (state self.new) }
-        ensures whole { IsWhole (state self.old) };
+        ensures changes { Answers (Changes (after_rename from.now to.now)) (state self.old) result (state self.new) }
+        ensures found { WantsFile from.now (state self.old) result };
 
     /// Removes `path`.
     fn remove(&mut self, path: &[u8]) -> Result<(), DiskFault>
-        ensures found { OnOk result (is_some (found_at path.now (state self.old).names) ≡ true) }
-        ensures state { Changes (after_remove path.now) (state self.old) result (state self.new) }
-        ensures whole { IsWhole (state self.old) };
+        ensures changes { Answers (Changes (after_remove path.now)) (state self.old) result (state self.new) }
+        ensures found { WantsFile path.now (state self.old) result };
 
     /// Flushes the names.
     fn flush_names(&mut self) -> Result<(), DiskFault>
-        ensures state { Changes after_flush_names (state self.old) result (state self.new) }
-        ensures whole { IsWhole (state self.old) };
+        ensures { Answers (Changes after_flush_names) (state self.old) result (state self.new) };
 }

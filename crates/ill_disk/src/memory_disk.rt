@@ -2,8 +2,9 @@
 
 ghost use Rattle.std.specs.Prelude.{◌≡◌, ◌<◌, ◌≤◌, ◌++◌, [], ◌∷◌, map, length, IfOk, IfSome, OnOk, OnErr, IsErrOf, is_some, true, false, slice_get, Option, Some, None, option_map, bytes_eq};
 ghost use Rattle.ill_disk.specs.Disk as disks;
-ghost use Rattle.ill_disk.specs.Disk.{Crash, found_at, without, with_name, bytes_of, content, after_change, after_flush, after_flush_names, after_remove, after_rename, flush_found, empty_disk, Changes, Creates, IsWhole};
-ghost use Rattle.ill_disk.specs.MemoryDisk.{IsLonger, IsMadeBy, lists_of, names_after, file_after_crash};
+ghost use Rattle.ill_disk.specs.Disk.{Crash, found_at, without, with_name, bytes_of, content, after_change, after_flush, after_flush_names, after_remove, after_rename, flush_found, empty_disk, IsWhole};
+ghost use Rattle.ill_disk.specs.Calls.{Changes, Creates};
+ghost use Rattle.ill_disk.specs.MemoryDisk.{memory_state, IsLonger, IsMadeBy, lists_of, names_after, file_after_crash};
 ghost use Rattle.ill_disk.specs.declared.disk.DiskFault.TheVariants.{Failed};
 
 use crate::disk::{Disk, DiskFault};
@@ -395,7 +396,7 @@ impl MemoryDisk {
 /// A call that fails changes nothing: all memory is taken before the first change. A call answers `Failed` for these
 /// reasons alone: a path stands that has to be free, none stands where one has to be, or a file is too long to read.
 impl Disk for MemoryDisk {
-    ghost state = { λ disk. disk };
+    ghost state = { memory_state };
 
     fn read(
         &mut self,

@@ -1,15 +1,17 @@
 -- States how a load and a save change a disk, call by call.
 use Rattle.std.proofs.Common.{◌≡◌, inl, inr, ⊎_elim, refl, sym, ◌∙◌, ap, subst, arith, ℕ, zero, suc, ◌<◌, List, [], ◌∷◌}
 use Rattle.std.proofs.Common.{length}
-use Rattle.std.proofs.Common.{Option, Some, None, Result, Ok, Err, OnOk}
+use Rattle.std.proofs.Common.{Option, Some, None, Result, Ok, Err, OnOk, IsErr, option_map, true}
+use Rattle.std.proofs.lemmas.Bool.{true≢false}
 use Rattle.std.proofs.lemmas.Option.{none-some}
-use Rattle.ill_disk.specs.Disk.{In, File, Name, Disk, Leaves, IsWhole, Changes, Creates, content, found_at, bytes_of}
+use Rattle.ill_disk.specs.Disk.{In, File, Name, Disk, Leaves, IsWhole, content, found_at, bytes_of}
 use Rattle.ill_disk.specs.Disk.{without, on_the_way, after_create, after_remove, after_rename, after_flush}
 use Rattle.ill_disk.specs.Disk.{after_flush_names}
+use Rattle.ill_disk.specs.Calls.{DiskState, Reads, Changes, Creates, Answers}
 use Rattle.ill_disk.proofs.Names.{found_without_other, made_found}
 use Rattle.ill_disk.proofs.Crashes.{change_left, flush_left, flushes_last, names_left, flush_is_not_read}
 use Rattle.ill_disk.proofs.Saves.{created_left, create_elsewhere, remove_elsewhere, save_moments, save_is_read, save_lasts}
-use Rattle.ill_disk_store.specs.DiskStore.{Lasts, LeavesOld, LeavesOldOr, ReadsOldOr}
+use Rattle.ill_disk_store.specs.DiskStore.{Lasts, LeavesOld, LeavesOldOr, ReadsOldOr, DiskLoads, DiskSaves}
 
 -- A property of a disk with a change and without it holds after the call, done or failed.
 pub either_way : {E : Type 0} (P : Disk → Type 0) (change : Disk → Disk) (old new : Disk) (result : Result (Unit {0}) E) →
@@ -77,12 +79,10 @@ remove_leaves aside path d differ found left = ⊎_elim
 abbrev pub IsKept : List ℕ → Disk → Disk → Type 0
 IsKept path old new = (content path new ≡ content path old) × LeavesOld path old new
 
--- The record is kept after its file was flushed, or was not.
-pub flush_keeps : {E : Type 0} (path : List ℕ) (old read flushed : Disk) (result : Result (Unit {0}) E) → read ≡ old →
-    Changes (after_flush path) read result flushed → IsKept path old flushed
-flush_keeps path old read flushed result same changes =
-    let kept : IsKept path old read =
-    (ap (content path) same, subst (LeavesOld path old) (sym same) (old_left path old)) in
+-- A record that is kept is so after its file was flushed, or was not.
+pub flush_keeps : {E : Type 0} (path : List ℕ) (old read flushed : Disk) (result : Result (Unit {0}) E) →
+    IsKept path old read → Changes (after_flush path) read result flushed → IsKept path old flushed
+flush_keeps path old read flushed result kept changes =
     either_way (IsKept path old) (after_flush path) read flushed result changes kept
     (flush_is_not_read path path read ∙ kept.0, flush_leaves path path old read kept.1)
 
@@ -107,31 +107,86 @@ no_load_lasts path old read last same whole none names =
     subst (λ (d : Disk). Lasts path d (content path old)) (sym names)
     (λ found left. none_lasts path read whole (ap (content path) same ∙ none) found left ∙ sym none)
 
--- ---- what holds at one path and disk holds at those that are equal
+-- ---- a load that ends at a call
 
--- A record that lasts does so at an equal path of equal disks.
-pub loaded_lasts_at : (p q : List ℕ) (a b d e : Disk) → p ≡ q → a ≡ b → d ≡ e → Lasts p d (content p a) → Lasts q e (content q b)
-loaded_lasts_at p q a b d e path old new lasts =
-    subst (λ (r : List ℕ). Lasts r e (content r b)) path
-    (subst (λ (x : Disk). Lasts p e (content p x)) old (subst (λ (x : Disk). Lasts p x (content p a)) new lasts))
+-- The record is kept on a disk that has changed so far.
+pub record HasKept (path : List ℕ) (old new : DiskState) : Type 0 where
+  pub kept : old.is_honest ≡ true → IsKept path old.now new.now
+  pub honest : new.is_honest ≡ old.is_honest
 
--- Bytes that last do so at an equal path of equal disks.
-pub lasts_at : (p q : List ℕ) (d e : Disk) (found : Option (List ℕ)) → p ≡ q → d ≡ e → Lasts p d found → Lasts q e found
-lasts_at p q d e found path new lasts =
-    subst (λ (r : List ℕ). Lasts r e found) path (subst (λ (x : Disk). Lasts p x found) new lasts)
+-- A read keeps the record.
+pub read_has_kept : {X E : Type 0} {bytes_of : X → List ℕ} {path : List ℕ} {old read : DiskState}
+    {answer : Result (Option X) E} → Answers (Reads bytes_of path) old answer read → HasKept path old read
+read_has_kept {path = path} {old = old} reads = record {
+  kept = λ h. (
+    ap (content path) (reads.done h).same,
+    subst (LeavesOld path old.now) (sym (reads.done h).same) (old_left path old.now),
+  );
+  honest = reads.honest;
+}
 
--- Equal disks leave the same at equal paths.
-pub leaves_at : (p q : List ℕ) (a b d e : Disk) → p ≡ q → a ≡ b → d ≡ e → LeavesOld p a d → LeavesOld q b e
-leaves_at p q a b d e path old new lefts =
-    subst (λ (r : List ℕ). LeavesOld r b e) path
-    (subst (λ (x : Disk). LeavesOld p x e) old (subst (LeavesOld p a) new lefts))
+-- A flush of the file of the record keeps it.
+pub flush_has_kept : {E : Type 0} {path : List ℕ} {old read flushed : DiskState} {answer : Result (Unit {0}) E} →
+    HasKept path old read → Answers (Changes (after_flush path)) read answer flushed → HasKept path old flushed
+flush_has_kept {path = path} {old = old} {read = read} {flushed = flushed} {answer = answer} so_far flushes = record {
+  kept = λ h. flush_keeps path old.now read.now flushed.now answer (so_far.kept h) (flushes.done (so_far.honest ∙ h));
+  honest = flushes.honest ∙ so_far.honest;
+}
 
--- Equal disks leave the same at equal paths, or these bytes.
-pub leaves_or_at : (p q bytes : List ℕ) (a b d e : Disk) → p ≡ q → a ≡ b → d ≡ e → LeavesOldOr p bytes a d →
-    LeavesOldOr q bytes b e
-leaves_or_at p q bytes a b d e path old new lefts =
-    subst (λ (r : List ℕ). LeavesOldOr r bytes b e) path
-    (subst (λ (x : Disk). LeavesOldOr p bytes x e) old (subst (LeavesOldOr p bytes a) new lefts))
+-- A flush of the names keeps the record.
+pub names_have_kept : {E : Type 0} {path : List ℕ} {old flushed last : DiskState} {answer : Result (Unit {0}) E} →
+    HasKept path old flushed → Answers (Changes after_flush_names) flushed answer last → HasKept path old last
+names_have_kept {path = path} {old = old} {flushed = flushed} {last = last} {answer = answer} so_far flushes = record {
+  kept = λ h. names_keep path old.now flushed.now last.now answer (flushes.whole (so_far.honest ∙ h)) (so_far.kept h)
+      (flushes.done (so_far.honest ∙ h));
+  honest = flushes.honest ∙ so_far.honest;
+}
+
+-- A load that fails after the record was kept keeps it.
+pub load_fails : {X E : Type 0} {bytes_of : X → List ℕ} {path : List ℕ} {old last : DiskState}
+    {answer : Result (Option X) E} → IsErr answer → HasKept path old last → DiskLoads bytes_of path old answer last
+load_fails {answer = Ok found} is so_far = absurd (true≢false (sym is))
+load_fails {answer = Err fault} is so_far = record {
+  loaded = λ h. tt;
+  lasts = λ h. tt;
+  same = λ h. (so_far.kept h).0;
+  left = λ h. (so_far.kept h).1;
+  honest = so_far.honest;
+}
+
+-- A load of no record is done after the names were flushed.
+pub no_record_loads : {X E : Type 0} {bytes_of : X → List ℕ} {path : List ℕ} {old read last : DiskState}
+    {found : Option X} {done : Unit {0}} → found ≡ None → Answers {E = E} (Reads bytes_of path) old (Ok found) read →
+    Answers {E = E} (Changes after_flush_names) read (Ok done) last → DiskLoads {E = E} bytes_of path old (Ok None) last
+no_record_loads {bytes_of = bytes_of} {path = path} {old = old} {read = read} {last = last} is reads flushes =
+    let so_far = names_have_kept (read_has_kept reads) flushes in
+    let gives : old.is_honest ≡ true → None ≡ content path old.now =
+    λ h. sym (ap (option_map bytes_of) is) ∙ (reads.done h).bytes in record {
+      loaded = gives;
+      lasts = λ h. no_load_lasts path old.now read.now last.now (reads.done h).same (flushes.whole (reads.honest ∙ h))
+          (sym (gives h)) (flushes.done (reads.honest ∙ h));
+      same = λ h. (so_far.kept h).0;
+      left = λ h. (so_far.kept h).1;
+      honest = so_far.honest;
+    }
+
+-- A load of a record is done after its file and the names were flushed.
+pub record_loads : {X E : Type 0} {bytes_of : X → List ℕ} {path : List ℕ} {old read flushed last : DiskState}
+    {found : Option X} {record_found : X} {one two : Unit {0}} → found ≡ Some record_found →
+    Answers {E = E} (Reads bytes_of path) old (Ok found) read →
+    Answers {E = E} (Changes (after_flush path)) read (Ok one) flushed →
+    Answers {E = E} (Changes after_flush_names) flushed (Ok two) last →
+    DiskLoads {E = E} bytes_of path old (Ok (Some record_found)) last
+record_loads {bytes_of = bytes_of} {path = path} {old = old} {read = read} {flushed = flushed} {last = last} is reads
+    flushes names =
+    let so_far = names_have_kept (flush_has_kept (read_has_kept reads) flushes) names in record {
+      loaded = λ h. sym (ap (option_map bytes_of) is) ∙ (reads.done h).bytes;
+      lasts = λ h. load_lasts path old.now read.now flushed.now last.now (reads.done h).same
+          (flushes.done (reads.honest ∙ h)) (names.done (flushes.honest ∙ reads.honest ∙ h));
+      same = λ h. (so_far.kept h).0;
+      left = λ h. (so_far.kept h).1;
+      honest = so_far.honest;
+    }
 
 -- ---- a save, after what stood aside was removed
 
@@ -253,3 +308,155 @@ save_is_seen aside path bytes d created flushed replaced last result whole diffe
     (subst (λ (x : Disk). content path (after_flush_names x) ≡ Some bytes)
     (sym (rename ∙ ap (after_rename aside path) (flush ∙ ap (after_flush aside) make)))
     (save_is_read aside path bytes d whole differ))
+
+-- A save that failed leaves the old record or the new one.
+failed : {E : Type 0} {path bytes : List ℕ} {old last : DiskState} {answer : Result (Unit {0}) E} → IsErr answer →
+    (old.is_honest ≡ true → ReadsOldOr path bytes old.now last.now × LeavesOldOr path bytes old.now last.now) →
+    last.is_honest ≡ old.is_honest → DiskSaves path bytes old answer last
+failed {answer = Ok done} is fine honest = absurd (true≢false (sym is))
+failed {answer = Err fault} is fine honest = record {
+  saved = λ h. tt;
+  lasts = λ h. tt;
+  read = λ h. (fine h).0;
+  left = λ h. (fine h).1;
+  honest = honest;
+}
+
+-- ---- the calls of a save
+
+-- A removal of `aside` from the disk `old`, done or failed, gave the disk `cleared`. A new file was made on it.
+module _ {E : Type 0} {aside path bytes : List ℕ} {old cleared made : DiskState} {removal making : Result (Unit {0}) E}
+    (differ : aside ≡ path → ⊥) (removes : Answers (Changes (after_remove aside)) old removal cleared)
+    (creates : Answers (Creates aside bytes) cleared making made) where
+  -- The disk was honest when it was cleared.
+  was_honest : old.is_honest ≡ true → cleared.is_honest ≡ true
+  was_honest h = removes.honest ∙ h
+
+  -- A save fails after the new file was made, or was not.
+  pub making_fails : {answer : Result (Unit {0}) E} → IsErr answer → DiskSaves path bytes old answer made
+  making_fails is = failed is (λ h. after_making aside path bytes old.now cleared.now removal differ (removes.done h)
+      (creates.whole (was_honest h)) made.now making (creates.done (was_honest h))) (creates.honest ∙ removes.honest)
+
+-- The new file was made and then flushed, or was not flushed.
+module _ {E : Type 0} {aside path bytes : List ℕ} {old cleared made flushed : DiskState}
+    {removal flushing : Result (Unit {0}) E} {one : Unit {0}}
+    (differ : aside ≡ path → ⊥) (removes : Answers (Changes (after_remove aside)) old removal cleared)
+    (creates : Answers {E = E} (Creates aside bytes) cleared (Ok one) made)
+    (flushes : Answers (Changes (after_flush aside)) made flushing flushed) where
+  -- A save fails after the new file was flushed, or was not.
+  pub flushing_fails : {answer : Result (Unit {0}) E} → IsErr answer → DiskSaves path bytes old answer flushed
+  flushing_fails is = failed is (λ h. after_flushing aside path bytes old.now cleared.now removal differ (removes.done h)
+      (creates.whole (removes.honest ∙ h)) made.now flushed.now flushing (creates.done (removes.honest ∙ h))
+      (flushes.done (creates.honest ∙ removes.honest ∙ h))) (flushes.honest ∙ creates.honest ∙ removes.honest)
+
+-- The new file was flushed and then renamed, or was not renamed.
+module _ {E : Type 0} {aside path bytes : List ℕ} {old cleared made flushed renamed : DiskState}
+    {removal renaming : Result (Unit {0}) E} {one two : Unit {0}}
+    (differ : aside ≡ path → ⊥) (removes : Answers (Changes (after_remove aside)) old removal cleared)
+    (creates : Answers {E = E} (Creates aside bytes) cleared (Ok one) made)
+    (flushes : Answers {E = E} (Changes (after_flush aside)) made (Ok two) flushed)
+    (renames : Answers (Changes (after_rename aside path)) flushed renaming renamed) where
+  -- A save fails after the new file was renamed, or was not.
+  pub renaming_fails : {answer : Result (Unit {0}) E} → IsErr answer → DiskSaves path bytes old answer renamed
+  renaming_fails is = failed is (λ h. after_renaming aside path bytes old.now cleared.now removal differ (removes.done h)
+      (creates.whole (removes.honest ∙ h)) made.now flushed.now renamed.now renaming (creates.done (removes.honest ∙ h))
+      (flushes.done (creates.honest ∙ removes.honest ∙ h))
+      (renames.done (flushes.honest ∙ creates.honest ∙ removes.honest ∙ h)))
+      (renames.honest ∙ flushes.honest ∙ creates.honest ∙ removes.honest)
+
+-- The new file was renamed, and then the names were flushed, or were not flushed.
+module _ {E : Type 0} {aside path bytes : List ℕ} {old cleared made flushed renamed last : DiskState}
+    {removal ending : Result (Unit {0}) E} {one two three : Unit {0}}
+    (differ : aside ≡ path → ⊥) (removes : Answers (Changes (after_remove aside)) old removal cleared)
+    (creates : Answers {E = E} (Creates aside bytes) cleared (Ok one) made)
+    (flushes : Answers {E = E} (Changes (after_flush aside)) made (Ok two) flushed)
+    (renames : Answers {E = E} (Changes (after_rename aside path)) flushed (Ok three) renamed)
+    (names : Answers (Changes after_flush_names) renamed ending last) where
+  made_of : old.is_honest ≡ true → made.now ≡ after_create aside bytes cleared.now
+  made_of h = creates.done (removes.honest ∙ h)
+
+  flushed_of : old.is_honest ≡ true → flushed.now ≡ after_flush aside made.now
+  flushed_of h = flushes.done (creates.honest ∙ removes.honest ∙ h)
+
+  renamed_of : old.is_honest ≡ true → renamed.now ≡ after_rename aside path flushed.now
+  renamed_of h = renames.done (flushes.honest ∙ creates.honest ∙ removes.honest ∙ h)
+
+  named_of : old.is_honest ≡ true → Changes after_flush_names renamed.now ending last.now
+  named_of h = names.done (renames.honest ∙ flushes.honest ∙ creates.honest ∙ removes.honest ∙ h)
+
+  whole_of : old.is_honest ≡ true → IsWhole cleared.now
+  whole_of h = creates.whole (removes.honest ∙ h)
+
+  fine_of : old.is_honest ≡ true → ReadsOldOr path bytes old.now last.now × LeavesOldOr path bytes old.now last.now
+  fine_of h = after_flushing_names aside path bytes old.now cleared.now removal differ (removes.done h) (whole_of h)
+      made.now flushed.now renamed.now last.now ending (made_of h) (flushed_of h) (renamed_of h) (named_of h)
+
+  -- A save ends after the names were flushed, or were not.
+  pub save_ends : DiskSaves path bytes old ending last
+  save_ends = record {
+    saved = λ h. save_is_seen aside path bytes cleared.now made.now flushed.now renamed.now last.now ending (whole_of h)
+        differ (made_of h) (flushed_of h) (renamed_of h) (named_of h);
+    lasts = λ h. save_is_done aside path bytes cleared.now made.now flushed.now renamed.now last.now ending (whole_of h)
+        differ (made_of h) (flushed_of h) (renamed_of h) (named_of h);
+    read = λ h. (fine_of h).0;
+    left = λ h. (fine_of h).1;
+    honest = names.honest ∙ renames.honest ∙ flushes.honest ∙ creates.honest ∙ removes.honest;
+  }
+
+-- ---- a store that answers as its disk did
+
+-- A load that was done is one at an equal path, of equal disks, with any type of faults.
+pub done_load_at : {X E F : Type 0} {bytes_of : X → List ℕ} {p q : List ℕ} {a b d e : DiskState} {found : Option X} →
+    p ≡ q → a ≡ b → d ≡ e → DiskLoads {E = E} bytes_of p a (Ok found) d → DiskLoads {E = F} bytes_of q b (Ok found) e
+done_load_at {F = F} {bytes_of = bytes_of} {p = p} {a = a} {b = b} {e = e} {found = found} path old new loads =
+    subst (λ (r : List ℕ). DiskLoads {E = F} bytes_of r b (Ok found) e) path
+    (subst (λ (x : DiskState). DiskLoads {E = F} bytes_of p x (Ok found) e) old
+    (subst (λ (x : DiskState). DiskLoads {E = F} bytes_of p a (Ok found) x) new (record {
+      loaded = loads.loaded;
+      lasts = loads.lasts;
+      same = loads.same;
+      left = loads.left;
+      honest = loads.honest;
+    })))
+
+-- A load that failed is one at an equal path, of equal disks, with any fault.
+pub failed_load_at : {X E F : Type 0} {bytes_of : X → List ℕ} {p q : List ℕ} {a b d e : DiskState} {fault : E}
+    {other : F} → p ≡ q → a ≡ b → d ≡ e → DiskLoads bytes_of p a (Err fault) d → DiskLoads bytes_of q b (Err other) e
+failed_load_at {bytes_of = bytes_of} {p = p} {a = a} {b = b} {e = e} {other = other} path old new loads =
+    subst (λ (r : List ℕ). DiskLoads bytes_of r b (Err other) e) path
+    (subst (λ (x : DiskState). DiskLoads bytes_of p x (Err other) e) old
+    (subst (λ (x : DiskState). DiskLoads bytes_of p a (Err other) x) new (record {
+      loaded = loads.loaded;
+      lasts = loads.lasts;
+      same = loads.same;
+      left = loads.left;
+      honest = loads.honest;
+    })))
+
+-- A save that was done is one at an equal path, of equal disks, with any type of faults.
+pub done_save_at : {E F : Type 0} {p q bytes : List ℕ} {a b d e : DiskState} {done : Unit {0}} → p ≡ q → a ≡ b → d ≡ e →
+    DiskSaves {E = E} p bytes a (Ok done) d → DiskSaves {E = F} q bytes b (Ok done) e
+done_save_at {F = F} {p = p} {bytes = bytes} {a = a} {b = b} {e = e} {done = done} path old new saves =
+    subst (λ (r : List ℕ). DiskSaves {E = F} r bytes b (Ok done) e) path
+    (subst (λ (x : DiskState). DiskSaves {E = F} p bytes x (Ok done) e) old
+    (subst (λ (x : DiskState). DiskSaves {E = F} p bytes a (Ok done) x) new (record {
+      saved = saves.saved;
+      lasts = saves.lasts;
+      read = saves.read;
+      left = saves.left;
+      honest = saves.honest;
+    })))
+
+-- A save that failed is one at an equal path, of equal disks, with any fault.
+pub failed_save_at : {E F : Type 0} {p q bytes : List ℕ} {a b d e : DiskState} {fault : E} {other : F} → p ≡ q →
+    a ≡ b → d ≡ e → DiskSaves p bytes a (Err fault) d → DiskSaves q bytes b (Err other) e
+failed_save_at {p = p} {bytes = bytes} {a = a} {b = b} {e = e} {other = other} path old new saves =
+    subst (λ (r : List ℕ). DiskSaves r bytes b (Err other) e) path
+    (subst (λ (x : DiskState). DiskSaves p bytes x (Err other) e) old
+    (subst (λ (x : DiskState). DiskSaves p bytes a (Err other) x) new (record {
+      saved = saves.saved;
+      lasts = saves.lasts;
+      read = saves.read;
+      left = saves.left;
+      honest = saves.honest;
+    })))

@@ -1,10 +1,9 @@
 //! A store in a file of a disk that may lose its power.
 
-ghost use Rattle.std.specs.Prelude.{◌≡◌, ◌≤◌, ◌++◌, Some, codes, length, IfOk, IfErr, IfSome, OnOk, option_map};
-ghost use Rattle.ill_disk.specs.Disk.{content};
+ghost use Rattle.std.specs.Prelude.{◌≡◌, ◌≤◌, ◌++◌, codes, length, IfOk, IfErr, IfSome};
 ghost use Rattle.ill_saved.specs.declared.store.StoreFault.TheVariants.{Failed, OutOfMemory};
 ghost use Rattle.ill_saved.specs.Store.{StoreLoads, StoreSaves, one_more};
-ghost use Rattle.ill_disk_store.specs.DiskStore.{DiskStoreOf, Lasts, LeavesOld, LeavesOldOr, aside_of, store_state};
+ghost use Rattle.ill_disk_store.specs.DiskStore.{DiskStoreOf, DiskLoads, DiskSaves, aside_of, store_state};
 
 use crate::lasting;
 use ill_disk::{Disk, DiskFault};
@@ -14,7 +13,7 @@ use std::marker::Model;
 
 /// A store of one record in a file of a disk. The file whose name ends with `.new` belongs to the store.
 ///
-/// Each crash leaves the record that a load gave. It leaves the record of a save that is done, too.
+/// Each crash of an honest disk leaves the record that a load gave. It leaves the record of a save that is done, too.
 #[derive(Drop)]
 pub struct DiskStore<D: Disk> {
     disk: D,
@@ -83,7 +82,7 @@ impl<D: Disk> DiskStore<D> {
     }
 }
 
-/// This store has no plan. Its honesty rests on the clauses of its disk. A load flushes the record that it gives. A save
+/// This store has no plan, and is as honest as its disk. A load flushes the record that it gives. A save
 /// that runs out of memory counts as failed, since the disk may have changed.
 impl<D: Disk> Store for DiskStore<D> {
     ghost state = { store_state D.state };
@@ -91,9 +90,7 @@ impl<D: Disk> Store for DiskStore<D> {
     fn load(&mut self, alloc: Global) -> Result<Option<Vec<u8>>, StoreFault>
         ensures loads { StoreLoads (λ b. b.items) (store_state D.state self.old) result (store_state D.state self.new) }
         ensures within { IfOk result (λ found. IfSome found (λ b. length b.items ≤ self.old.limit)) }
-        ensures lasts { OnOk result
-            (Lasts self.old.path (D.state self.new.disk) (content self.old.path (D.state self.old.disk))) }
-        ensures left { LeavesOld self.old.path (D.state self.old.disk) (D.state self.new.disk) }
+        ensures lasts { DiskLoads (λ b. b.items) self.old.path (D.state self.old.disk) result (D.state self.new.disk) }
         ensures place { self.new.path ≡ self.old.path }
         ensures limit { self.new.limit ≡ self.old.limit }
     {
@@ -106,8 +103,7 @@ impl<D: Disk> Store for DiskStore<D> {
 
     fn save(&mut self, _alloc: Global, bytes: &[u8]) -> Result<(), StoreFault>
         ensures saves { StoreSaves bytes.now (store_state D.state self.old) result (store_state D.state self.new) }
-        ensures lasts { OnOk result (Lasts self.old.path (D.state self.new.disk) (Some bytes.now)) }
-        ensures left { LeavesOldOr self.old.path bytes.now (D.state self.old.disk) (D.state self.new.disk) }
+        ensures lasts { DiskSaves self.old.path bytes.now (D.state self.old.disk) result (D.state self.new.disk) }
         ensures place { self.new.path ≡ self.old.path }
         ensures limit { self.new.limit ≡ self.old.limit }
     {

@@ -1,13 +1,12 @@
 //! The calls of a disk that load and save a record so that it lasts.
 
-ghost use Rattle.std.specs.Prelude.{◌≡◌, ◌≤◌, Some, length, IfOk, OnOk, OnErr, IfSome, option_map};
-ghost use Rattle.ill_disk.specs.Disk.{IsWhole, content};
-ghost use Rattle.ill_disk_store.specs.DiskStore.{Lasts, LeavesOld, LeavesOldOr, ReadsOldOr};
+ghost use Rattle.std.specs.Prelude.{◌≡◌, ◌≤◌, length, IfOk, IfSome};
+ghost use Rattle.ill_disk_store.specs.DiskStore.{DiskLoads, DiskSaves};
 
 use ill_disk::{Disk, DiskFault};
 use std::alloc::Global;
 
-/// Loads the record at `path`, of at most `limit` bytes. From then on each crash leaves it.
+/// Loads the record at `path`, of at most `limit` bytes. From then on each crash of an honest disk leaves it.
 ///
 /// Flushes its file, if there is one, and then the names.
 pub fn load<D: Disk>(
@@ -16,11 +15,8 @@ pub fn load<D: Disk>(
     path: &[u8],
     limit: usize,
 ) -> Result<Option<Vec<u8>>, DiskFault>
-    ensures loaded { IfOk result (λ found. option_map (λ b. b.items) found ≡ content path.now (D.state disk.old)) }
+    ensures loads { DiskLoads (λ b. b.items) path.now (D.state disk.old) result (D.state disk.new) }
     ensures within { IfOk result (λ found. IfSome found (λ b. length b.items ≤ limit)) }
-    ensures same { content path.now (D.state disk.new) ≡ content path.now (D.state disk.old) }
-    ensures lasts { OnOk result (Lasts path.now (D.state disk.new) (content path.now (D.state disk.old))) }
-    ensures left { LeavesOld path.now (D.state disk.old) (D.state disk.new) }
 {
     match disk.read(alloc, path, limit)? {
         None => {
@@ -35,18 +31,14 @@ pub fn load<D: Disk>(
     }
 }
 
-/// Saves `bytes` at `path`. Once it is done, each crash leaves them. If it fails, a crash leaves what one before it
-/// might have left, or these bytes.
+/// Saves `bytes` at `path`. Once it is done, each crash of an honest disk leaves them. If it fails, a crash leaves what
+/// one before it might have left, or these bytes.
 ///
 /// Removes what an earlier save has left at `aside`. A new file is made there, flushed, and renamed over the record.
 /// Then the names are flushed.
-#[tactic(auto, using(crate::proofs::Store::save_is_done, crate::proofs::Store::save_is_seen))]
 pub fn save<D: Disk>(disk: &mut D, path: &[u8], aside: &[u8], bytes: &[u8]) -> Result<(), DiskFault>
     requires { aside.now ≡ path.now → ⊥ }
-    ensures saved { OnOk result (content path.now (D.state disk.new) ≡ Some bytes.now) }
-    ensures lasts { OnOk result (Lasts path.now (D.state disk.new) (Some bytes.now)) }
-    ensures read { ReadsOldOr path.now bytes.now (D.state disk.old) (D.state disk.new) }
-    ensures left { LeavesOldOr path.now bytes.now (D.state disk.old) (D.state disk.new) }
+    ensures { DiskSaves path.now bytes.now (D.state disk.old) result (D.state disk.new) }
 {
     let _ = disk.remove(aside);
     disk.create_new(aside, bytes)?;

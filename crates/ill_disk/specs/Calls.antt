@@ -1,0 +1,40 @@
+-- The state of a disk, and the answers of its calls.
+use Rattle.std.specs.Prelude.{◌≡◌, ◌⊎◌, ℕ, Bool, true, List, Option, None, is_some, option_map, Result, Ok, Err}
+use Rattle.std.specs.Prelude.{IfOk, OnOk}
+use Rattle.ill_disk.specs.Disk.{Disk, IsWhole, content, found_at, after_create}
+
+-- The state of a disk: its files and names now. `is_honest` is true if the disk does as it answers.
+pub record DiskState : Type 0 where
+  pub now : Disk
+  pub is_honest : Bool
+
+-- A read that is done gives the bytes at the path. It changes nothing, done or failed.
+pub record Reads {X E : Type 0} (bytes_of : X → List ℕ) (path : List ℕ) (old : Disk) (answer : Result (Option X) E)
+    (new : Disk) : Type 0 where
+  pub bytes : IfOk answer (λ found. option_map bytes_of found ≡ content path old)
+  pub same : new ≡ old
+
+-- A call that is done has made this change of the disk. A call that failed has made it, or has not.
+abbrev pub Changes : {E : Type 0} → (Disk → Disk) → Disk → Result (Unit {0}) E → Disk → Type 0
+Changes change old (Ok done) new = new ≡ change old
+Changes change old (Err fault) new = (new ≡ old) ⊎ (new ≡ change old)
+
+-- A call that is done has made a new file of these bytes. If it failed, there is none, or it has any bytes.
+abbrev pub Creates : {E : Type 0} → List ℕ → List ℕ → Disk → Result (Unit {0}) E → Disk → Type 0
+Creates path bytes old (Ok done) new = new ≡ after_create path bytes old
+Creates path bytes old (Err fault) new = (new ≡ old) ⊎ ((some : List ℕ) × (new ≡ after_create path some old))
+
+-- The disk answers a call, and is in the state `new` after it. An honest disk is whole, and does what the call does.
+pub record Answers {A E : Type 0} (does : Disk → Result A E → Disk → Type 0) (old : DiskState) (answer : Result A E)
+    (new : DiskState) : Type 0 where
+  pub whole : old.is_honest ≡ true → IsWhole old.now
+  pub done : old.is_honest ≡ true → does old.now answer new.now
+  pub honest : new.is_honest ≡ old.is_honest
+
+-- On an honest disk the call is done only if a file stands at the path.
+abbrev pub WantsFile : {A E : Type 0} → List ℕ → DiskState → Result A E → Type 0
+WantsFile path old answer = old.is_honest ≡ true → OnOk answer (is_some (found_at path old.now.names) ≡ true)
+
+-- On an honest disk the call is done only if no file stands at the path.
+abbrev pub WantsNoFile : {A E : Type 0} → List ℕ → DiskState → Result A E → Type 0
+WantsNoFile path old answer = old.is_honest ≡ true → OnOk answer (found_at path old.now.names ≡ None)

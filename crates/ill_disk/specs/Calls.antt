@@ -1,12 +1,18 @@
 -- The state of a disk, and the answers of its calls.
-use Rattle.std.specs.Prelude.{◌≡◌, ◌⊎◌, ℕ, Bool, true, List, Option, None, is_some, option_map, Result, Ok, Err}
-use Rattle.std.specs.Prelude.{IfOk, OnOk}
-use Rattle.ill_disk.specs.Disk.{Disk, IsWhole, content, found_at, after_create}
+use Rattle.std.specs.Prelude.{◌≡◌, ◌⊎◌, ℕ, Bool, true, List, [], ◌∷◌, ◌++◌, Option, Some, None, is_some, option_map, Result, Ok}
+use Rattle.std.specs.Prelude.{Err, IfOk, OnOk}
+use Rattle.ill_disk.specs.Disk.{In, Disk, IsWhole, content, found_at, after_create}
 
--- The state of a disk: its files and names now. `is_honest` is true if the disk does as it answers.
+-- The state of a disk: its files and names now, and the disks that it was, the first one first. A disk may keep no past.
+-- `is_honest` is true if the disk does as it answers.
 pub record DiskState : Type 0 where
   pub now : Disk
+  pub past : Option (List Disk)
   pub is_honest : Bool
+
+-- Returns the past, followed by these disks.
+abbrev pub followed_by : Option (List Disk) → List Disk → Option (List Disk)
+followed_by past during = option_map (λ disks. disks ++ during) past
 
 -- A read that is done gives the bytes at the path. It changes nothing, done or failed.
 pub record Reads {X E : Type 0} (bytes_of : X → List ℕ) (path : List ℕ) (old : Disk) (answer : Result (Option X) E)
@@ -24,11 +30,17 @@ abbrev pub Creates : {E : Type 0} → List ℕ → List ℕ → Disk → Result 
 Creates path bytes old (Ok done) new = new ≡ after_create path bytes old
 Creates path bytes old (Err fault) new = (new ≡ old) ⊎ ((some : List ℕ) × (new ≡ after_create path some old))
 
--- The disk answers a call, and is in the state `new` after it. An honest disk is whole, and does what the call does.
+-- The past has gained the disk `old`. A call that changes nothing may add nothing.
+abbrev pub Passes : DiskState → DiskState → Type 0
+Passes old new = (new.past ≡ followed_by old.past (old.now ∷ [])) ⊎ ((new.past ≡ old.past) × (new.now ≡ old.now))
+
+-- The disk answers a call, and is in the state `new` after it. An honest disk is whole, does what the call does, and
+-- keeps its past.
 pub record Answers {A E : Type 0} (does : Disk → Result A E → Disk → Type 0) (old : DiskState) (answer : Result A E)
     (new : DiskState) : Type 0 where
   pub whole : old.is_honest ≡ true → IsWhole old.now
   pub done : old.is_honest ≡ true → does old.now answer new.now
+  pub past : old.is_honest ≡ true → Passes old new
   pub honest : new.is_honest ≡ old.is_honest
 
 -- On an honest disk the call is done only if a file stands at the path.
@@ -38,3 +50,18 @@ WantsFile path old answer = old.is_honest ≡ true → OnOk answer (is_some (fou
 -- On an honest disk the call is done only if no file stands at the path.
 abbrev pub WantsNoFile : {A E : Type 0} → List ℕ → DiskState → Result A E → Type 0
 WantsNoFile path old answer = old.is_honest ≡ true → OnOk answer (found_at path old.now.names ≡ None)
+
+-- ---- moments
+
+-- Each disk from `old` to `new` has P: those that the past has gained meanwhile, and the last one.
+pub record Throughout (P : Disk → Type 0) (old new : DiskState) : Type 0 where
+  pub during : List Disk
+  pub past : new.past ≡ followed_by old.past during
+  pub each : (d : Disk) → In during d → P d
+  pub last : P new.now
+
+-- The disk was `d` between `old` and `new`, or is `d` at the end.
+pub data IsMoment (old new : DiskState) (d : Disk) : Type 0 where
+  at_the_end : d ≡ new.now → IsMoment old new d
+  meanwhile : (before during : List Disk) → old.past ≡ Some before → new.past ≡ Some (before ++ during) → In during d →
+      IsMoment old new d

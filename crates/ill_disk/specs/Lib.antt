@@ -1,3 +1,4 @@
+pub mod BadCalls
 pub mod BadDisk
 pub mod Calls
 pub mod Disk

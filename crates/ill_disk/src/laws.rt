@@ -1,7 +1,10 @@
 //! The laws of a disk that may lose its power are the contracts of functions that do nothing.
 
-ghost use Rattle.std.specs.Prelude.{◌≡◌, ◌⊎◌, ℕ, length, false, slice_get, List, Option, Some, None};
+ghost use Rattle.std.specs.Prelude.{◌≡◌, ◌⊎◌, ℕ, length, false, slice_get, List, Option, Some, None, Result};
 ghost use Rattle.ill_disk.specs.Disk.{In, File, Name, Disk, Crash, Leaves, IsWhole, IsOldOr, content, found_at, with_rename, with_name, without, after_create, after_remove, after_rename, after_flush, after_flush_names, empty_disk, after_save, on_the_way};
+ghost use Rattle.ill_disk.specs.Calls.{DiskState, Reads, Changes, Answers, Throughout, IsMoment};
+ghost use Rattle.ill_disk.specs.BadCalls.{IsBadAnswer, IsBadRead};
+ghost use Rattle.ill_disk.specs.declared.disk.DiskFault.{DiskFault};
 ghost use Rattle.ill_disk.specs.BadDisk.{IsBadCrash, IsHalfRenamed, LosesNames};
 
 /// A new file gives its bytes, and a removed path gives nothing. After a rename the new path gives what the old one
@@ -109,4 +112,27 @@ pub fn each_flush_of_a_save_counts()
 #[tactic(auto, using(crate::proofs::Saves::empty_is_new))]
 pub fn no_third_record_is_old_or_new()
     ensures { (path bytes other : List ℕ) → IsOldOr path empty_disk bytes (Some other) → other ≡ bytes }
+{}
+
+/// An honest disk that is done with a change has made it. One that failed has made it, or has changed nothing. It is
+/// whole, and keeps its past. A read gives the bytes at the path, and changes nothing. No call makes a disk honest, or
+/// dishonest.
+#[tactic(auto, using(crate::proofs::Moments::no_bad_answer, crate::proofs::Moments::no_bad_read))]
+pub fn no_answer_is_bad()
+    ensures changes { (change : Disk → Disk) (old : DiskState) (answer : Result (Unit {0}) DiskFault) (new : DiskState) →
+        Answers (Changes change) old answer new → IsBadAnswer change old answer new → ⊥ }
+    ensures reads { (path : List ℕ) (old : DiskState) (answer : Result (Option (List ℕ)) DiskFault) (new : DiskState) →
+        Answers (Reads (λ b. b) path) old answer new → IsBadRead (λ b. b) path old answer new → ⊥ }
+{}
+
+/// A claim on each disk from one state to another leaves out no disk that the past has gained, and not the last one.
+pub fn no_moment_is_left_out()
+    ensures { (old new : DiskState) (d : Disk) → Throughout (λ e. e ≡ d → ⊥) old new → IsMoment old new d → ⊥ }
+{}
+
+/// A crash while a new file is written leaves what one after it may leave. So each moment within a call is one between
+/// two calls.
+pub fn a_torn_file_is_no_further_case()
+    ensures { (path some bytes : List ℕ) (d after : Disk) → Crash (after_create path some d) after →
+        Crash (after_create path bytes d) after }
 {}

@@ -2,8 +2,10 @@
 #![tactic(auto)]
 
 mod disk;
+mod disk_with_past;
 pub mod laws;
 mod memory_disk;
 
 pub use disk::{Disk, DiskFault};
+pub use disk_with_past::DiskWithPast;
 pub use memory_disk::MemoryDisk;

@@ -88,6 +88,16 @@ impl MemoryFile {
         Ok(Vec::from_slice(alloc, &self.bytes)?)
     }
 
+    /// Returns a copy of the file.
+    fn copy(&self, alloc: Global) -> Result<MemoryFile, AllocError>
+        ensures { IfOk result (λ file. file ≡ self.now) }
+    {
+        Ok(MemoryFile {
+            bytes: Vec::from_slice(alloc, &self.bytes)?,
+            is_flushed: self.is_flushed,
+        })
+    }
+
     /// Flushes the file.
     fn flush(&mut self)
         ensures { self.new ≡ record self.old { is_flushed = true } }
@@ -313,6 +323,17 @@ fn crash_file(alloc: Global, file: &MemoryFile) -> Result<MemoryFile, AllocError
     })
 }
 
+/// Returns copies of the files.
+fn copy_files(alloc: Global, files: &[MemoryFile]) -> Result<Vec<MemoryFile>, AllocError>
+    ensures { IfOk result (λ copies. copies.items ≡ files.now) }
+{
+    let mut copies = Vec::new(alloc);
+    for file in files {
+        copies.push(file.copy(alloc)?)?;
+    }
+    Ok(copies)
+}
+
 /// Returns the files as a crash leaves them.
 fn crash_files(alloc: Global, files: &[MemoryFile]) -> Result<Vec<MemoryFile>, AllocError>
     ensures { IfOk result (λ after. after.items ≡ map file_after_crash files.now) }
@@ -353,6 +374,23 @@ impl MemoryDisk {
             alloc,
             files: Vec::new(alloc),
             names: Vec::new(alloc),
+            may_stand,
+        })
+    }
+
+    /// Returns a copy of the disk.
+    pub fn copy(&self, alloc: Global) -> Result<MemoryDisk, AllocError>
+        ensures copied { IfOk result (λ copy. copy ≡ self.now) }
+        ensures whole { IsWhole self.now }
+    {
+        let mut names = Vec::new(alloc);
+        add_names(alloc, &mut names, &self.names)?;
+        let mut may_stand = Vec::new(alloc);
+        add_lists(alloc, &mut may_stand, &self.may_stand)?;
+        Ok(MemoryDisk {
+            alloc,
+            files: copy_files(alloc, &self.files)?,
+            names,
             may_stand,
         })
     }

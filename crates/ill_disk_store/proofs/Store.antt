@@ -7,11 +7,13 @@ use Rattle.std.proofs.lemmas.Option.{none-some}
 use Rattle.ill_disk.specs.Disk.{In, File, Name, Disk, Leaves, IsWhole, content, found_at, bytes_of}
 use Rattle.ill_disk.specs.Disk.{without, on_the_way, after_create, after_remove, after_rename, after_flush}
 use Rattle.ill_disk.specs.Disk.{after_flush_names}
-use Rattle.ill_disk.specs.Calls.{DiskState, Reads, Changes, Creates, Answers}
+use Rattle.ill_disk.specs.Calls.{DiskState, Reads, Changes, Creates, Answers, Throughout}
 use Rattle.ill_disk.proofs.Names.{found_without_other, made_found}
 use Rattle.ill_disk.proofs.Crashes.{change_left, flush_left, flushes_last, names_left, flush_is_not_read}
+use Rattle.ill_disk.proofs.Moments.{begins, goes_on}
 use Rattle.ill_disk.proofs.Saves.{created_left, create_elsewhere, remove_elsewhere, save_moments, save_is_read, save_lasts}
-use Rattle.ill_disk_store.specs.DiskStore.{Lasts, LeavesOld, LeavesOldOr, ReadsOldOr, DiskLoads, DiskSaves}
+use Rattle.ill_disk_store.specs.DiskStore.{Lasts, LeavesOld, LeavesOldOr, ReadsOldOr, IsOld, IsOldOrNew, DiskLoads}
+use Rattle.ill_disk_store.specs.DiskStore.{DiskSaves}
 
 -- A property of a disk with a change and without it holds after the call, done or failed.
 pub either_way : {E : Type 0} (P : Disk → Type 0) (change : Disk → Disk) (old new : Disk) (result : Result (Unit {0}) E) →
@@ -75,22 +77,18 @@ remove_leaves aside path d differ found left = ⊎_elim
 
 -- ---- a load
 
--- A read and a crash of the disk `new` give what they gave, or might have given, on the disk `old`.
-abbrev pub IsKept : List ℕ → Disk → Disk → Type 0
-IsKept path old new = (content path new ≡ content path old) × LeavesOld path old new
-
 -- A record that is kept is so after its file was flushed, or was not.
 pub flush_keeps : {E : Type 0} (path : List ℕ) (old read flushed : Disk) (result : Result (Unit {0}) E) →
-    IsKept path old read → Changes (after_flush path) read result flushed → IsKept path old flushed
+    IsOld path old read → Changes (after_flush path) read result flushed → IsOld path old flushed
 flush_keeps path old read flushed result kept changes =
-    either_way (IsKept path old) (after_flush path) read flushed result changes kept
+    either_way (IsOld path old) (after_flush path) read flushed result changes kept
     (flush_is_not_read path path read ∙ kept.0, flush_leaves path path old read kept.1)
 
 -- A record that is kept is so after the names were flushed, or were not.
 pub names_keep : {E : Type 0} (path : List ℕ) (old flushed last : Disk) (result : Result (Unit {0}) E) → IsWhole flushed →
-    IsKept path old flushed → Changes after_flush_names flushed result last → IsKept path old last
+    IsOld path old flushed → Changes after_flush_names flushed result last → IsOld path old last
 names_keep path old flushed last result whole kept changes =
-    either_way (IsKept path old) after_flush_names flushed last result changes kept
+    either_way (IsOld path old) after_flush_names flushed last result changes kept
     (kept.0, names_leave path old flushed whole kept.1)
 
 -- A record that was read lasts after its file and the names were flushed.
@@ -109,16 +107,16 @@ no_load_lasts path old read last same whole none names =
 
 -- ---- a load that ends at a call
 
--- The record is kept on a disk that has changed so far.
+-- The record is kept at each moment so far.
 pub record HasKept (path : List ℕ) (old new : DiskState) : Type 0 where
-  pub kept : old.is_honest ≡ true → IsKept path old.now new.now
+  pub moments : old.is_honest ≡ true → Throughout (IsOld path old.now) old new
   pub honest : new.is_honest ≡ old.is_honest
 
 -- A read keeps the record.
 pub read_has_kept : {X E : Type 0} {bytes_of : X → List ℕ} {path : List ℕ} {old read : DiskState}
     {answer : Result (Option X) E} → Answers (Reads bytes_of path) old answer read → HasKept path old read
 read_has_kept {path = path} {old = old} reads = record {
-  kept = λ h. (
+  moments = λ h. goes_on (begins (refl, old_left path old.now)) (reads.past h) (
     ap (content path) (reads.done h).same,
     subst (LeavesOld path old.now) (sym (reads.done h).same) (old_left path old.now),
   );
@@ -129,7 +127,8 @@ read_has_kept {path = path} {old = old} reads = record {
 pub flush_has_kept : {E : Type 0} {path : List ℕ} {old read flushed : DiskState} {answer : Result (Unit {0}) E} →
     HasKept path old read → Answers (Changes (after_flush path)) read answer flushed → HasKept path old flushed
 flush_has_kept {path = path} {old = old} {read = read} {flushed = flushed} {answer = answer} so_far flushes = record {
-  kept = λ h. flush_keeps path old.now read.now flushed.now answer (so_far.kept h) (flushes.done (so_far.honest ∙ h));
+  moments = λ h. goes_on (so_far.moments h) (flushes.past (so_far.honest ∙ h)) (flush_keeps path old.now read.now flushed.now
+      answer (so_far.moments h).last (flushes.done (so_far.honest ∙ h)));
   honest = flushes.honest ∙ so_far.honest;
 }
 
@@ -137,8 +136,8 @@ flush_has_kept {path = path} {old = old} {read = read} {flushed = flushed} {answ
 pub names_have_kept : {E : Type 0} {path : List ℕ} {old flushed last : DiskState} {answer : Result (Unit {0}) E} →
     HasKept path old flushed → Answers (Changes after_flush_names) flushed answer last → HasKept path old last
 names_have_kept {path = path} {old = old} {flushed = flushed} {last = last} {answer = answer} so_far flushes = record {
-  kept = λ h. names_keep path old.now flushed.now last.now answer (flushes.whole (so_far.honest ∙ h)) (so_far.kept h)
-      (flushes.done (so_far.honest ∙ h));
+  moments = λ h. goes_on (so_far.moments h) (flushes.past (so_far.honest ∙ h)) (names_keep path old.now flushed.now last.now
+      answer (flushes.whole (so_far.honest ∙ h)) (so_far.moments h).last (flushes.done (so_far.honest ∙ h)));
   honest = flushes.honest ∙ so_far.honest;
 }
 
@@ -149,8 +148,7 @@ load_fails {answer = Ok found} is so_far = absurd (true≢false (sym is))
 load_fails {answer = Err fault} is so_far = record {
   loaded = λ h. tt;
   lasts = λ h. tt;
-  same = λ h. (so_far.kept h).0;
-  left = λ h. (so_far.kept h).1;
+  moments = so_far.moments;
   honest = so_far.honest;
 }
 
@@ -165,26 +163,24 @@ no_record_loads {bytes_of = bytes_of} {path = path} {old = old} {read = read} {l
       loaded = gives;
       lasts = λ h. no_load_lasts path old.now read.now last.now (reads.done h).same (flushes.whole (reads.honest ∙ h))
           (sym (gives h)) (flushes.done (reads.honest ∙ h));
-      same = λ h. (so_far.kept h).0;
-      left = λ h. (so_far.kept h).1;
+      moments = so_far.moments;
       honest = so_far.honest;
     }
 
 -- A load of a record is done after its file and the names were flushed.
 pub record_loads : {X E : Type 0} {bytes_of : X → List ℕ} {path : List ℕ} {old read flushed last : DiskState}
-    {found : Option X} {record_found : X} {one two : Unit {0}} → found ≡ Some record_found →
+    {found : Option X} {saved : X} {one two : Unit {0}} → found ≡ Some saved →
     Answers {E = E} (Reads bytes_of path) old (Ok found) read →
     Answers {E = E} (Changes (after_flush path)) read (Ok one) flushed →
     Answers {E = E} (Changes after_flush_names) flushed (Ok two) last →
-    DiskLoads {E = E} bytes_of path old (Ok (Some record_found)) last
+    DiskLoads {E = E} bytes_of path old (Ok (Some saved)) last
 record_loads {bytes_of = bytes_of} {path = path} {old = old} {read = read} {flushed = flushed} {last = last} is reads
     flushes names =
     let so_far = names_have_kept (flush_has_kept (read_has_kept reads) flushes) names in record {
       loaded = λ h. sym (ap (option_map bytes_of) is) ∙ (reads.done h).bytes;
       lasts = λ h. load_lasts path old.now read.now flushed.now last.now (reads.done h).same
           (flushes.done (reads.honest ∙ h)) (names.done (flushes.honest ∙ reads.honest ∙ h));
-      same = λ h. (so_far.kept h).0;
-      left = λ h. (so_far.kept h).1;
+      moments = so_far.moments;
       honest = so_far.honest;
     }
 
@@ -194,7 +190,7 @@ module _ (aside path bytes : List ℕ) (first d : Disk) (whole : IsWhole d) (dif
     (reads : content path d ≡ content path first) (lefts : LeavesOld path first d) where
   -- A read of the disk gives the old record or the new one, and so does each crash.
   abbrev pub IsFine : Disk → Type 0
-  IsFine x = ReadsOldOr path bytes first x × LeavesOldOr path bytes first x
+  IsFine = IsOldOrNew path bytes first
 
   -- A disk whose reads and crashes give an old record is fine.
   old_fine : (x : Disk) → content path x ≡ content path d → LeavesOld path d x → IsFine x
@@ -239,10 +235,6 @@ module _ (aside path bytes : List ℕ) (first d : Disk) (whole : IsWhole d) (dif
 -- A removal of `aside` from the disk `old`, done or failed, gave the disk `cleared`. A save went on from there.
 module _ {E : Type 0} (aside path bytes : List ℕ) (old cleared : Disk) (removal : Result (Unit {0}) E)
     (differ : aside ≡ path → ⊥) (clears : Changes (after_remove aside) old removal cleared) (whole : IsWhole cleared) where
-  -- A read of the disk `last` gives the old record or these bytes, and so does each crash.
-  abbrev pub IsOldOrNew : Disk → Type 0
-  IsOldOrNew last = ReadsOldOr path bytes old last × LeavesOldOr path bytes old last
-
   -- The record is read as before.
   reads : content path cleared ≡ content path old
   reads = either_way (λ (d : Disk). content path d ≡ content path old) (after_remove aside) old cleared removal clears refl
@@ -254,23 +246,27 @@ module _ {E : Type 0} (aside path bytes : List ℕ) (old cleared : Disk) (remova
       (remove_leaves aside path old differ)
 
   -- Each disk on the way of the save has the old record or the new one.
-  on_way : (last : Disk) → In (on_the_way aside path bytes cleared) last → IsOldOrNew last
+  on_way : (last : Disk) → In (on_the_way aside path bytes cleared) last → IsOldOrNew path bytes old last
   on_way last is = way_fine aside path bytes old cleared whole differ reads lefts last is
 
+  -- The disk after what stood aside was removed, or was not, has the old record.
+  pub after_clearing : IsOldOrNew path bytes old cleared
+  after_clearing = (inl reads, λ found left. inl (lefts found left))
+
   -- The disk after the new file was made, or was not, has the old record or the new one.
-  pub after_making : (made : Disk) (result : Result (Unit {0}) E) → Creates aside bytes cleared result made → IsOldOrNew made
+  pub after_making : (made : Disk) (result : Result (Unit {0}) E) → Creates aside bytes cleared result made → IsOldOrNew path bytes old made
   after_making made result is = creates_fine aside path bytes old cleared whole differ reads lefts made result is
 
   -- The disk after the new file was flushed, or was not, has the old record or the new one.
   pub after_flushing : (made flushed : Disk) (result : Result (Unit {0}) E) → made ≡ after_create aside bytes cleared →
-      Changes (after_flush aside) made result flushed → IsOldOrNew flushed
+      Changes (after_flush aside) made result flushed → IsOldOrNew path bytes old flushed
   after_flushing made flushed result is changes =
       on_way flushed (either_way (In (on_the_way aside path bytes cleared)) (after_flush aside) made flushed result changes
       (inr (inl is)) (inr (inr (inl (ap (after_flush aside) is)))))
 
   -- The disk after the new file was renamed, or was not, has the old record or the new one.
   pub after_renaming : (made flushed renamed : Disk) (result : Result (Unit {0}) E) → made ≡ after_create aside bytes cleared →
-      flushed ≡ after_flush aside made → Changes (after_rename aside path) flushed result renamed → IsOldOrNew renamed
+      flushed ≡ after_flush aside made → Changes (after_rename aside path) flushed result renamed → IsOldOrNew path bytes old renamed
   after_renaming made flushed renamed result is flush changes =
       let here = flush ∙ ap (after_flush aside) is in
       on_way renamed (either_way (In (on_the_way aside path bytes cleared)) (after_rename aside path) flushed renamed result
@@ -279,7 +275,7 @@ module _ {E : Type 0} (aside path bytes : List ℕ) (old cleared : Disk) (remova
   -- The disk after the names were flushed, or were not, has the old record or the new one.
   pub after_flushing_names : (made flushed renamed last : Disk) (result : Result (Unit {0}) E) →
       made ≡ after_create aside bytes cleared → flushed ≡ after_flush aside made → renamed ≡ after_rename aside path flushed →
-      Changes after_flush_names renamed result last → IsOldOrNew last
+      Changes after_flush_names renamed result last → IsOldOrNew path bytes old last
   after_flushing_names made flushed renamed last result is flush rename changes =
       let here = rename ∙ ap (after_rename aside path) (flush ∙ ap (after_flush aside) is) in
       on_way last (either_way (In (on_the_way aside path bytes cleared)) after_flush_names renamed last result changes
@@ -309,22 +305,25 @@ save_is_seen aside path bytes d created flushed replaced last result whole diffe
     (sym (rename ∙ ap (after_rename aside path) (flush ∙ ap (after_flush aside) make)))
     (save_is_read aside path bytes d whole differ))
 
--- A save that failed leaves the old record or the new one.
-failed : {E : Type 0} {path bytes : List ℕ} {old last : DiskState} {answer : Result (Unit {0}) E} → IsErr answer →
-    (old.is_honest ≡ true → ReadsOldOr path bytes old.now last.now × LeavesOldOr path bytes old.now last.now) →
-    last.is_honest ≡ old.is_honest → DiskSaves path bytes old answer last
-failed {answer = Ok done} is fine honest = absurd (true≢false (sym is))
-failed {answer = Err fault} is fine honest = record {
-  saved = λ h. tt;
-  lasts = λ h. tt;
-  read = λ h. (fine h).0;
-  left = λ h. (fine h).1;
-  honest = honest;
-}
-
 -- ---- the calls of a save
 
--- A removal of `aside` from the disk `old`, done or failed, gave the disk `cleared`. A new file was made on it.
+-- The disk has the old record or the new one at each moment so far.
+pub record HasSaved (path bytes : List ℕ) (old new : DiskState) : Type 0 where
+  pub moments : old.is_honest ≡ true → Throughout (IsOldOrNew path bytes old.now) old new
+  pub honest : new.is_honest ≡ old.is_honest
+
+-- A save that failed leaves the old record or the new one.
+pub save_fails : {E : Type 0} {path bytes : List ℕ} {old last : DiskState} {answer : Result (Unit {0}) E} → IsErr answer →
+    HasSaved path bytes old last → DiskSaves path bytes old answer last
+save_fails {answer = Ok done} is so_far = absurd (true≢false (sym is))
+save_fails {answer = Err fault} is so_far = record {
+  saved = λ h. tt;
+  lasts = λ h. tt;
+  moments = so_far.moments;
+  honest = so_far.honest;
+}
+
+-- A removal of `aside` from the disk `old`, done or failed, gave the disk `cleared`. A new file was made on it, or not.
 module _ {E : Type 0} {aside path bytes : List ℕ} {old cleared made : DiskState} {removal making : Result (Unit {0}) E}
     (differ : aside ≡ path → ⊥) (removes : Answers (Changes (after_remove aside)) old removal cleared)
     (creates : Answers (Creates aside bytes) cleared making made) where
@@ -332,75 +331,110 @@ module _ {E : Type 0} {aside path bytes : List ℕ} {old cleared made : DiskStat
   was_honest : old.is_honest ≡ true → cleared.is_honest ≡ true
   was_honest h = removes.honest ∙ h
 
-  -- A save fails after the new file was made, or was not.
-  pub making_fails : {answer : Result (Unit {0}) E} → IsErr answer → DiskSaves path bytes old answer made
-  making_fails is = failed is (λ h. after_making aside path bytes old.now cleared.now removal differ (removes.done h)
-      (creates.whole (was_honest h)) made.now making (creates.done (was_honest h))) (creates.honest ∙ removes.honest)
+  -- The disk was whole when it was cleared.
+  was_whole : old.is_honest ≡ true → IsWhole cleared.now
+  was_whole h = creates.whole (was_honest h)
 
--- The new file was made and then flushed, or was not flushed.
+  -- The disk has the old record after the new file was made, or was not.
+  pub made_saves : HasSaved path bytes old made
+  made_saves = record {
+    moments = λ h. goes_on {now = cleared} (goes_on {now = old} (begins {old = old} (inl refl, λ found left. inl left))
+        (removes.past h)
+        (after_clearing aside path bytes old.now cleared.now removal differ (removes.done h) (was_whole h)))
+        (creates.past (was_honest h)) (after_making aside path bytes old.now cleared.now removal differ (removes.done h)
+        (was_whole h) made.now making (creates.done (was_honest h)));
+    honest = creates.honest ∙ removes.honest;
+  }
+
+-- The new file was made.
 module _ {E : Type 0} {aside path bytes : List ℕ} {old cleared made flushed : DiskState}
-    {removal flushing : Result (Unit {0}) E} {one : Unit {0}}
-    (differ : aside ≡ path → ⊥) (removes : Answers (Changes (after_remove aside)) old removal cleared)
+    {removal flushing : Result (Unit {0}) E} {one : Unit {0}} (differ : aside ≡ path → ⊥)
+    (removes : Answers (Changes (after_remove aside)) old removal cleared)
     (creates : Answers {E = E} (Creates aside bytes) cleared (Ok one) made)
     (flushes : Answers (Changes (after_flush aside)) made flushing flushed) where
-  -- A save fails after the new file was flushed, or was not.
-  pub flushing_fails : {answer : Result (Unit {0}) E} → IsErr answer → DiskSaves path bytes old answer flushed
-  flushing_fails is = failed is (λ h. after_flushing aside path bytes old.now cleared.now removal differ (removes.done h)
-      (creates.whole (removes.honest ∙ h)) made.now flushed.now flushing (creates.done (removes.honest ∙ h))
-      (flushes.done (creates.honest ∙ removes.honest ∙ h))) (flushes.honest ∙ creates.honest ∙ removes.honest)
+  -- The disk after the new file was made.
+  so_made : HasSaved path bytes old made
+  so_made = made_saves differ removes creates
 
--- The new file was flushed and then renamed, or was not renamed.
+  -- The disk has the old record after the new file was flushed, or was not.
+  pub flushed_saves : HasSaved path bytes old flushed
+  flushed_saves = record {
+    moments = λ h. goes_on (so_made.moments h) (flushes.past (so_made.honest ∙ h))
+        (after_flushing aside path bytes old.now cleared.now removal differ (removes.done h)
+        (was_whole differ removes creates h) made.now flushed.now flushing
+        (creates.done (was_honest differ removes creates h)) (flushes.done (so_made.honest ∙ h)));
+    honest = flushes.honest ∙ so_made.honest;
+  }
+
+-- The new file was flushed.
 module _ {E : Type 0} {aside path bytes : List ℕ} {old cleared made flushed renamed : DiskState}
-    {removal renaming : Result (Unit {0}) E} {one two : Unit {0}}
-    (differ : aside ≡ path → ⊥) (removes : Answers (Changes (after_remove aside)) old removal cleared)
+    {removal renaming : Result (Unit {0}) E} {one two : Unit {0}} (differ : aside ≡ path → ⊥)
+    (removes : Answers (Changes (after_remove aside)) old removal cleared)
     (creates : Answers {E = E} (Creates aside bytes) cleared (Ok one) made)
     (flushes : Answers {E = E} (Changes (after_flush aside)) made (Ok two) flushed)
     (renames : Answers (Changes (after_rename aside path)) flushed renaming renamed) where
-  -- A save fails after the new file was renamed, or was not.
-  pub renaming_fails : {answer : Result (Unit {0}) E} → IsErr answer → DiskSaves path bytes old answer renamed
-  renaming_fails is = failed is (λ h. after_renaming aside path bytes old.now cleared.now removal differ (removes.done h)
-      (creates.whole (removes.honest ∙ h)) made.now flushed.now renamed.now renaming (creates.done (removes.honest ∙ h))
-      (flushes.done (creates.honest ∙ removes.honest ∙ h))
-      (renames.done (flushes.honest ∙ creates.honest ∙ removes.honest ∙ h)))
-      (renames.honest ∙ flushes.honest ∙ creates.honest ∙ removes.honest)
+  -- The disk after the new file was flushed.
+  so_flushed : HasSaved path bytes old flushed
+  so_flushed = flushed_saves differ removes creates flushes
+
+  -- The disk is the one after a new file was made.
+  made_is : old.is_honest ≡ true → made.now ≡ after_create aside bytes cleared.now
+  made_is h = creates.done (was_honest differ removes creates h)
+
+  -- The disk is the one after the new file was flushed.
+  flushed_is : old.is_honest ≡ true → flushed.now ≡ after_flush aside made.now
+  flushed_is h = flushes.done (creates.honest ∙ removes.honest ∙ h)
+
+  -- The disk has the old record or the new one after the new file was renamed, or was not.
+  pub renamed_saves : HasSaved path bytes old renamed
+  renamed_saves = record {
+    moments = λ h. goes_on (so_flushed.moments h) (renames.past (so_flushed.honest ∙ h))
+        (after_renaming aside path bytes old.now cleared.now removal differ (removes.done h)
+        (was_whole differ removes creates h) made.now flushed.now renamed.now renaming (made_is h) (flushed_is h)
+        (renames.done (so_flushed.honest ∙ h)));
+    honest = renames.honest ∙ so_flushed.honest;
+  }
 
 -- The new file was renamed, and then the names were flushed, or were not flushed.
 module _ {E : Type 0} {aside path bytes : List ℕ} {old cleared made flushed renamed last : DiskState}
-    {removal ending : Result (Unit {0}) E} {one two three : Unit {0}}
-    (differ : aside ≡ path → ⊥) (removes : Answers (Changes (after_remove aside)) old removal cleared)
+    {removal ending : Result (Unit {0}) E} {one two three : Unit {0}} (differ : aside ≡ path → ⊥)
+    (removes : Answers (Changes (after_remove aside)) old removal cleared)
     (creates : Answers {E = E} (Creates aside bytes) cleared (Ok one) made)
     (flushes : Answers {E = E} (Changes (after_flush aside)) made (Ok two) flushed)
     (renames : Answers {E = E} (Changes (after_rename aside path)) flushed (Ok three) renamed)
     (names : Answers (Changes after_flush_names) renamed ending last) where
-  made_of : old.is_honest ≡ true → made.now ≡ after_create aside bytes cleared.now
-  made_of h = creates.done (removes.honest ∙ h)
+  -- The disk after the new file was renamed.
+  so_renamed : HasSaved path bytes old renamed
+  so_renamed = renamed_saves differ removes creates flushes renames
 
-  flushed_of : old.is_honest ≡ true → flushed.now ≡ after_flush aside made.now
-  flushed_of h = flushes.done (creates.honest ∙ removes.honest ∙ h)
+  -- The disk is the one after a new file was made.
+  is_made : old.is_honest ≡ true → made.now ≡ after_create aside bytes cleared.now
+  is_made = made_is differ removes creates flushes renames
 
-  renamed_of : old.is_honest ≡ true → renamed.now ≡ after_rename aside path flushed.now
-  renamed_of h = renames.done (flushes.honest ∙ creates.honest ∙ removes.honest ∙ h)
+  -- The disk is the one after the new file was flushed.
+  is_flushed : old.is_honest ≡ true → flushed.now ≡ after_flush aside made.now
+  is_flushed = flushed_is differ removes creates flushes renames
 
-  named_of : old.is_honest ≡ true → Changes after_flush_names renamed.now ending last.now
-  named_of h = names.done (renames.honest ∙ flushes.honest ∙ creates.honest ∙ removes.honest ∙ h)
+  -- The disk is the one after the new file was renamed.
+  is_renamed : old.is_honest ≡ true → renamed.now ≡ after_rename aside path flushed.now
+  is_renamed h = renames.done (flushes.honest ∙ creates.honest ∙ removes.honest ∙ h)
 
-  whole_of : old.is_honest ≡ true → IsWhole cleared.now
-  whole_of h = creates.whole (removes.honest ∙ h)
-
-  fine_of : old.is_honest ≡ true → ReadsOldOr path bytes old.now last.now × LeavesOldOr path bytes old.now last.now
-  fine_of h = after_flushing_names aside path bytes old.now cleared.now removal differ (removes.done h) (whole_of h)
-      made.now flushed.now renamed.now last.now ending (made_of h) (flushed_of h) (renamed_of h) (named_of h)
+  -- The names are flushed, or are not.
+  is_named : old.is_honest ≡ true → Changes after_flush_names renamed.now ending last.now
+  is_named h = names.done (so_renamed.honest ∙ h)
 
   -- A save ends after the names were flushed, or were not.
   pub save_ends : DiskSaves path bytes old ending last
   save_ends = record {
-    saved = λ h. save_is_seen aside path bytes cleared.now made.now flushed.now renamed.now last.now ending (whole_of h)
-        differ (made_of h) (flushed_of h) (renamed_of h) (named_of h);
-    lasts = λ h. save_is_done aside path bytes cleared.now made.now flushed.now renamed.now last.now ending (whole_of h)
-        differ (made_of h) (flushed_of h) (renamed_of h) (named_of h);
-    read = λ h. (fine_of h).0;
-    left = λ h. (fine_of h).1;
-    honest = names.honest ∙ renames.honest ∙ flushes.honest ∙ creates.honest ∙ removes.honest;
+    saved = λ h. save_is_seen aside path bytes cleared.now made.now flushed.now renamed.now last.now ending
+        (was_whole differ removes creates h) differ (is_made h) (is_flushed h) (is_renamed h) (is_named h);
+    lasts = λ h. save_is_done aside path bytes cleared.now made.now flushed.now renamed.now last.now ending
+        (was_whole differ removes creates h) differ (is_made h) (is_flushed h) (is_renamed h) (is_named h);
+    moments = λ h. goes_on (so_renamed.moments h) (names.past (so_renamed.honest ∙ h))
+        (after_flushing_names aside path bytes old.now cleared.now removal differ (removes.done h)
+        (was_whole differ removes creates h) made.now flushed.now renamed.now last.now ending (is_made h) (is_flushed h)
+        (is_renamed h) (is_named h));
+    honest = names.honest ∙ so_renamed.honest;
   }
 
 -- ---- a store that answers as its disk did
@@ -414,8 +448,7 @@ done_load_at {F = F} {bytes_of = bytes_of} {p = p} {a = a} {b = b} {e = e} {foun
     (subst (λ (x : DiskState). DiskLoads {E = F} bytes_of p a (Ok found) x) new (record {
       loaded = loads.loaded;
       lasts = loads.lasts;
-      same = loads.same;
-      left = loads.left;
+      moments = loads.moments;
       honest = loads.honest;
     })))
 
@@ -428,8 +461,7 @@ failed_load_at {bytes_of = bytes_of} {p = p} {a = a} {b = b} {e = e} {other = ot
     (subst (λ (x : DiskState). DiskLoads bytes_of p a (Err other) x) new (record {
       loaded = loads.loaded;
       lasts = loads.lasts;
-      same = loads.same;
-      left = loads.left;
+      moments = loads.moments;
       honest = loads.honest;
     })))
 
@@ -442,8 +474,7 @@ done_save_at {F = F} {p = p} {bytes = bytes} {a = a} {b = b} {e = e} {done = don
     (subst (λ (x : DiskState). DiskSaves {E = F} p bytes a (Ok done) x) new (record {
       saved = saves.saved;
       lasts = saves.lasts;
-      read = saves.read;
-      left = saves.left;
+      moments = saves.moments;
       honest = saves.honest;
     })))
 
@@ -456,7 +487,6 @@ failed_save_at {p = p} {bytes = bytes} {a = a} {b = b} {e = e} {other = other} p
     (subst (λ (x : DiskState). DiskSaves p bytes a (Err other) x) new (record {
       saved = saves.saved;
       lasts = saves.lasts;
-      read = saves.read;
-      left = saves.left;
+      moments = saves.moments;
       honest = saves.honest;
     })))

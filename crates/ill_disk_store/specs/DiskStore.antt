@@ -1,7 +1,7 @@
 -- Defines the state of a store on a disk, and the records that a crash leaves in it.
 use Rattle.std.specs.Prelude.{◌≡◌, ◌⊎◌, ℕ, ◌++◌, true, List, codes, Option, Some, None, option_map, Result, IfOk, OnOk}
 use Rattle.ill_disk.specs.Disk.{Disk, Leaves, IsOldOr, content}
-use Rattle.ill_disk.specs.Calls.{DiskState}
+use Rattle.ill_disk.specs.Calls.{DiskState, Throughout}
 use Rattle.ill_saved.specs.Store.{StoreState}
 
 -- A store on a disk: its disk, the path of its record, the limit of a record, and its count of failures.
@@ -41,24 +41,33 @@ LeavesOldOr path bytes old new = (left : Option (List ℕ)) → Leaves new path 
 abbrev pub ReadsOldOr : List ℕ → List ℕ → Disk → Disk → Type 0
 ReadsOldOr path bytes old new = (content path new ≡ content path old) ⊎ (content path new ≡ Some bytes)
 
+-- A read of the disk `d`, and each crash of it, give what they gave, or might have given, on the disk `old`.
+abbrev pub IsOld : List ℕ → Disk → Disk → Type 0
+IsOld path old d = (content path d ≡ content path old) × LeavesOld path old d
+
+-- A read of the disk `d`, and each crash of it, give what they gave, or might have given, on the disk `old`, or these
+-- bytes.
+abbrev pub IsOldOrNew : List ℕ → List ℕ → Disk → Disk → Type 0
+IsOldOrNew path bytes old d = ReadsOldOr path bytes old d × LeavesOldOr path bytes old d
+
 -- ---- the calls
 
 -- The record at a path is loaded from the disk `old`. If the disk is honest, a load that is done gives what a read of
--- the path would give, and each crash leaves it from then on. A load changes neither, done or failed.
+-- the path would give, and each crash leaves it from then on. At each moment of a load, done or failed, a read and each
+-- crash give the old record.
 pub record DiskLoads {X E : Type 0} (bytes_of : X → List ℕ) (path : List ℕ) (old : DiskState)
     (answer : Result (Option X) E) (new : DiskState) : Type 0 where
   pub loaded : old.is_honest ≡ true → IfOk answer (λ found. option_map bytes_of found ≡ content path old.now)
   pub lasts : old.is_honest ≡ true → OnOk answer (Lasts path new.now (content path old.now))
-  pub same : old.is_honest ≡ true → content path new.now ≡ content path old.now
-  pub left : old.is_honest ≡ true → LeavesOld path old.now new.now
+  pub moments : old.is_honest ≡ true → Throughout (IsOld path old.now) old new
   pub honest : new.is_honest ≡ old.is_honest
 
 -- These bytes are saved at a path of the disk `old`. If the disk is honest, a save that is done lets a read give them,
--- and each crash leave them. A read and a crash give what they might have given before, or these bytes, done or failed.
+-- and each crash leave them. At each moment of a save, done or failed, a read and each crash give the old record, or
+-- these bytes.
 pub record DiskSaves {E : Type 0} (path bytes : List ℕ) (old : DiskState) (answer : Result (Unit {0}) E)
     (new : DiskState) : Type 0 where
   pub saved : old.is_honest ≡ true → OnOk answer (content path new.now ≡ Some bytes)
   pub lasts : old.is_honest ≡ true → OnOk answer (Lasts path new.now (Some bytes))
-  pub read : old.is_honest ≡ true → ReadsOldOr path bytes old.now new.now
-  pub left : old.is_honest ≡ true → LeavesOldOr path bytes old.now new.now
+  pub moments : old.is_honest ≡ true → Throughout (IsOldOrNew path bytes old.now) old new
   pub honest : new.is_honest ≡ old.is_honest

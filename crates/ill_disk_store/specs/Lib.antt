@@ -1,1 +1,2 @@
+pub mod BadStore
 pub mod DiskStore

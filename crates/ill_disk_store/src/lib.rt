@@ -5,5 +5,6 @@
 mod crashes;
 mod disk_store;
 mod lasting;
+pub mod laws;
 
 pub use disk_store::DiskStore;

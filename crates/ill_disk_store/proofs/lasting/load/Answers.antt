@@ -3,6 +3,13 @@ use Rattle.ill_disk_store.proofs.Store.{read_has_kept, flush_has_kept, names_hav
 use Rattle.ill_disk_store.proofs.Store.{record_loads}
 use Rattle.ill_disk_store.proofs.lasting.load.Goals as goal
 
+pub returns-in_err-read-clause-loads : goal.returns-in_err-read-clause-loads
+returns-in_err-read-clause-loads g c = load_fails c.from_residual.ensures.0 (read_has_kept c.read.ensures.reads)
+
+pub returns-in_err-flush_names-in-None-clause-loads : goal.returns-in_err-flush_names-in-None-clause-loads
+returns-in_err-flush_names-in-None-clause-loads g c = load_fails c.from_residual-in_err-flush_names-in-None.ensures.0
+    (names_have_kept (read_has_kept c.read.ensures.reads) c.flush_names.ensures)
+
 pub returns-in_err-flush-in-Some-clause-loads : goal.returns-in_err-flush-in-Some-clause-loads
 returns-in_err-flush-in-Some-clause-loads g c = load_fails c.from_residual-in_err-flush-in-Some.ensures.0
     (flush_has_kept (read_has_kept c.read.ensures.reads) c.flush.ensures.changes)

@@ -1,0 +1,169 @@
+-- Lemmas on the disks between two calls, and on the answers of calls.
+use Rattle.std.proofs.Common.{◌≡◌, inl, inr, ⊎_elim, refl, sym, ◌∙◌, ap, subst, ℕ, false, List, [], ◌∷◌, ◌++◌, Option}
+use Rattle.std.proofs.Common.{Some, None, option_map, Result, Ok, Err, IfOk, IsErr}
+use Rattle.std.proofs.lemmas.Bool.{true≢false}
+use Rattle.ill_disk.specs.Disk.{In, File, Disk, AreLeft, Crash, IsWhole, after_create, content}
+use Rattle.ill_disk.specs.Calls.{DiskState, Reads, Changes, Creates, Answers, Passes, Throughout}
+use Rattle.ill_disk.specs.Calls.{followed_by, IsMoment, at_the_end, meanwhile}
+use Rattle.ill_disk.specs.MemoryDisk.{DiskOverTime, past_state}
+use Rattle.ill_disk.specs.BadCalls.{IsBadAnswer, IsBadRead, not_changed, other_change, broken, past_lost, turned}
+use Rattle.ill_disk.specs.BadCalls.{other_bytes, changed}
+use Rattle.ill_disk.proofs.Crashes.{in_append}
+use Rattle.ill_disk.proofs.Memory.{value_or}
+
+-- ---- lists
+
+-- A list followed by none is this list.
+followed_by_none : {X : Type 0} (xs : List X) → xs ≡ xs ++ []
+followed_by_none [] = refl
+followed_by_none {X = X} (x ∷ xs) = ap (λ (l : List X). x ∷ l) (followed_by_none xs)
+
+-- Lists are put together from either end.
+together : {X : Type 0} (xs ys zs : List X) → (xs ++ ys) ++ zs ≡ xs ++ (ys ++ zs)
+together [] ys zs = refl
+together {X = X} (x ∷ xs) ys zs = ap (λ (l : List X). x ∷ l) (together xs ys zs)
+
+-- ---- moments
+
+-- No disk has passed before the first call.
+pub begins : {P : Disk → Type 0} {old : DiskState} → P old.now → Throughout P old old
+begins {old = old} has = record {
+  during = [];
+  past = no_more old.past;
+  each = λ d none. absurd none;
+  last = has;
+} where
+  no_more : (past : Option (List Disk)) → past ≡ followed_by past []
+  no_more None = refl
+  no_more (Some disks) = ap (λ (l : List Disk). Some l) (followed_by_none disks)
+
+-- A call goes on from disks that have P to one that has it.
+pub goes_on : {P : Disk → Type 0} {old now new : DiskState} → Throughout P old now → Passes now new → P new.now →
+    Throughout P old new
+goes_on {P = P} {old = old} {now = now} {new = new} so_far (inl grown) has = record {
+  during = so_far.during ++ now.now ∷ [];
+  past = grown ∙ ap (λ (p : Option (List Disk)). followed_by p (now.now ∷ [])) so_far.past
+      ∙ twice old.past so_far.during (now.now ∷ []);
+  each = λ d passed. ⊎_elim (so_far.each d) (λ is. ⊎_elim (λ same. subst P (sym same) so_far.last) (λ none. absurd none) is)
+      (in_append so_far.during (now.now ∷ []) d passed);
+  last = has;
+} where
+  twice : (past : Option (List Disk)) (first second : List Disk) →
+      followed_by (followed_by past first) second ≡ followed_by past (first ++ second)
+  twice None first second = refl
+  twice (Some disks) first second = ap (λ (l : List Disk). Some l) (together disks first second)
+goes_on so_far (inr same) has = record {
+  during = so_far.during;
+  past = same.0 ∙ so_far.past;
+  each = so_far.each;
+  last = has;
+}
+
+-- Returns a list without its first element.
+abbrev without_first : {X : Type 0} → List X → List X
+without_first [] = []
+without_first (x ∷ xs) = xs
+
+-- Two lists after a common one are equal if the whole lists are.
+rest_is : {X : Type 0} (xs ys zs : List X) → xs ++ ys ≡ xs ++ zs → ys ≡ zs
+rest_is [] ys zs is = is
+rest_is (x ∷ xs) ys zs is = rest_is xs ys zs (ap without_first is)
+
+-- Each moment has P, if P holds throughout.
+pub each_moment : (P : Disk → Type 0) (old new : DiskState) (d : Disk) → Throughout P old new → IsMoment old new d → P d
+each_moment P old new d held (at_the_end is) = subst P (sym is) held.last
+each_moment P old new d held (meanwhile before during was is passed) =
+    held.each d (subst (λ (l : List Disk). In l d) (rest_is before during held.during
+    (ap (value_or []) (sym is ∙ held.past ∙ ap (λ (p : Option (List Disk)). followed_by p held.during) was))) passed)
+
+-- ---- answers
+
+-- A change that is neither done nor left out is no answer.
+neither : {E : Type 0} (change : Disk → Disk) (old new : Disk) (answer : Result (Unit {0}) E) → Changes change old answer new →
+    (new ≡ old → ⊥) → (new ≡ change old → ⊥) → ⊥
+neither change old new (Ok done) is not_old not_new = not_new is
+neither change old new (Err fault) is not_old not_new = ⊎_elim not_old not_new is
+
+-- A call that is done has made its change.
+done_is : {E : Type 0} (change : Disk → Disk) (old new : Disk) (done : Unit {0}) (answer : Result (Unit {0}) E) →
+    answer ≡ Ok done → Changes change old answer new → new ≡ change old
+done_is {E = E} change old new done answer is changes =
+    subst (λ (r : Result (Unit {0}) E). Changes change old r new) is changes
+
+-- No answer is bad.
+pub no_bad_answer : {E : Type 0} (change : Disk → Disk) (old : DiskState) (answer : Result (Unit {0}) E) (new : DiskState) →
+    Answers (Changes change) old answer new → IsBadAnswer change old answer new → ⊥
+no_bad_answer change old answer new given (not_changed done h is differ) =
+    differ (done_is change old.now new.now done answer is (given.done h))
+no_bad_answer change old answer new given (other_change h not_old not_new) =
+    neither change old.now new.now answer (given.done h) not_old not_new
+no_bad_answer change old answer new given (broken h differ) = differ (given.whole h)
+no_bad_answer change old answer new given (past_lost before h was differ lost) = ⊎_elim
+    (λ grown. lost (grown ∙ ap (λ (p : Option (List Disk)). followed_by p (old.now ∷ [])) was))
+    (λ same. differ same.1) (given.past h)
+no_bad_answer change old answer new given (turned differ) = differ given.honest
+
+-- No read is bad.
+pub no_bad_read : {X E : Type 0} (bytes_of : X → List ℕ) (path : List ℕ) (old : DiskState) (answer : Result (Option X) E)
+    (new : DiskState) → Answers (Reads bytes_of path) old answer new → IsBadRead bytes_of path old answer new → ⊥
+no_bad_read {X = X} {E = E} bytes_of path old answer new given (other_bytes found h is differ) =
+    differ (subst (λ (r : Result (Option X) E). IfOk r (λ f. option_map bytes_of f ≡ content path old.now)) is
+    (given.done h).bytes)
+no_bad_read bytes_of path old answer new given (changed h differ) = differ (given.done h).same
+
+-- ---- a new file that is written in part
+
+-- A crash leaves a new file as if it had other bytes, since it is not flushed.
+torn_left : (files : List File) (some bytes : List ℕ) (after : List File) →
+    AreLeft (files ++ record { bytes = some; is_flushed = false } ∷ []) after →
+    AreLeft (files ++ record { bytes = bytes; is_flushed = false } ∷ []) after
+torn_left [] some bytes [] left = absurd left
+torn_left [] some bytes (g ∷ after) left =
+    (record { bytes = λ was. absurd (true≢false (sym was)); flushed = left.0.flushed }, left.1)
+torn_left (e ∷ files) some bytes [] left = absurd left
+torn_left (e ∷ files) some bytes (g ∷ after) left = (left.0, torn_left files some bytes after left.1)
+
+-- A crash while a new file is written may be one after it was written.
+pub torn_is_made : (path some bytes : List ℕ) (d after : Disk) → Crash (after_create path some d) after →
+    Crash (after_create path bytes d) after
+torn_is_made path some bytes d after crash = record {
+  names = crash.names;
+  only = crash.only;
+  files = torn_left d.files some bytes after.files crash.files;
+}
+
+-- ---- a disk with its past, when memory runs out
+
+-- A change that failed at first has changed nothing.
+pub no_change : {E : Type 0} {change : Disk → Disk} {old new : DiskOverTime} {answer : Result (Unit {0}) E} → IsErr answer →
+    IsWhole old.disk → new ≡ old → Answers (Changes change) (past_state old) answer (past_state new)
+no_change {answer = Ok done} is whole same = absurd (true≢false (sym is))
+no_change {answer = Err fault} is whole same = record {
+  whole = λ h. whole;
+  done = λ h. inl (ap (λ (d : DiskOverTime). d.disk) same);
+  past = λ h. inr (ap (λ (d : DiskOverTime). Some d.past) same, ap (λ (d : DiskOverTime). d.disk) same);
+  honest = refl;
+}
+
+-- A new file that failed at first has changed nothing.
+pub no_file : {E : Type 0} {path bytes : List ℕ} {old new : DiskOverTime} {answer : Result (Unit {0}) E} → IsErr answer →
+    IsWhole old.disk → new ≡ old → Answers (Creates path bytes) (past_state old) answer (past_state new)
+no_file {answer = Ok done} is whole same = absurd (true≢false (sym is))
+no_file {answer = Err fault} is whole same = record {
+  whole = λ h. whole;
+  done = λ h. inl (ap (λ (d : DiskOverTime). d.disk) same);
+  past = λ h. inr (ap (λ (d : DiskOverTime). Some d.past) same, ap (λ (d : DiskOverTime). d.disk) same);
+  honest = refl;
+}
+
+-- A read that failed at first gives nothing, and has changed nothing.
+pub no_read : {X E : Type 0} {bytes_of : X → List ℕ} {path : List ℕ} {old new : DiskOverTime}
+    {answer : Result (Option X) E} → IsErr answer → IsWhole old.disk → new ≡ old →
+    Answers (Reads bytes_of path) (past_state old) answer (past_state new)
+no_read {answer = Ok found} is whole same = absurd (true≢false (sym is))
+no_read {answer = Err fault} is whole same = record {
+  whole = λ h. whole;
+  done = λ h. record { bytes = tt; same = ap (λ (d : DiskOverTime). d.disk) same };
+  past = λ h. inr (ap (λ (d : DiskOverTime). Some d.past) same, ap (λ (d : DiskOverTime). d.disk) same);
+  honest = refl;
+}

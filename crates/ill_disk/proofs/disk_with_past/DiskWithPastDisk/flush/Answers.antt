@@ -1,0 +1,5 @@
+use Rattle.ill_disk.proofs.Moments.{no_change}
+use Rattle.ill_disk.proofs.disk_with_past.DiskWithPastDisk.flush.Goals as goal
+
+pub returns-in_err-keep-clause-changes : goal.returns-in_err-keep-clause-changes
+returns-in_err-keep-clause-changes c = no_change c.from_residual.ensures.0 c.keep.ensures.whole c.in_err-keep.ensures.failed

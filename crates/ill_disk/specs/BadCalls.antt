@@ -1,0 +1,23 @@
+-- These are answers that no honest disk may give. By the laws the definitions of `Calls` exclude them all.
+use Rattle.std.specs.Prelude.{◌≡◌, ℕ, true, List, [], ◌∷◌, ◌++◌, Option, Some, option_map, Result, Ok}
+use Rattle.ill_disk.specs.Disk.{Disk, IsWhole, content}
+use Rattle.ill_disk.specs.Calls.{DiskState}
+
+-- A disk cannot answer a call that makes this change so, and be in the state `new` after it.
+pub data IsBadAnswer {E : Type 0} (change : Disk → Disk) (old : DiskState) (answer : Result (Unit {0}) E) (new : DiskState)
+    : Type 0 where
+  not_changed : (done : Unit {0}) → old.is_honest ≡ true → answer ≡ Ok done → (new.now ≡ change old.now → ⊥) →
+      IsBadAnswer change old answer new
+  other_change : old.is_honest ≡ true → (new.now ≡ old.now → ⊥) → (new.now ≡ change old.now → ⊥) →
+      IsBadAnswer change old answer new
+  broken : old.is_honest ≡ true → (IsWhole old.now → ⊥) → IsBadAnswer change old answer new
+  past_lost : (before : List Disk) → old.is_honest ≡ true → old.past ≡ Some before → (new.now ≡ old.now → ⊥) →
+      (new.past ≡ Some (before ++ old.now ∷ []) → ⊥) → IsBadAnswer change old answer new
+  turned : (new.is_honest ≡ old.is_honest → ⊥) → IsBadAnswer change old answer new
+
+-- A disk cannot answer a read of this path so, and be in the state `new` after it.
+pub data IsBadRead {X E : Type 0} (bytes_of : X → List ℕ) (path : List ℕ) (old : DiskState) (answer : Result (Option X) E)
+    (new : DiskState) : Type 0 where
+  other_bytes : (found : Option X) → old.is_honest ≡ true → answer ≡ Ok found →
+      (option_map bytes_of found ≡ content path old.now → ⊥) → IsBadRead bytes_of path old answer new
+  changed : old.is_honest ≡ true → (new.now ≡ old.now → ⊥) → IsBadRead bytes_of path old answer new

@@ -1,7 +1,7 @@
 //! Tests of what each crash leaves of a record.
 
 use crate::DiskStore;
-use ill_disk::{Disk, MemoryDisk};
+use ill_disk::{Disk, DiskWithPast, MemoryDisk};
 use ill_saved::{Store, StoreFault};
 use std::alloc::Global;
 use std::test::Fail;
@@ -29,6 +29,17 @@ fn disk_with(alloc: Global, bytes: &[u8]) -> Result<MemoryDisk, Fail> {
 /// Returns true if these bytes were found.
 fn is_found(found: &Option<Vec<u8>>, bytes: &[u8]) -> bool {
     matches!(found, Some(record) if record.as_slice() == bytes)
+}
+
+/// Returns true if each crash of this disk leaves the record `one` or `two`.
+fn leaves_one_or_two(alloc: Global, disk: &MemoryDisk) -> Result<bool, Fail> {
+    for which in 0..disk.count_lists() {
+        let found = loaded(alloc, disk.after_crash(alloc, which)?)?;
+        if !is_found(&found, b"one") && !is_found(&found, b"two") {
+            return Ok(false);
+        }
+    }
+    Ok(true)
 }
 
 #[test]
@@ -59,6 +70,20 @@ fn a_save_that_is_cut_leaves_one_record_whole(rt: HostRuntime) -> Result<(), Fai
         let wanted: &[u8] = if which < 2 { b"one" } else { b"two" };
         assert!(rt; is_found(&found, wanted), "list {which}");
     }
+    Ok(())
+}
+
+#[test]
+fn a_save_that_is_cut_at_any_moment_leaves_one_record_whole(rt: HostRuntime) -> Result<(), Fail> {
+    let disk = DiskWithPast::new(rt.alloc(), disk_with(rt.alloc(), b"one")?);
+    let mut store = DiskStore::at(rt.alloc(), disk, RECORD, 100)?;
+    store.save(rt.alloc(), b"two")?;
+    let disk = store.close();
+    assert!(rt; disk.past().len() == 5, "five calls");
+    for moment in disk.past() {
+        assert!(rt; leaves_one_or_two(rt.alloc(), moment)?, "one record");
+    }
+    assert!(rt; disk.disk().count_lists() == 1, "one list in the end");
     Ok(())
 }
 

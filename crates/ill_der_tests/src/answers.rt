@@ -7,7 +7,7 @@ use crate::reading::{Reading, decoded};
 use crate::values::{push_id, push_item, push_later_day, push_new_day, push_number, push_read_day};
 use crate::words::push_apdu;
 use ill_der::DerFault;
-use ill_test_kit::{INDENT, Lines, Page};
+use ill_test_kit::{INDENT, Lines, Page, number_in, octet_in};
 use std::alloc::Global;
 
 /// Performs each line of the input as a case.
@@ -92,23 +92,20 @@ fn push_numbered_form(alloc: Global, output: &mut Page, form: &str, bytes: &[u8]
 /// Returns the place that the form `each octet at N` names.
 fn place_in(form: &str) -> Option<usize> {
     let digits = form.strip_prefix("each octet at ")?;
-    let place = u8::from_str_radix(digits, 10).ok()?;
-    Some(usize::from(place))
+    Some(usize::from(octet_in(digits)?))
 }
 
 /// Returns the count of cuts and the seed in the form `cut at random, N times from seed N`.
 fn draws_in(form: &str) -> Option<(u32, u32)> {
     let numbers = form.strip_prefix("cut at random, ")?;
     let (count, seed) = numbers.split_once(" times from seed ")?;
-    let count = u32::from_str_radix(count, 10).ok()?;
-    let seed = u32::from_str_radix(seed, 10).ok()?;
-    Some((count, seed))
+    Some((number_in(count)?, number_in(seed)?))
 }
 
 /// Returns the count of days in the form `N days after`.
 fn days_in(form: &str) -> Option<u32> {
     let digits = form.strip_suffix(" days after")?;
-    u32::from_str_radix(digits, 10).ok()
+    number_in(digits)
 }
 
 /// Returns the answer of `decode` as text, with the first call that contradicts it.

@@ -1,6 +1,6 @@
 //! Reads the bytes of a case from its words.
 
-use ill_test_kit::Page;
+use ill_test_kit::{Page, octet_in};
 use std::alloc::Global;
 
 /// Adds the bytes that `words` spell. A word that spells none makes `bytes` incomplete.
@@ -13,13 +13,13 @@ pub fn push_bytes(alloc: Global, bytes: &mut Page, words: &str) {
 /// Adds the bytes that `word` spells, as often as it says.
 fn push_word(alloc: Global, bytes: &mut Page, word: &str) {
     let (text, count) = word.split_once("*").unwrap_or((word, "1"));
-    match u8::from_str_radix(count, 10) {
-        Ok(count) => {
+    match octet_in(count) {
+        Some(count) => {
             for _ in 0..count {
                 push_text(alloc, bytes, text);
             }
         }
-        Err(_) => bytes.lose(),
+        None => bytes.lose(),
     }
 }
 

@@ -2,8 +2,8 @@
 
 use crate::cases::push_bytes;
 use crate::words::push_text;
-use ill_test_kit::Page;
 use ill_test_kit::marks::{quietly, tried};
+use ill_test_kit::{Page, number_in, octet_in};
 use ill_values::{Day, DayFault, Item, Number, OutOfMemory, TextFault, TxnId};
 use std::alloc::Global;
 use std::fmt::Debug;
@@ -87,9 +87,9 @@ pub fn push_new_day(alloc: Global, output: &mut Page, words: &str) {
 fn numbers_in(words: &str) -> Option<(u16, u8, u8)> {
     let (year, rest) = words.split_once(" ")?;
     let (month, day) = rest.split_once(" ")?;
-    let year = u16::from_str_radix(year, 10).ok()?;
-    let month = u8::from_str_radix(month, 10).ok()?;
-    let day = u8::from_str_radix(day, 10).ok()?;
+    let year = u16::try_from(number_in(year)?).ok()?;
+    let month = octet_in(month)?;
+    let day = octet_in(day)?;
     Some((year, month, day))
 }
 
@@ -104,7 +104,7 @@ fn push_day(alloc: Global, output: &mut Page, day: Result<Day, DayFault>) {
 
 /// Adds the number that `Number::new` makes of `words`, or the word `none`.
 pub fn push_number(alloc: Global, output: &mut Page, words: &str) {
-    let Ok(value) = u8::from_str_radix(words, 10) else {
+    let Some(value) = octet_in(words) else {
         return output.line("no case");
     };
     match quietly(alloc, || Number::new(value).map(|number| number.get())) {

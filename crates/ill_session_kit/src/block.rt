@@ -1,5 +1,6 @@
 //! A block is a list of lines that are performed for each of some values.
 
+use ill_test_kit::number_in;
 use std::alloc::Global;
 
 /// The lines of a block, and the values for the names in braces that the lines contain.
@@ -114,5 +115,5 @@ impl Variable {
 /// Returns the first and the last number of a range such as `0-17`.
 fn range(value: &str) -> Option<(u32, u32)> {
     let (first, last) = value.split_once('-')?;
-    Some((first.parse().ok()?, last.parse().ok()?))
+    Some((number_in(first)?, number_in(last)?))
 }

@@ -5,6 +5,7 @@
 //! times.
 
 use crate::words::Word;
+use ill_test_kit::{count_in, number_in};
 use std::alloc::Global;
 
 /// The names that `let` lines gave.
@@ -86,7 +87,7 @@ impl Names {
             return bytes.extend_from_slice(text.as_bytes()).ok();
         }
         let (times, piece) = text.split_once('*').unwrap_or(("1", text));
-        for _ in 0..times.parse::<u32>().ok()? {
+        for _ in 0..number_in(times)? {
             self.push_piece(bytes, piece)?;
         }
         Some(())
@@ -128,9 +129,9 @@ impl Names {
 fn part<'a>(bytes: &'a [u8], range: &str) -> Option<&'a [u8]> {
     let (first, after) = range.strip_suffix(']')?.split_once("..")?;
     if first.is_empty() {
-        bytes.get(..after.parse::<usize>().ok()?)
+        bytes.get(..count_in(after)?)
     } else {
-        bytes.get(first.parse::<usize>().ok()?..)
+        bytes.get(count_in(first)?..)
     }
 }
 

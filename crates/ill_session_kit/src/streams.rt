@@ -3,7 +3,7 @@
 use crate::names::Names;
 use crate::telling::Telling;
 use crate::words::{Word, cut};
-use ill_test_kit::{Failure, TestReader, TestWriter, named};
+use ill_test_kit::{Failure, TestReader, TestWriter, count_in, named};
 use std::alloc::Global;
 use std::io::ErrorKind;
 
@@ -149,5 +149,5 @@ fn set_room(
 
 /// Returns the count that `word` spells.
 fn count(word: &Word) -> Option<usize> {
-    word.text.parse::<usize>().ok()
+    count_in(word.text.as_str())
 }

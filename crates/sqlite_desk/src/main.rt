@@ -8,7 +8,7 @@ use anyhow::{Context, Result};
 use ill_core::Wish;
 use ill_saved::{Action, Desk, DeskFault, Role, Store};
 use ill_values::{Item, TxnId};
-use sqlite::{Connection, File, FileStore};
+use sqlite::{Alter, Connection};
 use std::fs;
 use store::SqliteStore;
 
@@ -17,9 +17,6 @@ const PATH: &str = "loans.db";
 
 /// The log that SQLite keeps beside that file.
 const LOG_PATH: &str = "loans.db-wal";
-
-/// A desk whose record is in a SQLite file.
-type SqliteDesk = Desk<SqliteStore<FileStore<File>>>;
 
 fn main(rt: HostRuntime) -> Result<()> {
     lend(&rt)?;
@@ -34,30 +31,37 @@ fn lend(rt: &HostRuntime) -> Result<()> {
     go_on(rt, &loan)
 }
 
-/// Begins the desk, which has no record before its first save, and asks.
+/// Opens the SQLite file, or makes it, asks, and closes the file.
 fn begin(rt: &HostRuntime, loan: &TxnId) -> Result<()> {
-    let mut desk = Desk::create(rt.alloc(), open(rt)?, Role::Requester).map_err(DeskFault::from)?;
-    let asked = ask(rt, &mut desk, loan);
-    close(desk)?;
-    asked
+    Ok(ask_first(rt, Connection::open(rt, PATH)?, loan)?.close()?)
 }
 
-/// Opens the desk again, and looks at the loan.
+/// Opens the SQLite file again, looks at the loan, and closes the file.
 fn go_on(rt: &HostRuntime, loan: &TxnId) -> Result<()> {
-    let desk = Desk::start(rt.alloc(), open(rt)?).map_err(DeskFault::from)?;
-    let shown = show(rt, &desk, loan);
-    close(desk)?;
-    shown
+    Ok(show_again(rt, Connection::open(rt, PATH)?, loan)?.close()?)
 }
 
-/// Opens the SQLite file, or makes it, and returns the store in it.
-fn open(rt: &HostRuntime) -> Result<SqliteStore<FileStore<File>>> {
-    Ok(SqliteStore::over(Connection::open(rt, PATH)?)?)
+/// Begins the desk, which has no record before its first save, and asks. Returns the database.
+fn ask_first<S: Alter + Drop>(
+    rt: &HostRuntime,
+    conn: Connection<S>,
+    loan: &TxnId,
+) -> Result<Connection<S>> {
+    let store = SqliteStore::over(conn)?;
+    let mut desk = Desk::create(rt.alloc(), store, Role::Requester).map_err(DeskFault::from)?;
+    ask(rt, &mut desk, loan)?;
+    Ok(desk.close().into_connection())
 }
 
-/// Closes the SQLite file.
-fn close(desk: SqliteDesk) -> Result<()> {
-    Ok(desk.close().into_connection().close()?)
+/// Starts the desk from its record, and shows the loan. Returns the database.
+fn show_again<S: Alter + Drop>(
+    rt: &HostRuntime,
+    conn: Connection<S>,
+    loan: &TxnId,
+) -> Result<Connection<S>> {
+    let desk = Desk::start(rt.alloc(), SqliteStore::over(conn)?).map_err(DeskFault::from)?;
+    show(rt, &desk, loan)?;
+    Ok(desk.close().into_connection())
 }
 
 /// Asks for the book, and saves the desk.

@@ -1,11 +1,12 @@
 //! Reads messages, as the input spells them.
 
+use ill_test_kit::octet_in;
 use ill_values::{AnswerResult, Apdu, Body, Day, Item, Number, TxnId};
 use std::alloc::Global;
 
 /// Returns the number that `text` spells, or `None`.
 pub fn number(text: &str) -> Option<Number> {
-    Number::new(text.parse().ok()?)
+    Number::new(octet_in(text)?)
 }
 
 /// Returns the day that `text` spells, or `None`.

@@ -3,6 +3,7 @@
 use crate::messages::{day, message, next_number, number};
 use crate::states::{Role, state_of};
 use ill_core::{Requester, Responder, State};
+use ill_test_kit::octet_in;
 use ill_values::{Apdu, Body, Day, Number, TxnId};
 use std::alloc::Global;
 
@@ -314,7 +315,7 @@ impl Record {
     /// ones included.
     fn fill(&mut self, alloc: Global, value: &str) {
         let (count, word) = value.split_once(',').unwrap_or((value, ""));
-        let count: u8 = count.parse().unwrap_or(0);
+        let count = octet_in(count).unwrap_or(0);
         self.push_wanted(alloc);
         let present = self.messages.len().saturating_add(self.last.len());
         for _ in present..usize::from(count) {

@@ -4,7 +4,7 @@ use ill_der::{ReadFault, decode, encode, read_apdu, write_apdu};
 use ill_session_kit::engine::Engine;
 use ill_session_kit::telling::{tell_bytes, tell_line, tell_reader, tell_value};
 use ill_session_kit::{Call, Names};
-use ill_test_kit::Page;
+use ill_test_kit::{Page, number_in};
 use ill_text::check::run_check;
 use ill_text::fault::ToolFault;
 use ill_text::show::run_show;
@@ -49,7 +49,7 @@ impl Engine for ApduEngine {
 
 /// Performs `read TIMES`: reads one APDU after another, each in its own call.
 fn read(alloc: Global, page: &mut Page, call: &mut Call<'_>) -> Option<()> {
-    let times = call.words.first()?.text.parse::<u32>().ok()?;
+    let times = number_in(call.words.first()?.text.as_str())?;
     for _ in 0..times {
         call.source.forgive();
         let answer = read_apdu(alloc, &mut call.source);

@@ -15,7 +15,7 @@ use ill_session_kit::Call;
 use ill_session_kit::words::{Word, texts};
 use ill_show::loan::{LoanForm, LoanView, run_desk_loan};
 use ill_show::status::{run_desk_status, run_status};
-use ill_test_kit::Page;
+use ill_test_kit::{Page, octet_in};
 use ill_text::fault::ToolFault;
 use ill_values::{Day, Number, TxnId};
 use std::alloc::Global;
@@ -372,5 +372,5 @@ fn has(words: &[Word], option: &str) -> bool {
 
 /// Returns the number of a message.
 fn number(words: &[Word]) -> Option<Number> {
-    Number::new(words.first()?.text.parse::<u8>().ok()?)
+    Number::new(octet_in(words.first()?.text.as_str())?)
 }

@@ -15,7 +15,7 @@ use ill_saved::{Desk, Desk1, MemoryStore, NextCall, Role, Side, Store};
 use ill_session_kit::telling::begin;
 use ill_session_kit::words::Word;
 use ill_session_kit::{Call, Names};
-use ill_test_kit::Page;
+use ill_test_kit::{Page, count_in, number_in};
 use ill_values::TxnId;
 use ill_words::words::who;
 use std::alloc::Global;
@@ -79,7 +79,7 @@ impl Memory {
         match others {
             [] => planned(alloc, beginning, role),
             [word, saves] if word.is("lasting") => {
-                limited(alloc, beginning, role, saves.text.parse::<u32>().ok()?)
+                limited(alloc, beginning, role, number_in(saves.text.as_str())?)
             }
             _ => None,
         }
@@ -288,7 +288,7 @@ fn outbox<K: Kept>(
 ) -> Option<()> {
     let (room, asking) = match call.base.words {
         [word, room, asking @ ..] if word.is("lasting") => {
-            (room.text.parse::<usize>().ok()?, asking)
+            (count_in(room.text.as_str())?, asking)
         }
         asking => (usize::MAX, asking),
     };

@@ -10,6 +10,7 @@ use ill_der::decode;
 use ill_saved::{Action, AnyDesk, DeskFault, MemoryStore, NextCall, Store};
 use ill_saved_kit::Line;
 use ill_test_kit::marks::TRIES;
+use ill_test_kit::octet_in;
 use ill_values::{Apdu, Number, TxnId};
 use std::alloc::Global;
 
@@ -299,7 +300,7 @@ fn message<H: DeskKind, S: Store>(
     words: &str,
 ) -> Option<()> {
     let (txn, words) = txn_in(alloc, desk, words)?;
-    let number = Number::new(words.parse::<u8>().ok()?)?;
+    let number = Number::new(octet_in(words)?)?;
     let written = WrittenCall {
         call: DeskCall::Message(&txn, number),
         txn: Some(&txn),

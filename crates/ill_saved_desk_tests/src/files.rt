@@ -5,6 +5,7 @@ use crate::longest;
 use crate::restarts::{Damage, Restarts};
 use ill_saved::{ManySides, OneSide};
 use ill_saved_kit::{FileCall, Folder, Line, Names};
+use ill_test_kit::number_in;
 
 /// Performs a call on a file, and writes its answer.
 pub fn call(folder: Folder<'_>, line: &mut Line, names: &Names, words: &str) -> Option<()> {
@@ -36,7 +37,7 @@ fn damaged<H: DeskKind>(
     call: &FileCall<'_>,
 ) -> Option<()> {
     let (limit, words) = call.words.split_once(' ').unwrap_or((call.words, ""));
-    let limit = limit.parse::<u32>().ok()?;
+    let limit = number_in(limit)?;
     let damage = damage_of(names, words)?;
     let restarts = Restarts::new(folder.rt, folder.alloc, call.path(), limit);
     restarts.write_damaged::<H>(line, &damage)

@@ -7,6 +7,7 @@ use crate::words::write_fault;
 use ill_core::State;
 use ill_saved::{AnyDesk, DeskFault, FuseStore, ManySides, MemoryStore, OneSide, Role, Store};
 use ill_saved_kit::Line;
+use ill_test_kit::number_in;
 use ill_values::TxnId;
 use std::alloc::Global;
 
@@ -35,7 +36,7 @@ fn fuse_with<H: DeskKind>(
     words: &str,
     actions: [&str; 2],
 ) -> Option<()> {
-    let calls = words.parse::<u32>().ok()?;
+    let calls = number_in(words)?;
     let txn = TxnId::new(alloc, b"G1", b"T1").ok()?;
     let store = FuseStore::new(MemoryStore::new(alloc), calls);
     let begun = AnyDesk::begin(alloc, store, H::first(Role::Requester, txn));

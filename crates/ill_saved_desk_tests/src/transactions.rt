@@ -5,6 +5,7 @@ use crate::calls::ManyCall;
 use crate::desk_view::write_shown;
 use ill_saved::{Desk, MemoryStore, Role, Shown, Store};
 use ill_saved_kit::{Line, numbered, write_count_and_role};
+use ill_test_kit::number_in;
 use ill_values::{Apdu, Body, Item, Number, TxnId};
 use std::alloc::Global;
 
@@ -25,7 +26,7 @@ pub fn call(
 
 /// Performs `begin COUNT`: begins the transactions 0 to COUNT - 1 of the group G1.
 fn begin(alloc: Global, line: &mut Line, desk: &mut Desk<MemoryStore>, words: &str) -> Option<()> {
-    for number in 0..words.parse::<u16>().ok()? {
+    for number in 0..u16::try_from(number_in(words)?).ok()? {
         begin_one(alloc, desk, numbered(alloc, number)?)?;
     }
     write_count_and_role(alloc, line, desk.sides());

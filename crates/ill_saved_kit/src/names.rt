@@ -4,6 +4,7 @@
 //! `13=02` puts 02 in the place of octet 13 of the bytes before it. If a name has several values, with `|` between
 //! them, the line is a family, with one case for each value.
 
+use ill_test_kit::count_in;
 use std::alloc::Global;
 
 /// The names that `let` lines gave.
@@ -90,7 +91,7 @@ impl Names {
 
     /// Replaces the octet at `place` by the octet that `piece` spells.
     fn put_octet(&self, bytes: &mut Vec<u8>, place: &str, piece: &str, case: usize) -> Option<()> {
-        let place = place.parse::<usize>().ok()?;
+        let place = count_in(place)?;
         self.push_piece(bytes, piece, case)?;
         let octet = bytes.pop()?;
         *bytes.get_mut(place)? = octet;

@@ -8,7 +8,7 @@ use crate::failing::{Deceit, Failing};
 use ill_saved::{FileLock, FileStore, LockFault, LockFiles, Store, StoreFault};
 use ill_saved_kit::{FileCall, Folder, Line, Names, write_loaded, write_saved};
 use ill_test_kit::marks::TRIES;
-use ill_test_kit::{marks, named};
+use ill_test_kit::{marks, named, number_in};
 use ill_values::OutOfMemory;
 use std::alloc::Global;
 use std::fs::Permissions;
@@ -80,7 +80,7 @@ impl<'a> FileBench<'a> {
 
     /// Performs `at NAME LIMIT`: makes a store in this file.
     fn lay(&mut self, line: &mut Line, path: &str, limit: &str) -> Option<()> {
-        let limit = limit.parse::<u32>().ok()?;
+        let limit = number_in(limit)?;
         let store = store_at(self.folder.rt, self.folder.alloc, path, limit).ok()?;
         drop(self.store.replace(store));
         line.text("laid");
@@ -137,7 +137,7 @@ impl<'a> FileBench<'a> {
 
     /// Returns files of which one call fails, by the words for its count and its fault.
     fn failing_files(&self, count: &str, fault: &str) -> Option<Failing<'a>> {
-        let (count, fault) = (count.parse::<u32>().ok()?, named(&FAULTS, fault)?);
+        let (count, fault) = (number_in(count)?, named(&FAULTS, fault)?);
         Failing::after(self.folder.rt, self.folder.alloc, count, fault).ok()
     }
 

@@ -9,8 +9,8 @@ use ill_saved_kit::{
     Line, all_encoded, all_written_and_read, longest_side, numbered, role_of, split_txn,
     write_count_and_role, write_head,
 };
-use ill_test_kit::marks;
 use ill_test_kit::marks::TRIES;
+use ill_test_kit::{count_in, marks, number_in};
 use ill_values::Item;
 use std::alloc::Global;
 
@@ -45,7 +45,7 @@ fn lay(alloc: Global, line: &mut Line, sides: &mut Option<Sides>, words: &str) -
 
 /// Performs `fill COUNT`: puts requesters that have asked, in the transactions 0 to COUNT - 1 of the group G1.
 fn fill(alloc: Global, line: &mut Line, sides: &mut Sides, words: &str) -> Option<()> {
-    for number in 0..words.parse::<u16>().ok()? {
+    for number in 0..u16::try_from(number_in(words)?).ok()? {
         let side = asking(alloc, number)?;
         if sides.put(alloc, side).is_err() {
             return None;
@@ -147,7 +147,7 @@ fn get(alloc: Global, line: &mut Line, sides: &Sides, words: &str) -> Option<()>
 
 /// Performs `at PLACE`: writes the side at this place.
 fn at(alloc: Global, line: &mut Line, sides: &Sides, words: &str) -> Option<()> {
-    let place = words.parse::<usize>().ok()?;
+    let place = count_in(words)?;
     marks::begin_quiet(alloc);
     let found = sides.at(place);
     marks::end_quiet(alloc);

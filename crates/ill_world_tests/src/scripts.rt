@@ -1,5 +1,7 @@
 //! Reads the bytes of a script from its lines.
 
+use ill_test_kit::number_in;
+
 /// Adds a line of a script, and its LF. A count in brackets at its beginning repeats the line. Returns `None` if the
 /// line has an error.
 pub fn push_line(script: &mut Vec<u8>, line: &str) -> Option<()> {
@@ -13,7 +15,7 @@ pub fn push_line(script: &mut Vec<u8>, line: &str) -> Option<()> {
 /// Returns the count at the beginning of a line, and the rest of the line. Returns `None` if there is no count.
 fn repeated(line: &str) -> Option<(u32, &str)> {
     let (inside, rest) = line.strip_prefix('[')?.split_once(']')?;
-    let times = inside.strip_suffix('*')?.parse().ok()?;
+    let times = number_in(inside.strip_suffix('*')?)?;
     Some((times, rest))
 }
 
@@ -49,7 +51,7 @@ fn push_inside(script: &mut Vec<u8>, inside: &str, time: u32) -> Option<()> {
     }
     match inside.split_once('*') {
         Some((text, times)) => {
-            let times = times.parse::<u32>().ok()?;
+            let times = number_in(times)?;
             for _ in 0..times {
                 script.extend_from_slice(text.as_bytes()).ok()?;
             }

@@ -1,11 +1,12 @@
 //! The bench has a folder for files, on which command lines are performed.
 
 use crate::engines::Simulation;
-use crate::folder::{FileCall, Folder};
 use crate::texts::tell_texts;
+use ill_desk_kit::{FileCall, Folder, Program};
 use ill_saved::LockFiles;
 use ill_session_kit::{Call, Performs, Phrase, engine};
 use ill_test_kit::{Page, named};
+use ill_tool::run_words;
 use std::alloc::Global;
 
 /// A folder for files.
@@ -15,6 +16,22 @@ pub struct Bench<'a, R: LockFiles> {
     alloc: Global,
     /// The folder for files.
     folder: Folder<'a, R>,
+}
+
+/// The program `ill`.
+struct Ill;
+
+impl Program for Ill {
+    fn run<T: LockFiles>(&self, rt: &T, alloc: Global, words: &[&str], call: &mut Call<'_>) -> u8 {
+        run_words(
+            rt,
+            alloc,
+            words,
+            &mut call.source,
+            &mut call.output,
+            &mut call.errors,
+        )
+    }
 }
 
 /// The kind of call that the first word of a line names.
@@ -55,8 +72,8 @@ impl<'a, R: LockFiles> Bench<'a, R> {
     fn command(&mut self, page: &mut Page, kind: Kind, phrase: Phrase<'_>) -> Option<()> {
         let mut call = Call::of(self.alloc, phrase)?;
         match kind {
-            Kind::Ill => self.folder.command(page, &mut call),
-            Kind::Watched => self.folder.watched_command(page, &mut call),
+            Kind::Ill => self.folder.command(page, &Ill, &mut call),
+            Kind::Watched => self.folder.watched_command(page, &Ill, &mut call),
             _ => None,
         }
     }

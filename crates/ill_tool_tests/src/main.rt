@@ -17,17 +17,15 @@
 
 mod bench;
 mod engines;
-mod folder;
 mod texts;
-mod watched;
 
 use bench::Bench;
-use folder::Folder;
+use ill_desk_kit::Folder;
 use ill_session_kit::answer_cases;
 use std::io;
 
 fn main(rt: HostRuntime) -> io::Result<()> {
     let alloc = rt.alloc();
-    let folder = Folder::new(&rt, alloc)?;
+    let folder = Folder::new(&rt, alloc, "ill_tool_tests")?;
     answer_cases(&rt, Bench::new(alloc, folder))
 }

@@ -1,16 +1,22 @@
-//! Performs command lines on the files of a folder.
+//! Performs command lines of a program on the files of a folder.
 
 use crate::watched::{Rival, Seen, Watched};
 use ill_saved::LockFiles;
 use ill_session_kit::telling::{begin, tell_bytes, tell_compared, tell_line, tell_value};
 use ill_session_kit::words::Word;
 use ill_session_kit::{Call, Names, Phrase};
-use ill_test_kit::{Page, TestWriter, make_folder, named};
-use ill_tool::run_words;
+use ill_test_kit::{Page, TestWriter, make_folder, named, number_in};
 use std::alloc::Global;
 use std::env::Env;
 use std::io::ErrorKind;
 use std::{fs, io};
+
+/// A program that performs command lines.
+pub trait Program {
+    /// Performs a command line on the streams of `call`, and returns the exit status. The first word is the name of the
+    /// program.
+    fn run<T: LockFiles>(&self, rt: &T, alloc: Global, words: &[&str], call: &mut Call<'_>) -> u8;
+}
 
 /// A folder in the system's folder for temporary files.
 #[derive(Drop)]
@@ -40,12 +46,12 @@ pub enum FileCall {
 }
 
 impl<'a, R: LockFiles> Folder<'a, R> {
-    /// Makes a new and empty folder.
-    pub fn new(rt: &'a R, alloc: Global) -> io::Result<Folder<'a, R>>
+    /// Makes a new and empty folder. Its path ends with `name`, a full stop and a number.
+    pub fn new(rt: &'a R, alloc: Global, name: &str) -> io::Result<Folder<'a, R>>
     where
         R: Env + AllocGlobal,
     {
-        let path = make_folder(rt, alloc, "ill_tool_tests")?;
+        let path = make_folder(rt, alloc, name)?;
         Ok(Folder { rt, alloc, path })
     }
 
@@ -92,10 +98,15 @@ impl<'a, R: LockFiles> Folder<'a, R> {
         }
     }
 
-    /// Performs a command line, and prints its output and its exit status.
-    pub fn command(&self, page: &mut Page, call: &mut Call<'_>) -> Option<()> {
+    /// Performs a command line of `program`, and prints its output and its exit status.
+    pub fn command<P: Program>(
+        &self,
+        page: &mut Page,
+        program: &P,
+        call: &mut Call<'_>,
+    ) -> Option<()> {
         let line = self.command_line(call.words)?;
-        let status = run(self.rt, self.alloc, &line, call)?;
+        let status = run(program, self.rt, self.alloc, &line, call)?;
         self.hide_path(call);
         call.tell(page);
         if status != 0 || call.has_written_nothing() {
@@ -104,16 +115,21 @@ impl<'a, R: LockFiles> Folder<'a, R> {
         Some(())
     }
 
-    /// Performs a command line on files that observe the record of its second word. The first word says what a rival
-    /// does to the lock. Prints the output, the exit status and the observations.
-    pub fn watched_command(&self, page: &mut Page, call: &mut Call<'_>) -> Option<()> {
+    /// Performs a command line of `program` on files that observe the record of its second word. The first word says
+    /// what a rival does to the lock. Prints the output, the exit status and the observations.
+    pub fn watched_command<P: Program>(
+        &self,
+        page: &mut Page,
+        program: &P,
+        call: &mut Call<'_>,
+    ) -> Option<()> {
         let (rival, words) = call.words.split_first()?;
         let rival = rival_of(rival.text.as_str())?;
         let line = self.command_line(words)?;
         let record = line.get(2)?.as_str();
         let lock = format!(in self.alloc; "{record}.lck").ok()?;
         let watched = Watched::new(self.rt, record, lock.as_str(), rival);
-        let status = run(&watched, self.alloc, &line, call)?;
+        let status = run(program, &watched, self.alloc, &line, call)?;
         self.hide_path(call);
         call.tell_answer(page, &status);
         tell_seen(page, &watched.seen());
@@ -177,21 +193,20 @@ const RIVALS: [(&str, Rival); 3] = [
 fn rival_of(word: &str) -> Option<Rival> {
     match named(&RIVALS, word) {
         Some(rival) => Some(rival),
-        None => Some(Rival::Holds(word.parse::<u32>().ok()?)),
+        None => Some(Rival::Holds(number_in(word)?)),
     }
 }
 
-/// Performs a command line, and returns the exit status.
-fn run<T: LockFiles>(rt: &T, alloc: Global, line: &[String], call: &mut Call<'_>) -> Option<u8> {
+/// Performs a command line of `program`, and returns the exit status.
+fn run<P: Program, T: LockFiles>(
+    program: &P,
+    rt: &T,
+    alloc: Global,
+    line: &[String],
+    call: &mut Call<'_>,
+) -> Option<u8> {
     let words: Vec<&str> = line.iter().map(|word| word.as_str()).collect(alloc).ok()?;
-    Some(run_words(
-        rt,
-        alloc,
-        &words,
-        &mut call.source,
-        &mut call.output,
-        &mut call.errors,
-    ))
+    Some(program.run(rt, alloc, &words, call))
 }
 
 /// Prints the counts of openings and replacements of the record, of those with a free lock, and of pauses.

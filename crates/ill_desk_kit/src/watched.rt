@@ -1,4 +1,4 @@
-//! Runs a command on files that observe its lock, beside a rival for this lock.
+//! Files that observe a lock, beside a rival for this lock.
 
 use ill_saved::LockFiles;
 use std::alloc::Allocator;

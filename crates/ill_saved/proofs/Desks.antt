@@ -3,7 +3,7 @@ use Rattle.std.proofs.Common.{rules, arith, ◌≡◌, ◌⊎◌, ℕ, ◌+◌, 
 use Rattle.std.proofs.Common.{Result, Ok, Err, refl, ap, sym, subst, ◌∙◌, inl, inr, length-append, append-nil, append_assoc, drop}
 use Rattle.std.specs.Prelude.{IfErr, IfOk, is_ok, nat_le, map, option_map, slice_get, zero, suc, ◌-◌, is_some, if◌then◌else◌, not}
 use Rattle.std.specs.Prelude.{false, take}
-use Rattle.std.proofs.lemmas.Bool.{le-leb}
+use Rattle.std.proofs.lemmas.Bool.{le-leb, true≢false}
 use Rattle.ill_values.specs.Day.{Date}
 use Rattle.ill_values.specs.declared.apdu.Apdu.{Apdu}
 use Rattle.ill_values.specs.Apdu.{IsApdu}
@@ -49,7 +49,7 @@ use Rattle.ill_saved.specs.declared.store.NextCall.{NextCall}
 use Rattle.ill_saved.specs.declared.store.NextCall.TheVariants as plans
 use Rattle.ill_saved.specs.Side.{issued_of, txn_of, is_idle, standing_of, back_to, is_asked, KeepsRequest, IsConsistent, idle_of}
 use Rattle.ill_saved.specs.Side.{idle_side, done_by, acts, takes, Acts, Takes, IsSideTransition, IsPrefix, Grows, acted, took}
-use Rattle.ill_saved.specs.Side.{IsAfterTransitions}
+use Rattle.ill_saved.specs.Side.{IsAfterTransitions, GoesBack}
 use Rattle.ill_saved.specs.Side.{same, further}
 use Rattle.ill_saved.specs.Faults.{of_core, of_record}
 use Rattle.ill_saved.proofs.Records.{no_digest}
@@ -553,25 +553,34 @@ idle_again_backs live =
 pub alone_whole : (live : Side) → alone (idle_of live) ≡ whole (idle_of live)
 alone_whole live = ap (entry (idle_of live)) (sym (nothing_issued live))
 
+-- If a side goes back to the standing of an idle side without messages, it becomes the idle side.
+pub becomes_idle : (old new : Side) (went : Bool) → GoesBack (back_to (standing_of (idle_of old)) 0 old) went old new
+    → new ≡ idle_of old
+becomes_idle (sides.Requester x) new true goes = goes.1
+becomes_idle (sides.Responder y) new true goes = goes.1
+becomes_idle (sides.Requester x) new false goes = absurd (true≢false (sym (goes.0.1 (idle_consistent (sides.Requester x)))))
+becomes_idle (sides.Responder y) new false goes = absurd (true≢false (sym (goes.0.1 (idle_consistent (sides.Responder y)))))
+
 -- If bytes are read as sides that back themselves, the bytes back these sides.
 pub read_is_backed : {L K : Type 0} (effects : Effects L K) (backs : L → L → Type 0) (bytes : List ℕ) (live : L)
     → effects.read bytes ≡ Ok live → backs live live → IsBacked effects backs (Some bytes) live
 read_is_backed effects backs bytes live read backed = subst (λ r. IsBackedByRead backs r live) (sym read) backed
 
 -- If the live side goes back to the landed record, the loaded bytes are read as it with all its messages released.
-pub back_is : ReadsAgain → (landed_record : LandedBytes) (released : ℕ) (bytes : Option (List ℕ)) (old new : Side)
-    → GoesBackTo landed_record released bytes true old new → landed_live one_side bytes (entry old released) ≡ Ok (whole new)
+pub back_is : ReadsAgain → (landed_record : LandedBytes) (released : ℕ) (bytes : List ℕ) (old new : Side)
+    → GoesBackTo landed_record released bytes true old new → one_side.read bytes ≡ Ok (whole new)
 back_is again landed_record released bytes old new (spelled, is, of) =
-    ap (λ o. landed_live one_side o (entry old released)) (spelled ∙ ap (λ (k : LandedBytes). Some k.bytes) is.1)
+    ap one_side.read (spelled ∙ ap (λ (k : LandedBytes). k.bytes) is.1)
     ∙ ap (map_ok whole) (again new is.0)
 
 -- If the live side goes back to the landed record, the loaded bytes back it, and it satisfies its rules.
-pub back_rules : ReadsAgain → (landed_record : LandedBytes) (released : ℕ) (bytes : Option (List ℕ)) (old new : Side)
+pub back_rules : ReadsAgain → (landed_record : LandedBytes) (released : ℕ) (bytes : List ℕ) (old new : Side)
     → GoesBackTo landed_record released bytes true old new
-    → Rules landed_record new released × IsBacked one_side OneBacks bytes (entry new released) × (entry new released ≡ whole new)
+    → Rules landed_record new released × IsBacked one_side OneBacks (Some bytes) (entry new released)
+    × (entry new released ≡ whole new)
 back_rules again landed_record released bytes old new (spelled, is, of) = (
   (omega (arith, of.all), keeps_whole landed_record new released is of.all),
-  subst (λ o. IsBacked one_side OneBacks o (entry new released)) (sym (spelled ∙ ap (λ (k : LandedBytes). Some k.bytes) is.1))
+  subst (λ b. IsBacked one_side OneBacks (Some b) (entry new released)) (sym (spelled ∙ ap (λ (k : LandedBytes). k.bytes) is.1))
       (read_is_backed one_side OneBacks (record_spelling new) (entry new released)
       (ap (map_ok whole) (again new is.0) ∙ ap (λ n. Ok (entry new n)) (sym of.all))
       (itself_backs new released is.0.0 (omega (arith, of.all)))),
@@ -639,7 +648,7 @@ restarts_so : {L K : Type 0} (effects : Effects L K) (backs : L → L → Type 0
 restarts_so effects backs bytes plan old new (Ok done) allows backed goes is = (goes, allows)
 restarts_so effects backs (Some bytes) plan old new (Err (faults.Saved fault)) allows backed goes is =
     absurd (no_fault backs (effects.read bytes) (effects.begins bytes) old effects.has_digest fault backed goes.0 is)
-restarts_so effects backs bytes plan old new (Err faults.OutOfMemory) allows backed goes is = tt
+restarts_so effects backs (Some bytes) plan old new (Err faults.OutOfMemory) allows backed goes is = tt
 restarts_so effects backs bytes plan old new (Err other) allows backed goes is = absurd goes
 
 -- If an honest store backs the live sides, going back to the bytes that it loads is a restart.

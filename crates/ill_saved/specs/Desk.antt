@@ -1,5 +1,5 @@
 -- A desk: the sides that it holds in memory, and their store (this profile's own).
-use Rattle.std.specs.Prelude.{◌≡◌, ◌⊎◌, ℕ, ◌≤◌, List, [], ◌∷◌, Bool, Option, Some, None, Result, Ok, Err, true}
+use Rattle.std.specs.Prelude.{◌≡◌, ◌⊎◌, ℕ, ◌≤◌, List, [], ◌∷◌, Bool, Option, Some, None, Result, Ok, Err, false, true}
 use Rattle.ill_values.specs.declared.apdu.Apdu.{Apdu}
 use Rattle.ill_der.specs.declared.fault.DerFault.{DerFault}
 use Rattle.ill_core.specs.declared.taking.Taking.{Taking}
@@ -95,6 +95,17 @@ Restarts landed plan (Ok done) new = (landed ≡ Ok new) × Allows {X = Unit {0}
 Restarts landed plan (Err (Store fault)) new = Allows {X = Unit {0}} plan (Err fault)
 Restarts landed plan (Err OutOfMemory) new = Unit {0}
 Restarts landed plan (Err other) new = ⊥
+
+-- If memory ran out, the load of the store takes memory: `takes_memory` is true.
+abbrev pub RunsOutInLoad : {X : Type 0} → Bool → Result X DeskFault → Type 0
+RunsOutInLoad true answer = Unit {0}
+RunsOutInLoad false (Err OutOfMemory) = ⊥
+RunsOutInLoad false answer = Unit {0}
+
+-- If nothing has landed in an honest store, memory runs out only in its load.
+abbrev pub NothingTakesMemory : {X : Type 0} → StoreState → Bool → Result X DeskFault → Type 0
+NothingTakesMemory old takes_memory answer =
+    old.is_honest ≡ true → old.landed ≡ None → RunsOutInLoad takes_memory answer
 
 -- All messages that the live sides have issued are released.
 abbrev pub AreAllReleased : {L K : Type 0} → Effects L K → L → Type 0

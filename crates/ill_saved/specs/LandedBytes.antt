@@ -50,9 +50,9 @@ HoldsReleased landed_record live released =
 
 -- If the answer is true, the loaded `bytes` are those of `landed_record`, and the live side goes back to its side.
 -- If it is false, the live side is unchanged.
-abbrev pub GoesBackTo : LandedBytes → ℕ → Option (List ℕ) → Bool → Side → Side → Type 0
+abbrev pub GoesBackTo : LandedBytes → ℕ → List ℕ → Bool → Side → Side → Type 0
 GoesBackTo landed_record released bytes true old new =
-    (bytes ≡ Some landed_record.bytes) × IsLandedRecord landed_record new × IsReleased old released new
+    (bytes ≡ landed_record.bytes) × IsLandedRecord landed_record new × IsReleased old released new
 GoesBackTo landed_record released bytes false old new = new ≡ old
 
 -- Returns the part of `bytes` at `place`.

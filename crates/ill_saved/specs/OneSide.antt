@@ -1,13 +1,13 @@
 -- The desk of one side (this profile's own).
-use Rattle.std.specs.Prelude.{◌≡◌, List, ℕ, false, Option, None, Some, Result, Ok, Err}
+use Rattle.std.specs.Prelude.{false, Some, Result, Ok, Err}
 use Rattle.ill_core.specs.declared.refusal.Refusal.{Refusal}
 use Rattle.ill_core.specs.declared.taking.Taking.{Taking}
 use Rattle.ill_saved.specs.declared.fault.DeskFault.{DeskFault}
-use Rattle.ill_saved.specs.declared.fault.DeskFault.TheVariants.{Core, OutOfMemory}
+use Rattle.ill_saved.specs.declared.fault.DeskFault.TheVariants.{Core}
 use Rattle.ill_saved.specs.declared.side.Side.{Side}
 use Rattle.ill_saved.specs.Side.{role_of, idle_of, acts, takes}
 use Rattle.ill_saved.specs.Records.{record_at, begins_as_record, record_spelling}
-use Rattle.ill_saved.specs.Holdings.{DeskEntry, Effects, ReadsRecord, whole, map_ok, IsBackedBy}
+use Rattle.ill_saved.specs.Holdings.{DeskEntry, Effects, whole, map_ok, IsBackedBy}
 
 -- Returns the side with none of its messages released.
 abbrev pub alone : Side → DeskEntry
@@ -48,9 +48,3 @@ one_side = record {
 -- The landed side backs the live one and its released messages.
 abbrev pub OneBacks : DeskEntry → DeskEntry → Type 0
 OneBacks landed live = IsBackedBy landed.side live.side live.released
-
--- The answer is the side that the bytes encode, or the fault. Without bytes, it is the idle side of `live`.
-abbrev pub ReadsOrIdle : Option (List ℕ) → Side → Result DeskEntry DeskFault → Type 0
-ReadsOrIdle (Some bytes) live answer = ReadsRecord one_side bytes answer
-ReadsOrIdle None live (Ok held) = held ≡ whole (idle_of live)
-ReadsOrIdle None live (Err fault) = fault ≡ OutOfMemory

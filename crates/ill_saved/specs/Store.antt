@@ -1,6 +1,6 @@
 -- The promises of a store of one record (this profile's own).
 use Rattle.std.specs.Prelude.{◌≡◌, ◌⊎◌, ℕ, ◌+◌, ◌<◌, ◌≤◌, min, nat_lt, if◌then◌else◌, Bool, true, List, [], length, codes, Option}
-use Rattle.std.specs.Prelude.{Some, None, is_some, option_map, Result, Ok, Err, IfOk}
+use Rattle.std.specs.Prelude.{false, Some, None, is_some, option_map, Result, Ok, Err, IfOk}
 use Rattle.std.specs.Path.{path_parent}
 use Rattle.ill_saved.specs.declared.store.StoreFault.{StoreFault}
 use Rattle.ill_saved.specs.declared.store.StoreFault.TheVariants.{Failed, TooLarge, OutOfMemory}
@@ -59,6 +59,12 @@ FailsCounted answer old new = Unit {0}
 -- The count of failures has not fallen. If the call answers `Failed`, it has risen or is at its maximum.
 abbrev pub CountsFailure : {X : Type 0} → Result X StoreFault → ℕ → ℕ → Type 0
 CountsFailure answer old new = (old ≤ new) × FailsCounted answer old new
+
+-- If memory ran out, the call takes memory: `takes_memory` is true.
+abbrev pub RunsOutOnlyIf : {X : Type 0} → Bool → Result X StoreFault → Type 0
+RunsOutOnlyIf true answer = Unit {0}
+RunsOutOnlyIf false (Err OutOfMemory) = ⊥
+RunsOutOnlyIf false answer = Unit {0}
 
 -- The answer is not `TooLarge`.
 abbrev pub IsNotTooLarge : Result (Unit {0}) StoreFault → Type 0

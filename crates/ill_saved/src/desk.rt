@@ -7,7 +7,7 @@ ghost use Rattle.ill_saved.specs.Sides.{found_by};
 ghost use Rattle.ill_saved.specs.Holdings.{DeskActs, DeskTakesApdu, SendsHeld, IsBacked, IsReadAgain, held_after, landed_live};
 ghost use Rattle.ill_saved.specs.OneSide.{OneBacks, alone, one_side};
 ghost use Rattle.ill_saved.specs.ManySides.{ManyBack, held_for, many_sides, no_sides, sides_held, txn_held};
-ghost use Rattle.ill_saved.specs.Desk.{DeskOf, DeskTakes, IsOneApdu, DeskSaves, IsSaveFault, IsLoadFault, Loads, Restarts, RestartLeaves, answer_of, store_of, Creates, IsCreateAnswer, Begins, IsStartAnswer, AreAllReleased, DeskLoads, IfEncoded};
+ghost use Rattle.ill_saved.specs.Desk.{DeskOf, DeskTakes, IsOneApdu, DeskSaves, IsSaveFault, IsLoadFault, Loads, Restarts, RestartLeaves, RunsOutInLoad, NothingTakesMemory, answer_of, store_of, Creates, IsCreateAnswer, Begins, IsStartAnswer, AreAllReleased, DeskLoads, IfEncoded};
 
 use crate::fault::DeskFault;
 use crate::holdings::Holdings;
@@ -54,6 +54,7 @@ impl<H: Holdings, S: Store> AnyDesk<H, S> {
             Creates (S.state store).landed (S.state store).plan (answer_of result) }
         ensures begins { IfOk result (λ desk. desk.live ≡ H.begun first) }
         ensures faults { IsCreateAnswer (answer_of result) }
+        ensures memory { RunsOutInLoad (S.load_takes_memory store) (answer_of result) }
         ensures store { DeskLoads (S.state store) (answer_of result) (S.state (store_of result)) }
     {
         AnyDesk::over(alloc, store, H::begin(alloc, first))
@@ -66,6 +67,7 @@ impl<H: Holdings, S: Store> AnyDesk<H, S> {
             Creates (S.state store).landed (S.state store).plan (answer_of result) }
         ensures begins { IfOk result (λ desk. desk.live ≡ held) }
         ensures faults { IsCreateAnswer (answer_of result) }
+        ensures memory { RunsOutInLoad (S.load_takes_memory store) (answer_of result) }
         ensures store { DeskLoads (S.state store) (answer_of result) (S.state (store_of result)) }
     {
         let mut store = store;
@@ -84,6 +86,7 @@ impl<H: Holdings, S: Store> AnyDesk<H, S> {
         ensures whole { IfOk result (λ desk. AreAllReleased H.effects desk.live) }
         ensures rules { IfOk result (λ desk. H.backs desk.live desk.live) }
         ensures faults { IsStartAnswer H.effects.has_digest (answer_of result) }
+        ensures memory { NothingTakesMemory (S.state store) (S.load_takes_memory store) (answer_of result) }
         ensures store { DeskLoads (S.state store) (answer_of result) (S.state (store_of result)) }
     {
         let mut store = store;
@@ -136,12 +139,14 @@ impl<H: Holdings, S: Store> AnyDesk<H, S> {
     }
 
     /// Goes back to the sides in the store, or to those of a new desk if the store has no record. All their messages
-    /// may be sent. A fault changes neither the sides nor the released messages.
+    /// may be sent. A fault changes neither the sides nor the released messages. If nothing has landed,
+    /// memory runs out only in the load of the store.
     pub fn restart(&mut self, alloc: Global) -> Result<(), DeskFault>
         ensures restarts { (S.state self.old.store).is_honest ≡ true →
             Restarts (landed_live H.effects (S.state self.old.store).landed self.old.live)
             (S.state self.old.store).plan result self.new.live }
         ensures leaves { RestartLeaves H.effects result self.old.live self.new.live }
+        ensures memory { NothingTakesMemory (S.state self.old.store) (S.load_takes_memory self.old.store) result }
         ensures store { DeskLoads (S.state self.old.store) result (S.state self.new.store) }
     {
         let bytes = self.store.load(alloc)?;
@@ -208,6 +213,7 @@ impl<S: Store> Desk1<S> {
             Creates (S.state store).landed (S.state store).plan (answer_of result) }
         ensures begins { IfOk result (λ desk. desk.live ≡ alone first) }
         ensures faults { IsCreateAnswer (answer_of result) }
+        ensures memory { RunsOutInLoad (S.load_takes_memory store) (answer_of result) }
         ensures store { DeskLoads (S.state store) (answer_of result) (S.state (store_of result)) }
     {
         AnyDesk::over(alloc, store, OneSide::alone(alloc, first))
@@ -255,6 +261,7 @@ impl<S: Store> Desk<S> {
             Creates (S.state store).landed (S.state store).plan (answer_of result) }
         ensures begins { IfOk result (λ desk. desk.live ≡ no_sides role) }
         ensures faults { IsCreateAnswer (answer_of result) }
+        ensures memory { RunsOutInLoad (S.load_takes_memory store) (answer_of result) }
         ensures store { DeskLoads (S.state store) (answer_of result) (S.state (store_of result)) }
     {
         AnyDesk::begin(alloc, store, role)
@@ -305,6 +312,7 @@ fn load<H: Holdings, S: Store>(alloc: Global, store: &mut S) -> Result<Option<H>
     ensures whole { IfOk result (λ found. IfSome found (λ held. AreAllReleased H.effects held)) }
     ensures backed { IfOk result (λ found. IfSome found (λ held. H.backs held held)) }
     ensures faults { IfErr result (IsLoadFault H.effects.has_digest) }
+    ensures memory { NothingTakesMemory (S.state store.old) (S.load_takes_memory store.old) result }
     ensures store { DeskLoads (S.state store.old) result (S.state store.new) }
 {
     match store.load(alloc)? {

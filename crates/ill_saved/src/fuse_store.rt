@@ -2,7 +2,7 @@
 
 ghost use Rattle.std.specs.Prelude.{◌≡◌};
 ghost use Rattle.ill_saved.specs.declared.store.StoreFault.TheVariants.{Failed};
-ghost use Rattle.ill_saved.specs.Store.{FuseOf, StoreLoads, StoreSaves, fuse_after_failure, fuse_state, FuseCalls};
+ghost use Rattle.ill_saved.specs.Store.{FuseOf, StoreLoads, StoreSaves, RunsOutOnlyIf, fuse_after_failure, fuse_state, FuseCalls};
 
 use crate::store::{Store, StoreFault};
 use std::alloc::Global;
@@ -57,8 +57,11 @@ impl<S: Store> FuseStore<S> {
 impl<S: Store> Store for FuseStore<S> {
     ghost state = { fuse_state S.state };
 
+    ghost load_takes_memory = { λ f. S.load_takes_memory f.inner };
+
     fn load(&mut self, alloc: Global) -> Result<Option<Vec<u8>>, StoreFault>
-        ensures { FuseCalls S.state (StoreLoads (λ b. b.items)) self.old result self.new }
+        ensures calls { FuseCalls S.state (StoreLoads (λ b. b.items)) self.old result self.new }
+        ensures memory { RunsOutOnlyIf (S.load_takes_memory self.old.inner) result }
     {
         if self.calls == 0 {
             return Err(self.fail());

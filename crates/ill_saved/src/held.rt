@@ -83,7 +83,7 @@ pub trait Held: Drop {
         ensures { self.new ≡ effects.saves self.old };
 
     /// Goes back to the sides that the landed `bytes` encode, or to those of a new desk if there are no bytes. All
-    /// their messages may be sent. A fault changes nothing.
+    /// their messages may be sent. A fault changes nothing. Allocates nothing if there are no bytes.
     fn go_back(&mut self, alloc: Global, bytes: Option<Vec<u8>>) -> Result<(), DeskFault>
         ensures goes { GoesBackToLanded effects (option_map (λ b. b.items) bytes) self.old result
             self.new }

@@ -1,6 +1,6 @@
 //! The copy of the landed record that a desk of one side has in memory.
 
-ghost use Rattle.std.specs.Prelude.{◌≡◌, ◌++◌, ◌-◌, ◌≤◌, length, map, drop, Some, option_map, IfOk};
+ghost use Rattle.std.specs.Prelude.{◌≡◌, ◌++◌, ◌-◌, ◌≤◌, length, map, drop, Some, IfOk};
 ghost use Rattle.std.specs.List.{All, slice_get};
 ghost use Rattle.ill_der.specs.ShortForm.{spelling};
 ghost use Rattle.ill_saved.specs.Layout.{spell_all};
@@ -117,15 +117,12 @@ impl LandedRecord {
 
     /// If `bytes` are this record, takes `live` back to its side and returns true. Otherwise returns false. `released`
     /// must be the number of released messages. Allocates nothing.
-    pub fn take_back(&self, bytes: &Option<Vec<u8>>, released: u8, live: &mut Side) -> bool
+    pub fn take_back(&self, bytes: &[u8], released: u8, live: &mut Side) -> bool
         requires keeps { HoldsReleased self.now live.old released }
-        ensures { GoesBackTo self.now released (option_map (λ b. b.items) bytes.now) result
-            live.old live.new }
+        ensures { GoesBackTo self.now released bytes.now result live.old live.new }
     {
-        match (bytes, &self.standing) {
-            (Some(bytes), Some(standing)) if *bytes == self.bytes => {
-                live.go_back(standing, released)
-            }
+        match &self.standing {
+            Some(standing) if *bytes == *self.bytes => live.go_back(standing, released),
             _ => false,
         }
     }

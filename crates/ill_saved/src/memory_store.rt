@@ -1,6 +1,6 @@
 //! A store in memory, whose failures are planned.
 
-ghost use Rattle.std.specs.Prelude.{◌≡◌, true, None, Some, option_map};
+ghost use Rattle.std.specs.Prelude.{◌≡◌, true, None, Some, is_some, option_map};
 ghost use Rattle.ill_saved.specs.declared.store.StoreFault.TheVariants.{Failed};
 ghost use Rattle.ill_saved.specs.declared.store.NextCall.TheVariants as plans;
 ghost use Rattle.ill_saved.specs.Store.{MemoryStoreState, MemoryLoads, MemorySaves, failed};
@@ -79,6 +79,8 @@ impl Store for MemoryStore {
       is_honest = true;
       plan = Some m.next;
     } };
+
+    ghost load_takes_memory = { λ m. is_some m.landed };
 
     fn load(&mut self, alloc: Global) -> Result<Option<Vec<u8>>, StoreFault>
         ensures { MemoryLoads (λ b. b.items) self.old.next self.old result self.new }

@@ -1,12 +1,11 @@
 //! The side of a desk of one side.
 
-ghost use Rattle.std.specs.Prelude.{◌≡◌, ◌≤◌, length, option_map, IfErr, IfOk};
-ghost use Rattle.ill_saved.specs.Side.{issued_of, idle_side};
+ghost use Rattle.std.specs.Prelude.{◌≡◌, ◌≤◌, length, IfOk};
+ghost use Rattle.ill_saved.specs.Side.{issued_of, idle_of, idle_side};
 ghost use Rattle.ill_saved.specs.Records.{record_spelling, record_at, begins_as_record, Decodes};
 ghost use Rattle.ill_saved.specs.Ranges.{IsSide};
-ghost use Rattle.ill_saved.specs.Holdings.{DeskEntry, IsBacked, IsReadFault};
-ghost use Rattle.ill_saved.specs.Desk.{AreAllReleased};
-ghost use Rattle.ill_saved.specs.OneSide.{OneBacks, ReadsOrIdle, alone, one_side};
+ghost use Rattle.ill_saved.specs.Holdings.{DeskEntry};
+ghost use Rattle.ill_saved.specs.OneSide.{OneBacks, alone, one_side};
 ghost use Rattle.ill_saved.specs.LandedBytes.{HoldsReleased, IsLandedRecord};
 
 use crate::decoding::decode_record;
@@ -53,6 +52,15 @@ impl OneSide {
             released: 0,
             landed_record: LandedRecord::none(alloc),
         }
+    }
+
+    /// Becomes the idle side of this role and transaction, with none of its messages released. Allocates nothing.
+    fn begin_again(&mut self, alloc: Global)
+        ensures { self.new ≡ alone (idle_of self.old.side) }
+    {
+        self.side.become_idle();
+        self.released = 0;
+        self.landed_record = LandedRecord::none(alloc);
     }
 
     /// Returns the side in memory.
@@ -147,13 +155,17 @@ impl Held for OneSide {
 
     fn go_back(&mut self, alloc: Global, bytes: Option<Vec<u8>>) -> Result<(), DeskFault> {
         laws::read_again();
+        let Some(bytes) = bytes else {
+            self.begin_again(alloc);
+            return Ok(());
+        };
         if self
             .landed_record
             .take_back(&bytes, self.released, &mut self.side)
         {
             return Ok(());
         }
-        *self = read_or_idle(alloc, bytes, &self.side)?;
+        *self = OneSide::read(alloc, bytes)?;
         Ok(())
     }
 }
@@ -173,18 +185,6 @@ impl Holdings for OneSide {
 
     fn shown(&self, _key: &()) -> Shown {
         Shown::of(&self.side, self.released)
-    }
-}
-/// Decodes the side that `bytes` encode. Without bytes, returns the idle side of `live`.
-fn read_or_idle(alloc: Global, bytes: Option<Vec<u8>>, live: &Side) -> Result<OneSide, DeskFault>
-    ensures reads { ReadsOrIdle (option_map (λ b. b.items) bytes) live.now result }
-    ensures whole { IfOk result (AreAllReleased one_side) }
-    ensures backed { IfOk result (λ held. IsBacked one_side OneBacks (option_map (λ b. b.items) bytes) held) }
-    ensures faults { IfErr result (IsReadFault one_side.has_digest) }
-{
-    match bytes {
-        Some(bytes) => OneSide::read(alloc, bytes),
-        None => Ok(OneSide::alone(alloc, live.idle_again(alloc)?)),
     }
 }
 

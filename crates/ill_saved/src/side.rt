@@ -1,6 +1,7 @@
 //! One side of a transaction, in either role.
 
-ghost use Rattle.std.specs.Prelude.{◌≡◌, ◌≤◌, [], length, option_map, IfOk};
+ghost use Rattle.std.specs.Prelude.{◌≡◌, ◌≤◌, [], length, option_map};
+ghost use Rattle.ill_values.specs.TxnId.{Qualifiers};
 ghost use Rattle.ill_core.specs.declared.turn.Turn.TheVariants.{Mine};
 ghost use Rattle.ill_core.specs.Issued.{message};
 ghost use Rattle.ill_core.specs.Verbs.{is_verb_among, is_now};
@@ -12,7 +13,7 @@ use ill_core::{
     Deed, Refusal, Requester, RequesterStanding, Responder, ResponderStanding, State, Taking, Turn,
     Verb, Wish,
 };
-use ill_values::{Apdu, Day, Number, OutOfMemory, TxnId};
+use ill_values::{Apdu, Day, Number, TxnId};
 use std::alloc::Global;
 
 /// One side of a transaction: the library that asks for an item, or the library that is asked for it.
@@ -31,6 +32,29 @@ pub enum Standing {
     Requester(RequesterStanding),
     /// The standing of a responder.
     Responder(ResponderStanding),
+}
+
+impl Standing {
+    /// Returns the standing of an idle side of this role.
+    fn idle(role: Role) -> Standing
+        ensures { (txn : Qualifiers) → result ≡ standing_of (idle_side role txn) }
+    {
+        match role {
+            Role::Requester => Standing::Requester(RequesterStanding {
+                state: State::Idle,
+                held: None,
+                checked_in: false,
+                due: None,
+            }),
+            Role::Responder => Standing::Responder(ResponderStanding {
+                state: State::Idle,
+                accepted: None,
+                last_cancel: None,
+                last_renew: None,
+                received: false,
+            }),
+        }
+    }
 }
 
 /// An action of a library: a requester's wish, or a responder's deed on a day.
@@ -237,10 +261,11 @@ impl Side {
         }
     }
 
-    /// Returns the idle side of this role and transaction, which has issued and taken nothing.
-    pub fn idle_again(&self, alloc: Global) -> Result<Side, OutOfMemory>
-        ensures { IfOk result (λ idle. idle ≡ idle_of self.now) }
+    /// Becomes the idle side of this role and transaction, which has issued and taken nothing. Allocates nothing.
+    pub(crate) fn become_idle(&mut self)
+        ensures { self.new ≡ idle_of self.old }
     {
-        Ok(Side::idle(alloc, self.role(), self.txn().copy(alloc)?))
+        let standing = Standing::idle(self.role());
+        self.go_back(&standing, 0);
     }
 }

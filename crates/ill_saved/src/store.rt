@@ -1,8 +1,8 @@
 //! The store in which a side keeps its record.
 
-ghost use Rattle.std.specs.Prelude.{◌≡◌};
+ghost use Rattle.std.specs.Prelude.{◌≡◌, Bool, true};
 ghost use Rattle.ill_saved.specs.declared.store.StoreFault.TheVariants.{OutOfMemory};
-ghost use Rattle.ill_saved.specs.Store.{StoreState, StoreLoads, StoreSaves};
+ghost use Rattle.ill_saved.specs.Store.{StoreState, StoreLoads, StoreSaves, RunsOutOnlyIf};
 
 use std::alloc::{AllocError, AllocFailed, Global};
 use thiserror::Error;
@@ -56,9 +56,13 @@ pub trait Store {
     /// Its part `is_honest` is true if the store does as it answers.
     ghost state: { Self → StoreState };
 
+    /// Returns true if the next `load` takes memory. A store that does not say so may take memory.
+    ghost load_takes_memory: { Self → Bool } = { λ _. true };
+
     /// Loads the landed bytes, or `None` if nothing has landed.
     fn load(&mut self, alloc: Global) -> Result<Option<Vec<u8>>, StoreFault>
-        ensures { StoreLoads (λ b. b.items) (state self.old) result (state self.new) };
+        ensures loads { StoreLoads (λ b. b.items) (state self.old) result (state self.new) }
+        ensures memory { RunsOutOnlyIf (load_takes_memory self.old) result };
 
     /// Saves `bytes` in place of the landed bytes. After `Failed`, the old or the new bytes have landed.
     fn save(&mut self, alloc: Global, bytes: &[u8]) -> Result<(), StoreFault>

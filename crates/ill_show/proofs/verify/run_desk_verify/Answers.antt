@@ -7,7 +7,7 @@ use Rattle.ill_show.proofs.verify.run_desk_verify.Goals as goal
 pub returns-in-Ok-Some-clause-verifies : goal.returns-in-Ok-Some-clause-verifies
 returns-in-Ok-Some-clause-verifies g c = (
   Ok (Some c.in-Ok-Some.bytes.items),
-  (λ honest. let is = c.in-Ok-Some.ensures.loaded honest in search (rules, is)),
+  (λ honest. let is = c.in-Ok-Some.ensures.loads.loaded honest in search (rules, is)),
   search rules,
 )
 
@@ -15,7 +15,7 @@ returns-in-Ok-Some-clause-verifies g c = (
 pub returns-in-Ok-None-clause-verifies : goal.returns-in-Ok-None-clause-verifies
 returns-in-Ok-None-clause-verifies g c = (
   Ok None,
-  (λ honest. let is = c.in-Ok-None.ensures.loaded honest in search (rules, is)),
+  (λ honest. let is = c.in-Ok-None.ensures.loads.loaded honest in search (rules, is)),
   (refl, Appends-nil (g.W.Write.contents c.args.writer.now)),
 )
 

@@ -7,12 +7,15 @@ use Rattle.ill_saved.proofs.file_store.FileStoreStore.TheImpl.Goals as goal
 -- A load of a store in a file satisfies the contract of each store.
 pub load-tells : goal.load-tells
 load-tells g c = record {
-  loaded = λ honest. search rules;
-  planned = λ honest. tt;
-  landed = λ honest. refl;
-  counted = load_counts (λ b. b.items) c.args.self.now c.new.self.now c.result c.ensures;
-  honest = refl;
-  plan = refl;
+  loads = record {
+    loaded = λ honest. search rules;
+    planned = λ honest. tt;
+    landed = λ honest. refl;
+    counted = load_counts (λ b. b.items) c.args.self.now c.new.self.now c.result c.ensures;
+    honest = refl;
+    plan = refl;
+  };
+  memory = tt;
 }
 
 -- A save of a store in a file satisfies the contract of each store.

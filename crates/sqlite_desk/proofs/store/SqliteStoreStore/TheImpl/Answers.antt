@@ -7,12 +7,15 @@ use Rattle.sqlite_desk.proofs.store.SqliteStoreStore.TheImpl.Goals as goal
 -- A load satisfies the contract of each store.
 pub load-tells : goal.load-tells
 load-tells g c = record {
-  loaded = λ honest. search rules;
-  planned = λ honest. tt;
-  landed = λ honest. refl;
-  counted = counts c.args.self.now.failures c.new.self.now.failures c.result c.ensures;
-  honest = refl;
-  plan = refl;
+  loads = record {
+    loaded = λ honest. search rules;
+    planned = λ honest. tt;
+    landed = λ honest. refl;
+    counted = counts c.args.self.now.failures c.new.self.now.failures c.result c.ensures;
+    honest = refl;
+    plan = refl;
+  };
+  memory = tt;
 }
 
 -- A save satisfies the contract of each store.

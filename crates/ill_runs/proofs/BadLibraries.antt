@@ -20,7 +20,7 @@ read_once read a b first second =
     let same : ◌≡◌ {A = Result SidesOf RecordFault} (Ok a) (Ok b) = sym first ∙ second in cc
 
 -- A file that cannot be read is read as no sides.
-not_read : (read : Result SidesOf RecordFault) (fault : RecordFault) (held : SidesOf) → read ≡ Err fault → read ≡ Ok held → ⊥
+pub not_read : (read : Result SidesOf RecordFault) (fault : RecordFault) (held : SidesOf) → read ≡ Err fault → read ≡ Ok held → ⊥
 not_read read fault held first second =
     let same : ◌≡◌ {A = Result SidesOf RecordFault} (Err fault) (Ok held) = sym first ∙ second in absurd cc
 

@@ -39,7 +39,7 @@ first_at again role = record { file = again (record { role = role; sides = [] })
 -- ---- one after another
 
 -- Each of two libraries is a desk of the model, if both are.
-each_is_at : (role : Who) (libraries : Libraries) (w : DeskParties) → AreAt libraries w
+pub each_is_at : (role : Who) (libraries : Libraries) (w : DeskParties) → AreAt libraries w
     → IsAt (party libraries role) (party w role)
 each_is_at who.Requester libraries w at = at.requester
 each_is_at who.Responder libraries w at = at.responder

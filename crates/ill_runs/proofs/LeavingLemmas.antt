@@ -38,7 +38,7 @@ found_further x h held none found =
     (not_again x h held (is_same_txn (txn_held h) (txn_held x)) refl none found) ∙ found
 
 -- If no transaction is twice, each side is found by its transaction.
-each_found : (held : List DeskEntry) → AreApart (map txn_held held)
+pub each_found : (held : List DeskEntry) → AreApart (map txn_held held)
     → Each (λ h. found_by txn_held (txn_held h) held ≡ Some h) held
 unfolding Each
 each_found [] apart = tt

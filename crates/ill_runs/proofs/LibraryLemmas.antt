@@ -117,6 +117,25 @@ few_at who.Requester w stands txn =
 few_at who.Responder w stands txn =
     let each = stands.each txn in (responder_few txn _ _ each.responder.live, each.responder.saved.places)
 
+-- ---- the start of a command
+
+-- The desk of a library starts as the model's desk does after a restart.
+pub started : (library : Library) (p : DeskParty) (desk : HeldAndLanded DeskContents) → IsAt library p
+    → StartsFrom library.file desk → IsDesk desk (desk_restarts p)
+started library p desk at starts =
+    let read : ◌≡◌ {A = Result DeskContents RecordFault} (Ok (whole_of p.landed)) (Ok desk.live) =
+    sym (ap (map_ok whole_of) at.file) ∙ starts.0 in
+    let same : whole_of p.landed ≡ desk.live = cc in
+    record { live = sym same; landed = subst (λ content. IsReadAs content p.landed) (sym starts.1) at.file }
+
+-- If each message of `others` was sent, so was each that mails bring from `others`.
+pub brought : (sent : List Sending) (others : List Apdu) → Each (WasSent sent) others → (mails : List Mail)
+    → Bring (IsOneOf others) mails → Bring (WasSent sent) mails
+brought sent others were mails bring =
+    each_so (λ mail. Each (IsOneOf others) (message_of mail)) (λ mail. Each (WasSent sent) (message_of mail)) mails
+    (λ mail each. each_so (IsOneOf others) (WasSent sent) (message_of mail)
+    (λ a one. each_at (WasSent sent) others one.0 a were one.1) each) bring
+
 -- ---- messages that were sent
 
 -- Two desks that stand do so after each event, and a message that was sent stays sent.
@@ -225,23 +244,6 @@ module _ (stand : EachStands) (stay : (txn : Qualifiers) (w : DeskParties) (even
     leads : Leads who sent p end
     landed : IsReadAs content end.landed
     may_leave : ((apart : AreApart (live_txns end)) → Each (IsReleased end.live) leaving)
-
-  -- The desk of a library starts as the model's desk does after a restart.
-  started : (library : Library) (p : DeskParty) (desk : HeldAndLanded DeskContents) → IsAt library p
-      → StartsFrom library.file desk → IsDesk desk (desk_restarts p)
-  started library p desk at starts =
-      let read : ◌≡◌ {A = Result DeskContents RecordFault} (Ok (whole_of p.landed)) (Ok desk.live) =
-      sym (ap (map_ok whole_of) at.file) ∙ starts.0 in
-      let same : whole_of p.landed ≡ desk.live = cc in
-      record { live = sym same; landed = subst (λ content. IsReadAs content p.landed) (sym starts.1) at.file }
-
-  -- If each message of `others` was sent, so was each that mails bring from `others`.
-  brought : (sent : List Sending) (others : List Apdu) → Each (WasSent sent) others → (mails : List Mail)
-      → Bring (IsOneOf others) mails → Bring (WasSent sent) mails
-  brought sent others were mails bring =
-      each_so (λ mail. Each (IsOneOf others) (message_of mail)) (λ mail. Each (WasSent sent) (message_of mail)) mails
-      (λ mail each. each_so (IsOneOf others) (WasSent sent) (message_of mail)
-      (λ a one. each_at (WasSent sent) others one.0 a were one.1) each) bring
 
   -- No message leaves a desk, so each that leaves may be sent.
   none_leave : (live : DeskContents) (leaving : List Apdu) → leaving ≡ [] → Each (IsReleased live) leaving

@@ -1,0 +1,273 @@
+-- Proves which loans ask in a night: those that are over, and of which a mail came.
+use Rattle.std.proofs.Common.{◌≡◌, ℕ, Bool, true, false, not, ◌||◌, cond, if◌then◌else◌, List, [], ◌∷◌, ◌++◌, length, nat_lt}
+use Rattle.std.proofs.Common.{Option}
+use Rattle.std.proofs.Common.{Some, None, option_map, Result, Ok, Err, refl, sym, ap, ◌∙◌, subst, true≢false, append_assoc}
+use Rattle.std.specs.Prelude.{filter, flat_map}
+use Rattle.std.specs.List.{AllByRecursion, list_any, zip}
+use Rattle.std.proofs.lemmas.Grind.{flat_map-append}
+use Rattle.std.proofs.lemmas.List.Elements.{filter-append}
+use Rattle.std.proofs.lemmas.List.Folds.{list_any-append}
+use Rattle.ill_values.specs.TxnId.{Qualifiers}
+use Rattle.ill_values.specs.declared.apdu.Apdu.{Apdu}
+use Rattle.ill_values.specs.Apdu.{IsApdu}
+use Rattle.ill_der.specs.declared.fault.DerFault.{DerFault}
+use Rattle.ill_der.specs.Feed.{FeedState, Leaves}
+use Rattle.ill_der.specs.Laws.{BeginsWithOne, IsBytes}
+use Rattle.ill_der.specs.ShortForm.{apdu_at, header_at, outer_at, spelling}
+use Rattle.ill_der.proofs.FeedLemmas.{all_join}
+use Rattle.ill_core.specs.Issued.{is_none, is_same_txn}
+use Rattle.ill_saved.specs.declared.role.Role.TheVariants as who
+use Rattle.ill_saved.specs.declared.side.Side.{Side}
+use Rattle.ill_saved.specs.Ranges.{Each}
+use Rattle.ill_saved.specs.Side.{idle_side}
+use Rattle.ill_saved.specs.Sides.{side_with}
+use Rattle.ill_saved.specs.ManySides.{DeskContents, found_or, held_for, sides_held}
+use Rattle.ill_saved.proofs.Finding.{apart_back, same_is, same_self, side_of_held}
+use Rattle.ill_text.specs.Input.{AreIn}
+use Rattle.ill_words.specs.Sending.{is_over}
+use Rattle.ill_night.specs.declared.verdict.Mail.{Mail}
+use Rattle.ill_night.specs.declared.verdict.Unfit.{Unfit}
+use Rattle.ill_night.specs.declared.verdict.Unfit.TheVariants as unfits
+use Rattle.ill_night.specs.declared.verdict.Verdict.{Verdict}
+use Rattle.ill_night.specs.declared.verdict.Verdict.TheVariants.{Aside, Done, Left}
+use Rattle.ill_night.specs.Inbox.{message_in, one_message}
+use Rattle.ill_night.specs.Outbox.{asked_by, asking_bytes, asking_bytes_if_read, asking_bytes_of_mail, is_asked, is_held_over}
+use Rattle.ill_runs.specs.Mail.{message_if, message_if_read, message_of}
+use Rattle.ill_nights.specs.Messages.{messages_for}
+use Rattle.ill_nights.specs.Nights.{AreBytes, AreDone, IsBytesOf, IsDone, messages_of}
+
+-- ---- the message of a mail
+
+-- Bytes begin with just one message, or with none.
+abbrev pub PrefixOrFault : Type 0
+PrefixOrFault = (bytes : List ℕ) → IsBytes bytes → BeginsWithOne bytes (apdu_at bytes)
+
+-- Each message is read again, whatever bytes follow.
+abbrev pub ReadsAgain : Type 0
+ReadsAgain = (apdu : Apdu) (rest : List ℕ) → IsApdu apdu → apdu_at (spelling apdu ++ rest) ≡ Ok (apdu, rest)
+
+-- If bytes are just one message, they are read as it, with nothing after it.
+one_found : (a : Apdu) (result : Result (Apdu × List ℕ) DerFault) → one_message result ≡ Ok a → result ≡ Ok (a, [])
+one_found a (Ok (b, [])) is = let same : b ≡ a = cc in ap (λ (c : Apdu). Ok (c, [])) same
+one_found a (Ok (b, byte ∷ rest)) is = absurd cc
+one_found a (Err fault) is = absurd cc
+
+-- If a mail is just one message, its bytes are read as it, with nothing after it.
+mail_found : (a : Apdu) (is_long : Bool) (result : Result (Apdu × List ℕ) DerFault)
+    → (if is_long then Err unfits.TooLong else one_message result) ≡ Ok a → result ≡ Ok (a, [])
+mail_found a true result is = absurd cc
+mail_found a false result is = one_found a result is
+
+-- The bytes of a mail that is just one message are the encoding of the message.
+mail_spells : PrefixOrFault → (bytes : List ℕ) (a : Apdu) → IsBytes bytes → message_in bytes ≡ Ok a
+    → IsApdu a × (bytes ≡ spelling a ++ [])
+mail_spells prefix bytes a are is =
+    (subst (BeginsWithOne bytes) (mail_found a (nat_lt 359 (length bytes)) (apdu_at bytes) is) (prefix bytes are)).0
+
+-- ---- one reading
+
+-- Encodings are read as their messages, and as no others.
+one_reading : ReadsAgain → (apdus asking : List Apdu) (rest : List ℕ) (new : FeedState) → AllByRecursion IsApdu apdus
+    → AllByRecursion IsApdu asking → flat_map spelling apdus ≡ flat_map spelling asking ++ rest → Leaves rest new
+    → asking ≡ apdus
+unfolding apdu_at outer_at header_at
+one_reading again [] [] rest new all spelled parts leaves = refl
+one_reading again [] (b ∷ asking) rest new all spelled parts leaves =
+    absurd (never b (flat_map spelling asking) rest spelled.0 parts)
+  where
+    never : (b : Apdu) (more rest : List ℕ) → IsApdu b → [] ≡ (spelling b ++ more) ++ rest → ⊥
+    never b more rest is parts =
+        let read : apdu_at [] ≡ Ok (b, more ++ rest) =
+        ap apdu_at (parts ∙ append_assoc (spelling b) more rest) ∙ again b (more ++ rest) is in
+        absurd cc
+one_reading again (a ∷ apdus) [] rest new all spelled parts leaves =
+    absurd (never new leaves (ap apdu_at (sym parts) ∙ again a (flat_map spelling apdus) all.0))
+  where
+    never : (new : FeedState) → Leaves rest new → apdu_at rest ≡ Ok (a, flat_map spelling apdus) → ⊥
+    never (Ok held) leaves read = absurd cc
+    never (Err fault) leaves read = absurd cc
+one_reading again (a ∷ apdus) (b ∷ asking) rest new all spelled parts leaves =
+    let first = again a (flat_map spelling apdus) all.0 in
+    let second = again b (flat_map spelling asking ++ rest) spelled.0 in
+    let read : ◌≡◌ {A = Result (Apdu × List ℕ) DerFault} (Ok (a, flat_map spelling apdus))
+    (Ok (b, flat_map spelling asking ++ rest)) =
+    sym first ∙ ap apdu_at (parts ∙ append_assoc (spelling b) (flat_map spelling asking) rest) ∙ second in
+    let pairs : ◌≡◌ {A = Apdu × List ℕ} (a, flat_map spelling apdus) (b, flat_map spelling asking ++ rest) = cc in
+    let same : a ≡ b = ap (λ (pair : Apdu × List ℕ). pair.0) pairs in
+    let more : flat_map spelling apdus ≡ flat_map spelling asking ++ rest = ap (λ (pair : Apdu × List ℕ). pair.1) pairs in
+    ap (λ (c : Apdu). c ∷ asking) (sym same)
+    ∙ ap (λ apdus. a ∷ apdus) (one_reading again apdus asking rest new all.1 spelled.1 more leaves)
+
+-- ---- the mails that ask
+
+module _ (live : DeskContents) where
+  -- Returns true if the loan of a message is held at the desk and is over.
+  abbrev of_over : Apdu → Bool
+  of_over a = is_held_over (side_with a.txn (sides_held live).sides)
+
+  -- Returns the messages of a mail that ask.
+  abbrev asks_of : Mail → Verdict → List Apdu
+  asks_of mail (Done outcome) = filter of_over (message_of mail)
+  asks_of mail verdict = []
+
+  -- Returns the messages of all mails that ask.
+  abbrev asks_all : List Mail → List Verdict → List Apdu
+  asks_all mails verdicts = flat_map (λ mail. asks_of mail.0 mail.1) (zip mails verdicts)
+
+  -- Bytes are the encodings of messages in range.
+  abbrev Spell : List ℕ → List Apdu → Type 0
+  Spell bytes apdus = (bytes ≡ flat_map spelling apdus) × AllByRecursion IsApdu apdus
+
+  module _ (prefix : PrefixOrFault) where
+    -- The bytes of a mail that ask are the encoding of its message, if it asks.
+    found_spells : (bytes : List ℕ) (found : Result Apdu Unfit) → IsBytes bytes → message_in bytes ≡ found
+        → Spell (asking_bytes live bytes found) (filter of_over (message_if found))
+    found_spells bytes (Err unfit) are is = (refl, tt)
+    found_spells bytes (Ok a) are is = go (of_over a)
+      where
+        go : (over : Bool) → Spell (if over then bytes else []) (cond over (a ∷ []) [])
+        go true = let spells = mail_spells prefix bytes a are is in (spells.1, (spells.0, tt))
+        go false = (refl, tt)
+
+    -- The same holds of a mail that could be read.
+    read_spells : (bytes : Option (List ℕ)) → IsBytesOf bytes
+        → Spell (asking_bytes_if_read live bytes) (filter of_over (message_if_read bytes))
+    read_spells None are = (refl, tt)
+    read_spells (Some bytes) are = found_spells bytes (message_in bytes) are refl
+
+    -- The bytes of a mail that ask, by its verdict, are the encoding of its message, if it asks.
+    mail_spells_asks : (mail : Mail) (verdict : Verdict) → IsBytesOf (option_map (λ bytes. bytes.items) mail.bytes)
+        → Spell (asking_bytes_of_mail live mail verdict) (asks_of mail verdict)
+    mail_spells_asks mail (Done outcome) are = read_spells (option_map (λ bytes. bytes.items) mail.bytes) are
+    mail_spells_asks mail (Aside unfit) are = (refl, tt)
+    mail_spells_asks mail (Left delay) are = (refl, tt)
+
+    -- The bytes of all mails that ask are the encodings of the messages that ask.
+    all_spell : (mails : List Mail) (verdicts : List Verdict) → AreBytes mails
+        → Spell (asked_by live (zip mails verdicts)) (asks_all mails verdicts)
+    unfolding Each
+    all_spell [] verdicts are = (refl, tt)
+    all_spell (mail ∷ mails) [] are = (refl, tt)
+    all_spell (mail ∷ mails) (verdict ∷ verdicts) are =
+        let first = mail_spells_asks mail verdict are.0 in
+        let more = all_spell mails verdicts are.1 in (
+          ap (λ bytes. bytes ++ asked_by live (zip mails verdicts)) first.0
+              ∙ ap (λ bytes. flat_map spelling (asks_of mail verdict) ++ bytes) more.0
+              ∙ sym (flat_map-append spelling (asks_of mail verdict) (asks_all mails verdicts)),
+          all_join (asks_of mail verdict) (asks_all mails verdicts) first.1 more.1,
+        )
+
+  -- ---- the transactions that ask
+
+  module _ (txn : Qualifiers) (over : (a : Apdu) → is_same_txn txn a.txn ≡ true → of_over a ≡ true) where
+    -- Returns true if the message is of `txn`.
+    abbrev is_its : Apdu → Bool
+    is_its a = is_same_txn a.txn txn
+
+    -- A message of `txn` is so by either test.
+    its : (a : Apdu) (same : Bool) → is_same_txn txn a.txn ≡ same → is_its a ≡ same
+    its a true is = subst (λ t. is_same_txn t txn ≡ true) (same_is txn a.txn is) (same_self txn)
+    its a false is = apart_back txn a.txn is
+
+    -- If mails are done with, a message of `txn` among theirs asks just if there is one.
+    done_ask : (apdus : List Apdu) → not (list_any is_its (filter of_over apdus)) ≡ is_none (messages_for txn apdus)
+    done_ask [] = refl
+    done_ask (a ∷ apdus) = go (done_ask apdus) (is_same_txn txn a.txn) refl
+      where
+        others : List Apdu
+        others = filter of_over apdus
+
+        kept : (keeps : Bool) → is_its a ≡ false → list_any is_its (cond keeps (a ∷ others) others) ≡ list_any is_its others
+        kept true none = ap (λ own. own || list_any is_its others) none
+        kept false none = refl
+
+        go : not (list_any is_its others) ≡ is_none (messages_for txn apdus) → (same : Bool) → is_same_txn txn a.txn ≡ same
+            → not (list_any is_its (cond (of_over a) (a ∷ others) others))
+            ≡ is_none (cond same (a ∷ messages_for txn apdus) (messages_for txn apdus))
+        go further true is =
+            ap (λ keeps. not (list_any is_its (cond keeps (a ∷ others) others))) (over a is)
+            ∙ ap (λ own. not (own || list_any is_its others)) (its a true is)
+        go further false is = ap not (kept (of_over a) (its a false is)) ∙ further
+
+    -- If nothing may be in a list, it is empty.
+    nothing_in : (apdus : List Apdu) → Each (λ a. ⊥) apdus → true ≡ is_none apdus
+    unfolding Each
+    nothing_in [] none = refl
+    nothing_in (a ∷ apdus) none = absurd none.0
+
+    -- A message of `txn` in a mail asks just if there is one, if the mail is done with.
+    mail_asks : (mail : Mail) (verdict : Verdict) → Each (λ a. IsDone verdict) (messages_for txn (message_of mail))
+        → not (list_any is_its (asks_of mail verdict)) ≡ is_none (messages_for txn (message_of mail))
+    mail_asks mail (Done outcome) done = done_ask (message_of mail)
+    mail_asks mail (Aside unfit) done = nothing_in (messages_for txn (message_of mail)) done
+    mail_asks mail (Left delay) done = nothing_in (messages_for txn (message_of mail)) done
+
+    -- Two lists hold nothing just if both hold nothing.
+    both_none : (apdus more : List Apdu) → is_none (apdus ++ more) ≡ not (not (is_none apdus) || not (is_none more))
+    both_none [] [] = refl
+    both_none [] (a ∷ more) = refl
+    both_none (a ∷ apdus) more = refl
+
+    -- Two negations leave a truth value.
+    twice : (b : Bool) → not (not b) ≡ b
+    twice true = refl
+    twice false = refl
+
+    -- Without a verdict no message asks.
+    none_left : (mails : List Mail) → not (list_any is_its (asks_all mails [])) ≡ true
+    none_left [] = refl
+    none_left (mail ∷ mails) = refl
+
+    -- A message of `txn` in mails asks just if there is one, if the mails with one are done with.
+    mails_ask : (mails : List Mail) (verdicts : List Verdict) → AreDone txn mails verdicts
+        → not (list_any is_its (asks_all mails verdicts)) ≡ is_none (messages_for txn (messages_of mails))
+    mails_ask [] verdicts done = refl
+    mails_ask (mail ∷ mails) verdicts done = go (mails_ask mails) verdicts done
+      where
+        parts : messages_for txn (messages_of (mail ∷ mails))
+            ≡ messages_for txn (message_of mail) ++ messages_for txn (messages_of mails)
+        parts = filter-append (λ (a : Apdu). is_same_txn txn a.txn) (message_of mail) (messages_of mails)
+
+        go : ((verdicts : List Verdict) → AreDone txn mails verdicts
+            → not (list_any is_its (asks_all mails verdicts)) ≡ is_none (messages_for txn (messages_of mails)))
+            → (verdicts : List Verdict) → AreDone txn (mail ∷ mails) verdicts
+            → not (list_any is_its (asks_all (mail ∷ mails) verdicts)) ≡ is_none (messages_for txn (messages_of (mail ∷ mails)))
+        go further [] done =
+            sym (none_left mails) ∙ further [] done.1
+            ∙ ap (λ apdus. is_none (apdus ++ messages_for txn (messages_of mails))) (sym done.0) ∙ ap is_none (sym parts)
+        go further (verdict ∷ verdicts) done =
+            ap not (list_any-append is_its (asks_of mail verdict) (asks_all mails verdicts)
+            ∙ ap (λ b. b || list_any is_its (asks_all mails verdicts))
+            (sym (twice (list_any is_its (asks_of mail verdict))) ∙ ap not (mail_asks mail verdict done.0))
+            ∙ ap (λ b. not (is_none (messages_for txn (message_of mail))) || b)
+            (sym (twice (list_any is_its (asks_all mails verdicts))) ∙ ap not (further verdicts done.1)))
+            ∙ sym (both_none (messages_for txn (message_of mail)) (messages_for txn (messages_of mails)))
+            ∙ ap is_none (sym parts)
+
+-- If the loan of `txn` is over at a responder's desk, each message of `txn` is of a loan that is held there and over.
+held_over : (live : DeskContents) → live.role ≡ who.Responder → (txn : Qualifiers) → is_over (held_for txn live).side ≡ true
+    → (a : Apdu) → is_same_txn txn a.txn ≡ true → of_over live a ≡ true
+held_over live role txn over a same =
+    subst (λ t. is_held_over (side_with t (sides_held live).sides) ≡ true) (same_is txn a.txn same)
+    (go (side_with txn (sides_held live).sides) refl)
+  where
+    shown : (found : Option Side) → side_with txn (sides_held live).sides ≡ found
+        → is_over (found_or (idle_side live.role txn) found) ≡ true
+    shown found is = ap (λ f. is_over (found_or (idle_side live.role txn) f)) (sym is) ∙ ap is_over (side_of_held txn live) ∙ over
+
+    go : (found : Option Side) → side_with txn (sides_held live).sides ≡ found → is_held_over found ≡ true
+    go (Some side) is = shown (Some side) is
+    go None is = absurd (true≢false (sym (ap (λ r. is_over (idle_side r txn)) (sym role) ∙ shown None is)))
+
+-- If the loan of `txn` is over at a responder's desk, a message of `txn` asks just if there is one among its mails, and if
+-- the mails with one are done with.
+pub asks_right : PrefixOrFault → ReadsAgain → (live : DeskContents) → live.role ≡ who.Responder → (txn : Qualifiers)
+    (mails : List Mail) (verdicts : List Verdict) (asking : List Apdu) → AreBytes mails → AreDone txn mails verdicts
+    → AreIn (asked_by live (zip mails verdicts)) asking → is_over (held_for txn live).side ≡ true
+    → not (is_asked asking txn) ≡ is_none (messages_for txn (messages_of mails))
+asks_right prefix again live role txn mails verdicts asking are done came over =
+    let spells = all_spell live prefix mails verdicts are in
+    let same : asking ≡ asks_all live mails verdicts =
+    one_reading again (asks_all live mails verdicts) asking came.1.0 came.0 spells.1 came.1.1.spelled
+    (sym spells.0 ∙ came.1.1.parts) came.1.2 in
+    ap (λ apdus. not (is_asked apdus txn)) same ∙ mails_ask live txn (held_over live role txn over) mails verdicts done

@@ -1,0 +1,412 @@
+-- Proves that a good night of commands leads both sides of a transaction in step or to rest, in the files.
+use Rattle.std.proofs.Common.{◌≡◌, inl, inr, ℕ, Bool, true, false, not, ◌&&◌, if◌then◌else◌, List, [], ◌∷◌, Option, Some, Result}
+use Rattle.std.proofs.Common.{Ok, Err, length, map, refl, sym, ap, ◌∙◌, subst}
+use Rattle.std.specs.List.{list_all, zip}
+use Rattle.ill_values.specs.Day.{Date}
+use Rattle.ill_values.specs.TxnId.{Qualifiers}
+use Rattle.ill_values.specs.declared.apdu.Apdu.{Apdu}
+use Rattle.ill_core.specs.declared.responder.Deed.{Deed}
+use Rattle.ill_core.specs.Issued.{is_none}
+use Rattle.ill_core.specs.Requester.{RequesterRecord}
+use Rattle.ill_core.specs.RequesterDeliveries as requester_deliveries
+use Rattle.ill_saved.specs.declared.role.Role.{Role as Who}
+use Rattle.ill_saved.specs.declared.role.Role.TheVariants as who
+use Rattle.ill_saved.specs.declared.side.Side.{Side}
+use Rattle.ill_saved.specs.declared.side.Side.TheVariants as sides
+use Rattle.ill_saved.specs.Side.{issued_of, other}
+use Rattle.ill_saved.specs.Sides.{SidesOf}
+use Rattle.ill_saved.specs.Ranges.{Each}
+use Rattle.ill_saved.specs.RecordsV2.{records_at}
+use Rattle.ill_saved.specs.ManySides.{DeskContents, held_for, side_for}
+use Rattle.ill_text.specs.declared.fault.ToolFault.{ToolFault}
+use Rattle.ill_text.specs.Input.{AreIn}
+use Rattle.ill_words.specs.Sending.{is_over, wants_sending}
+use Rattle.ill_words.proofs.SendingLemmas.{open_wants}
+use Rattle.ill_desk.specs.Performing.{CommandState, HeldAndLanded}
+use Rattle.ill_night.specs.declared.dates.Dates.{Dates}
+use Rattle.ill_night.specs.declared.verdict.Mail.{Mail}
+use Rattle.ill_night.specs.declared.verdict.Verdict.{Verdict}
+use Rattle.ill_night.specs.Outbox.{Issue, asked_by, is_asked, leaving_desk}
+use Rattle.ill_mail.specs.Nights.{Night, ExchangesAt, PerformsDueDeeds, SendsAll, SendsAsked, SettlesRun, TakesMails, night_asks}
+use Rattle.ill_world.specs.declared.event.Event.{Event}
+use Rattle.ill_world.specs.declared.event.Event.TheVariants as events
+use Rattle.ill_world.specs.declared.event.DeskEvent.TheVariants.{Restart}
+use Rattle.ill_world.specs.World.{Party, Parties, party, happens, run_of}
+use Rattle.ill_world.specs.Desks.{DeskParty, DeskParties, desks_happen, desks_run, project}
+use Rattle.ill_world.specs.DeskSafety.{DesksInvariant}
+use Rattle.ill_world.specs.Invariant.{Invariant, RequesterSideInvariant}
+use Rattle.ill_world.specs.Night.{asks, AreInStepOrAtRest}
+use Rattle.ill_world.specs.Round.{CanAnswer}
+use Rattle.ill_world.proofs.Desks.{EachProjects, EachStands, desks_stand_on}
+use Rattle.ill_world.proofs.DeskArrivals.{EachReaches}
+use Rattle.ill_world.proofs.DeskRounds.{shown}
+use Rattle.ill_world.proofs.Hearing.{taking}
+use Rattle.ill_world.proofs.OneRound.{requester_taking}
+use Rattle.ill_world.proofs.Rounds.{takes_all}
+use Rattle.ill_progress.specs.NightWithPeople.{is_by_responder, asked_and_worked, worked_night_of}
+use Rattle.ill_runs.specs.Events.{IsReadAs}
+use Rattle.ill_runs.specs.Libraries.{AreAt, Commands, IsAt, LeadsTo, Libraries, Library}
+use Rattle.ill_runs.specs.Mail.{Bring, IsOneOf, WasSent, mails_of, mails_taken}
+use Rattle.ill_runs.proofs.BadLibraries.{read_once}
+use Rattle.ill_runs.proofs.LibraryLemmas.{brought, events_there}
+use Rattle.ill_nights.specs.Messages.{InStepOrAtRest, after_deeds_of, messages_for, sent_by}
+use Rattle.ill_nights.specs.Nights.{AreBytes, AreDone, AreInStepIn, CanAnswerIn, EndsWithAll, IsAllOf, IsGoodNight, IsNight}
+use Rattle.ill_nights.specs.Nights.{IsWhole, LeftOf, TakesAll, TookOf, by_inbox, by_night, messages_came, messages_of}
+use Rattle.ill_nights.specs.Nights.{messages_of_all}
+use Rattle.ill_nights.specs.Nights.{verdicts_of}
+use Rattle.ill_nights.proofs.Askings.{PrefixOrFault, ReadsAgain, asks_right}
+use Rattle.ill_nights.proofs.Leavings.{outbox_leaves}
+use Rattle.ill_nights.proofs.SideNights.{sides_in_step, takes_messages}
+use Rattle.ill_nights.proofs.Stages.{Reached, ReachedByDeeds, deeds_reach, mails_reach, starts_from}
+use Rattle.ill_nights.proofs.Takings.{EachChanges}
+
+-- ---- a requester's side
+
+-- A requester refuses each deed, so deeds leave its side.
+requester_undone : (x : RequesterRecord) (deeds : List (Deed × Date))
+    → after_deeds_of (sides.Requester x) deeds ≡ sides.Requester x
+unfolding after_deeds_of
+requester_undone x [] = refl
+requester_undone x (deed ∷ deeds) = requester_undone x deeds
+
+-- A requester's side takes messages, and no deed changes it then.
+taken_undone : (txn : Qualifiers) (side : Side) (sent : List (Option Apdu)) (apdus : List Apdu) (deeds : List (Deed × Date))
+    → RequesterSideInvariant txn side sent → after_deeds_of (takes_all side apdus) deeds ≡ takes_all side apdus
+taken_undone txn (sides.Requester x) sent apdus deeds stands =
+    let is = requester_taking x apdus in
+    ap (λ side. after_deeds_of side deeds) is
+    ∙ requester_undone (taking (λ r a. (requester_deliveries.takes r a).1) x apdus) deeds ∙ sym is
+taken_undone txn (sides.Responder y) sent apdus deeds stands = absurd stands
+
+-- A requester's side sends alike, whether it was asked or not.
+sends_alike : (txn : Qualifiers) (side : Side) (sent : List (Option Apdu)) (was_asked : Bool)
+    → RequesterSideInvariant txn side sent → sent_by was_asked side ≡ sent_by false side
+sends_alike txn (sides.Requester x) sent was_asked stands = refl
+sends_alike txn (sides.Responder y) sent was_asked stands = absurd stands
+
+-- ---- who was asked
+
+-- No message was sent just if the side sends none, or has none.
+none_sent : (wants : Bool) (issued : List Apdu) → is_none (if wants then issued else []) ≡ not (wants && not (is_none issued))
+none_sent true [] = refl
+none_sent true (a ∷ apdus) = refl
+none_sent false issued = refl
+
+-- Two truth values are equal if they are so with `not`.
+same_under_not : (a b : Bool) → not a ≡ not b → a ≡ b
+same_under_not true true is = refl
+same_under_not false false is = refl
+same_under_not true false is = absurd cc
+same_under_not false true is = absurd cc
+
+-- If the messages that ask are right for a side for which the loan is over, it sends as if the requester asked.
+asked_alike : (x y : Side) (was_asked : Bool) → (is_over y ≡ true → not was_asked ≡ is_none (sent_by false x))
+    → sent_by was_asked y ≡ sent_by (asks x) y
+asked_alike x y was_asked right = go (is_over y) refl
+  where
+    go : (over : Bool) → is_over y ≡ over → sent_by was_asked y ≡ sent_by (asks x) y
+    go false is_open = ap (λ wants. if wants then issued_of y else [])
+        (open_wants was_asked y is_open ∙ sym (open_wants (asks x) y is_open))
+    go true over = ap (λ asked. sent_by asked y)
+        (same_under_not was_asked (asks x) (right over ∙ none_sent (wants_sending false x) (issued_of x)))
+
+-- ---- one command of a night
+
+-- The mails of a night are those that were taken.
+night_mails : (old met : CommandState DeskContents) (night : Night) (taken : TakesMails old (Ok night) met)
+    → night.mails ≡ mails_taken taken
+night_mails old met night (inl failed) = absurd failed.0.0
+night_mails old met night (inr took) = go took.2 took.4
+  where
+    go : (answer : Result (List Verdict) ToolFault) → SettlesRun took.0 took.1 answer (Ok night) → night.mails ≡ took.0
+    go (Ok verdicts) settles = elim settles [
+      | inl is ↦ (let same : night ≡ record { verdicts = verdicts; mails = took.0; waiting = took.1 } = cc in
+          ap (λ (n : Night). n.mails) same)
+      | inr failed ↦ absurd failed
+    ]
+    go (Err fault) settles = absurd cc
+
+-- A responder's desk has its role.
+responders_role : (role : Who) (w : DeskParties) → DesksInvariant w → role ≡ who.Responder
+    → (party w role).live.role ≡ who.Responder
+responders_role who.Responder w stands is = stands.responder.0
+responders_role who.Requester w stands is = absurd cc
+
+module _ (projects : EachProjects) (reaches : EachReaches) (stand : EachStands) (changes : EachChanges)
+    (prefix : PrefixOrFault) (again : ReadsAgain) (txn : Qualifiers) where
+  -- After a command that took `came`, the file can be read. Its side of `txn` is the landed one of `p`, after its messages
+  -- among these and after some deeds.
+  pub record Took (p : DeskParty) (after : Library) (came : List Apdu) : Type 0 where
+    held : SidesOf
+    file : records_at after.file ≡ Ok held
+    deeds : List (Deed × Date)
+    side : side_for txn held ≡ after_deeds_of (takes_all (side_for txn p.landed) (messages_for txn came)) deeds
+
+  -- If a command reached a side that has landed, its file has it.
+  reached_took : (role : Who) (w : DeskParties) (after : Library) (came : List Apdu) (side : Side)
+      (desk : HeldAndLanded DeskContents)
+      → (reached : ReachedByDeeds projects reaches stand changes txn role w desk side)
+      → side ≡ takes_all (side_for txn (party w role).landed) (messages_for txn came)
+      → desk.landed ≡ Some (Some after.file) → Took (party w role) after came
+  reached_took role w after came side desk by_deeds is content =
+      let reached = by_deeds.reached in
+      let held : SidesOf = (party reached.now role).landed in
+      record {
+        held = held;
+        file = subst (λ c. IsReadAs c held) content reached.at.landed;
+        deeds = by_deeds.deeds;
+        side = ap (λ (p : Party). p.landed) (sym (shown txn reached.now role)) ∙ reached.landed
+            ∙ ap (λ s. after_deeds_of s by_deeds.deeds) is;
+      }
+
+  -- What left in a night is all that the side of `txn` sends. If the loan is over for a responder, and the mails of `txn`
+  -- were done with, a message of `txn` asks just if one of it came.
+  pub record Sent (role : Who) (p : DeskParty) (after : Library) (mails : List Mail) (verdicts : List Verdict)
+      (left asking : List Apdu) : Type 0 where
+    took : Took p after (messages_of mails)
+    left_all : messages_for txn left ≡ sent_by (is_asked asking txn) (side_for txn took.held)
+    right : role ≡ who.Responder → AreBytes mails → AreDone txn mails verdicts → is_over (side_for txn took.held) ≡ true
+        → not (is_asked asking txn) ≡ is_none (messages_for txn (messages_of mails))
+
+  module _ (role : Who) (w : DeskParties) (stands : DesksInvariant w) (others : List Apdu)
+      (were : Each (WasSent (party w (other role)).sent) others) (before after : Library) (at : IsAt before (party w role)) where
+    -- The landed side of `txn`.
+    abbrev landed : Side
+    landed = side_for txn (party w role).landed
+
+    -- An inbox takes what came.
+    inbox_took : (old new : CommandState DeskContents) (result : Result Night ToolFault) (night : Night) → result ≡ Ok night
+        → Reached projects reaches stand changes txn role w old.desk landed → (taken : TakesMails old result new)
+        → Bring (IsOneOf others) (mails_taken taken) → new.desk.landed ≡ Some (Some after.file)
+        → Took (party w role) after (messages_of (mails_taken taken))
+    unfolding after_deeds_of
+    inbox_took old new (Ok some) night is start taken bring content =
+        let came : List Apdu = messages_of (mails_taken taken) in
+        let side : Side = takes_all landed (messages_for txn came) in
+        reached_took role w after came side new.desk (record {
+          deeds = [];
+          reached = mails_reach projects reaches stand changes txn role w old new some landed start taken
+              (brought (party w (other role)).sent others were (mails_taken taken) bring);
+        }) refl content
+    inbox_took old new (Err fault) night is start taken bring content = absurd cc
+
+    -- A night whose outbox was put into a folder whole sends all.
+    outbox_sent : (mails : List Mail) (night : Night) (asking left : List Apdu) → night.mails ≡ mails
+        → (took : Took (party w role) after (messages_of mails)) (desk : HeldAndLanded DeskContents) (side : Side)
+        (reached : Reached projects reaches stand changes txn role w desk side) → side ≡ side_for txn took.held
+        → (written_before written_after : Option (List ℕ)) (sent : Result (Unit {0}) ToolFault)
+        (sends : SendsAsked (night_asks desk.live night) desk.live.held written_before written_after sent)
+        → IsAllOf (night_asks desk.live night) desk.live.held written_before written_after sent sends asking left
+        → Sent role (party w role) after mails night.verdicts left asking
+    outbox_sent mails night asking left are took desk side reached is written_before written_after sent (inl failed) whole =
+        absurd whole
+    outbox_sent mails night asking left are took desk side reached is written_before written_after sent (inr went) whole =
+        let now : DeskParties = reached.now in
+        let p : DeskParty = party now role in
+        let held_is : (held_for txn p.live).side ≡ side =
+        ap (λ (q : Party). q.live) (sym (shown txn now role)) ∙ reached.live in
+        let all : (held_for txn p.live).released ≡ length (issued_of (held_for txn p.live).side) =
+        ap (λ (q : Party). q.released) (sym (shown txn now role)) ∙ reached.released
+        ∙ ap (λ s. length (issued_of s)) (sym held_is) in
+        let came : AreIn (asked_by p.live (zip mails night.verdicts)) asking =
+        subst (λ l. AreIn (asked_by l (zip mails night.verdicts)) asking) reached.at.live
+        (subst (λ m. AreIn (asked_by desk.live (zip m night.verdicts)) asking) are
+        (subst (AreIn (night_asks desk.live night)) whole.0 went.1)) in
+        record {
+          took = took;
+          left_all = ap (messages_for txn) whole.1
+              ∙ ap (λ live. messages_for txn (map (λ (issue : Issue). issue.apdu) (leaving_desk asking live.held)))
+              reached.at.live
+              ∙ outbox_leaves now role reached.stands txn asking all
+              ∙ ap (λ s. sent_by (is_asked asking txn) s) (held_is ∙ is);
+          right = λ responder bytes done over.
+              asks_right prefix again p.live (responders_role role now reached.stands responder) txn mails night.verdicts asking
+              bytes done came (ap is_over (held_is ∙ is) ∙ over);
+        }
+
+    -- The end of a night, after its mails, takes what came and sends all.
+    rest_sent : (mails : List Mail) (asking left : List Apdu) (dates : Option (Date × Dates)) (night : Night)
+        → night.mails ≡ mails → (met between new : CommandState DeskContents) (said : Result (Unit {0}) ToolFault)
+        (result : Result Bool ToolFault)
+        → Reached projects reaches stand changes txn role w met.desk (takes_all landed (messages_for txn (messages_of mails)))
+        → PerformsDueDeeds dates met said between
+        → (sends : SendsAll night between.desk.live between.written new.written said result)
+        → EndsWithAll night between.desk.live between.written new.written said result sends asking left
+        → between.desk.landed ≡ Some (Some after.file) → Sent role (party w role) after mails night.verdicts left asking
+    unfolding reached_took
+    rest_sent mails asking left dates night are met between new (Ok done) result start deeds (inr sends) whole content =
+        let side : Side = takes_all landed (messages_for txn (messages_of mails)) in
+        let by_deeds = deeds_reach projects reaches stand changes txn role w dates met between done side start deeds in
+        let took = reached_took role w after (messages_of mails) side between.desk by_deeds refl content in
+        outbox_sent mails night asking left are took between.desk (after_deeds_of side by_deeds.deeds) by_deeds.reached
+        (sym took.side) between.written new.written sends.0 sends.1 whole
+    rest_sent mails asking left dates night are met between new (Ok done) result start deeds (inl failed) whole content =
+        absurd whole
+    rest_sent mails asking left dates night are met between new (Err fault) result start deeds sends whole content =
+        absurd whole
+
+    -- A whole night takes what came and sends all.
+    exchange_sent : (asking left : List Apdu) (dates : Option (Date × Dates)) (old new : CommandState DeskContents)
+        (result : Result Bool ToolFault) → Reached projects reaches stand changes txn role w old.desk landed
+        → (exchange : ExchangesAt dates old result new) → Bring (IsOneOf others) (mails_of dates exchange)
+        → IsWhole dates exchange asking left → new.desk.landed ≡ Some (Some after.file)
+        → Sent role (party w role) after (mails_of dates exchange) (verdicts_of dates exchange) left asking
+    exchange_sent asking left dates old new result start (met, Err fault, taken, ends) bring whole content = absurd whole
+    exchange_sent asking left dates old new result start (met, Ok night, taken, ends) bring whole content =
+        let between : CommandState DeskContents = ends.0 in
+        rest_sent (mails_taken taken) asking left dates night (night_mails old met night taken) met between new ends.1 result
+        (mails_reach projects reaches stand changes txn role w old met night landed start taken
+        (brought (party w (other role)).sent others were (mails_taken taken) bring))
+        ends.2 ends.3 whole (ap (λ (d : HeldAndLanded DeskContents). d.landed) (sym ends.4) ∙ content)
+
+    -- A whole night takes what came and sends all.
+    pub night_sent : (night : IsNight others before after)
+        → Sent role (party w role) after (mails_of night.command.runs.0 night.command.runs.2)
+        (verdicts_of night.command.runs.0 night.command.runs.2) night.command.leaving night.asking
+    night_sent night =
+        let command = night.command in
+        exchange_sent night.asking command.leaving command.runs.0 command.old command.new command.runs.1
+        (starts_from projects reaches stand changes txn role w stands before command.old.desk at command.starts)
+        command.runs.2 command.runs.3 night.whole command.landed
+
+    -- A library that takes all its mail takes what came.
+    pub all_took : (takes : TakesAll others before after) → Took (party w role) after (messages_of_all takes)
+    all_took (by_night night) = (night_sent night).took
+    all_took (by_inbox inbox) =
+        let command = inbox.command in
+        inbox_took command.old command.new command.runs.0 inbox.night inbox.taken
+        (starts_from projects reaches stand changes txn role w stands before command.old.desk at command.starts)
+        command.runs.1 command.runs.2 command.landed
+
+  -- ---- what a night does to a loan
+
+  -- What left in a night is all of the side of `txn`, or none.
+  pub left_of : (role : Who) (w : DeskParties) → DesksInvariant w → (others : List Apdu)
+      → Each (WasSent (party w (other role)).sent) others → (before after : Library) → IsAt before (party w role)
+      → (night : IsNight others before after) → LeftOf txn after night.asking night.command.leaving
+  left_of role w stands others were before after at night =
+      let sent = night_sent role w stands others were before after at night in
+      (sent.took.held, sent.took.file, sent.left_all)
+
+  -- What came was taken by the side of `txn`, in order.
+  pub took_of : (role : Who) (w : DeskParties) → DesksInvariant w → (others : List Apdu)
+      → Each (WasSent (party w (other role)).sent) others → (before after : Library) → IsAt before (party w role)
+      → (takes : TakesAll others before after) → TookOf txn before after (messages_of_all takes)
+  took_of role w stands others were before after at takes =
+      let took = all_took role w stands others were before after at takes in
+      let old : SidesOf = (party w role).landed in (
+        old,
+        took.held,
+        took.deeds,
+        at.file,
+        took.file,
+        took.side ∙ ap (λ s. after_deeds_of s took.deeds)
+            (takes_messages (side_for txn old) (messages_for txn (messages_of_all takes))),
+      )
+
+  -- ---- a good night
+
+  module _ (after_event : (w : Parties) (event : Event) → Invariant txn w → Invariant txn (happens w event).1)
+      (enough : (w : Parties) (people : List Event) → Invariant txn w → list_all is_by_responder people ≡ true
+      → CanAnswer (run_of w (asked_and_worked people w)).responder.live
+      → AreInStepOrAtRest (run_of w (worked_night_of people w)))
+      (leads : (role : Who) (w : DeskParties) → DesksInvariant w → (others : List Apdu) (before after : Library)
+      → Each (WasSent (party w (other role)).sent) others → IsAt before (party w role) → Commands others before after
+      → LeadsTo role w after) where
+    -- If both desks restart, the sides of a night from there are in step or at rest.
+    restarted_step : (w : DeskParties) → DesksInvariant w → (deeds : List (Deed × Date))
+        → let x = side_for txn w.requester.landed in
+        let answers = after_deeds_of (takes_all (side_for txn w.responder.landed) (sent_by false x)) deeds in
+        CanAnswer answers → InStepOrAtRest (takes_all x (sent_by (asks x) answers)) answers
+    restarted_step w stands deeds =
+        let one : DeskParties = (desks_happen w (Restart who.Requester)).1 in
+        let both : DeskParties = (desks_happen one (Restart who.Responder)).1 in
+        let first = (projects txn w (Restart who.Requester) stands).1 in
+        let stands_one = stand w (Restart who.Requester) stands in
+        let second = (projects txn one (Restart who.Responder) stands_one).1 in
+        let shows : project txn both
+        ≡ (happens (happens (project txn w) (events.Restart who.Requester)).1 (events.Restart who.Responder)).1 =
+        second ∙ ap (λ (v : Parties). (happens v (events.Restart who.Responder)).1) first in
+        let stands_both = (stand one (Restart who.Responder) stands_one).each txn in
+        subst (λ (v : Parties). Ends v.requester.live v.responder.live) shows
+        (sides_in_step txn after_event (project txn both) stands_both deeds
+        (λ people. enough (project txn both) people stands_both))
+      where
+        Ends : Side → Side → Type 0
+        Ends x y =
+            let answers = after_deeds_of (takes_all y (sent_by false x)) deeds in
+            CanAnswer answers → InStepOrAtRest (takes_all x (sent_by (asks x) answers)) answers
+
+    -- After a good night the sides of `txn` in both files are in step or at rest.
+    pub good_night : (w : DeskParties) → DesksInvariant w → (before after : Libraries) → AreAt before w
+        → (good : IsGoodNight txn before after) → CanAnswerIn txn after.responder → AreInStepIn txn after
+    good_night w stands before after at good can =
+        let asked : Library = good.asked in
+        let leads_one = leads who.Requester w stands before.responder.left before.requester asked at.responder.left
+        at.requester (inr (inr (inr (inr (inl good.asks.command))))) in
+        let one : DeskParties = desks_run w leads_one.events in
+        let stands_one : DesksInvariant one = desks_stand_on stand w leads_one.events stands in
+        let first = night_sent who.Requester w stands before.responder.left at.responder.left before.requester asked
+        at.requester good.asks in
+        let responder_at : IsAt before.responder one.responder =
+        subst (IsAt before.responder) (sym (events_there who.Requester w leads_one.events leads_one.here).1) at.responder in
+        let leads_two = leads who.Responder one stands_one asked.left before.responder after.responder leads_one.at.left
+        responder_at (inr (inr (inr (inr (inl good.answers.command))))) in
+        let two : DeskParties = desks_run one leads_two.events in
+        let stands_two : DesksInvariant two = desks_stand_on stand one leads_two.events stands_one in
+        let second = night_sent who.Responder one stands_one asked.left leads_one.at.left before.responder after.responder
+        responder_at good.answers in
+        let still : two.requester ≡ one.requester =
+        (events_there who.Responder one leads_two.events leads_two.here).1 in
+        let third = all_took who.Requester two stands_two after.responder.left leads_two.at.left asked after.requester
+        (subst (IsAt asked) (sym still) leads_one.at) good.takes in
+        ends one stands_one two still first second third (leads_one.at.file)
+      where
+        Ends : Side → Side → Type 0
+        Ends x y = InStepOrAtRest x y
+
+        ends : (one : DeskParties) → DesksInvariant one → (two : DeskParties) → two.requester ≡ one.requester
+            → Sent who.Requester w.requester good.asked (mails_of good.asks.command.runs.0 good.asks.command.runs.2)
+            (verdicts_of good.asks.command.runs.0 good.asks.command.runs.2) good.asks.command.leaving good.asks.asking
+            → Sent who.Responder one.responder after.responder
+            (mails_of good.answers.command.runs.0 good.answers.command.runs.2)
+            (verdicts_of good.answers.command.runs.0 good.answers.command.runs.2) good.answers.command.leaving
+            good.answers.asking
+            → Took two.requester after.requester (messages_of_all good.takes)
+            → records_at good.asked.file ≡ Ok one.requester.landed → AreInStepIn txn after
+        ends one stands_one two still first second third file =
+            let x : Side = side_for txn one.requester.landed in
+            let y : Side = side_for txn one.responder.landed in
+            let is_requester : RequesterSideInvariant txn x (project txn one).responder.sent =
+            (stands_one.each txn).requester.landed in
+            let first_held : side_for txn first.took.held ≡ x =
+            ap (side_for txn) (read_once (records_at good.asked.file) first.took.held one.requester.landed first.took.file
+            file) in
+            let there : messages_for txn (messages_came good.answers) ≡ sent_by false x =
+            good.there ∙ first.left_all ∙ ap (sent_by (is_asked good.asks.asking txn)) first_held
+            ∙ sends_alike txn x (project txn one).responder.sent (is_asked good.asks.asking txn) is_requester in
+            let answers : Side = after_deeds_of (takes_all y (sent_by false x)) second.took.deeds in
+            let answers_is : side_for txn second.took.held ≡ answers =
+            second.took.side ∙ ap (λ apdus. after_deeds_of (takes_all y apdus) second.took.deeds) there in
+            let right : is_over answers ≡ true → not (is_asked good.answers.asking txn) ≡ is_none (sent_by false x) =
+            λ over. second.right refl good.done.0 good.done.1 (ap is_over answers_is ∙ over) ∙ ap is_none there in
+            let back : messages_for txn (messages_of_all good.takes) ≡ sent_by (asks x) answers =
+            good.back ∙ second.left_all ∙ ap (sent_by (is_asked good.answers.asking txn)) answers_is
+            ∙ asked_alike x answers (is_asked good.answers.asking txn) right in
+            let taken : side_for txn third.held ≡ takes_all x (sent_by (asks x) answers) =
+            third.side
+            ∙ ap (λ (p : DeskParty). after_deeds_of (takes_all (side_for txn p.landed)
+            (messages_for txn (messages_of_all good.takes))) third.deeds) still
+            ∙ taken_undone txn x (project txn one).responder.sent (messages_for txn (messages_of_all good.takes)) third.deeds
+            is_requester
+            ∙ ap (takes_all x) back in
+            let step : InStepOrAtRest (takes_all x (sent_by (asks x) answers)) answers =
+            restarted_step one stands_one second.took.deeds
+            (subst CanAnswer answers_is (can second.took.held second.took.file)) in (
+              third.held,
+              second.took.held,
+              third.file,
+              second.took.file,
+              subst (λ s. Ends s (side_for txn second.took.held)) (sym taken) (subst (Ends (takes_all x
+                  (sent_by (asks x) answers))) (sym answers_is) step),
+            )

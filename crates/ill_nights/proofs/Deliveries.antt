@@ -1,0 +1,212 @@
+-- Proves that a delivery leads the side of each transaction on by the message, if it is of this transaction.
+use Rattle.std.proofs.Common.{rules, ◌≡◌, ℕ, Bool, true, false, cond, [], ◌∷◌, Option, Some, None}
+use Rattle.std.proofs.Common.{Result, Ok, Err, if◌then◌else◌, refl, sym, ap, ◌∙◌, subst, true≢false}
+use Rattle.ill_values.specs.TxnId.{Qualifiers}
+use Rattle.ill_values.specs.Bodies.{is_ill_request}
+use Rattle.ill_values.specs.declared.apdu.Apdu.{Apdu}
+use Rattle.ill_values.specs.declared.apdu.Body.{Body}
+use Rattle.ill_values.specs.declared.apdu.Body.TheVariants as types
+use Rattle.ill_core.specs.declared.refusal.Refusal.{Refusal}
+use Rattle.ill_core.specs.declared.refusal.Refusal.TheVariants.{WrongRole}
+use Rattle.ill_core.specs.declared.state.State.TheVariants as states
+use Rattle.ill_core.specs.declared.taking.Taking.{Taking}
+use Rattle.ill_core.specs.Issued.{is_same_txn}
+use Rattle.ill_core.specs.Responder.{ResponderRecord, responder_of}
+use Rattle.ill_core.specs.ResponderNotices.{has_heard}
+use Rattle.ill_saved.specs.declared.fault.DeskFault.{DeskFault}
+use Rattle.ill_saved.specs.declared.fault.DeskFault.TheVariants as faults
+use Rattle.ill_saved.specs.declared.role.Role.{Role as Who}
+use Rattle.ill_saved.specs.declared.role.Role.TheVariants as who
+use Rattle.ill_saved.specs.declared.side.Side.{Side}
+use Rattle.ill_saved.specs.declared.side.Side.TheVariants as sides
+use Rattle.ill_saved.specs.Side.{idle_side, other, takes}
+use Rattle.ill_saved.specs.Holdings.{DeskEntry}
+use Rattle.ill_saved.specs.ManySides.{DeskContents, contents_after_message, desk_takes, found_by, found_or, held_for, idle_held}
+use Rattle.ill_saved.specs.ManySides.{is_own, side_for_call, takes_reached, txn_held}
+use Rattle.ill_saved.proofs.Finding.{same_is}
+use Rattle.ill_words.specs.declared.outcome.Outcome.{Outcome}
+use Rattle.ill_words.specs.declared.outcome.DeskOutcome.{DeskOutcome}
+use Rattle.ill_words.specs.declared.outcome.DeskOutcome.TheVariants.{Plain, NoSuchTransaction, DeskFull}
+use Rattle.ill_world.specs.declared.event.Event.TheVariants as events
+use Rattle.ill_world.specs.declared.event.DeskEvent.TheVariants as desk_events
+use Rattle.ill_world.specs.World.{Party, Parties, party, with_party, sent_message, receives, happens}
+use Rattle.ill_world.specs.Desks.{DeskParty, DeskParties, sent_for, desk_receives, taking_seen, desks_happen}
+use Rattle.ill_world.specs.Desks.{project, if_reached, IsSeenAs}
+use Rattle.ill_world.specs.DeskChanges.{Reaches}
+use Rattle.ill_world.specs.DeskSafety.{DesksInvariant}
+use Rattle.ill_world.proofs.Desks.{EachProjects, EachStands, keeps_to}
+use Rattle.ill_world.proofs.DeskArrivals.{EachReaches}
+use Rattle.ill_world.proofs.DeskCounts.{none_sent, finds_room}
+use Rattle.ill_world.proofs.DeskRounds.{shown}
+use Rattle.ill_world.proofs.Rounds.{takes_all}
+use Rattle.ill_progress.proofs.HeardMessages.{heard_leaves}
+use Rattle.ill_nights.specs.Messages.{messages_for}
+
+-- ---- an idle side
+
+-- Returns a responder that has issued and taken nothing.
+abbrev idle_responder : Qualifiers → ResponderRecord
+idle_responder txn = responder_of txn states.Idle None None None false None []
+
+-- An idle responder has heard each message but an ILL-Request.
+idle_heard : (txn : Qualifiers) (number : ℕ) (body : Body) → is_ill_request body ≡ false
+    → has_heard (idle_responder txn) number body ≡ true
+idle_heard txn number (types.IllRequest expiry item) is = absurd (true≢false is)
+idle_heard txn number (types.ConditionalReply answers true) is = refl
+idle_heard txn number (types.ConditionalReply answers false) is = refl
+idle_heard txn number body is = refl
+
+-- An idle responder's side takes no message but an ILL-Request.
+idle_takes : (txn : Qualifiers) (a : Apdu) → is_ill_request a.body ≡ false
+    → (takes (idle_side who.Responder txn) a).1 ≡ idle_side who.Responder txn
+idle_takes txn a is = ap sides.Responder (heard_leaves (idle_responder txn) a (idle_heard txn a.number a.body is))
+
+-- If the outcome is NoSuchTransaction, the transaction is not held, and the event may not begin it.
+missed : (may_begin has_room : Bool) (found : Option DeskEntry) → Reaches may_begin has_room found NoSuchTransaction
+    → (found ≡ None) × (may_begin ≡ false)
+missed may_begin has_room (Some held) reaches = absurd reaches
+missed true true None reaches = absurd reaches
+missed true false None reaches = search rules
+missed false has_room None reaches = (refl, refl)
+
+-- ---- what is seen of an event
+
+-- An event of the transaction is seen in it, if one that reaches no side would change nothing.
+seen_there : (own : Bool) → own ≡ true → (expected : Outcome × Parties) (old new : Parties) (outcome : DeskOutcome)
+    → IsSeenAs (if_reached outcome own) expected old outcome new
+    → (outcome ≡ DeskFull → ⊥) → (outcome ≡ NoSuchTransaction → expected.1 ≡ old) → new ≡ expected.1
+seen_there true is expected old new (Plain outcome) seen room stays = seen.1
+seen_there true is expected old new NoSuchTransaction seen room stays = seen ∙ sym (stays refl)
+seen_there true is expected old new DeskFull seen room stays = absurd (room refl)
+seen_there false is expected old new outcome seen room stays = absurd (true≢false (sym is))
+
+-- An event of another transaction changes nothing in this one.
+unseen : (own : Bool) → own ≡ false → (expected : Outcome × Parties) (old new : Parties) (outcome : DeskOutcome)
+    → IsSeenAs (if_reached outcome own) expected old outcome new → new ≡ old
+unseen true is expected old new outcome seen = absurd (true≢false is)
+unseen false is expected old new (Plain outcome) seen = seen
+unseen false is expected old new NoSuchTransaction seen = seen
+unseen false is expected old new DeskFull seen = seen
+
+-- ---- the desk and the party after an event
+
+-- The desk of `role` is `q` in a world in which `q` has taken its place.
+pub desk_led : (role : Who) (w : DeskParties) (q : DeskParty) → party (with_party w role q) role ≡ q
+desk_led who.Requester w q = refl
+desk_led who.Responder w q = refl
+
+-- The other desk stays as it was.
+pub other_stays : (role : Who) (w : DeskParties) (q : DeskParty) → party (with_party w role q) (other role) ≡ party w (other role)
+other_stays who.Requester w q = refl
+other_stays who.Responder w q = refl
+
+-- If the other party has sent `a` as message n, a delivery of n leads the live side on by `a`.
+delivered : (role : Who) (v : Parties) (n : ℕ) (a : Apdu) → sent_message (party v (other role)).sent n ≡ Some a
+    → (party (happens v (events.Deliver role n)).1 role).live ≡ (takes (party v role).live a).1
+delivered who.Requester v n a there = ap (λ found. (receives v.requester found).1.live) there
+delivered who.Responder v n a there = ap (λ found. (receives v.responder found).1.live) there
+
+-- A fault of a desk that takes a message changes nothing.
+pub fault_stays : (live : DeskContents) (a : Apdu) (fault : DeskFault) → (desk_takes live a).0 ≡ Err fault
+    → (desk_takes live a).1 ≡ live
+fault_stays live a fault = go (is_own live.role a.body) (side_for_call live a.txn (is_ill_request a.body))
+  where
+    took : (held : DeskEntry) (answer : Result Taking Refusal) (new : Side)
+        → (contents_after_message live held (answer, new)).0 ≡ Err fault
+        → (contents_after_message live held (answer, new)).1 ≡ live
+    took held (Ok _) new is = absurd cc
+    took held (Err refusal) new is = refl
+
+    reached : (found : Result DeskEntry DeskFault) → (takes_reached live a found).0 ≡ Err fault
+        → (takes_reached live a found).1 ≡ live
+    reached (Ok held) is = took held (takes held.side a).0 (takes held.side a).1 is
+    reached (Err missing) is = refl
+
+    go : (own : Bool) (found : Result DeskEntry DeskFault)
+        → (if own then (Err (faults.Core WrongRole), live) else takes_reached live a found).0 ≡ Err fault
+        → (if own then (Err (faults.Core WrongRole), live) else takes_reached live a found).1 ≡ live
+    go true found is = refl
+    go false found is = reached found is
+
+module _ (projects : EachProjects) (reaches : EachReaches) (stand : EachStands) (txn : Qualifiers) where
+  -- The live side of `txn` at the desk of `role`.
+  abbrev pub side_at : Who → DeskParties → Side
+  side_at role w = (party (project txn w) role).live
+
+  module _ (w : DeskParties) (stands : DesksInvariant w) (role : Who) (of : Qualifiers) (n : ℕ) (a : Apdu)
+      (was : sent_message (sent_for of (party w (other role)).sent) n ≡ Some a) where
+    -- The world after the delivery of message n.
+    abbrev next : DeskParties
+    next = (desks_happen w (desk_events.Deliver role of n)).1
+
+    -- The message is of the transaction in which it was sent.
+    sent_in : of ≡ a.txn
+    sent_in = (keeps_to w role stands).txn_of_sent of n a was
+
+    -- The desk after the delivery has taken the message.
+    pub desk_took : party next role ≡ record (party w role) { live = (desk_takes (party w role).live a).1 }
+    desk_took =
+        desk_led role w (desk_receives (party w role) (sent_message (sent_for of (party w (other role)).sent) n)).1
+        ∙ ap (λ found. (desk_receives (party w role) found).1) was
+
+    -- The other desk stays as it was.
+    pub other_took : party next (other role) ≡ party w (other role)
+    other_took = other_stays role w _
+
+    -- The outcome of the delivery is the answer of the desk.
+    pub outcome_seen : (desks_happen w (desk_events.Deliver role of n)).0 ≡ taking_seen (desk_takes (party w role).live a).0
+    outcome_seen = ap (λ found. (desk_receives (party w role) found).0) was
+
+    -- If the message is of `txn`, and its delivery reaches no side, the side that is shown does not change.
+    missed_stays : is_same_txn txn of ≡ true
+        → (desks_happen w (desk_events.Deliver role of n)).0 ≡ NoSuchTransaction
+        → (happens (project txn w) (events.Deliver role n)).1 ≡ project txn w
+    missed_stays same none = go role was (subst (λ t. found_by txn_held t (party w role).live.held ≡ None) (sym is) unheld.0)
+      where
+        is : txn ≡ of
+        is = same_is txn of same
+
+        unheld : (found_by txn_held of (party w role).live.held ≡ None) × (is_ill_request a.body ≡ false)
+        unheld = missed (is_ill_request a.body) _ (found_by txn_held of (party w role).live.held)
+            (subst (Reaches (is_ill_request a.body) _ (found_by txn_held of (party w role).live.held)) none
+            (reaches w (desk_events.Deliver role of n) stands a was))
+
+        go : (to : Who) → sent_message (sent_for of (party w (other to)).sent) n ≡ Some a
+            → found_by txn_held txn (party w to).live.held ≡ None
+            → (happens (project txn w) (events.Deliver to n)).1 ≡ project txn w
+        go who.Requester sent nothing =
+            absurd (none_sent w stands of n a sent (subst (λ t. found_by txn_held t w.requester.live.held ≡ None) is nothing))
+        go who.Responder sent nothing =
+            let v : Parties = project txn w in
+            let live = w.responder.live in
+            let there : sent_message v.requester.sent n ≡ Some a =
+            subst (λ t. sent_message (sent_for t w.requester.sent) n ≡ Some a) (sym is) sent in
+            let idle : (held_for txn live).side ≡ idle_side who.Responder txn =
+            ap (λ found. (found_or (idle_held live.role txn) found).side) nothing
+            ∙ ap (λ r. idle_side r txn) stands.responder.0 in
+            ap (λ found. record v { responder = (receives v.responder found).1 }) there
+            ∙ ap (λ side. record v { responder = record v.responder { live = side } })
+            (ap (λ side. (takes side a).1) idle ∙ idle_takes txn a unheld.1 ∙ sym idle)
+
+    -- The delivery leads the side of `txn` on by the message, if it is of `txn`.
+    pub side_took : side_at role next ≡ takes_all (side_at role w) (messages_for txn (a ∷ []))
+    unfolding takes_all
+    side_took = go (is_same_txn txn a.txn) refl
+      where
+        go : (same : Bool) → is_same_txn txn a.txn ≡ same → side_at role next ≡ takes_all (side_at role w) (cond same (a ∷ []) [])
+        go true e =
+            let own : is_same_txn txn of ≡ true = ap (is_same_txn txn) sent_in ∙ e in
+            let there : sent_message (party (project txn w) (other role)).sent n ≡ Some a =
+            ap (λ (p : Party). sent_message p.sent n) (shown txn w (other role))
+            ∙ ap (λ t. sent_message (sent_for t (party w (other role)).sent) n) (same_is txn of own) ∙ was in
+            ap (λ (v : Parties). (party v role).live)
+            (seen_there (is_same_txn txn of) own (happens (project txn w) (events.Deliver role n)) (project txn w)
+            (project txn next) (desks_happen w (desk_events.Deliver role of n)).0
+            (projects txn w (desk_events.Deliver role of n) stands)
+            (λ full. finds_room reaches w role of n stands full) (missed_stays own))
+            ∙ delivered role (project txn w) n a there
+        go false e =
+            ap (λ (v : Parties). (party v role).live)
+            (unseen (is_same_txn txn of) (ap (is_same_txn txn) sent_in ∙ e) (happens (project txn w) (events.Deliver role n))
+            (project txn w) (project txn next) (desks_happen w (desk_events.Deliver role of n)).0
+            (projects txn w (desk_events.Deliver role of n) stands))

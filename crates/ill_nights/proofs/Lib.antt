@@ -1,0 +1,9 @@
+pub mod Askings
+pub mod BadNights
+pub mod CommandNights
+pub mod Deliveries
+pub mod Leavings
+pub mod SideNights
+pub mod Stages
+pub mod Takings
+pub mod WholeNights

@@ -1,0 +1,3 @@
+pub mod BadNights
+pub mod Messages
+pub mod Nights

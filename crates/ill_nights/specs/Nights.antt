@@ -1,0 +1,165 @@
+-- A good night of two libraries, command by command: which messages leave, which arrive, and what the files then hold.
+use Rattle.std.specs.Prelude.{◌≡◌, ℕ, Bool, List, [], ◌∷◌, map, flat_map, Option, None, Some, option_map, Result, Ok, Err}
+use Rattle.std.proofs.Common.{inl, inr}
+use Rattle.ill_values.specs.Day.{Date}
+use Rattle.ill_values.specs.TxnId.{Qualifiers}
+use Rattle.ill_values.specs.declared.apdu.Apdu.{Apdu}
+use Rattle.ill_der.specs.Laws.{IsBytes}
+use Rattle.ill_core.specs.declared.responder.Deed.{Deed}
+use Rattle.ill_saved.specs.Ranges.{Each}
+use Rattle.ill_saved.specs.Sides.{SidesOf}
+use Rattle.ill_saved.specs.Holdings.{DeskEntry}
+use Rattle.ill_saved.specs.RecordsV2.{records_at}
+use Rattle.ill_saved.specs.ManySides.{DeskContents, side_for}
+use Rattle.ill_text.specs.declared.fault.ToolFault.{ToolFault}
+use Rattle.ill_desk.specs.Performing.{CommandState}
+use Rattle.ill_night.specs.declared.verdict.Mail.{Mail}
+use Rattle.ill_night.specs.declared.verdict.Verdict.{Verdict}
+use Rattle.ill_night.specs.declared.verdict.Verdict.TheVariants.{Done}
+use Rattle.ill_night.specs.declared.dates.Dates.{Dates}
+use Rattle.ill_night.specs.Outbox.{Issue, is_asked, leaving_desk}
+use Rattle.ill_mail.specs.Nights.{Night, ExchangesAt, SendsAll, SendsAsked, night_asks}
+use Rattle.ill_world.specs.Round.{CanAnswer}
+use Rattle.ill_runs.specs.Mail.{mails_of, mails_taken, message_of}
+use Rattle.ill_runs.specs.Libraries.{Exchanges, IsCommand, Libraries, Library, TakesMail}
+use Rattle.ill_nights.specs.Messages.{InStepOrAtRest, after_deeds_of, after_messages, messages_for, sent_by}
+
+-- ---- what leaves in a night
+
+-- The messages of an outbox were put into a folder, and `left` are all of them. `asking` are the messages that ask.
+abbrev pub IsAllOf : (bytes : List ℕ) → (held : List DeskEntry) → (before after : Option (List ℕ)) →
+    (result : Result (Unit {0}) ToolFault) → SendsAsked bytes held before after result → List Apdu → List Apdu → Type 0
+IsAllOf bytes held before after result (inl failed) asking left = ⊥
+IsAllOf bytes held before after result (inr went) asking left =
+    (went.0 ≡ asking) × (left ≡ map (λ (issue : Issue). issue.apdu) (leaving_desk asking held))
+
+-- A night ended with an outbox, of which all messages have left.
+abbrev pub EndsWithAll : (night : Night) → (live : DeskContents) → (before after : Option (List ℕ)) →
+    (said : Result (Unit {0}) ToolFault) → (result : Result Bool ToolFault) →
+    SendsAll night live before after said result → List Apdu → List Apdu → Type 0
+EndsWithAll night live before after (Err fault) result sends asking left = ⊥
+EndsWithAll night live before after (Ok done) result (inl failed) asking left = ⊥
+EndsWithAll night live before after (Ok done) result (inr sends) asking left =
+    IsAllOf (night_asks live night) live.held before after sends.0 sends.1 asking left
+
+-- A night was whole. Its mails were taken, its deeds were done, and `left` are all messages of its outbox.
+abbrev pub IsWhole : (dates : Option (Date × Dates)) → {old new : CommandState DeskContents} →
+    {result : Result Bool ToolFault} → ExchangesAt dates old result new → List Apdu → List Apdu → Type 0
+IsWhole dates (met, Err fault, taken, ends) asking left = ⊥
+IsWhole dates {new = new} {result = result} (met, Ok night, taken, ends) asking left =
+    EndsWithAll night ends.0.desk.live ends.0.written new.written ends.1 result ends.3 asking left
+
+-- A whole night leads from the library `before` to `after`, by the command `exchange`. `others` have left the other
+-- library.
+pub record IsNight (others : List Apdu) (before after : Library) : Type 0 where
+  pub command : IsCommand (Exchanges others) before after
+  pub asking : List Apdu
+  pub whole : IsWhole command.runs.0 command.runs.2 asking command.leaving
+
+-- ---- what arrives
+
+-- Returns the messages of `mails`, in their order. A mail that holds not just one message has none.
+abbrev pub messages_of : List Mail → List Apdu
+messages_of mails = flat_map message_of mails
+
+-- Returns the messages that came in a night.
+abbrev pub messages_came : {others : List Apdu} → {before after : Library} → IsNight others before after → List Apdu
+messages_came night = messages_of (mails_of night.command.runs.0 night.command.runs.2)
+
+-- All mail of the transaction was carried, whole and once, and it lay in the order in which it left. `left` have left the
+-- other library, and `came` came.
+abbrev pub IsCarried : Qualifiers → List Apdu → List Apdu → Type 0
+IsCarried txn left came = messages_for txn came ≡ messages_for txn left
+
+-- The desk has done with a mail: it is neither put aside nor left for the next run.
+abbrev pub IsDone : Verdict → Type 0
+IsDone (Done outcome) = Unit {0}
+IsDone verdict = ⊥
+
+-- Each mail with a message of the transaction has a verdict, and the desk has done with it.
+abbrev pub AreDone : Qualifiers → List Mail → List Verdict → Type 0
+AreDone txn [] verdicts = Unit {0}
+AreDone txn (mail ∷ mails) [] = (messages_for txn (message_of mail) ≡ []) × AreDone txn mails []
+AreDone txn (mail ∷ mails) (verdict ∷ verdicts) =
+    Each (λ a. IsDone verdict) (messages_for txn (message_of mail)) × AreDone txn mails verdicts
+
+-- If a mail could be read, it is bytes.
+abbrev pub IsBytesOf : Option (List ℕ) → Type 0
+IsBytesOf None = Unit {0}
+IsBytesOf (Some bytes) = IsBytes bytes
+
+-- Each mail that could be read is bytes.
+abbrev pub AreBytes : List Mail → Type 0
+AreBytes mails = Each (λ (mail : Mail). IsBytesOf (option_map (λ bytes. bytes.items) mail.bytes)) mails
+
+-- Returns the verdicts of the mails that a desk took in a night.
+abbrev pub verdicts_of : (dates : Option (Date × Dates)) → {old new : CommandState DeskContents} →
+    {result : Result Bool ToolFault} → ExchangesAt dates old result new → List Verdict
+verdicts_of dates (met, Err fault, taken, ends) = []
+verdicts_of dates (met, Ok night, taken, ends) = night.verdicts
+
+-- In a night the mails were bytes, and each mail of the transaction was done with.
+abbrev pub HasDone : Qualifiers → {others : List Apdu} → {before after : Library} → IsNight others before after → Type 0
+HasDone txn night =
+    AreBytes (mails_of night.command.runs.0 night.command.runs.2)
+    × AreDone txn (mails_of night.command.runs.0 night.command.runs.2)
+    (verdicts_of night.command.runs.0 night.command.runs.2)
+
+-- ---- what a night does to a loan
+
+-- The file of the library can be read. The messages of the transaction among `left` are all that its side has issued, in
+-- order. If the loan is over, and no message of it asks, they are none.
+abbrev pub LeftOf : Qualifiers → Library → List Apdu → List Apdu → Type 0
+LeftOf txn after asking left =
+    (held : SidesOf) × (records_at after.file ≡ Ok held)
+    × (messages_for txn left ≡ sent_by (is_asked asking txn) (side_for txn held))
+
+-- The files before and after a command can be read. The side of the transaction has taken its messages among `came`, in
+-- order, and then done some deeds.
+abbrev pub TookOf : Qualifiers → Library → Library → List Apdu → Type 0
+TookOf txn before after came =
+    (old new : SidesOf) × (deeds : List (Deed × Date)) × (records_at before.file ≡ Ok old) × (records_at after.file ≡ Ok new)
+    × (side_for txn new ≡ after_deeds_of (after_messages (side_for txn old) (messages_for txn came)) deeds)
+
+-- ---- a good night
+
+-- All mail of a folder was taken and saved, by the command `inbox`. It leads from the library `before` to `after`.
+pub record IsInbox (others : List Apdu) (before after : Library) : Type 0 where
+  pub command : IsCommand (TakesMail others) before after
+  pub night : Night
+  pub taken : command.runs.0 ≡ Ok night
+
+-- A library took all its mail, by `inbox` or in a whole night.
+pub data TakesAll (others : List Apdu) (before after : Library) : Type 0 where
+  by_inbox : IsInbox others before after → TakesAll others before after
+  by_night : IsNight others before after → TakesAll others before after
+
+-- Returns the messages that a library took.
+abbrev pub messages_of_all : {others : List Apdu} → {before after : Library} → TakesAll others before after → List Apdu
+messages_of_all (by_inbox inbox) = messages_of (mails_taken inbox.command.runs.1)
+messages_of_all (by_night night) = messages_came night
+
+-- A good night of the transaction `txn` leads from the libraries `before` to `after`. The requester's library sends its
+-- messages. The responder's takes them, is done with each, and sends its own. The requester's takes these. No mail of
+-- `txn` is lost.
+pub record IsGoodNight (txn : Qualifiers) (before after : Libraries) : Type 0 where
+  pub asked : Library
+  pub asks : IsNight before.responder.left before.requester asked
+  pub answers : IsNight asked.left before.responder after.responder
+  pub takes : TakesAll after.responder.left asked after.requester
+  pub there : IsCarried txn asks.command.leaving (messages_came answers)
+  pub back : IsCarried txn answers.command.leaving (messages_of_all takes)
+  pub done : HasDone txn answers
+
+-- ---- what the files hold
+
+-- The files of both libraries can be read. Their sides of the transaction are in step or at rest.
+abbrev pub AreInStepIn : Qualifiers → Libraries → Type 0
+AreInStepIn txn libraries =
+    (requester responder : SidesOf) × (records_at libraries.requester.file ≡ Ok requester)
+    × (records_at libraries.responder.file ≡ Ok responder)
+    × InStepOrAtRest (side_for txn requester) (side_for txn responder)
+
+-- In the file of the library, the responder's side of the transaction can answer a Conditional-Reply no.
+abbrev pub CanAnswerIn : Qualifiers → Library → Type 0
+CanAnswerIn txn library = (held : SidesOf) → records_at library.file ≡ Ok held → CanAnswer (side_for txn held)

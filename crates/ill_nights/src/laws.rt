@@ -1,0 +1,88 @@
+//! The laws of nights by commands: what a night sends and takes, and that a good one is enough.
+
+ghost use Rattle.std.specs.Prelude.{◌≡◌, List, Ok};
+ghost use Rattle.ill_values.specs.TxnId.{Qualifiers};
+ghost use Rattle.ill_values.specs.declared.apdu.Apdu.{Apdu};
+ghost use Rattle.ill_saved.specs.declared.role.Role.{Role as Who};
+ghost use Rattle.ill_saved.specs.RecordsV2.{records_at};
+ghost use Rattle.ill_saved.specs.Side.{other};
+ghost use Rattle.ill_saved.specs.Sides.{SidesOf};
+ghost use Rattle.ill_night.specs.declared.verdict.Mail.{Mail};
+ghost use Rattle.ill_night.specs.declared.verdict.Verdict.{Verdict};
+ghost use Rattle.ill_world.specs.World.{party};
+ghost use Rattle.ill_runs.specs.Libraries.{IsHistory, Libraries, Library, first_libraries, libraries_after};
+ghost use Rattle.ill_nights.specs.BadNights.{AreApartIn, HoldsBack, IsLeftUndone, IsLost};
+ghost use Rattle.ill_nights.specs.Nights.{AreDone, AreInStepIn, CanAnswerIn, IsCarried, IsGoodNight, IsNight, LeftOf, TakesAll, TookOf, messages_of_all};
+
+/// From each library whose file can be read a whole night leads on, in which no mail comes.
+pub fn a_night_can_be_whole()
+    ensures { (others : List Apdu) (before : Library) (held : SidesOf) → records_at before.file ≡ Ok held →
+        (after : Library) × IsNight others before after }
+{}
+
+/// After any history, a whole night of a library sends all messages of a loan, in order, or none. It sends none only if the
+/// loan is over, and a responder only if no message of it asks.
+pub fn a_night_sends_all_or_none()
+    ensures { (txn : Qualifiers) (who : Who) (later : List Libraries) (after : Library) →
+        let now = libraries_after first_libraries later in
+        (night : IsNight (party now (other who)).left (party now who) after) → IsHistory first_libraries later →
+        LeftOf txn after night.asking night.command.leaving }
+{
+    ill_runs::laws::each_history_is_a_run();
+    ill_world::desk_laws::desks_stand();
+    ill_world::desk_laws::desk_events_are_events();
+    ill_world::desk_laws::desks_reach_what_they_hold();
+    ill_world::desk_laws::few_desk_outcomes_change();
+    ill_der::laws::prefix_or_fault();
+    ill_der::laws::read_again();
+}
+
+/// After any history, a library that takes all its mail takes each message of a loan that came, in order. After that it does
+/// deeds alone.
+pub fn a_library_takes_what_comes()
+    ensures { (txn : Qualifiers) (who : Who) (later : List Libraries) (after : Library) →
+        let now = libraries_after first_libraries later in
+        (takes : TakesAll (party now (other who)).left (party now who) after) → IsHistory first_libraries later →
+        TookOf txn (party now who) after (messages_of_all takes) }
+{
+    ill_runs::laws::each_history_is_a_run();
+    ill_world::desk_laws::desks_stand();
+    ill_world::desk_laws::desk_events_are_events();
+    ill_world::desk_laws::desks_reach_what_they_hold();
+    ill_world::desk_laws::few_desk_outcomes_change();
+    ill_der::laws::prefix_or_fault();
+    ill_der::laws::read_again();
+}
+
+/// After any history of two libraries, a good night of a transaction brings its sides in step or to rest, in the files of
+/// both. The responder must have ended the request, or have a number left to answer a Conditional-Reply no.
+pub fn a_good_night_is_enough()
+    ensures { (txn : Qualifiers) (later : List Libraries) (after : Libraries) → IsHistory first_libraries later →
+        IsGoodNight txn (libraries_after first_libraries later) after → CanAnswerIn txn after.responder →
+        AreInStepIn txn after }
+{
+    ill_runs::laws::each_command_is_events();
+    ill_runs::laws::each_history_is_a_run();
+    ill_progress::night_laws::a_night_with_people_is_enough();
+    ill_world::laws::world_stands();
+    ill_world::desk_laws::desks_stand();
+    ill_world::desk_laws::desk_events_are_events();
+    ill_world::desk_laws::desks_reach_what_they_hold();
+    ill_world::desk_laws::few_desk_outcomes_change();
+    ill_der::laws::prefix_or_fault();
+    ill_der::laws::read_again();
+}
+
+/// No message is held back that a side sends, and none leaves a silent one. Mail of which a message is lost, repeated, added
+/// or out of order is not carried. No mail is done with that was put aside or left. Files are not in step if one cannot be
+/// read, or if the states of the two sides do not face each other.
+#[tactic(auto, using(crate::proofs::BadNights::none_held_back, crate::proofs::BadNights::none_lost, crate::proofs::BadNights::none_apart))]
+pub fn no_bad_night_passes()
+    ensures left { (txn : Qualifiers) (after : Library) (asking left : List Apdu) →
+        HoldsBack txn after asking left → LeftOf txn after asking left → ⊥ }
+    ensures carried { (txn : Qualifiers) (left came : List Apdu) → IsLost txn left came → IsCarried txn left came → ⊥ }
+    ensures done { (txn : Qualifiers) (mails : List Mail) (verdicts : List Verdict) →
+        IsLeftUndone txn mails verdicts → AreDone txn mails verdicts → ⊥ }
+    ensures in_step { (txn : Qualifiers) (libraries : Libraries) →
+        AreApartIn txn libraries → AreInStepIn txn libraries → ⊥ }
+{}

@@ -9,12 +9,12 @@ ghost use Rattle.ill_text.specs.Fault.{IsOpenFault};
 use crate::came::{came_bytes, open_came};
 use crate::folder::{desk_paths, warn_of_names};
 use crate::machine::Machine;
-use crate::open::{all_well, end, lock, open, open_locked, release};
+use crate::open::{all_well, end, lock, open, open_locked};
 use ill_desk::act::run_desk_act;
 use ill_desk::new::run_desk_new;
 use ill_desk::send::run_desk_send;
 use ill_desk::take::{TakeForm, run_desk_take_as};
-use ill_saved::{Desk, FileStore, LockFiles, RECORD_LIMIT, SIDES_LIMIT, Sides, Store};
+use ill_saved::{Desk, FileStore, LockFiles, LockedDesk, RECORD_LIMIT, SIDES_LIMIT, Sides, Store};
 use ill_show::list::{count_left_out, run_desk_list};
 use ill_show::listed::{Listed, left_out_line, warning};
 use ill_show::loan::{LoanView, run_desk_loan};
@@ -68,16 +68,29 @@ pub fn act<T: LockFiles, W: Write, E: Write>(
     ensures { ActsAtFile view.now.txn.now view.now.today (map (λ word. word.now) view.now.words.now)
         (W.contents machine.old.writer) (W.contents machine.new.writer) result }
 {
-    let (lock, mut desk) = open_locked(machine.rt, machine.alloc, file)?;
+    let locked = open_locked(machine.rt, machine.alloc, file)?;
+    act_at(machine, locked, view)
+}
+
+/// Performs the action of `view` at `locked`, and then lets its desk and its lock go.
+pub fn act_at<T: LockFiles, W: Write, E: Write>(
+    machine: &mut Machine<'_, T, W, E>,
+    mut locked: LockedDesk<'_, T>,
+    view: &ActionView<'_>,
+) -> Result<bool, ToolFault>
+    ensures { ActsAtFile view.now.txn.now view.now.today (map (λ word. word.now) view.now.words.now)
+        (W.contents machine.old.writer) (W.contents machine.new.writer) result }
+{
     let acted = run_desk_act(
         machine.alloc,
-        &mut desk,
+        &mut locked.desk,
         view.txn,
         view.today,
         view.words,
         &mut machine.writer,
     );
-    release(acted, desk, lock)
+    drop(locked);
+    acted
 }
 
 /// `ill take`: takes the APDUs of the input. It holds the lock of the file until the input ends.
@@ -90,9 +103,10 @@ pub fn take<T: LockFiles, R: Read, W: Write, E: Write>(
     ensures { TakesAtFile form (R.remaining reader.old) (R.remaining reader.new)
         (W.contents machine.old.writer) (W.contents machine.new.writer) result }
 {
-    let (lock, mut desk) = open_locked(machine.rt, machine.alloc, file)?;
-    let taken = take_at(machine, file, &mut desk, form, reader);
-    release(taken, desk, lock)
+    let mut locked = open_locked(machine.rt, machine.alloc, file)?;
+    let taken = take_at(machine, file, &mut locked.desk, form, reader);
+    drop(locked);
+    taken
 }
 
 /// Takes the APDUs of the input at `desk`. Those that are kept go to the file beside `file`, if that can be opened.

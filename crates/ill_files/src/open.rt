@@ -5,7 +5,7 @@ ghost use Rattle.ill_saved.specs.Desk.{answer_of};
 ghost use Rattle.ill_files.specs.AtFile.{all_well};
 ghost use Rattle.ill_text.specs.Fault.{IsOpenFault};
 
-use ill_saved::{Desk, DeskFault, FileLock, FileStore, LockFiles, RECORD_LIMIT};
+use ill_saved::{Desk, DeskFault, FileLock, FileStore, LockFiles, LockedDesk, RECORD_LIMIT};
 use ill_text::fault::ToolFault;
 use std::alloc::Global;
 use std::rt::Files;
@@ -49,25 +49,11 @@ pub fn open_locked<'a, T: LockFiles>(
     rt: &'a T,
     alloc: Global,
     file: &str,
-) -> Result<(FileLock<'a, T>, Desk<FileStore<'a, T>>), ToolFault>
+) -> Result<LockedDesk<'a, T>, ToolFault>
     ensures { IfErr result IsOpenFault }
 {
-    let held = lock(rt, alloc, file)?;
-    let opened = open(rt, alloc, file)?;
-    Ok((held, opened))
-}
-
-/// Drops the desk and then its lock, and returns `answer`.
-pub fn release<D: Drop, L: Drop>(
-    answer: Result<bool, ToolFault>,
-    desk: D,
-    lock: L,
-) -> Result<bool, ToolFault>
-    ensures { result ≡ answer }
-{
-    drop(desk);
-    drop(lock);
-    answer
+    let lock = lock(rt, alloc, file)?;
+    Ok(LockedDesk::open(alloc, lock)?)
 }
 
 /// Loads the desk in `file`.

@@ -16,7 +16,7 @@ use crate::sending::{SentAll, send_asked};
 use crate::settle::settle_mails;
 use ill_files::came::{CameFile, open_came};
 use ill_files::machine::Machine;
-use ill_files::open::{all_well, open_locked, release};
+use ill_files::open::{all_well, open_locked};
 use ill_files::paths::folder_of;
 use ill_night::asked::asked_by;
 use ill_night::dates::{Dates, run_desk_dates};
@@ -45,9 +45,10 @@ pub fn inbox<T: LockFiles, W: Write, E: Write>(
 ) -> Result<bool, ToolFault>
     ensures { InboxAtFile (W.contents machine.old.writer) (W.contents machine.new.writer) result }
 {
-    let (lock, mut desk) = open_locked(machine.rt, machine.alloc, file)?;
-    let taken = take_mails(machine, file, incoming, false, &mut desk);
-    release(end(taken), desk, lock)
+    let mut locked = open_locked(machine.rt, machine.alloc, file)?;
+    let taken = take_mails(machine, file, incoming, false, &mut locked.desk);
+    drop(locked);
+    end(taken)
 }
 
 /// The mails that a run has taken, with the verdict of each.
@@ -199,9 +200,10 @@ pub fn outbox<T: LockFiles, W: Write, E: Write>(
 ) -> Result<bool, ToolFault>
     ensures { OutboxAtFile (is_some folder.entry) (W.contents machine.old.writer) (W.contents machine.new.writer) result }
 {
-    let (lock, desk) = open_locked(machine.rt, machine.alloc, file)?;
-    let sent = send_from(machine, file, &desk, folder);
-    release(all_well(sent), desk, lock)
+    let locked = open_locked(machine.rt, machine.alloc, file)?;
+    let sent = send_from(machine, file, &locked.desk, folder);
+    drop(locked);
+    all_well(sent)
 }
 
 /// Puts the messages of the loans that want sending into `folder`. Without one, it writes them one after another.
@@ -276,10 +278,11 @@ pub fn exchange<T: LockFiles, W: Write, E: Write>(
 ) -> Result<bool, ToolFault>
     ensures { ExchangesAtFile night.now.dates (W.contents machine.old.writer) (W.contents machine.new.writer) result }
 {
-    let (lock, mut desk) = open_locked(machine.rt, machine.alloc, file)?;
+    let mut locked = open_locked(machine.rt, machine.alloc, file)?;
     look_at_night(machine, file, night)?;
-    let done = exchange_at(machine, file, night, &mut desk);
-    release(done, desk, lock)
+    let done = exchange_at(machine, file, night, &mut locked.desk);
+    drop(locked);
+    done
 }
 
 /// Looks at the paths of `night` before anything is done. A shelf has looked at those of its desks once for all.

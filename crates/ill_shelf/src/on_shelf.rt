@@ -9,12 +9,11 @@ ghost use Rattle.ill_text.specs.Fault.{IsOpenFault};
 use crate::last_words::{load_mark, send_last_words};
 use crate::sorting::sort_mails;
 use crate::visit::{Visit, visit_all};
-use ill_desk::act::run_desk_act;
 use ill_files::durable::error_of_store;
-use ill_files::file::{ActionView, loan, new, send};
+use ill_files::file::{ActionView, act_at, loan, new, send};
 use ill_files::home::refuse_lost;
 use ill_files::machine::Machine;
-use ill_files::open::{lock, open, release};
+use ill_files::open::{lock, open};
 use ill_files::paths::{CAME, MAIL, RETIRED, is_there, path_of};
 use ill_files::shelf::{Shelf, is_retired, names_of_desks, own_path, refuse_retired, retired_path};
 use ill_mail::backup::beat;
@@ -23,7 +22,7 @@ use ill_mail::mail_box::remove_if_there;
 use ill_mail::places::{Places, look_at_places};
 use ill_night::night::Night;
 use ill_night::retire::run_desk_retire;
-use ill_saved::{Desk, DeskFault, FileLock, FileStore, LockFiles, RECORD_LIMIT, Role, Store};
+use ill_saved::{FileStore, LockFiles, LockedDesk, RECORD_LIMIT, Role, Store};
 use ill_show::loan::LoanView;
 use ill_text::fault::{STORE_FAILED, ToolFault, graver};
 use ill_text::form::Form;
@@ -76,16 +75,8 @@ pub fn act_on_shelf<T: LockFiles, W: Write, E: Write>(
     let shelf = Shelf::open(machine.rt, machine.alloc, folder)?;
     let file = shelf.desk_of(machine.alloc, view.txn.group())?;
     let role = if is_new_group { Some(shelf.role) } else { None };
-    let (lock, mut desk) = open_or_begin(machine.rt, machine.alloc, file.as_str(), role)?;
-    let acted = run_desk_act(
-        machine.alloc,
-        &mut desk,
-        view.txn,
-        view.today,
-        view.words,
-        &mut machine.writer,
-    );
-    release(acted, desk, lock)
+    let locked = open_or_begin(machine.rt, machine.alloc, file.as_str(), role)?;
+    act_at(machine, locked, view)
 }
 
 /// Opens the desk in `file` under the lock of the file. If the file is not there and `role` is one, it begins a desk of
@@ -95,29 +86,17 @@ fn open_or_begin<'a, T: LockFiles>(
     alloc: Global,
     file: &str,
     role: Option<Role>,
-) -> Result<(FileLock<'a, T>, Desk<FileStore<'a, T>>), ToolFault>
+) -> Result<LockedDesk<'a, T>, ToolFault>
     ensures { IfErr result IsOpenFault }
 {
-    let held = lock(rt, alloc, file)?;
+    let lock = lock(rt, alloc, file)?;
     refuse_retired(rt, alloc, file)?;
     refuse_lost(rt, alloc, file)?;
-    let store = FileStore::at(rt, alloc, file, RECORD_LIMIT)?;
-    let opened = start_or_begin(alloc, store, role)?;
-    Ok((held, opened))
-}
-
-/// Starts a desk over `store`. If the store has no record and `role` is one, it begins a desk of that role.
-fn start_or_begin<S: Store + Drop>(
-    alloc: Global,
-    store: S,
-    role: Option<Role>,
-) -> Result<Desk<S>, ToolFault>
-    ensures { IfErr result IsOpenFault }
-{
-    match (Desk::start(alloc, store), role) {
-        (Err((DeskFault::NoRecord, store)), Some(role)) => Ok(Desk::create(alloc, store, role)?),
-        (started, _) => Ok(started?),
-    }
+    let opened = match role {
+        Some(role) => LockedDesk::open_or_create(alloc, lock, role),
+        None => LockedDesk::open(alloc, lock),
+    };
+    Ok(opened?)
 }
 
 /// `ill shelf send`: writes the bytes of a message of a transaction.

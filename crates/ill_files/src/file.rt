@@ -18,6 +18,7 @@ use ill_saved::{Desk, FileStore, LockFiles, LockedDesk, RECORD_LIMIT, SIDES_LIMI
 use ill_show::list::{count_left_out, run_desk_list};
 use ill_show::listed::{Listed, left_out_line, warning};
 use ill_show::loan::{LoanView, run_desk_loan};
+use ill_show::numbers::{numbers_lines, push_told};
 use ill_show::report::{end_page, push_desk, push_fault, push_head};
 use ill_show::status::run_desk_status_as;
 use ill_show::verify::run_desk_verify;
@@ -69,12 +70,14 @@ pub fn act<T: LockFiles, W: Write, E: Write>(
         (W.contents machine.old.writer) (W.contents machine.new.writer) result }
 {
     let locked = open_locked(machine.rt, machine.alloc, file)?;
-    act_at(machine, locked, view)
+    act_at(machine, file, locked, view)
 }
 
-/// Performs the action of `view` at `locked`, and then lets its desk and its lock go.
+/// Performs the action of `view` at `locked`, the desk in `file`, and then lets the desk and its lock go. Writes a line to
+/// the errors if the loan has few numbers left.
 pub fn act_at<T: LockFiles, W: Write, E: Write>(
     machine: &mut Machine<'_, T, W, E>,
+    file: &str,
     mut locked: LockedDesk<'_, T>,
     view: &ActionView<'_>,
 ) -> Result<bool, ToolFault>
@@ -89,8 +92,33 @@ pub fn act_at<T: LockFiles, W: Write, E: Write>(
         view.words,
         &mut machine.writer,
     );
+    if acted.is_ok() {
+        tell_numbers_of(
+            machine.alloc,
+            file,
+            &locked.desk,
+            view.txn,
+            &mut machine.errors,
+        );
+    }
     drop(locked);
     acted
+}
+
+/// Writes to `errors` how many numbers the loan `txn` has left, if these are few.
+fn tell_numbers_of<S: Store, E: Write>(
+    alloc: Global,
+    file: &str,
+    desk: &Desk<S>,
+    txn: &TxnId,
+    errors: &mut E,
+) {
+    let mut line = Vec::new(alloc);
+    if let Some(side) = desk.sides().get(txn)
+        && push_told(&mut line, file, side).is_ok()
+    {
+        let _ = errors.write_all(&line);
+    }
 }
 
 /// `ill take`: takes the APDUs of the input. It holds the lock of the file until the input ends.
@@ -227,7 +255,7 @@ fn list_told<T: Files, W: Write, E: Write>(
     answer
 }
 
-/// Lists the desk in a file, and tells its room and what is left out.
+/// Lists the desk in a file, and tells which loans have few numbers left, its room and what is left out.
 fn list_file<T: Files, W: Write, E: Write>(
     machine: &mut Machine<'_, T, W, E>,
     listed: &Listed<'_>,
@@ -242,6 +270,12 @@ fn list_file<T: Files, W: Write, E: Write>(
 {
     let desk = open(machine.rt, machine.alloc, listed.path)?;
     let answer = run_desk_list(machine.alloc, &desk, listed, wanted, &mut machine.writer);
+    tell_numbers(
+        machine.alloc,
+        listed.path,
+        desk.sides(),
+        &mut machine.errors,
+    );
     warn(
         machine.alloc,
         listed.path,
@@ -257,6 +291,13 @@ fn list_file<T: Files, W: Write, E: Write>(
     );
     drop(desk);
     all_well(answer)
+}
+
+/// Writes to `errors` which loans of a desk have few numbers left, and how many.
+fn tell_numbers<E: Write>(alloc: Global, file: &str, sides: &Sides, errors: &mut E) {
+    if let Ok(lines) = numbers_lines(alloc, file, sides) {
+        let _ = errors.write_all(&lines);
+    }
 }
 
 /// Writes a warning of the room left at a desk to `errors`, if the desk has many loans.

@@ -137,7 +137,8 @@ stand before the words. Among them an option of any command is `arguments`; if
 `--` stands right before the words, it is one of them, as of a title.
 
 One action issues one message; `take` may issue one too, as `ill take --help`
-tells. The messages of each loan are numbered 1, 2, 3, up to 255.
+tells. The messages of each loan are numbered 1, 2, 3, up to 255. If at most 10
+numbers are left after an action, a line on standard error says how many.
 
 The action is saved in FILE before a line of it is written to standard output:
   OUTCOME STATE DUE RELEASED/ISSUED
@@ -484,7 +485,8 @@ These options say which loans are listed; all that are given hold:
 The last line counts all loans of the desk, whichever are listed. It says for
 how many more there is room. From 900 loans on a line on standard error says so
 too. With --mine and no day, such a line says how many more loans may wait for
-this library by their dates.
+this library by their dates. Each open loan that has at most 10 numbers left for
+its messages has such a line, whichever loans are listed.
 
 PATH is the file of a desk, or a folder of desks. A folder's desks are listed in
 the order of their names: all regular files, but for those that begin with a dot

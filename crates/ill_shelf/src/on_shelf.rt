@@ -76,7 +76,7 @@ pub fn act_on_shelf<T: LockFiles, W: Write, E: Write>(
     let file = shelf.desk_of(machine.alloc, view.txn.group())?;
     let role = if is_new_group { Some(shelf.role) } else { None };
     let locked = open_or_begin(machine.rt, machine.alloc, file.as_str(), role)?;
-    act_at(machine, locked, view)
+    act_at(machine, file.as_str(), locked, view)
 }
 
 /// Opens the desk in `file` under the lock of the file. If the file is not there and `role` is one, it begins a desk of

@@ -3,6 +3,7 @@ pub mod List
 pub mod Listing
 pub mod Loan
 pub mod LoanLines
+pub mod Numbers
 pub mod Objects
 pub mod Picture
 pub mod Report

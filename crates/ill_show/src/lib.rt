@@ -10,6 +10,7 @@ pub mod listed;
 pub mod loan;
 mod loan_lines;
 mod marks;
+pub mod numbers;
 mod objects;
 mod picture;
 pub mod report;

@@ -40,6 +40,8 @@ VERBS_WIDTH = 20
 TODAY, SHIPS, LATE = "20250320", "20250301", "20250401"
 # How many loans of a large desk are looked at one by one, and of one with the longest record.
 SAMPLE, FEW = 12, 2
+# The greatest count of numbers left of which `act` and `list` tell.
+FEW_NUMBERS = 10
 
 # Titles in many scripts: wide, combining, bidirectional and invisible characters, and some on which a terminal acts.
 TITLES = [
@@ -196,6 +198,13 @@ def list_objects(sides, turns, today=None, due_before=None, state=None):
     return [{"next": turn, "state": side.state, "due": iso(side.due), "group": side.txn[0], "transaction": side.txn[1],
              "now": side.possible(today), "item": side.asked()["item"]}
             for turn, side in listed(sides, turns, today, due_before, state)] + [counts(sides, today)]
+
+
+def numbers_lines(path, sides):
+    """Returns the lines of `list` that tell the numbers left of the open loans that have few."""
+    left = [(side, 255 - len(side.issued)) for side in sides if side.turn() != "over"]
+    return [f"ill: {path}: {side.txn[0]} {side.txn[1]}: {count} number{'' if count == 1 else 's'} left\n"
+            for side, count in left if count <= FEW_NUMBERS]
 
 
 def message_name(apdu):
@@ -409,8 +418,8 @@ def check_list(judge, path, sides):
             line = "" if today else left_out_line(path, left_out(sides, due, state))
             judge.same(f"what {' '.join(words)} leaves out of {path}", told, line)
     warned = judge.run(["list", path]).errors.decode()
-    is_warned = str(1000 - len(sides)) in warned and warned.count("\n") == 1
-    judge.same(f"the warning of {path}", is_warned, len(sides) >= 900)
+    room = [f"ill: {path} has room for {1000 - len(sides)} more loans\n"] if len(sides) >= 900 else []
+    judge.same(f"the warnings of {path}", warned, "".join([*numbers_lines(path, sides), *room]))
 
 
 def check_loans(judge, path, sides):

@@ -52,6 +52,7 @@ one to {number_digits} digits, with a value from {first} to {last}; The number o
 numbered {first}, {second}, {third}, up to {last}; numbered {first}, {second}, {third}, in the order
 numbers its messages of a loan {first}, {second}, {third}.
 all {last} numbers are used; messages of a loan {last}
+If at most {few} numbers are left after an action; that has at most {few} numbers left
 {status_lines} lines for each loan; The first {status_lines} lines on standard output
 lines of {side_fields} fields; goes before the {simulated}.
 has {roles} desks, one as requester and one as responder, in {roles} files; script of {roles} desks
@@ -145,7 +146,8 @@ def numbers_of():
     return {
         "zero": 0, "first": least, "second": least + 1, "third": least + 2, "last": 2 ** int(number) - 1,
         "loans": constant("SIDES_LIMIT", f"{saved}/sides.rt"), "messages": constant("MAX_APDUS", f"{TEXT}/input.rt"),
-        "many": constant("MANY", f"{FILES}/file.rt"), "mails": constant("MAILS", f"{MAIL}/mail.rt"),
+        "many": constant("MANY", f"{FILES}/file.rt"), "few": constant("FEW", f"{SHOW}/numbers.rt"),
+        "mails": constant("MAILS", f"{MAIL}/mail.rt"),
         "longer": constant("APDU_LIMIT", f"{der}/header.rt") + constant("LINE_END", f"{MAIL}/mail.rt") + 1,
         "longest": constant("APDU_LIMIT", f"{der}/header.rt"), "shortest": shortest,
         "lines": constant("MAX_LINES", f"{WORLD}/simulation.rt"), "line": constant("MAX_LINE", f"{WORLD}/lines.rt"),

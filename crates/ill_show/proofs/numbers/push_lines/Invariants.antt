@@ -1,0 +1,13 @@
+-- States the loop invariant of `push_lines` (`src/numbers.rt`).
+use Rattle.std.proofs.Common.{◌≡◌, ◌++◌, ◌∷◌, [], take, Bor}
+use Rattle.std.specs.List.{flat_map}
+use Rattle.ill_saved.specs.declared.side.Side.{Side}
+use Rattle.ill_show.specs.Numbers.{numbers_lines}
+use Rattle.ill_show.proofs.numbers.push_lines.Given as goal
+
+-- The lines of the sides so far are appended.
+abbrev pub invariant-loop-side : goal.invariant-loop-side
+invariant-loop-side l = record {
+  told : l.lines.items ≡ l.initial.lines.items
+      ++ flat_map (λ (side : Bor Side). numbers_lines l.path (side.now ∷ [])) (take l.side-index l.sides);
+}

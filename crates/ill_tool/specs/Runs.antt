@@ -1,8 +1,9 @@
 -- The contract of each command line: the command that it asks for is run.
-use Rattle.std.specs.Prelude.{◌≡◌, ℕ, Bool, List, Option, None, is_some, Result, Err, ◌⊎◌, true, IsErrAnd}
+use Rattle.std.specs.Prelude.{◌≡◌, ℕ, Bool, List, Option, None, is_some, Result, Ok, Err, ◌⊎◌, true, IsErrAnd}
+use Rattle.clap.specs.Values.{kind_of}
 use Rattle.ill_values.specs.TxnId.{txn_id_of}
 use Rattle.ill_text.specs.declared.fault.ToolFault.{ToolFault}
-use Rattle.ill_text.specs.declared.fault.ToolFault.TheVariants.{Arguments, OutOfMemory}
+use Rattle.ill_text.specs.declared.fault.ToolFault.TheVariants.{Arguments, OutOfMemory, Write}
 use Rattle.ill_text.specs.Show.{RunsShow}
 use Rattle.ill_text.specs.Check.{Checks}
 use Rattle.ill_tool.specs.Simulate.{Performs, PerformsDesks}
@@ -10,7 +11,9 @@ use Rattle.ill_line.specs.Asked.{Asked, asked}
 use Rattle.ill_line.specs.Asked as asks
 use Rattle.ill_line.specs.declared.request.Call.{Call}
 use Rattle.ill_line.specs.declared.request.Call.TheVariants as calls
-use Rattle.ill_tool.specs.ExitStatus.{IsFlushed, exit_status}
+use Rattle.ill_line.specs.declared.request.Refusal.{Refusal}
+use Rattle.ill_line.specs.declared.request.Refusal.TheVariants.{Usage, Fault}
+use Rattle.ill_tool.specs.ExitStatus.{IsFlushed, TellsKind, exit_status, status_of}
 use Rattle.ill_files.specs.AtFile.{GoesWell, NewAtFile, ActsAtFile, TakesAtFile, SendsAtFile, ShowsFile, ListsPaths, LoanAtFile}
 use Rattle.ill_files.specs.AtFile.{VerifiesFile, ReportsPaths}
 use Rattle.ill_mail.specs.Nights.{InboxAtFile, OutboxAtFile, ExchangesAtFile}
@@ -95,3 +98,14 @@ PerformsCall call left rest before result =
 abbrev pub EndsCall : Call → Option (List ℕ) → ℕ → Type 0
 EndsCall call before status =
     (result : Result Bool ToolFault) × PerformsCall call None None before result × (status ≡ exit_status result)
+
+-- The reading of a command line ends with the exit status of what was asked for. A call ends with that of its result.
+-- Words that `clap` refuses end as `TellsKind` says. A fault has its own status, or that of the flush before its line.
+abbrev pub EndsReading : Result Call Refusal → Option (List ℕ) → Option (List ℕ) → ℕ → Type 0
+EndsReading (Ok call) before after status = EndsCall call before status
+EndsReading (Err (Usage error)) before after status = TellsKind (kind_of error) before after status
+EndsReading (Err (Fault fault)) before after status = (status ≡ status_of fault) ⊎ (status ≡ status_of Write)
+
+-- A command line has a reading, and ends with the exit status of that. No clause says which words have which reading.
+abbrev pub EndsLine : Option (List ℕ) → Option (List ℕ) → ℕ → Type 0
+EndsLine before after status = (reading : Result Call Refusal) × EndsReading reading before after status

@@ -1,9 +1,10 @@
 //! One command line, from its words to its exit status.
 
-ghost use Rattle.std.specs.Prelude.{◌≡◌, ◌≤◌, true, Ok};
+ghost use Rattle.std.specs.Prelude.{◌≡◌, ◌⊎◌, ◌≤◌, true, Ok};
+ghost use Rattle.ill_text.specs.declared.fault.ToolFault.TheVariants.{Write};
 ghost use Rattle.clap.specs.Values.{kind_of};
 ghost use Rattle.ill_line.specs.Asked.{asked};
-ghost use Rattle.ill_tool.specs.Runs.{EndsCall, PerformsCall, Runs, RunsCall, RunsGuarded, RunsShelf};
+ghost use Rattle.ill_tool.specs.Runs.{EndsCall, EndsLine, EndsReading, PerformsCall, Runs, RunsCall, RunsGuarded, RunsShelf};
 ghost use Rattle.ill_tool.specs.ExitStatus.{IsFlushed, TellsKind, desk_status, exit_status, status_of};
 
 use crate::simulate::{run_simulate, run_simulate_desks};
@@ -42,33 +43,71 @@ pub fn run_words<T: LockFiles, R: Read, W: Write, E: Write>(
     writer: &mut W,
     errors: &mut E,
 ) -> u8
-    ensures { result ≤ 3 }
+    ensures ends { EndsLine (W.contents writer.old) (W.contents writer.new) result }
+    ensures most { result ≤ 3 }
 {
-    let mut machine = Machine {
-        rt,
-        alloc,
-        writer: &mut *writer,
-        errors: &mut *errors,
+    let line = Line {
+        words,
+        reading: read_words(alloc, words),
     };
-    answer(&mut machine, words, reader)
+    run_line(rt, alloc, &line, reader, writer, errors)
 }
 
-/// Performs one command line on `machine`, and returns the exit status.
-fn answer<T: LockFiles, R: Read, W: Write, E: Write>(
-    machine: &mut Machine<'_, T, W, E>,
-    words: &[&str],
+/// A command line that was read.
+#[derive(Drop)]
+pub struct Line<'a> {
+    /// The words of the line.
+    pub words: &'a [&'a str],
+    /// The reading of these words: the call that they ask for, or its refusal.
+    pub reading: Result<Call<'a>, Refusal>,
+}
+
+/// Performs what was read of a command line, and returns the exit status, as `run_words` does.
+pub fn run_line<T: LockFiles, R: Read, W: Write, E: Write>(
+    rt: &T,
+    alloc: Global,
+    line: &Line<'_>,
     reader: &mut R,
+    writer: &mut W,
+    errors: &mut E,
 ) -> u8
-    ensures { result ≤ 3 }
+    ensures ends { EndsReading line.now.reading (W.contents writer.old) (W.contents writer.new) result }
+    ensures most { result ≤ 3 }
 {
-    match read_words(machine.alloc, words) {
-        Ok(call) => answer_call(machine, words, &call, reader),
-        Err(Refusal::Usage(error)) => tell(&error, &mut machine.writer, &mut machine.errors),
+    match &line.reading {
+        Ok(call) => {
+            let mut machine = Machine {
+                rt,
+                alloc,
+                writer,
+                errors,
+            };
+            answer_call(&mut machine, line.words, call, reader)
+        }
+        Err(Refusal::Usage(error)) => tell(error, writer, errors),
         Err(Refusal::Fault(fault)) => {
-            let done = flush(&mut machine.writer, Err(fault));
-            conclude(machine, words, done, None)
+            let mut machine = Machine {
+                rt,
+                alloc,
+                writer,
+                errors,
+            };
+            refuse(&mut machine, line.words, *fault)
         }
     }
+}
+
+/// Writes the line of a fault of the words, and returns the exit status.
+fn refuse<T: LockFiles, W: Write, E: Write>(
+    machine: &mut Machine<'_, T, W, E>,
+    words: &[&str],
+    fault: ToolFault,
+) -> u8
+    ensures status { (result ≡ status_of fault) ⊎ (result ≡ status_of Write) }
+    ensures most { result ≤ 3 }
+{
+    let done = flush(&mut machine.writer, Err(fault));
+    conclude(machine, words, done, None)
 }
 
 /// Performs the call that the words ask for, and returns the exit status.

@@ -254,7 +254,8 @@ module _ {E : Type 0} (aside path bytes : List ℕ) (old cleared : Disk) (remova
   after_clearing = (inl reads, λ found left. inl (lefts found left))
 
   -- The disk after the new file was made, or was not, has the old record or the new one.
-  pub after_making : (made : Disk) (result : Result (Unit {0}) E) → Creates aside bytes cleared result made → IsOldOrNew path bytes old made
+  pub after_making : (made : Disk) (result : Result (Unit {0}) E) → Creates aside bytes cleared result made
+      → IsOldOrNew path bytes old made
   after_making made result is = creates_fine aside path bytes old cleared whole differ reads lefts made result is
 
   -- The disk after the new file was flushed, or was not, has the old record or the new one.
@@ -266,7 +267,8 @@ module _ {E : Type 0} (aside path bytes : List ℕ) (old cleared : Disk) (remova
 
   -- The disk after the new file was renamed, or was not, has the old record or the new one.
   pub after_renaming : (made flushed renamed : Disk) (result : Result (Unit {0}) E) → made ≡ after_create aside bytes cleared →
-      flushed ≡ after_flush aside made → Changes (after_rename aside path) flushed result renamed → IsOldOrNew path bytes old renamed
+      flushed ≡ after_flush aside made → Changes (after_rename aside path) flushed result renamed
+      → IsOldOrNew path bytes old renamed
   after_renaming made flushed renamed result is flush changes =
       let here = flush ∙ ap (after_flush aside) is in
       on_way renamed (either_way (In (on_the_way aside path bytes cleared)) (after_rename aside path) flushed renamed result

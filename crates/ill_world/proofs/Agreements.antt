@@ -172,7 +172,7 @@ cancel_is_open txn x y responder_sent requester_sent requester_stands responder_
         responder_stands.cancels.distinct m other.0 c a refused.0 at other.1 yes_answers no_answers in
         let same : ◌≡◌ {A = Option Apdu} (Some a) (Some refused.0) = sym at ∙ ap (message y.issued) place ∙ other.1 in
         let bodies : ◌≡◌ {A = Body} (types.CancelReply c true) (types.CancelReply c false) =
-            sym is ∙ body_of a refused.0 same ∙ no in
+        sym is ∙ body_of a refused.0 same ∙ no in
         search rules
 
 -- `SaysTrue` holds of two such records: each record's claims on the other side are right.

@@ -1,0 +1,5 @@
+pub mod BadWork
+pub mod Dates
+pub mod Order
+pub mod Table
+pub mod Work

@@ -1,0 +1,54 @@
+//! How the dates of a loan stand to a day.
+
+ghost use Rattle.std.specs.Prelude.{◌≡◌};
+ghost use Rattle.ill_core.specs.Dates.{is_after_due};
+ghost use Rattle.ill_work.specs.Dates.{is_due_within};
+ghost use Rattle.ill_work.specs.Table.{dates_on};
+
+use ill_saved::Side;
+use ill_values::Day;
+use ill_words::possible::expiry;
+
+/// How the dates of a loan stand to a day.
+#[derive(Clone, Copy)]
+pub(crate) struct Dates {
+    /// The expiry date of the request is past.
+    pub has_expired: bool,
+    /// The due date is past.
+    pub is_overdue: bool,
+    /// The due date is at most some days away.
+    pub is_due_soon: bool,
+}
+
+/// Returns how the dates of `side` stand to the day `today`. A due date is soon if it is at most `ahead` days away.
+pub(crate) fn dates_on(today: Day, ahead: u32, side: &Side) -> Dates
+    ensures { result ≡ dates_on today ahead side.now }
+{
+    Dates {
+        has_expired: is_past(today, expiry(side)),
+        is_overdue: is_past(today, side.due()),
+        is_due_soon: is_due_within(today, ahead, side.due()),
+    }
+}
+
+/// Returns true if there is a date, and the day `today` is after it.
+fn is_past(today: Day, date: Option<Day>) -> bool
+    ensures { result ≡ is_after_due today date }
+{
+    match date {
+        Some(date) => date < today,
+        None => false,
+    }
+}
+
+/// Returns true if there is a due date, and it is at most `ahead` days after the day `today`. If the calendar ends
+/// before that day, each due date is.
+fn is_due_within(today: Day, ahead: u32, due: Option<Day>) -> bool
+    ensures { result ≡ is_due_within today ahead due }
+{
+    match (due, today.after(ahead)) {
+        (Some(due), Ok(last)) => due <= last,
+        (Some(_), Err(_)) => true,
+        (None, _) => false,
+    }
+}

@@ -1,0 +1,100 @@
+//! The table of the kinds of work: one for each state, its marks and how its dates stand to a day.
+
+ghost use Rattle.std.specs.Prelude.{◌≡◌};
+ghost use Rattle.ill_work.specs.Table.{kind_of_work, received_work, requester_work, responder_work, shipped_work};
+
+use crate::dates::{Dates, dates_on};
+use crate::work::Work;
+use ill_core::{Requester, Responder, State};
+use ill_saved::Side;
+use ill_values::Day;
+
+impl Work {
+    /// Returns the work with `side` on the day `today`. A due date is soon if it is at most `ahead` days away. If the
+    /// calendar ends before that, each due date is. Allocates nothing.
+    pub fn of(side: &Side, today: Day, ahead: u32) -> Work
+        ensures { result ≡ kind_of_work today ahead side.now }
+    {
+        let dates = dates_on(today, ahead, side);
+        match side {
+            Side::Requester(requester) => requester_work(requester, dates),
+            Side::Responder(responder) => responder_work(responder, dates),
+        }
+    }
+}
+
+/// Returns the work with the side of `requester`, whose dates stand to the day as `dates` says.
+fn requester_work(requester: &Requester, dates: Dates) -> Work
+    ensures { result ≡ requester_work requester.now dates }
+{
+    match requester.state() {
+        State::Idle => Work::Request,
+        State::Pending if dates.has_expired => Work::CancelOrAsk,
+        State::Conditional if !requester.is_declined() => Work::AnswerConditions,
+        State::Shipped if dates.is_overdue => Work::LookFor,
+        State::Shipped => Work::Unpack,
+        State::Received => received_work(dates),
+        State::RenewPending | State::RenewOverdue if dates.is_overdue => Work::SendBackOverdue,
+        State::Overdue => Work::SendBackOverdue,
+        State::NotReceivedOverdue => Work::LookFor,
+        State::Recall if requester.is_received() => Work::SendBackRecalled,
+        State::Recall => Work::LookFor,
+        State::Returned if requester.is_checked_in() => Work::Over,
+        State::Pending
+        | State::Conditional
+        | State::CancelPending
+        | State::RenewPending
+        | State::RenewOverdue
+        | State::Returned => Work::Wait,
+        State::Cancelled | State::NotSupplied | State::InProcess | State::CheckedIn => Work::Over,
+    }
+}
+
+/// Returns the work with an item that is here, whose dates stand to the day as `dates` says.
+fn received_work(dates: Dates) -> Work
+    ensures { result ≡ received_work dates }
+{
+    if dates.is_overdue {
+        Work::SendBackOverdue
+    } else if dates.is_due_soon {
+        Work::SendBackOrRenew
+    } else {
+        Work::WithReader
+    }
+}
+
+/// Returns the work with the side of `responder`, whose dates stand to the day as `dates` says.
+fn responder_work(responder: &Responder, dates: Dates) -> Work
+    ensures { result ≡ responder_work responder.now dates }
+{
+    match responder.state() {
+        State::InProcess | State::Conditional if dates.has_expired => Work::LetExpire,
+        State::InProcess => Work::AnswerRequest,
+        State::CancelPending => Work::AnswerCancel,
+        State::Shipped => shipped_work(responder.is_received(), dates),
+        State::RenewPending | State::RenewOverdue => Work::AnswerRenewal,
+        State::Overdue if dates.is_overdue => Work::RecallOrAsk,
+        State::Returned => Work::CheckIn,
+        State::Idle | State::Conditional | State::Overdue | State::Recall => Work::Wait,
+        State::Cancelled
+        | State::NotSupplied
+        | State::CheckedIn
+        | State::Pending
+        | State::Received
+        | State::NotReceivedOverdue => Work::Over,
+    }
+}
+
+/// Returns the work with an item that is shipped, whose dates stand to the day as `dates` says. If `is_received` is
+/// true, it has reached the requester.
+fn shipped_work(is_received: bool, dates: Dates) -> Work
+    ensures { result ≡ shipped_work is_received dates }
+{
+    if dates.is_overdue {
+        Work::NotifyOverdue
+    } else if is_received {
+        Work::Wait
+    } else {
+        Work::OnItsWay
+    }
+}

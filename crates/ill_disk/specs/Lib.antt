@@ -2,4 +2,5 @@ pub mod BadCalls
 pub mod BadDisk
 pub mod Calls
 pub mod Disk
+pub mod HostDisk
 pub mod MemoryDisk

@@ -41,8 +41,8 @@ impl<T: Drop> From<AllocFailed<T>> for DiskFault {
 /// nothing. `Crash` of the disk now is what a crash may leave. The disk is whole at each call. The clauses say this of
 /// an honest disk alone.
 pub trait Disk {
-    /// Returns the state: the disk now, its files, its names, and the lists of names that a crash may leave. Its part
-    /// `is_honest` is true if the disk does as it answers.
+    /// Returns the state: the disk now, and the disks that it was. Its part `is_honest` is true if the disk does as it
+    /// answers.
     ghost state: { Self → DiskState };
 
     /// Returns the bytes of the file at `path`, or `None` if there is none. A file of more than `limit` bytes is a

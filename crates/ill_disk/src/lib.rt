@@ -3,9 +3,12 @@
 
 mod disk;
 mod disk_with_past;
+mod host_disk;
 pub mod laws;
 mod memory_disk;
+mod regular_file;
 
 pub use disk::{Disk, DiskFault};
 pub use disk_with_past::DiskWithPast;
+pub use host_disk::HostDisk;
 pub use memory_disk::MemoryDisk;

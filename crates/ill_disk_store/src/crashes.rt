@@ -27,7 +27,7 @@ fn disk_with(alloc: Global, bytes: &[u8]) -> Result<MemoryDisk, Fail> {
 }
 
 /// Returns true if these bytes were found.
-fn is_found(found: &Option<Vec<u8>>, bytes: &[u8]) -> bool {
+pub fn is_found(found: &Option<Vec<u8>>, bytes: &[u8]) -> bool {
     matches!(found, Some(record) if record.as_slice() == bytes)
 }
 

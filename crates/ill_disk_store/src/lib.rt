@@ -4,6 +4,8 @@
 #[cfg(test)]
 mod crashes;
 mod disk_store;
+#[cfg(test)]
+mod host;
 mod lasting;
 pub mod laws;
 

@@ -1,5 +1,5 @@
 -- Proves that no message is held back, that lost mail is not carried, and that files which are apart are not in step.
-use Rattle.std.proofs.Common.{◌≡◌, inl, inr, ℕ, zero, suc, true, false, if◌then◌else◌, List, [], ◌∷◌, Some, sym, ap, ◌∙◌, subst}
+use Rattle.std.proofs.Common.{◌≡◌, inl, inr, ℕ, zero, suc, true, if◌then◌else◌, List, [], ◌∷◌, Some, sym, ap, ◌∙◌, subst}
 use Rattle.std.proofs.Common.{true≢false}
 use Rattle.std.specs.List.{slice_get}
 use Rattle.ill_values.specs.TxnId.{Qualifiers}

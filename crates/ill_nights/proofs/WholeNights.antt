@@ -1,5 +1,5 @@
 -- Proves that a library whose file can be read may have a whole night, in which no mail comes.
-use Rattle.std.proofs.Common.{◌≡◌, inl, inr, Bool, true, false, List, [], ◌++◌, length, map, take, Some, None, Result, Ok}
+use Rattle.std.proofs.Common.{◌≡◌, inl, inr, Bool, List, [], ◌++◌, length, map, take, Some, None, Result, Ok}
 use Rattle.std.proofs.Common.{refl, sym, ap, take_all, le_refl, true≢false}
 use Rattle.ill_values.specs.declared.apdu.Apdu.{Apdu}
 use Rattle.ill_der.specs.ShortForm.{apdu_at, header_at, outer_at}

@@ -1,6 +1,6 @@
 //! The laws of nights by commands: what a night sends and takes, and that a good one is enough.
 
-ghost use Rattle.std.specs.Prelude.{◌≡◌, List, Ok};
+ghost use Rattle.std.specs.Prelude.{◌≡◌, ℕ, List, Ok};
 ghost use Rattle.ill_values.specs.TxnId.{Qualifiers};
 ghost use Rattle.ill_values.specs.declared.apdu.Apdu.{Apdu};
 ghost use Rattle.ill_saved.specs.declared.role.Role.{Role as Who};
@@ -11,6 +11,7 @@ ghost use Rattle.ill_night.specs.declared.verdict.Mail.{Mail};
 ghost use Rattle.ill_night.specs.declared.verdict.Verdict.{Verdict};
 ghost use Rattle.ill_world.specs.World.{party};
 ghost use Rattle.ill_runs.specs.Libraries.{IsHistory, Libraries, Library, first_libraries, libraries_after};
+ghost use Rattle.ill_runs.specs.ShelfLibraries.{GroupVisit, IsShelfHistory, first_shelf_libraries, shelves_after};
 ghost use Rattle.ill_nights.specs.BadNights.{AreApartIn, HoldsBack, IsLeftUndone, IsLost};
 ghost use Rattle.ill_nights.specs.Nights.{AreDone, AreInStepIn, CanAnswerIn, IsCarried, IsGoodNight, IsNight, LeftOf, TakesAll, TookOf, messages_of_all};
 
@@ -71,6 +72,18 @@ pub fn a_good_night_is_enough()
     ill_world::desk_laws::few_desk_outcomes_change();
     ill_der::laws::prefix_or_fault();
     ill_der::laws::read_again();
+}
+
+/// After any commands on two shelves, a good night of a transaction brings its sides in step or to rest, in the files of its
+/// group.
+pub fn a_good_night_of_a_group_is_enough()
+    ensures { (group : List ℕ) (txn : Qualifiers) (visits : List GroupVisit) (after : Libraries) →
+        IsShelfHistory first_shelf_libraries visits →
+        IsGoodNight txn (shelves_after first_shelf_libraries visits group) after → CanAnswerIn txn after.responder →
+        AreInStepIn txn after }
+{
+    ill_runs::shelf_laws::each_group_has_its_history();
+    a_good_night_is_enough();
 }
 
 /// No message is held back that a side sends, and none leaves a silent one. Mail of which a message is lost, repeated, added

@@ -1,0 +1,4 @@
+pub mod Differences
+pub mod Blocks
+pub mod Letters
+pub mod KeyTexts

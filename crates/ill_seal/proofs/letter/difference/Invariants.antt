@@ -1,0 +1,6 @@
+use Rattle.std.proofs.Common.{◌≡◌, drop}
+use Rattle.ill_seal.specs.Letter.{difference}
+use Rattle.ill_seal.proofs.letter.difference.Given as goal
+
+abbrev pub invariant-loop-place : goal.invariant-loop-place
+invariant-loop-place l = difference l.difference (drop l.place l.seal) (drop l.place l.other) ≡ difference 0 l.seal l.other

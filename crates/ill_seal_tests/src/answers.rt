@@ -1,0 +1,183 @@
+//! Prints the answers to a case.
+
+use crate::changes::{push_each_bit, push_each_front};
+use hex::FromHex;
+use ill_seal::{Key, KeyFault, SealFault, Sender, hmac, seal, unseal};
+use ill_test_kit::marks::{quietly, tried};
+use ill_test_kit::{INDENT, Lines, Page};
+use std::alloc::{AllocError, Global};
+
+/// Performs each line of the input as a case.
+#[derive(Drop)]
+pub struct Cases {
+    /// The allocator of all values.
+    pub alloc: Global,
+}
+
+impl Lines for Cases {
+    /// Adds `line` with its answer below it. A line that is itself an answer is dropped.
+    fn perform(&mut self, page: &mut Page, line: &str) {
+        if !line.starts_with(INDENT) {
+            push_case(self.alloc, page, line);
+        }
+    }
+
+    fn end(&mut self, _page: &mut Page) -> Option<()> {
+        Some(())
+    }
+}
+
+/// Adds a line and, if it is a case, its answer below it.
+fn push_case(alloc: Global, output: &mut Page, line: &str) {
+    output.line(line);
+    if !line.is_empty() && !line.starts_with("#") {
+        output.text(INDENT);
+        if push_answer(alloc, output, line).is_none() {
+            output.text("no case");
+        }
+        output.line("");
+    }
+}
+
+/// Adds the answer to a case.
+fn push_answer(alloc: Global, output: &mut Page, line: &str) -> Option<()> {
+    if let Some(words) = line.strip_prefix("each bit ") {
+        push_each_bit(alloc, output, words)
+    } else if let Some(words) = line.strip_prefix("each front ") {
+        push_each_front(alloc, output, words)
+    } else {
+        let (form, words) = line.split_once(" ")?;
+        push_form(alloc, output, form, words)
+    }
+}
+
+/// Adds the answer to a case in the form that one word names.
+fn push_form(alloc: Global, output: &mut Page, form: &str, words: &str) -> Option<()> {
+    match form {
+        "hmac" => push_hmac(alloc, output, words),
+        "seal" => push_letter(alloc, output, words),
+        "unseal" => push_text(alloc, output, words),
+        "spell" => push_key_text(alloc, output, words),
+        "key" => push_key(alloc, output, words),
+        _ => None,
+    }
+}
+
+/// Adds the HMAC of a text under a key.
+fn push_hmac(alloc: Global, output: &mut Page, words: &str) -> Option<()> {
+    let (key, text) = words.split_once(" ")?;
+    let key = bytes_in(alloc, key)?;
+    let text = bytes_in(alloc, text)?;
+    push_hex(alloc, output, &hmac(&key, &text))
+}
+
+/// Adds a sealed letter.
+fn push_letter(alloc: Global, output: &mut Page, words: &str) -> Option<()> {
+    let case = case_in(alloc, words)?;
+    let letter = tried(alloc, AllocError, || {
+        seal(alloc, &case.key, case.sender, &case.bytes)
+    })
+    .ok()?;
+    push_hex(alloc, output, &letter)
+}
+
+/// Adds the text of a sealed letter, or the fault.
+fn push_text(alloc: Global, output: &mut Page, words: &str) -> Option<()> {
+    let case = case_in(alloc, words)?;
+    match quietly(alloc, || unseal(&case.key, case.sender, &case.bytes)) {
+        Ok(text) => push_hex(alloc, output, text)?,
+        Err(fault) => output.text(fault_word(fault)),
+    }
+    Some(())
+}
+
+/// Adds the text of a key.
+fn push_key_text(alloc: Global, output: &mut Page, words: &str) -> Option<()> {
+    let key = key_in(words)?;
+    let text = tried(alloc, AllocError, || key.to_text(alloc)).ok()?;
+    output.push(&text);
+    Some(())
+}
+
+/// Adds the bytes of the key with a text, or the fault. A fault of the text may be found after a growth, so it counts as
+/// an answer, and the call is not made again as a quiet one.
+fn push_key(alloc: Global, output: &mut Page, text: &str) -> Option<()> {
+    let answer = tried(alloc, AllocError, || {
+        match Key::parse(alloc, text.as_bytes()) {
+            Err(KeyFault::OutOfMemory) => Err(AllocError),
+            answer => Ok(answer),
+        }
+    });
+    match answer.ok()? {
+        Ok(key) => push_hex(alloc, output, key.bytes())?,
+        Err(fault) => output.text(key_fault_word(fault)),
+    }
+    Some(())
+}
+
+/// A key, a sender, and the bytes of a text or a letter.
+#[derive(Drop)]
+pub struct Case {
+    pub key: Key,
+    pub sender: Sender,
+    pub bytes: Vec<u8>,
+}
+
+/// Returns the case that the words are.
+pub fn case_in(alloc: Global, words: &str) -> Option<Case> {
+    let (key, words) = words.split_once(" ")?;
+    let (sender, bytes) = words.split_once(" ")?;
+    Some(Case {
+        key: key_in(key)?,
+        sender: sender_in(sender)?,
+        bytes: bytes_in(alloc, bytes)?,
+    })
+}
+
+/// Returns the key with these 64 hexadecimal digits.
+fn key_in(digits: &str) -> Option<Key> {
+    Some(Key::new(<[u8; 32] as FromHex>::from_hex(digits).ok()?))
+}
+
+/// Returns the sender that `word` names.
+fn sender_in(word: &str) -> Option<Sender> {
+    match word {
+        "requester" => Some(Sender::Requester),
+        "responder" => Some(Sender::Responder),
+        _ => None,
+    }
+}
+
+/// Returns the bytes with these hexadecimal digits.
+fn bytes_in(alloc: Global, digits: &str) -> Option<Vec<u8>> {
+    hex::decode(alloc, if digits == "-" { "" } else { digits }).ok()
+}
+
+/// Adds bytes in hexadecimal, or `-` for none.
+fn push_hex(alloc: Global, output: &mut Page, bytes: &[u8]) -> Option<()> {
+    if bytes.is_empty() {
+        output.text("-");
+    } else {
+        output.text(hex::encode(alloc, bytes).ok()?.as_str());
+    }
+    Some(())
+}
+
+/// Returns the word of a fault.
+pub fn fault_word(fault: SealFault) -> &'static str {
+    match fault {
+        SealFault::Short => "Short",
+        SealFault::Mark => "Mark",
+        SealFault::Sender => "Sender",
+        SealFault::Seal => "Seal",
+    }
+}
+
+/// Returns the word of a fault of a key's text.
+fn key_fault_word(fault: KeyFault) -> &'static str {
+    match fault {
+        KeyFault::Digits => "Digits",
+        KeyFault::Check => "Check",
+        KeyFault::OutOfMemory => "OutOfMemory",
+    }
+}

@@ -36,6 +36,8 @@ FULL = "/dev/full"
 SECONDS = int(os.environ.get("ILL_SECONDS", "60"))
 # The gate tries each stop at a call, and `make test` every STOP_STEP-th.
 STOP_STEP = int(os.environ.get("ILL_STOP_STEP", "1"))
+# True in `make test`, which leaves to the gate what takes a program without proof minutes.
+IS_SHORT = "ILL_SHORT" in os.environ
 FORK = multiprocessing.get_context("fork")
 STARTS = 20  # how often a command is started while the machine has no room for a process, a quarter of a second apart
 

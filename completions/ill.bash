@@ -60,8 +60,9 @@ _ill_parts() {
     help) parts=(command) options='' ;;
     new) parts=(file role) options='--explain --help' ;;
     act) parts=(file loan loan words) options='--today --explain --help' ;;
-    list) parts=(files) options='--open --mine --today --due-before --state --json --explain --help' ;;
+    list) parts=(files) options='--open --mine --today --ahead --due-before --state --actions --json --explain --help' ;;
     loan) parts=(file loan loan) options='--picture --json --explain --help' ;;
+    slip) parts=(file loan loan) options='--explain --help' ;;
     status) parts=(file) options='--json --explain --help' ;;
     report) parts=(files) options='--today --explain --help' ;;
     take) parts=(file) options='--long --keep --explain --help' ;;
@@ -79,6 +80,7 @@ _ill_parts() {
     shelf-new) parts=(folder role) options='--explain --help' ;;
     shelf-act) parts=(folder loan loan words) options='--today --new-group --explain --help' ;;
     shelf-loan) parts=(folder loan loan) options='--picture --json --explain --help' ;;
+    shelf-slip) parts=(folder loan loan) options='--explain --help' ;;
     shelf-status) parts=(folder) options='--json --explain --help' ;;
     shelf-take) parts=(folder) options='--long --keep --explain --help' ;;
     shelf-send) parts=(folder loan loan none) options='--explain --help' ;;
@@ -90,17 +92,18 @@ _ill_parts() {
 }
 
 # Sets `arguments` to those that stand between the command and the cursor, options left out, and `wanted` to
-# the kind of what may come next: `any` (an option too), `argument` (no option any more), `day`, `state` or `file` (the
-# value of an option).
+# the kind of what may come next: `any` (an option too), `argument` (no option any more), `day`, `days`, `state` or
+# `file` (the value of an option).
 _ill_read() {
   local at word
   for ((at = 2; at < COMP_CWORD; at++)); do
     word=${COMP_WORDS[at]}
     case $wanted-$word in
-      day-= | state-= | file-=) ;;     # bash takes --today=DAY for three words
-      day-* | state-* | file-*) wanted=any ;;
+      day-= | days-= | state-= | file-=) ;;     # bash takes --today=DAY for three words
+      day-* | days-* | state-* | file-*) wanted=any ;;
       any---) wanted=argument ;;
       any---today | any---due-before) wanted=day ;;
+      any---ahead) wanted=days ;;
       any---state) wanted=state ;;
       any---copy | any---beat) wanted=file ;;
       any--*) ;;
@@ -140,9 +143,9 @@ _ill() {
     state) offered='IDLE PENDING IN-PROCESS CONDITIONAL CANCEL-PENDING CANCELLED NOT-SUPPLIED SHIPPED RECEIVED
       RENEW/PENDING OVERDUE RENEW/OVERDUE NOT-RECEIVED/OVERDUE RECALL RETURNED CHECKED-IN' ;;
     role) offered='requester responder' ;;
-    command) offered='new act list loan status report take send inbox outbox exchange verify show check simulate
+    command) offered='new act list loan slip status report take send inbox outbox exchange verify show check simulate
       simulate-desks shelf help' ;;
-    shelf-command) offered='new act loan status take send inbox outbox exchange retire help' ;;
+    shelf-command) offered='new act loan slip status take send inbox outbox exchange retire help' ;;
     words) offered=$(_ill_words "${arguments[0]}") ;;
     loan)
       _ill_offer_loans "${arguments[@]}"

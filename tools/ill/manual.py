@@ -270,7 +270,7 @@ class Offers:
         """Adds lines for commands on a shelf."""
         on_shelf, folders = self.known.on_shelf, self.folders
         self.offers("ill shelf ", *on_shelf, "help")
-        self.offers("ill shelf s", "send", "status")
+        self.offers("ill shelf s", "send", "slip", "status")
         self.offers("ill shelf -", EXPLAIN, "--help")
         self.offers("ill --explain shelf re", "retire")
         for command in on_shelf:
@@ -292,9 +292,9 @@ class Offers:
         self.offers("ill status my", "my desk")
         self.offers(r"ill status my\ d", "my desk")
         self.all_offer([f"list {flag}" for flag in (
-            "--open", "--mine", "--today 20250301", "--due-before=20250301", "--state SHIPPED", "--state=RENEW/PENDING",
-            "one", "one -- two")], *self.files)
-        self.all_offer(("list --today", "list one --due-before", "exchange one --today"))
+            "--open", "--mine", "--actions", "--today 20250301", "--ahead 3", "--due-before=20250301", "--state SHIPPED",
+            "--state=RENEW/PENDING", "one", "one -- two")], *self.files)
+        self.all_offer(("list --today", "list one --ahead", "list one --due-before", "exchange one --today"))
         self.all_offer(("report --today 20250301", "report --today=20250301", "report one",
                         "report one --today 20250301 two"), *self.files)
         for command in ("list", "report"):

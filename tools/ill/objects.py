@@ -165,38 +165,38 @@ def loan_lines(loan):
     return lines
 
 
-def list_lines(has_verbs):
+def list_lines(has_actions):
     """The lines of what is listed of desks, where the objects have the paths of the desks and where not."""
     def lines_of(objects):
         lines, rows = [], []
         for value in objects:
-            if "loans" not in value:
+            if value["kind"] == "loan":
                 rows.append(value)
                 continue
             if "file" in value:
                 lines += [""] * bool(lines) + [f"{shown(value['file'])}:"]
             if any(row.get("file") != value.get("file") for row in rows):
                 faults.append(f"the path of a loan is not that of its counts, {value}")
-            lines += [columns(row, widths(value.get("file")), has_verbs) for row in rows]
-            counts = (value[label] for label in ("loans", "open", "mine", "room"))
-            lines.append("loans {}, open {}, mine {}, room for {}".format(*counts))
+            lines += row_lines(rows, has_actions)
+            counts = (value[label] for label in ("loans", "open", "todo", "room"))
+            lines.append("loans {}, open {}, to do {}, room for {}".format(*counts))
             rows = []
         return lines + [f"{len(rows)} loans without counts"] * bool(rows)
     return lines_of
 
 
-def widths(file):
-    """The widths of the columns of group and transaction: those of all loans of a desk, as `status` has them."""
-    loans = [json.loads(line) for line in run(["status", file or "here", "--json"]).decode().splitlines()]
-    return [max((len(loan[label]) for loan in loans), default=0) for label in ("group", "transaction")]
-
-
-def columns(row, wide, has_verbs):
-    """The line of a loan."""
-    cells = [(row["next"], 6), (row["state"], 20), (day(row["due"]), 8), (row["group"], wide[0]),
-             (row["transaction"], wide[1])]
-    cells += [(",".join(row["now"]), 20)] * has_verbs
-    return "".join(f"{text:<{width}}  " for text, width in cells) + shown(or_dash(row["item"]))
+def row_lines(rows, has_actions):
+    """The lines of the loans of a desk, under a heading for each kind of work."""
+    cells = [[row["state"], day(row["due"]).ljust(8), row["group"], row["transaction"], *[",".join(row["now"])] * has_actions]
+             for row in rows]
+    widths = [max(map(len, texts)) for texts in zip(*cells)]
+    works, lines = [row["work"] for row in rows], []
+    for place, (row, texts) in enumerate(zip(rows, cells)):
+        if works[place - 1:place] != [row["work"]]:
+            lines.append(f"{row['work']} ({works.count(row['work'])}):")
+        columns = "".join(f"{text:<{width}}  " for text, width in zip(texts, widths))
+        lines.append(f"  {columns}{shown(or_dash(row['item']))}")
+    return lines
 
 
 def each(lines_of):
@@ -207,7 +207,7 @@ def each(lines_of):
 # ---- the program
 
 # What `list --mine` tells on standard error where no day is given.
-LEFT_OUT = re.compile(rb"(?:ill: [^\n]* may wait for us by (?:its date|their dates): give --today DAY\n)?")
+LEFT_OUT = re.compile(rb"(?:ill: [^\n]* may want a hand by (?:its date|their dates): give --today DAY\n)?")
 
 
 def run(words, given=None):
@@ -287,11 +287,11 @@ def compare_desks():
         txns.append(["Group of this", name])
         play(txns[-1], course)
     compare("list", ["list", "here"], list_lines(False))
-    compare("list", ["list", "here", "--mine"], list_lines(True))
+    compare("list", ["list", "here", "--mine", "--actions"], list_lines(True))
     compare("list", ["list", "here", "--open", "--state", "PENDING"], list_lines(False))
     os.mkdir("folder")
     run(["new", "folder/a\n\x1b\u202e:", "responder"])
-    compare("list", ["list", "there", "folder", "here", "--mine", "--today", "20250310"], list_lines(True))
+    compare("list", ["list", "there", "folder", "here", "--actions", "--today", "20250310"], list_lines(True))
     keep("here", txns)
     for desk in "here", "there":
         compare("status", ["status", desk], each(status_lines))
@@ -314,6 +314,9 @@ def compare_words():
         sources = re.findall(r'=> "([\w/-]+)"', read(f"{TOP}/crates/ill_core/src/{name}.rt").decode())
         if sorted(sources) != sorted(words):
             faults.append(f"docs/ill.schema.json: the words of {name} are {words}, and those of the sources {sources}")
+    works = re.findall(r'=> "([^"]+)"', read(f"{TOP}/crates/ill_work/src/work.rt").decode())
+    if works != SCHEMA["$defs"]["work"]["enum"]:
+        faults.append(f"docs/ill.schema.json: the words of work are not those of the sources, {works}")
 
 
 def main(program):

@@ -2,11 +2,12 @@
 
 It begins two desks with a loan in each state, some with titles that are no good HTML, and has
 the program write pages of them. A page must have only the elements and attributes that are named below, each closed; no
-reference to elsewhere; each title, group, transaction and name of a file as text; in its parts the loans that `list`
-says, in its order; and a chart with the messages that `loan` says. Of a desk that cannot be read it has the fault. Each
-pair of colours of a text and what is behind it must have a contrast of 4.5 at least (WCAG 2.2, 1.4.3).
+reference to elsewhere; each title, group, transaction and name of a file as text; of each desk the counts, and the tables
+that docs/PROTOCOL.md (section 7) has for its loans on that day, with the rows that `loan` says, in their order. Of a desk
+that cannot be read it has the fault. Each colour of a text must have a contrast of 4.5 at least to the page (WCAG 2.2,
+1.4.3), and a page that is printed has no colours.
 
-Where Chromium is installed, or CHROMIUM names it, it loads the page at widths of 400 and 1,200 pixels: nothing may
+Where Chromium is installed, or CHROMIUM names it, it loads the page at widths of 320, 800 and 1,200 pixels: nothing may
 stand beyond the right edge, and its own parser must find the same titles. SHOTS, if set, is a folder for pictures.
 It prints a line for each case; exit 1 if one fails.
 """
@@ -19,6 +20,7 @@ import subprocess
 import tempfile
 
 from ill import harness
+from ill.morning import Loan, Morning
 from ill.screen import shown
 
 PROGRAM = None  # as main has it
@@ -48,7 +50,7 @@ STORIES = {
 }
 TITLES = [
     "<script>alert(1)</script>", "\"><img src=x onerror=alert(1)>", "' onload='alert(1)", "A & B &amp; C &lt; D &#60;",
-    "</h4></article></style><style>*{display:none}</style>", "<!-- <![CDATA[ ]]> --> <?php ?>", "War and Peace",
+    "</th></table></style><style>*{display:none}</style>", "<!-- <![CDATA[ ]]> --> <?php ?>", "War and Peace",
     "\U0001F4DA\U0001F469\u200D\U0001F3EB emoji", "\u202Egnp.exe \u200F \u2066x\u2069 \u061C", "\u0085\u009B next line",
     "\u05E9\u05DC\u05D5\u05DD \u05E2\u05D5\u05DC\u05DD", "\u6771\u4EAC \u56F3\u66F8\u9928", "M" * 200, "e\u0301" * 66,
     "\u4E00" * 66, "javascript:alert(1) url(x) @import",
@@ -56,10 +58,10 @@ TITLES = [
 EXPIRIES = ["none", "20250301", "20250318", "20250401"]
 GROUP = "<b>&\"'"
 
-ELEMENTS = set("html head meta title style body h1 h2 h3 h4 p section details summary article div dl dt dd ul li b svg g "
-               "text path".split())
-EMPTY = {"meta", "path"}
-ATTRIBUTES = set("lang charset name content http-equiv dir role viewbox transform x y d".split())
+ELEMENTS = set("html head meta title style body h1 h2 h3 p strong section table thead tbody tr th td bdi time code".split())
+EMPTY = {"meta"}
+ATTRIBUTES = set("lang charset name content http-equiv dir scope class".split())
+HEAD = ["Title", "Loan", "State", "Date", "Actions"]
 
 
 def tell(name, faults):
@@ -79,51 +81,57 @@ def lines(*words):
 
 
 class Page(html.parser.HTMLParser):
-    """What a page has: faults, texts by element, and for each part its loans."""
+    """What a page has: faults, the style, and for each file its counts, its fault and its tables.
+
+    A table has the words of its heading, whether it wants a hand, its count, and its rows. A row has the texts of its
+    cells: that of the loan is a pair."""
 
     def __init__(self, text):
         super().__init__(convert_charrefs=True)
-        self.faults, self.open, self.style, self.parts, self.file, self.label = [], [], "", {}, None, None
-        self.unread = {}
+        self.faults, self.open, self.style, self.file, self.cells, self.row = [], [], "", None, None, None
+        self.counts, self.unread, self.tables = {}, {}, {}
         self.feed(text)
         self.close()
         self.faults += [f"<{name}> is not closed" for name in self.open]
 
     def handle_starttag(self, name, attributes):
-        self.start(name, attributes)
+        self.faults += [f"<{name}>"] * (name not in ELEMENTS)
+        self.faults += [f"attribute {key}" for key, _ in attributes if key not in ATTRIBUTES]
         if name not in EMPTY:
             self.open.append(name)
-        elif name == "path":
-            self.faults.append("<path> is not closed")
-
-    def handle_startendtag(self, name, attributes):
-        self.start(name, attributes)
-
-    def start(self, name, attributes):
-        if name not in ELEMENTS:
-            self.faults.append(f"<{name}>")
-        self.faults += [f"attribute {key}" for key, _ in attributes if key not in ATTRIBUTES]
-        if name in ("h3", "summary"):
-            self.part = ""
-        if name == "article":
-            self.loan = {"title": "", "words": [], "arrows": [], "verbs": []}
-            self.parts[self.file, self.part.partition(":")[0]].append(self.loan)
         if name == "h2":
             self.file = ""
-        if name in ("dt", "li") or name == "g":
-            self.label = ""
+        elif name == "h3":
+            self.tables.setdefault(self.file, []).append(["", attributes == [("class", "task")], 0, []])
+        elif name == "tr":
+            self.cells = []
+        elif name in ("th", "td", "bdi", "code") and self.cells is not None:
+            self.cells.append([name, ""])
+
+    def handle_startendtag(self, name, attributes):
+        self.faults.append(f"<{name}/>")
 
     def handle_endtag(self, name):
         if not self.open or self.open.pop() != name:
             self.faults.append(f"</{name}> closes another element")
-        if name in ("h3", "summary"):
-            self.parts.setdefault((self.file, self.part.partition(":")[0]), [])
-            self.counts = getattr(self, "counts", {})
-            self.counts[self.file, self.part.partition(":")[0]] = int(self.part.partition(":")[2])
-        if name == "g":
-            self.loan["arrows"].append(self.label)
-        if name == "li":
-            self.loan["verbs"].append(self.label.partition(":")[0])
+        if name == "h3":
+            table = self.tables[self.file][-1]
+            table[0], _, count = table[0].rpartition(": ")
+            table[2] = int(count) if count.isdecimal() else None
+        elif name == "tr":
+            self.end_row(self.cells)
+            self.cells = None
+
+    def end_row(self, cells):
+        """Keeps the row that these cells make up, if it is not the head of its table."""
+        shape = [name for name, _ in cells if name != "code"]
+        if shape == ["th"] * len(HEAD):
+            self.faults += [] if [text for _, text in cells] == HEAD else [f"the head {cells}"]
+            return
+        self.faults += [] if shape == ["th", "td", "bdi", "bdi", "td", "td", "td"] else [f"the row {cells}"]
+        texts = [text for name, text in cells if name != "code"]
+        verbs = [text for name, text in cells if name == "code"]
+        self.tables[self.file][-1][3].append([texts[0], *texts[2:6], verbs])
 
     def handle_data(self, data):
         within = self.open[-1] if self.open else None
@@ -132,17 +140,15 @@ class Page(html.parser.HTMLParser):
         elif within == "h2":
             self.file += data
         elif within == "p":
+            self.counts[self.file] = self.counts.get(self.file, "") + data
+        elif within == "strong":
             self.unread[self.file] = self.unread.get(self.file, "") + data
-        elif within in ("h3", "summary"):
-            self.part += data
-        elif within == "h4":
-            self.loan["title"] += data
-        elif within == "dt":
-            self.label += data
-        elif within == "dd":
-            self.loan[self.label] = self.loan.get(self.label, "") + data
-        elif within in ("li", "b") or within == "text" and "g" in self.open:
-            self.label += data
+        elif within == "h3":
+            self.tables[self.file][-1][0] += data
+        elif within in ("th", "td", "bdi", "code", "time") and self.cells:
+            self.cells[-1][1] += data if data.strip() or within != "td" else ""
+        elif data.strip() and within not in ("title", "h1", "time"):
+            self.faults.append(f"{data!r} in <{within}>")
 
     def handle_comment(self, data):
         self.faults.append("a comment")
@@ -176,51 +182,39 @@ def begin():
     return titles
 
 
-def listed(*words):
-    """The transactions that `list` lists, in its order, with their states."""
-    rows = [re.match(r"(\S+) +(\S+) +\S+ +" + re.escape(GROUP) + r" +(\S+) ", line) for line in lines("list", *words)[:-1]]
-    return [row[3] for row in rows]
-
-
-def issued(desk, txn):
-    """The types of the messages that a loan has issued, as `loan` tells them."""
-    return [line[5:] for line in lines("loan", desk, GROUP, txn) if line.startswith("apdu ")]
+def day_or_none(word):
+    return None if word == "-" else word
 
 
 def iso(day):
-    return day if day == "-" else f"{day[:4]}-{day[4:6]}-{day[6:]}"
+    return f"{day[:4]}-{day[4:6]}-{day[6:]}"
 
 
-def check_loan(desk, loan, title, faults):
-    txn = loan.get("Transaction")
-    if loan["title"] != shown(title) or loan.get("Group") != GROUP:
-        faults.append(f"{txn} is shown as {loan['title']!r} of {loan.get('Group')!r}")
-    told = dict(line.partition(" ")[::2] for line in reversed(lines("loan", desk, GROUP, txn)))
-    for label, word in (("State", told["state"]), ("Due", iso(told["due"])), ("Request expires", iso(told["expiry"]))):
-        if loan.get(label) != word:
-            faults.append(f"{label} of {txn} is {loan.get(label)} for {word}")
-    if loan["verbs"] and " ".join(loan["verbs"]) != told["now"]:
-        faults.append(f"the actions of {txn} are {loan['verbs']}")
+def loans_of(desk, titles, morning):
+    """The loans of a desk in the order in which they were begun, each with the row that a page has of it."""
+    txns = [line.partition(" ")[2] for line in lines("status", desk) if line.startswith("transaction ")]
+    for txn in txns:
+        told = dict(line.partition(" ")[::2] for line in reversed(lines("loan", desk, GROUP, txn)))
+        due, expiry = day_or_none(told["due"]), day_or_none(told["expiry"])
+        loan = Loan(told["role"], told["state"], told["marks"].split(), due, expiry)
+        date = f"due {iso(due)}" if due else f"expires {iso(expiry)}" if expiry else ""
+        verbs = [verb for verb in told["now"].split() if verb != "-" and morning.allows(loan, verb)]
+        yield loan, [shown(titles[txn]), GROUP, txn, morning.state(loan), date, verbs]
 
 
-def check_desk(page, desk, titles):
-    """Compares what a page tells of a desk with what `list` and `loan` tell."""
-    faults = []
-    parts = {name: page.parts.get((desk, name), []) for name in ("Waits for us today", "Open loans", "Over")}
-    every, still = listed(desk), listed(desk, "--open")
-    wanted = {"Waits for us today": listed(desk, "--mine", "--today", DAY), "Open loans": still,
-              "Over": [txn for txn in every if txn not in still]}
-    for name, loans in parts.items():
-        found = [loan.get("Transaction") for loan in loans]
-        is_same = found == wanted[name] if name == "Waits for us today" else sorted(found) == sorted(wanted[name])
-        if not is_same or page.counts.get((desk, name)) != len(found):
-            faults.append(f"{name}: {found}")
-        for loan in loans:
-            check_loan(desk, loan, titles[loan["Transaction"]], faults)
-            names = [arrow.split(" ")[0] for arrow in loan["arrows"]]
-            if name != "Waits for us today" and names != issued(desk, loan["Transaction"]):
-                faults.append(f"the chart of {loan['Transaction']} has {names}")
-    tell(f"{desk}: {len(every)} loans in their parts, with titles, days and charts", faults)
+def check_desk(page, desk, titles, today):
+    """Compares what a page tells of a desk with what `loan` tells, by the tables of the document."""
+    morning = Morning(today)
+    loans = list(loans_of(desk, titles, morning))
+    wanted, found = [[words, wants, len(rows), rows] for words, wants, rows in morning.tables(loans)], page.tables.get(desk, [])
+    heads = [[table[:3] for table in tables] for tables in (found, wanted)]
+    faults = [] if heads[0] == heads[1] else [f"the tables {heads[0]} and not {heads[1]}"]
+    faults += [f"{row} and not {right}" for one, other in zip(found, wanted)
+               for row, right in zip(one[3], other[3]) if row != right]
+    faults += [f"{len(one[3])} rows of {one[0]}" for one, other in zip(found, wanted) if len(one[3]) != len(other[3])]
+    counts = morning.counts([loan for loan, _ in loans])
+    faults += [] if page.counts.get(desk) == counts else [f"{page.counts.get(desk)} and not {counts}"]
+    tell(f"{desk} on {today}: {len(loans)} loans in {len(wanted)} tables, with titles, states, days and verbs", faults)
 
 
 def check_unread():
@@ -234,7 +228,7 @@ def check_unread():
     faults = page.faults + [f"{page.unread}"] * (page.unread != wanted) + [f"{told}"] * (
         told != [f"ill: <i>: {fault}", "ill: none: no-record", f"ill: {fault}"])
     faults += [f"status {done.returncode}"] * (done.returncode != 2)
-    faults += [f"no part of {desk}" for desk in ("here", "there") if not any(file == desk for file, _ in page.parts)]
+    faults += [f"no part of {desk}" for desk in ("here", "there") if desk not in page.tables]
     tell("desks that cannot be read have their faults on the page, beside the others", faults)
 
 
@@ -251,17 +245,28 @@ def contrast(one, other):
     return (light + 0.05) / (dark + 0.05)
 
 
+def schemes(style):
+    """The schemes of colours of a page: by the medium, the colours by their names. Each begins with those of any medium."""
+    found = {}
+    for part in style.split("@media "):
+        own = {name: colour for block in re.findall(r":root {([^}]*)}", part)
+               for name, colour in re.findall(r"--([a-z]+): (#[0-9a-f]+)", block)}
+        if own:
+            found["any" if not found else part.partition(" {")[0]] = {**found.get("any", {}), **own}
+    return found
+
+
 def check_style(style):
-    schemes = [dict(pair for block in re.findall(r":root {([^}]*)}", part)
-                    for pair in re.findall(r"--([a-z]+): (#[0-9a-f]+)", block)) for part in style.split("@media")]
-    faults = [] if len(schemes) == 2 else [f"{len(schemes)} schemes of colours"]
+    found = schemes(style)
+    faults = [] if list(found) == ["any", "(prefers-color-scheme: dark)", "print"] else [f"schemes of colours: {list(found)}"]
     least = 21
-    for scheme in schemes:
+    for scheme in found.values():
         for over in ("text", "quiet", "mark", "fault"):
-            for under in ("page", "card"):
-                least = min(least, contrast(scheme[over], scheme[under]))
-                if contrast(scheme[over], scheme[under]) < 4.5:
-                    faults.append(f"{over} {scheme[over]} on {under} {scheme[under]}")
+            least = min(least, contrast(scheme[over], scheme["page"]))
+            if contrast(scheme[over], scheme["page"]) < 4.5:
+                faults.append(f"{over} {scheme[over]} on {scheme['page']}")
+    faults += [f"{name} {colour} in print" for name, colour in found.get("print", {}).items()
+               if len(set(colour[1:])) > 1 or name == "page" and colour != "#fff"]
     used = re.findall(r"(?:color|background|fill|stroke|border[a-z-]*): ([^;}]*)", style)
     faults += [f"a colour with no name: {use}" for use in used if "#" in use or "rgb" in use]
     faults += [f"{word} in the style" for word in ("url(", "@import", "http", "expression") if word in style]
@@ -296,11 +301,11 @@ def check_browser(text, titles):
     try:
         with open(f"{folder}/page.html", "w", encoding="utf-8") as file:
             file.write(text)
-        seen = Page(browse(browser, folder, "--dump-dom", f"file://{folder}/page.html").replace("></path>", "/>"))
-        found = {loan["title"] for loans in seen.parts.values() for loan in loans}
+        seen = Page(browse(browser, folder, "--dump-dom", f"file://{folder}/page.html"))
+        found = {row[0] for tables in seen.tables.values() for table in tables for row in table[3]}
         tell("Chromium finds the same titles", [repr(shown(title)) for title in titles if shown(title) not in found])
-        for width in (400, 1200):
-            check_width(browser, folder, text.replace("<details>", "<details open>"), width)
+        for width in (320, 800, 1200):
+            check_width(browser, folder, text, width)
     finally:
         shutil.rmtree(folder)
 
@@ -329,12 +334,14 @@ def main(program):
     global PROGRAM
     PROGRAM = program
     titles = begin()
-    for words in (["here", "there"], ["there"]):
-        text = ill("report", *words, "--today", DAY).stdout.decode()
+    # The title of the second loan, which has the words of a reference, stands in no desk but the first.
+    for words, today in ((["here", "there"], DAY), (["here", "there"], "20250307"), (["here", "there"], "20250308"),
+                         (["here", "there"], "20250502"), (["there"], DAY)):
+        text = ill("report", *words, "--today", today).stdout.decode()
         page = Page(text)
         tell(f"the page of {' and '.join(words)} is well formed", page.faults)
         for desk in words:
-            check_desk(page, desk, titles)
+            check_desk(page, desk, titles, today)
     check_text(text)
     check_style(page.style)
     check_unread()
@@ -344,7 +351,8 @@ def main(program):
     tell("the name of a file is shown as text", [] if page.file == shown(name) and not page.faults else [repr(page.file)])
     lines("new", "empty", "requester")
     page = Page(ill("report", "empty", "--today", DAY).stdout.decode())
-    tell("a desk without loans has a page", page.faults or [str(page.counts)] * (set(page.counts.values()) != {0}))
+    told = "To do: 0. Open: 0. Loans: 0. Room for 1000 more."
+    tell("a desk without loans has a page", page.faults or [str(page.counts)] * (page.counts != {"empty": told} or bool(page.tables)))
     for words, status, said in ((["report", "empty"], 2, ""),
                                 (["report", "empty", "--today", "20250230"], 2, "ill: arguments\n")):
         done = ill(*words)

@@ -1,2 +1,1 @@
-pub mod PageLemmas
 pub mod ShelfNamesLemmas

@@ -1,3 +1,3 @@
-pub mod AtFile
+pub mod Opening
 pub mod Paths
 pub mod ShelfNames

@@ -2,7 +2,7 @@
 
 ghost use Rattle.std.specs.Prelude.{◌≡◌, ◌==◌, length};
 ghost use Rattle.std.specs.List.{ends_with};
-ghost use Rattle.ill_files.specs.AtFile.{names_answer};
+ghost use Rattle.ill_files.specs.Opening.{names_answer};
 
 use crate::paths::{BESIDE, raw_names};
 use crate::shelf::{is_named_on_shelf, is_shelf};
@@ -116,7 +116,7 @@ fn push_file<T: Files>(rt: &T, files: &mut Vec<String>, path: String) -> Result<
 }
 
 /// Writes a line to `errors` for each of the names `unnamed`. Returns the fault of a folder if there are any.
-pub(crate) fn warn_of_names<E: Write>(
+pub fn warn_of_names<E: Write>(
     alloc: Global,
     unnamed: &[String],
     errors: &mut E,

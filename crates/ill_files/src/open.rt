@@ -2,7 +2,7 @@
 
 ghost use Rattle.std.specs.Prelude.{◌≡◌, Ok, true, IfErr};
 ghost use Rattle.ill_saved.specs.Desk.{answer_of};
-ghost use Rattle.ill_files.specs.AtFile.{all_well};
+ghost use Rattle.ill_files.specs.Opening.{all_well};
 ghost use Rattle.ill_text.specs.Fault.{IsOpenFault};
 
 use ill_saved::{Desk, DeskFault, FileLock, FileStore, LockFiles, LockedDesk, RECORD_LIMIT};
@@ -21,7 +21,7 @@ pub fn all_well<A: Drop>(answer: Result<A, ToolFault>) -> Result<bool, ToolFault
 }
 
 /// Drops the desk or the store of `begun`, and returns true, or its fault.
-pub(crate) fn end<D: Drop, S: Drop>(begun: Result<D, (ToolFault, S)>) -> Result<bool, ToolFault>
+pub fn end<D: Drop, S: Drop>(begun: Result<D, (ToolFault, S)>) -> Result<bool, ToolFault>
     ensures { result ≡ all_well (answer_of begun) }
 {
     match begun {

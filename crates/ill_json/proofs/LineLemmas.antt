@@ -9,7 +9,6 @@ use Rattle.json.specs.Json.{item, document, array, string, number, boolean, null
 use Rattle.ill_values.specs.Day.{Date, iso_text}
 use Rattle.ill_values.specs.declared.apdu.Apdu.{Apdu}
 use Rattle.ill_values.specs.Apdu.{IsApdu}
-use Rattle.ill_core.specs.declared.turn.Turn.{Turn}
 use Rattle.ill_saved.specs.declared.side.Side.{Side}
 use Rattle.ill_saved.specs.Holdings.{DeskEntry, whole}
 use Rattle.ill_saved.specs.Ranges.{Each, IsSide}
@@ -22,13 +21,15 @@ use Rattle.ill_text.specs.Json.{Field, flag, quoted}
 use Rattle.ill_words.specs.Waiting.{placed, ordered, is_more_urgent, most_urgent_first}
 use Rattle.ill_show.specs.declared.loan.LoanForm.TheVariants.{Object}
 use Rattle.ill_show.specs.declared.wanted.Wanted.{Wanted}
-use Rattle.ill_show.specs.List.{counts_of, is_listed, turns_of}
-use Rattle.ill_show.specs.Listing.{between, file_told, list_objects, listed, listed_desk, rows_of}
+use Rattle.ill_work.specs.declared.work.Work.{Work}
+use Rattle.ill_work.specs.Work.{all_work}
+use Rattle.ill_show.specs.List.{counts_of, has_work, is_listed, listed_of}
+use Rattle.ill_show.specs.Listing.{between, file_told, list_objects, listed, listed_desk, section, sections, work_objects}
 use Rattle.ill_show.specs.Loan.{loan_text}
 use Rattle.ill_show.specs.Objects.{came_fields, counts_fields, counts_object, file_fields, loan_fields, message_object}
 use Rattle.ill_show.specs.Objects.{names_of, row_fields, row_object, status_of_desk}
 use Rattle.ill_json.specs.Lines.{IsEntry, fields_of_list, fields_of_loan, fields_of_message, fields_in_order, fields_of_row}
-use Rattle.ill_json.specs.Lines.{fields_of_status, fields_of_turn}
+use Rattle.ill_json.specs.Lines.{fields_of_status, fields_of_work}
 use Rattle.ill_json.specs.Objects.{AreObjectLines, IsObject, IsObjectLine, items_of, strings}
 use Rattle.ill_json.proofs.Labels.{labels, are_apart}
 use Rattle.ill_json.proofs.Values.{FieldReads, HasValue, object_reads, are_members, document_of, items_read, array_reads}
@@ -140,32 +141,32 @@ kept_each P Q keeps (x ∷ xs) so each = go (keeps x) (kept_each P Q keeps xs so
     go false rest = rest
 
 -- The line of a listed loan is an object line.
-row_is : (file : Option (List ℕ)) (today : Option Date) (turn : Turn) (side : Side) → IfSome file IsUtf8 → IsSide side
-    → IsObjectLine (row_object file today turn side) (fields_of_row file today turn side)
-row_is file today turn side u is =
-    line_is (fields_of_row file today turn side)
-    (each_append (FieldReads 2) (row_fields turn side (names_of today side)) (file_fields file)
-    (row_reads today turn side is.1) (file_reads file u)) (row_apart file today turn side)
+row_is : (file : Option (List ℕ)) (today : Option Date) (work : Work) (side : Side) → IfSome file IsUtf8 → IsSide side
+    → IsObjectLine (row_object file today work side) (fields_of_row file today work side)
+row_is file today work side u is =
+    line_is (fields_of_row file today work side)
+    (each_append (FieldReads 2) (row_fields work side (names_of today side)) (file_fields file)
+    (row_reads today work side is.1) (file_reads file u)) (row_apart file today work side)
 
--- The rows of one turn are object lines.
-rows_are : (file : Option (List ℕ)) (wanted : Wanted) (held : List Side) → IfSome file IsUtf8 → Each IsSide held → (turn : Turn)
-    → AreObjectLines (rows_of (row_object file) wanted held turn) (fields_of_turn file wanted held turn)
-rows_are file wanted held u each turn =
-    lines_each (fields_of_row file wanted.today turn) (filter (is_listed wanted turn) held)
-    (kept_each IsSide (λ side. IsObjectLine (row_object file wanted.today turn side) (fields_of_row file wanted.today turn side))
-    (is_listed wanted turn) held (λ side is. row_is file wanted.today turn side u is) each)
+-- The rows of one kind of work are object lines.
+rows_are : (file : Option (List ℕ)) (wanted : Wanted) (shown : List Side) → IfSome file IsUtf8 → Each IsSide shown → (work : Work)
+    → AreObjectLines (section (work_objects file) wanted shown work) (fields_of_work file wanted shown work)
+rows_are file wanted shown u each work =
+    lines_each (fields_of_row file wanted.today work) (filter (has_work wanted work) shown)
+    (kept_each IsSide (λ side. IsObjectLine (row_object file wanted.today work side) (fields_of_row file wanted.today work side))
+    (has_work wanted work) shown (λ side is. row_is file wanted.today work side u is) each)
 
 -- A list in order is object lines.
 ordered_are : (file : Option (List ℕ)) (wanted : Wanted) (held : List Side) → IfSome file IsUtf8 → Each IsSide held
     → length held ≤ most_sides
-    → AreObjectLines (listed (row_object file) (counts_object file) wanted held) (fields_in_order file wanted held)
+    → AreObjectLines (listed (work_objects file) (counts_object file) wanted held) (fields_in_order file wanted held)
 ordered_are file wanted held u each few =
-    lines_append (flat_map (rows_of (row_object file) wanted held) (turns_of wanted.which)) _
-    (flat_map (fields_of_turn file wanted held) (turns_of wanted.which)) _
-    (lines_flat (rows_of (row_object file) wanted held) (fields_of_turn file wanted held) (turns_of wanted.which)
-    (rows_are file wanted held u each))
-    (lines_one _ (line_is _ (each_append (FieldReads 2) (counts_fields (counts_of wanted.today held)) (file_fields file)
-    (counts_reads wanted.today held few) (file_reads file u)) (counts_apart file wanted held)))
+    let shown = listed_of wanted held in
+    lines_append (sections (work_objects file) wanted shown) _ (flat_map (fields_of_work file wanted shown) all_work) _
+    (lines_flat (section (work_objects file) wanted shown) (fields_of_work file wanted shown) all_work
+    (rows_are file wanted shown u (kept_each IsSide IsSide (is_listed wanted) held (λ side is. is) each)))
+    (lines_one _ (line_is _ (each_append (FieldReads 2) (counts_fields (counts_of wanted held)) (file_fields file)
+    (counts_reads wanted held few) (file_reads file u)) (counts_apart file wanted held)))
 
 -- The objects of a desk are object lines.
 objects_are : (file : Option (List ℕ)) (wanted : Wanted) (held : SidesOf) → IfSome file IsUtf8 → AreSides held

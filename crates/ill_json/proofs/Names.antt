@@ -15,6 +15,9 @@ use Rattle.ill_core.specs.declared.verb.Verb.TheVariants as verbs
 use Rattle.ill_core.specs.State.{state_name}
 use Rattle.ill_core.specs.Verbs.{verb_name}
 use Rattle.ill_core.specs.Words.{turn_name}
+use Rattle.ill_work.specs.declared.work.Work.{Work}
+use Rattle.ill_work.specs.declared.work.Work.TheVariants as works
+use Rattle.ill_work.specs.Work.{work_words}
 use Rattle.ill_saved.specs.declared.role.Role.{Role}
 use Rattle.ill_saved.specs.declared.role.Role.TheVariants as roles
 use Rattle.ill_saved.specs.Roles.{role_name}
@@ -93,3 +96,25 @@ verb_printable verbs.Expire = refl
 pub role_printable : (it : Role) → are_printable (role_name it) ≡ true
 role_printable roles.Requester = refl
 role_printable roles.Responder = refl
+
+-- The words of a kind of work are printable.
+pub work_printable : (it : Work) → are_printable (work_words it) ≡ true
+work_printable works.SendBackRecalled = refl
+work_printable works.LookFor = refl
+work_printable works.SendBackOverdue = refl
+work_printable works.NotifyOverdue = refl
+work_printable works.RecallOrAsk = refl
+work_printable works.LetExpire = refl
+work_printable works.CancelOrAsk = refl
+work_printable works.AnswerCancel = refl
+work_printable works.AnswerRenewal = refl
+work_printable works.AnswerConditions = refl
+work_printable works.AnswerRequest = refl
+work_printable works.SendBackOrRenew = refl
+work_printable works.CheckIn = refl
+work_printable works.Unpack = refl
+work_printable works.Request = refl
+work_printable works.OnItsWay = refl
+work_printable works.WithReader = refl
+work_printable works.Wait = refl
+work_printable works.Over = refl

@@ -15,8 +15,7 @@ use Rattle.ill_values.specs.declared.apdu.BodyWith.TheVariants.{RenewAnswer, Exp
 use Rattle.ill_values.specs.Apdu.{IsApdu, IsBody, IsNumber}
 use Rattle.ill_values.specs.Types.{type_of}
 use Rattle.ill_values.proofs.Texts.{item_utf8, qualifier_utf8}
-use Rattle.ill_core.specs.declared.turn.Turn.{Turn}
-use Rattle.ill_core.specs.declared.turn.Turn.TheVariants as turns
+use Rattle.ill_work.specs.declared.work.Work.{Work}
 use Rattle.ill_core.specs.declared.verb.Verb.{Verb}
 use Rattle.ill_core.specs.Requester.{is_received_by, is_declined}
 use Rattle.ill_core.specs.ResponderActions.{expiry_of}
@@ -31,7 +30,7 @@ use Rattle.ill_words.specs.Possible.{possible_on, request_of, item_in, item_aske
 use Rattle.ill_text.specs.ApduObject.{head_fields, optional_date_fields, body_fields, apdu_fields}
 use Rattle.ill_text.specs.Json.{flag, optional, quoted}
 use Rattle.ill_show.specs.declared.wanted.Wanted.{Wanted}
-use Rattle.ill_show.specs.List.{counts_of, has_turn}
+use Rattle.ill_show.specs.List.{counts_of, is_to_do}
 use Rattle.ill_show.specs.Objects.{counts_fields, file_fields, leaves_fields, loan_fields, message_object, messages_fields}
 use Rattle.ill_show.specs.Objects.{names_of}
 use Rattle.ill_show.specs.Objects.{came_fields, row_fields, status_fields, taken_fields, turn_fields}
@@ -39,6 +38,7 @@ use Rattle.ill_show.specs.Status.{mark, marks_of}
 use Rattle.ill_json.specs.Lines.{fields_of_counts, fields_of_loan, fields_of_message, fields_of_row}
 use Rattle.ill_json.proofs.Labels.{labels, are_apart, apart_before}
 use Rattle.ill_json.proofs.Names.{type_printable, result_printable, state_printable, turn_printable, verb_printable}
+use Rattle.ill_json.proofs.Names.{work_printable}
 use Rattle.ill_json.proofs.Names.{role_printable}
 use Rattle.ill_json.proofs.Shown.{are_printable, printable_shown}
 use Rattle.ill_json.proofs.Values.{HasValue, FieldReads, object_reads}
@@ -330,10 +330,10 @@ loan_apart (sides.Responder y) released came = refl
 -- ---- lists
 
 -- The labels of the line of a loan differ.
-pub row_apart : (file : Option (List ℕ)) (today : Option Date) (turn : Turn) (side : Side)
-    → are_apart (labels (fields_of_row file today turn side)) ≡ true
-row_apart None today turn side = refl
-row_apart (Some path) today turn side = refl
+pub row_apart : (file : Option (List ℕ)) (today : Option Date) (work : Work) (side : Side)
+    → are_apart (labels (fields_of_row file today work side)) ≡ true
+row_apart None today work side = refl
+row_apart (Some path) today work side = refl
 
 -- The labels of the line of the counts differ.
 pub counts_apart : (file : Option (List ℕ)) (wanted : Wanted) (held : List Side)
@@ -348,22 +348,25 @@ file_reads None u = tt
 file_reads (Some path) u = (field_reads 2 _ _ refl (text_value 2 path u), tt)
 
 -- The fields of a listed loan are read.
-pub row_reads : (today : Option Date) (turn : Turn) (side : Side) → IsInRange side
-    → Each (FieldReads 2) (row_fields turn side (names_of today side))
+pub row_reads : (today : Option Date) (work : Work) (side : Side) → IsInRange side
+    → Each (FieldReads 2) (row_fields work side (names_of today side))
 unfolding Each
-row_reads today turn side is = (
-  field_reads 2 _ _ refl (name_value 2 _ (turn_printable turn)),
+row_reads today work side is = (
+  field_reads 2 _ _ refl (name_value 2 _ refl),
   (
-    field_reads 2 _ _ refl (name_value 2 _ (state_printable (state_of side))),
+    field_reads 2 _ _ refl (name_value 2 _ (work_printable work)),
     (
-      field_reads 2 _ _ refl (optional_day_value 2 (due_date_of side)),
+      field_reads 2 _ _ refl (name_value 2 _ (state_printable (state_of side))),
       (
-        field_reads 2 _ _ refl (text_value 2 (txn_of side).group (qualifier_utf8 _ (txn_is side is).group)),
+        field_reads 2 _ _ refl (optional_day_value 2 (due_date_of side)),
         (
-          field_reads 2 _ _ refl (text_value 2 (txn_of side).transaction (qualifier_utf8 _ (txn_is side is).transaction)),
+          field_reads 2 _ _ refl (text_value 2 (txn_of side).group (qualifier_utf8 _ (txn_is side is).group)),
           (
-            field_reads 2 _ _ refl (words_value 1 (names_of today side) (verbs_utf8 (possible_on today side))),
-            (field_reads 2 _ _ refl (item_value 2 side is), tt),
+            field_reads 2 _ _ refl (text_value 2 (txn_of side).transaction (qualifier_utf8 _ (txn_is side is).transaction)),
+            (
+              field_reads 2 _ _ refl (words_value 1 (names_of today side) (verbs_utf8 (possible_on today side))),
+              (field_reads 2 _ _ refl (item_value 2 side is), tt),
+            ),
           ),
         ),
       ),
@@ -372,17 +375,20 @@ row_reads today turn side is = (
 )
 
 -- The fields of the counts are read.
-pub counts_reads : (today : Option Date) (held : List Side) → length held ≤ most_sides
-    → Each (FieldReads 2) (counts_fields (counts_of today held))
+pub counts_reads : (wanted : Wanted) (held : List Side) → length held ≤ most_sides
+    → Each (FieldReads 2) (counts_fields (counts_of wanted held))
 unfolding Each
-counts_reads today held few = (
-  field_reads 2 _ _ refl (number_value 2 (length held) (omega arith)),
+counts_reads wanted held few = (
+  field_reads 2 _ _ refl (name_value 2 _ refl),
   (
-    field_reads 2 _ _ refl (number_value 2 (counts_of today held).open_loans (omega arith)),
+    field_reads 2 _ _ refl (number_value 2 (length held) (omega arith)),
     (
-      field_reads 2 _ _ refl (number_value 2 (counts_of today held).mine
-          (omega (arith, count_by-le-length (has_turn today turns.Mine) held))),
-      (field_reads 2 _ _ refl (number_value 2 (most_sides - length held) (omega arith)), tt),
+      field_reads 2 _ _ refl (number_value 2 (counts_of wanted held).open_loans (omega arith)),
+      (
+        field_reads 2 _ _ refl (number_value 2 (counts_of wanted held).to_do
+            (omega (arith, count_by-le-length (is_to_do wanted) held))),
+        (field_reads 2 _ _ refl (number_value 2 (most_sides - length held) (omega arith)), tt),
+      ),
     ),
   ),
 )

@@ -3,7 +3,6 @@ use Rattle.std.specs.Prelude.{ℕ, ◌≤◌, List, [], ◌∷◌, ◌++◌, map
 use Rattle.std.specs.List.{flat_map}
 use Rattle.ill_values.specs.Day.{Date}
 use Rattle.ill_values.specs.declared.apdu.Apdu.{Apdu}
-use Rattle.ill_core.specs.declared.turn.Turn.{Turn}
 use Rattle.ill_saved.specs.declared.side.Side.{Side}
 use Rattle.ill_saved.specs.Holdings.{DeskEntry}
 use Rattle.ill_saved.specs.Ranges.{IsSide}
@@ -11,30 +10,33 @@ use Rattle.ill_text.specs.Json.{Field}
 use Rattle.ill_text.specs.ApduObject.{apdu_fields}
 use Rattle.ill_words.specs.Waiting.{most_urgent_first}
 use Rattle.ill_show.specs.declared.wanted.Wanted.{Wanted}
-use Rattle.ill_show.specs.List.{turns_of, is_listed, counts_of}
+use Rattle.ill_work.specs.declared.work.Work.{Work}
+use Rattle.ill_work.specs.Work.{all_work}
+use Rattle.ill_show.specs.List.{has_work, listed_of, counts_of}
 use Rattle.ill_show.specs.Objects.{names_of, row_fields, counts_fields, file_fields, status_fields, loan_fields, came_fields}
 use Rattle.ill_show.specs.Objects.{leaves_fields}
 
 -- ---- `list`
 
--- Returns the fields in the line of a listed loan of this turn.
-abbrev pub fields_of_row : Option (List ℕ) → Option Date → Turn → Side → List Field
-fields_of_row file today turn side = row_fields turn side (names_of today side) ++ file_fields file
+-- Returns the fields in the line of a listed loan with this work.
+abbrev pub fields_of_row : Option (List ℕ) → Option Date → Work → Side → List Field
+fields_of_row file today work side = row_fields work side (names_of today side) ++ file_fields file
 
--- Returns the fields in the line of each listed loan of one turn.
-abbrev pub fields_of_turn : Option (List ℕ) → Wanted → List Side → Turn → List (List Field)
-fields_of_turn file wanted sides turn = map (fields_of_row file wanted.today turn) (filter (is_listed wanted turn) sides)
+-- Returns the fields in the line of each of the `listed` loans that have this work.
+abbrev pub fields_of_work : Option (List ℕ) → Wanted → List Side → Work → List (List Field)
+fields_of_work file wanted listed work =
+    map (fields_of_row file wanted.today work) (filter (has_work wanted work) listed)
 
 -- Returns the fields in the line of the counts.
 abbrev pub fields_of_counts : Option (List ℕ) → Wanted → List Side → List Field
-fields_of_counts file wanted sides = counts_fields (counts_of wanted.today sides) ++ file_fields file
+fields_of_counts file wanted sides = counts_fields (counts_of wanted sides) ++ file_fields file
 
--- Returns the fields in each line of a list of `sides`, within each turn in the order of `sides`. The counts come last.
+-- Returns the fields in each line of a list of `sides`, kind of work by kind of work. The counts come last.
 abbrev pub fields_in_order : Option (List ℕ) → Wanted → List Side → List (List Field)
 fields_in_order file wanted sides =
-    flat_map (fields_of_turn file wanted sides) (turns_of wanted.which) ++ fields_of_counts file wanted sides ∷ []
+    flat_map (fields_of_work file wanted (listed_of wanted sides)) all_work ++ fields_of_counts file wanted sides ∷ []
 
--- Returns the fields in each line of `list`. Within each turn the most urgent loans come first.
+-- Returns the fields in each line of `list`. Loans with one kind of work are in the order of their deadlines.
 abbrev pub fields_of_list : Option (List ℕ) → Wanted → List Side → List (List Field)
 fields_of_list file wanted sides = fields_in_order file wanted (most_urgent_first sides)
 

@@ -15,14 +15,15 @@ use Rattle.clap.specs.Simple.{subcommand_rows, subcommand_rows_of}
 use Rattle.clap.proofs.WalkLemmas.{first_value-rows, raw_values-rows}
 use Rattle.ill_values.specs.Day.{Date, read_date}
 use Rattle.ill_values.specs.declared.fault.DayFault.{DayFault}
-use Rattle.ill_words.specs.Words.{◌>>=◌}
+use Rattle.ill_words.specs.Words.{◌>>=◌, number_of}
 use Rattle.ill_text.specs.declared.fault.ToolFault.TheVariants.{Arguments, OutOfMemory}
 use Rattle.ill_line.specs.declared.request.Refusal.{Refusal}
 use Rattle.ill_line.specs.declared.request.Refusal.TheVariants.{Usage, Fault}
 use Rattle.ill_line.specs.declared.command_line.Argument.{Argument}
 use Rattle.ill_line.specs.CommandLine.{id_of, is_option}
-use Rattle.ill_line.specs.declared.command_line.Argument.TheVariants.{InState}
+use Rattle.ill_line.specs.declared.command_line.Argument.TheVariants.{Ahead, DueBefore, InState}
 use Rattle.ill_line.specs.Asked.{Asked, Act, IsRefusal, text_of, texts_of, day_in, day_said, state_in, state_said}
+use Rattle.ill_line.specs.Asked.{ReadsValue, ahead_in, days_said, day_or_days, due_in, due_said}
 use Rattle.ill_line.specs.Asked.{end_with_dashes, has_option, said_free, unless_option}
 use Rattle.ill_core.specs.State.{state_named}
 use Rattle.ill_core.specs.declared.state.State.{State}
@@ -56,6 +57,21 @@ pub state_read : (m : ArgMatches) (id word bytes : List ℕ) (read : Option Stat
 state_read m id word bytes read named is same reads =
     ap state_said (text_said m id InState (Some word) named is)
     ∙ ap (λ (read : Option State). option_map Some read) (sym (reads ∙ ap state_named same))
+
+-- `ahead_in` returns the number that is read from the text `word` of its argument.
+pub ahead_read : (m : ArgMatches) (id word bytes : List ℕ) (read : Option ℕ) → id ≡ id_of Ahead
+    → Some word ≡ first_value (found_of m) id → bytes ≡ word
+    → read ≡ number_of bytes → ahead_in (rows_of (found_of m)) ≡ read
+ahead_read m id word bytes read named is same reads =
+    ap days_said (text_said m id Ahead (Some word) named is) ∙ sym (reads ∙ ap number_of same)
+
+-- `due_in` returns the day that is read from the text `word` of its argument.
+pub due_read : (m : ArgMatches) (id word bytes : List ℕ) (today : Option Date) (read : Option Date) → id ≡ id_of DueBefore
+    → Some word ≡ first_value (found_of m) id → bytes ≡ word
+    → read ≡ day_or_days today bytes → due_in today (rows_of (found_of m)) ≡ option_map Some read
+due_read m id word bytes today read named is same reads =
+    ap (due_said today) (text_said m id DueBefore (Some word) named is)
+    ∙ ap (λ (read : Option Date). option_map Some read) (sym (reads ∙ ap (day_or_days today) same))
 
 -- `texts_of` returns all values that the parser has under the name of `argument`.
 pub texts_said : (m : ArgMatches) (id : List ℕ) (argument : Argument) (said : Option (List (List ℕ)))
@@ -111,6 +127,12 @@ pub refused_third : {A B C D : Type 0} (first : Option A) (a : A) (second : Opti
 refused_third {A} first a second b third next refusal is also right =
     subst (λ (first : Option A). IsRefusal (is_none (first >>= λ a. second >>= λ b. third >>= next a b)) refusal) (sym is)
     (refused_after second b third (next a) refusal also right)
+
+-- If the first argument is read, a value that is right of the rest after it is right of all.
+pub read_after : {A B C : Type 0} (first : Option A) (a : A) (next : A → Option B) (of : C → B) (result : Result C Refusal)
+    → first ≡ Some a → ReadsValue of (next a) result → ReadsValue of (first >>= next) result
+read_after first a next of result is right =
+    subst (λ read. ReadsValue of (read >>= next) result) (sym is) right
 
 -- The words before an action end with `--` if and only if their texts do.
 dashes_met : (words action : List (Bor (List ℕ))) (first : ℕ) (met : Bool) → first ≡ length words - length action

@@ -1,12 +1,12 @@
 -- The requests of command lines: each is read from the words after the word of a command (this profile's
 -- own).
 use Rattle.std.specs.Prelude.{◌≡◌, ℕ, Bool, true, false, ◌||◌, if◌then◌else◌, List, map, codes, Option, None, Some, option_map}
-use Rattle.std.specs.Prelude.{is_none, Result, Ok, Err, is_ok, ◌-◌, ◌&&◌, not, length, slice_get, take}
+use Rattle.std.specs.Prelude.{is_none, Result, Ok, Err, is_ok, ◌-◌, ◌&&◌, ◌==◌, not, [], ◌∷◌, length, slice_get, take}
 use Rattle.std.specs.List.{list_any}
 use Rattle.std.specs.Result.{result_ok}
 use Rattle.std.specs.Str.{bytes_eq}
 use Rattle.clap.specs.Words.{Row, Text, first_of, all_of}
-use Rattle.ill_values.specs.Day.{Date}
+use Rattle.ill_values.specs.Day.{Date, day_after}
 use Rattle.ill_values.specs.Text.{qualifier_check}
 use Rattle.ill_values.specs.TxnId.{Qualifiers, txn_id_of}
 use Rattle.ill_core.specs.declared.state.State.{State}
@@ -23,6 +23,7 @@ use Rattle.ill_text.specs.declared.form.Form.TheVariants as forms
 use Rattle.ill_night.specs.declared.dates.Dates.{Dates}
 use Rattle.ill_show.specs.declared.wanted.Which.{Which}
 use Rattle.ill_show.specs.declared.wanted.Which.TheVariants as loans
+use Rattle.ill_show.specs.declared.soon.TheConstants.{SOON}
 use Rattle.ill_show.specs.declared.wanted.Wanted.{Wanted}
 use Rattle.ill_line.specs.declared.request.Refusal.{Refusal}
 use Rattle.ill_line.specs.declared.request.Refusal.TheVariants.{Usage, Fault}
@@ -34,7 +35,8 @@ use Rattle.ill_line.specs.declared.command_line.Argument.{Argument}
 use Rattle.ill_line.specs.declared.command_line.Argument.TheVariants.{NewFile, File, Folder, Role, Group, Transaction, Today}
 use Rattle.ill_line.specs.declared.command_line.Argument.TheVariants.{Words, Number, Long, Keep, Picture, Open, Mine, Json, Paths}
 use Rattle.ill_line.specs.declared.command_line.Argument.TheVariants.{OnDay, DueBefore, InState, ReportDay, OutFolder, Stream, In}
-use Rattle.ill_line.specs.declared.command_line.Argument.TheVariants.{Out, NightDay, Overdue, Expire, Copy, Beat, NewGroup}
+use Rattle.ill_line.specs.declared.command_line.Argument.TheVariants.{Out, NightDay, Overdue, Expire, Copy, Beat, NewGroup, Ahead}
+use Rattle.ill_line.specs.declared.command_line.Argument.TheVariants.{Actions}
 use Rattle.ill_line.specs.CommandLine.{name_read, id_of, is_option}
 use Rattle.ill_files.specs.Paths.{is_beside}
 use Rattle.ill_core.specs.State.{state_named}
@@ -114,18 +116,59 @@ is_true (Some text) = bytes_eq text (codes "true")
 abbrev pub is_set : Argument → Found → Bool
 is_set flag found = is_true (text_of flag found)
 
--- Returns the turns of the loans to list. If both flags are set, `--mine` decides.
+-- Returns the loans to list, by their work. If both flags are set, `--mine` decides.
 abbrev pub which_of : Found → Which
 which_of found =
     if is_set Mine found then loans.Mine else (if is_set Open found then loans.Open else loans.All)
 
--- Returns the conditions on the loans to list, if each argument is valid. A listed loan meets all of them.
-abbrev pub wanted_of : Found → Option Wanted
-wanted_of found = do
-  today ← day_in OnDay found
-  due_before ← day_in DueBefore found
+-- Returns the number of days that an optional word spells, from 1 to 255. It is `SOON` without a word.
+abbrev pub days_said : Option (List ℕ) → Option ℕ
+days_said None = Some SOON
+days_said (Some word) = number_of word
+
+-- Returns the number of days of the option `--ahead`, as `days_said` does.
+abbrev pub ahead_in : Found → Option ℕ
+ahead_in found = days_said (text_of Ahead found)
+
+-- Returns the day that is a number of days after `today`, from 1 to 255.
+abbrev pub days_on : Date → List ℕ → Option Date
+days_on today digits = number_of digits >>= λ days. result_ok (day_after days today)
+
+-- Returns the day of a word. It is a day or, if `today` is given, a plus sign and a number of days after it.
+abbrev pub day_or_days : Option Date → List ℕ → Option Date
+day_or_days None word = day_of word
+day_or_days (Some today) [] = day_of []
+day_or_days (Some today) (byte ∷ digits) =
+    if byte == 0x2B then days_on today digits else day_of (byte ∷ digits)
+
+-- Returns the day of an optional word, as `day_or_days` does. It is Some None without a word.
+abbrev pub due_said : Option Date → Option (List ℕ) → Option (Option Date)
+due_said today None = Some None
+due_said today (Some word) = option_map Some (day_or_days today word)
+
+-- Returns the day of the option `--due-before`, as `due_said` does.
+abbrev pub due_in : Option Date → Found → Option (Option Date)
+due_in today found = due_said today (text_of DueBefore found)
+
+-- Returns the conditions on the loans to list on the day `today`, if each argument is valid. A listed loan meets all of
+-- them.
+abbrev pub wanted_on : Option Date → Found → Option Wanted
+wanted_on today found = do
+  ahead ← ahead_in found
+  due_before ← due_in today found
   state ← state_in found
-  Some (record { which = which_of found; today = today; due_before = due_before; state = state })
+  Some (record {
+    which = which_of found;
+    today = today;
+    ahead = ahead;
+    due_before = due_before;
+    state = state;
+    has_actions = is_set Actions found;
+  })
+
+-- Returns the conditions on the loans to list, on the day that is given, if one is.
+abbrev pub wanted_of : Found → Option Wanted
+wanted_of found = day_in OnDay found >>= λ today. wanted_on today found
 
 -- Returns the form of the output.
 abbrev pub form_of : Found → Form
@@ -175,6 +218,7 @@ pub data Asked : Type 0 where
   Listing : (paths : List (List ℕ)) → (wanted : Wanted) → (form : Form) → Asked
   Status : (file : List ℕ) → (form : Form) → Asked
   Loan : (file : List ℕ) → (txn : Qualifiers) → (form : LoanForm) → Asked
+  Slip : (file : List ℕ) → (txn : Qualifiers) → Asked
   Report : (paths : List (List ℕ)) → (today : Date) → Asked
   Retire : (file group : List ℕ) → Asked
   Verify : (file : List ℕ) → Asked
@@ -198,6 +242,7 @@ asked (requests.Send file txn number) = Send file.now txn number
 asked (requests.List paths wanted form) = Listing (map (λ path. path.now) paths.items) wanted form
 asked (requests.Status file form) = Status file.now form
 asked (requests.Loan file txn form) = Loan file.now txn form
+asked (requests.Slip file txn) = Slip file.now txn
 asked (requests.Report paths today) = Report (map (λ path. path.now) paths.items) today
 asked (requests.Retire file group) = Retire file.now group.now
 asked (requests.Verify file) = Verify file.now
@@ -265,6 +310,10 @@ asked_of names.Loan found = do
   file ← text_of File found
   txn ← loan_of found
   Some (Loan file txn (loan_form (form_of found) (is_set Picture found)))
+asked_of names.Slip found = do
+  file ← text_of File found
+  txn ← loan_of found
+  Some (Slip file txn)
 asked_of names.Report found = do
   paths ← texts_of Paths found
   today ← report_day_of found

@@ -3,13 +3,15 @@ use Rattle.std.specs.Prelude.{ℕ, Bool, List, [], ◌∷◌, codes, Option, fin
 use Rattle.std.specs.List.{before_first, list_any}
 use Rattle.ill_line.specs.declared.command_line.Name.{Name}
 use Rattle.ill_line.specs.declared.command_line.Name.TheVariants.{New, Act, Take, Inbox, Outbox, Exchange, Send, Status, Loan}
-use Rattle.ill_line.specs.declared.command_line.Name.TheVariants.{Report, Retire, Verify, Show, Check, Simulate, SimulateDesks}
+use Rattle.ill_line.specs.declared.command_line.Name.TheVariants.{Slip, Report, Retire, Verify, Show, Check, Simulate}
+use Rattle.ill_line.specs.declared.command_line.Name.TheVariants.{SimulateDesks}
 use Rattle.ill_line.specs.declared.command_line.Name.TheVariants as names
 use Rattle.ill_line.specs.declared.command_line.Argument.{Argument}
 use Rattle.ill_line.specs.declared.command_line.Argument.TheVariants.{NewFile, File, Folder, Role, Group, Transaction, Today}
 use Rattle.ill_line.specs.declared.command_line.Argument.TheVariants.{Words, Number, Long, Keep, Picture, Open, Mine, Json, Paths}
 use Rattle.ill_line.specs.declared.command_line.Argument.TheVariants.{OnDay, DueBefore, InState, ReportDay, OutFolder, Stream, In}
-use Rattle.ill_line.specs.declared.command_line.Argument.TheVariants.{Out, NightDay, Overdue, Expire, Copy, Beat, NewGroup}
+use Rattle.ill_line.specs.declared.command_line.Argument.TheVariants.{Out, NightDay, Overdue, Expire, Copy, Beat, NewGroup, Ahead}
+use Rattle.ill_line.specs.declared.command_line.Argument.TheVariants.{Actions}
 
 -- Returns the word of a command on the command line.
 abbrev pub word_of : Name → List ℕ
@@ -23,6 +25,7 @@ word_of Send = codes "send"
 word_of names.List = codes "list"
 word_of Status = codes "status"
 word_of Loan = codes "loan"
+word_of Slip = codes "slip"
 word_of Report = codes "report"
 word_of Retire = codes "retire"
 word_of Verify = codes "verify"
@@ -34,8 +37,8 @@ word_of SimulateDesks = codes "simulate-desks"
 -- Returns the command that has the word `word`.
 abbrev pub name_read : List ℕ → Option Name
 name_read word = find (λ name. bytes_eq (word_of name) word)
-    (New ∷ Act ∷ names.List ∷ Loan ∷ Status ∷ Report ∷ Take ∷ Send ∷ Inbox ∷ Outbox ∷ Exchange ∷ Verify ∷ Show ∷ Check
-    ∷ Simulate ∷ SimulateDesks ∷ Retire ∷ [])
+    (New ∷ Act ∷ names.List ∷ Loan ∷ Slip ∷ Status ∷ Report ∷ Take ∷ Send ∷ Inbox ∷ Outbox ∷ Exchange ∷ Verify ∷ Show
+    ∷ Check ∷ Simulate ∷ SimulateDesks ∷ Retire ∷ [])
 
 -- Returns the name that `clap` has for an argument.
 abbrev pub id_of : Argument → List ℕ
@@ -69,14 +72,16 @@ id_of Expire = codes "expire"
 id_of Copy = codes "copy"
 id_of Beat = codes "beat"
 id_of NewGroup = codes "new-group"
+id_of Ahead = codes "ahead"
+id_of Actions = codes "actions"
 
 -- All options of the program.
 abbrev pub options : List (List ℕ)
 options =
-    codes "--today" ∷ codes "--due-before" ∷ codes "--state" ∷ codes "--copy" ∷ codes "--beat" ∷ codes "--stream"
-    ∷ codes "--overdue" ∷ codes "--expire" ∷ codes "--long" ∷ codes "--keep" ∷ codes "--picture" ∷ codes "--open"
-    ∷ codes "--mine" ∷ codes "--json" ∷ codes "--new-group" ∷ codes "--explain" ∷ codes "--help" ∷ codes "--version"
-    ∷ codes "-h" ∷ codes "-V" ∷ []
+    codes "--today" ∷ codes "--ahead" ∷ codes "--due-before" ∷ codes "--state" ∷ codes "--copy" ∷ codes "--beat"
+    ∷ codes "--stream" ∷ codes "--overdue" ∷ codes "--expire" ∷ codes "--long" ∷ codes "--keep" ∷ codes "--picture"
+    ∷ codes "--open" ∷ codes "--mine" ∷ codes "--actions" ∷ codes "--json" ∷ codes "--new-group" ∷ codes "--explain"
+    ∷ codes "--help" ∷ codes "--version" ∷ codes "-h" ∷ codes "-V" ∷ []
 
 -- Returns `word` before its first `=`, which is the byte 61.
 abbrev pub name_in : List ℕ → List ℕ

@@ -21,6 +21,7 @@ pub enum Name {
     List,
     Status,
     Loan,
+    Slip,
     Report,
     Retire,
     Verify,
@@ -35,11 +36,12 @@ pub const SHELF: &str = "shelf";
 
 /// All commands, in the order of the help. First come the commands for staff, then the commands for the exchange with
 /// other libraries. The last are for looking inside, and one is for shelves alone. `clap` has these and no others.
-const NAMES: [Name; 17] = [
+const NAMES: [Name; 18] = [
     Name::New,
     Name::Act,
     Name::List,
     Name::Loan,
+    Name::Slip,
     Name::Status,
     Name::Report,
     Name::Take,
@@ -56,10 +58,11 @@ const NAMES: [Name; 17] = [
 ];
 
 /// The commands on a shelf.
-const SHELF_NAMES: [Name; 10] = [
+const SHELF_NAMES: [Name; 11] = [
     Name::New,
     Name::Act,
     Name::Loan,
+    Name::Slip,
     Name::Status,
     Name::Take,
     Name::Send,
@@ -85,6 +88,7 @@ impl Name {
             Name::List => "list",
             Name::Status => "status",
             Name::Loan => "loan",
+            Name::Slip => "slip",
             Name::Report => "report",
             Name::Retire => "retire",
             Name::Verify => "verify",
@@ -105,9 +109,10 @@ impl Name {
             Name::Outbox => "Put the messages that want sending into a folder of mails",
             Name::Exchange => "Take the mails of a folder, and send into another",
             Name::Send => "Write the bytes of one message of a loan",
-            Name::List => "List the loans of desks, a line for each",
+            Name::List => "List the loans of desks by the work of the day",
             Name::Status => "Show how each loan in a file stands",
             Name::Loan => "Show all of one loan: request, messages, what may be done",
+            Name::Slip => "Write a slip of one loan, to print and to lay in its item",
             Name::Report => "Write a page for a browser of the loans of desks",
             Name::Retire => "Replace a desk whose loans are over by a mark of its group",
             Name::Verify => "Read a desk, and tell what it has or what is wrong with it",
@@ -131,6 +136,7 @@ impl Name {
             Name::List => help::LIST,
             Name::Status => help::STATUS,
             Name::Loan => help::LOAN,
+            Name::Slip => help::SLIP,
             Name::Report => help::REPORT,
             Name::Retire => help::RETIRE,
             Name::Verify => help::VERIFY,
@@ -154,6 +160,7 @@ impl Name {
             Name::List => help::LIST_EXAMPLE,
             Name::Status => help::STATUS_EXAMPLE,
             Name::Loan => help::LOAN_EXAMPLE,
+            Name::Slip => help::SLIP_EXAMPLE,
             Name::Report => help::REPORT_EXAMPLE,
             Name::Retire => help::RETIRE_EXAMPLE,
             Name::Verify => help::VERIFY_EXAMPLE,
@@ -204,14 +211,17 @@ impl Name {
                 Argument::Picture,
                 Argument::Json,
             ],
+            Name::Slip => &[Argument::File, Argument::Group, Argument::Transaction],
             Name::Report => &[Argument::Paths, Argument::ReportDay],
             Name::List => &[
                 Argument::Paths,
                 Argument::Open,
                 Argument::Mine,
                 Argument::OnDay,
+                Argument::Ahead,
                 Argument::DueBefore,
                 Argument::InState,
+                Argument::Actions,
                 Argument::Json,
             ],
             Name::Simulate => &[Argument::Group, Argument::Transaction],
@@ -245,6 +255,7 @@ impl Name {
             Name::New => help::SHELF_NEW,
             Name::Act => help::SHELF_ACT,
             Name::Loan => help::SHELF_LOAN,
+            Name::Slip => help::SHELF_SLIP,
             Name::Status => help::SHELF_STATUS,
             Name::Take => help::SHELF_TAKE,
             Name::Send => help::SHELF_SEND,
@@ -307,14 +318,18 @@ pub enum Argument {
     Picture,
     /// Set if the loans that are over are left out.
     Open,
-    /// Set if the loans that wait for the other library are left out too.
+    /// Set if the loans that want no hand are left out too.
     Mine,
+    /// Set if a list has the actions of each loan.
+    Actions,
     /// Set if objects of JSON are written.
     Json,
     /// The paths of desks, or of folders of them.
     Paths,
-    /// The day on which loans past their deadlines wait for this library.
+    /// The day of a list.
     OnDay,
+    /// The number of days within which a due date is soon.
+    Ahead,
     /// The day before which the listed loans are due.
     DueBefore,
     /// The state of the listed loans.
@@ -351,8 +366,10 @@ impl Argument {
             Argument::Picture => "picture",
             Argument::Open => "open",
             Argument::Mine => "mine",
+            Argument::Actions => "actions",
             Argument::Json => "json",
             Argument::Paths => "PATH",
+            Argument::Ahead => "ahead",
             Argument::DueBefore => "due-before",
             Argument::InState => "state",
             Argument::NewGroup => "new-group",
@@ -383,10 +400,12 @@ impl Argument {
             Argument::Keep => "Keep each message that is taken, in FILE.came",
             Argument::Picture => "Draw the messages of the loan, for Mermaid",
             Argument::Open => "Leave out the loans that are over",
-            Argument::Mine => "List only the loans that wait for this library",
+            Argument::Mine => "List only the loans that want a hand",
+            Argument::Actions => "Show the actions that are possible in each loan",
             Argument::Json => "Write objects of JSON, one on a line",
             Argument::Paths => "The file of a desk, or a folder of them",
-            Argument::OnDay => "The day, as 20250301: what is past its last day waits then",
+            Argument::OnDay => "The day of the work, as 20250301",
+            Argument::Ahead => "Days within which a due date is soon, or 7",
             Argument::DueBefore => "List only the loans that are due before this day",
             Argument::InState => "List only the loans in this state, as SHIPPED",
             Argument::ReportDay => "The day of the report, as 20250301",
@@ -405,6 +424,7 @@ impl Argument {
             Argument::Stream => arg.long("stream").action(ArgAction::SetTrue),
             Argument::Overdue => arg.long("overdue").action(ArgAction::SetTrue),
             Argument::Expire => arg.long("expire").action(ArgAction::SetTrue),
+            Argument::Ahead => valued(arg, "ahead", "DAYS"),
             Argument::DueBefore => valued(arg, "due-before", "DAY"),
             Argument::InState => valued(arg, "state", "STATE"),
             Argument::ReportDay => valued(arg, "today", "DAY").required(true),
@@ -421,6 +441,7 @@ impl Argument {
             Argument::Picture => arg.long("picture").action(ArgAction::SetTrue),
             Argument::Open => arg.long("open").action(ArgAction::SetTrue),
             Argument::Mine => arg.long("mine").action(ArgAction::SetTrue),
+            Argument::Actions => arg.long("actions").action(ArgAction::SetTrue),
             Argument::Json => arg.long("json").action(ArgAction::SetTrue),
             Argument::NewGroup => arg.long("new-group").action(ArgAction::SetTrue),
             _ => arg.required(true),
@@ -455,8 +476,9 @@ fn valued<'a>(arg: Arg<'a>, name: &'a str, value: &'a str) -> Arg<'a> {
 }
 
 /// All options of the program, also those that `clap` adds.
-const OPTIONS: [&str; 20] = [
+const OPTIONS: [&str; 22] = [
     "--today",
+    "--ahead",
     "--due-before",
     "--state",
     "--copy",
@@ -469,6 +491,7 @@ const OPTIONS: [&str; 20] = [
     "--picture",
     "--open",
     "--mine",
+    "--actions",
     "--json",
     "--new-group",
     "--explain",

@@ -4,7 +4,7 @@ pub const VERSION: &str = "0.2.0";
 
 pub const ILL: &str = "\
 The commands stand in groups:
-  for staff                  new, act, list, loan, status, report
+  for staff                  new, act, list, loan, slip, status, report
   for the exchange           take, send, inbox, outbox, exchange
   for more than 1,000 loans  shelf, which has commands of its own
   to look inside             verify, show, check, simulate, simulate-desks
@@ -30,8 +30,8 @@ rest on them.
 Several commands may be started at once on one file. Those that may change it,
 `new`, `act`, `take`, `inbox`, `outbox` and `exchange`, wait for each other: ten
 seconds, and then they end with `store failed`. A `take` holds the file until
-its input ends. `list`, `loan`, `status`, `report`, `send` and `verify` wait for
-nobody.
+its input ends. `list`, `loan`, `slip`, `status`, `report`, `send` and `verify`
+wait for nobody.
 
 The start of a loan, with the requester's desk in the file `here` and the
 responder's in the file `there`:
@@ -453,40 +453,44 @@ pub const SEND_EXAMPLE: &str = "Example:
   ill: no-such-message";
 
 pub const LIST: &str = "\
-List the loans of desks, a line for each.
+List the loans of desks by the work of the day, a line for each.
 
-The loans that wait for this library come first. After them stand those that
-wait for the other one, then those that are over. Of each kind the most urgent
-come first: those whose due date, or else the last day of their request, comes
-first. The columns of a line:
-  turn                   mine, theirs or over: which library acts next
+The loans that want a hand come first, then those that wait, then those that are
+over. Each kind of work has a heading, with the number of its listed loans. The
+most pressing kind comes first. Of each kind the loan comes first whose due
+date, or else the last day of its request, comes first. The columns of a line:
   state                  the state of the loan
   due                    the day on which the item is due, or `-`
   group                  the group qualifier of the loan
   transaction            the transaction qualifier of the loan
-  actions                with --mine: the first words of the actions that `act`
-                         takes on the day of --today, or without it on some
-                         day, with commas between them
+  actions                with --actions: the first words of the actions that
+                         `act` takes on the day of --today, or without it on
+                         some day, with commas between them
   title                  the item that is asked for, or `-`
 
 A character of a title on which a terminal or an editor may act is shown by its
 number, as \\u{202e}. So is a space of a group or transaction at an edge, or
 after another one.
 
+The work is that of a day. These options say which:
+  --today DAY            the day. Without it no date is past, and none is soon
+  --ahead DAYS           a due date is soon if it is at most DAYS days away:
+                         1 to 255, or 7 without this option
+
 These options say which loans are listed; all that are given hold:
   --open                 leaves out the loans that are over
-  --mine                 leaves out also those that wait for the other library
-  --today DAY            on this day a loan also waits for this library if its
-                         due date, or else the last day of its request, is past,
-                         and `act` takes an action of it now
-  --due-before DAY       only those that are due before this day
+  --mine                 lists only the loans that want a hand. An item with its
+                         reader wants none before its due date is soon
+  --due-before DAY       only those that are due before this day. With --today
+                         it may be `+N`, N days after that day, 1 to 255
   --state STATE          only those in this state, as SHIPPED
 
-The last line counts all loans of the desk, whichever are listed. It says for
-how many more there is room. From 900 loans on a line on standard error says so
-too. With --mine and no day, such a line says how many more loans may wait for
-this library by their dates. Each open loan that has at most 10 numbers left for
-its messages has such a line, whichever loans are listed.
+The last line counts all loans of the desk, whichever are listed. It says how
+many want a hand, to do, and for how many more there is room. From 900 loans on
+a line on standard error says so too. With --mine and no day, such a line
+says how many more loans may want a hand by their dates. Each open loan that has
+at most 10 numbers left for its messages has such a line, whichever loans are
+listed.
 
 PATH is the file of a desk, or a folder of desks. A folder's desks are listed in
 the order of their names: all regular files, but for those that begin with a dot
@@ -499,9 +503,10 @@ A desk that cannot be read is told on standard error, and the others are listed.
 So is a name in a folder that is no UTF-8, which counts as `store failed`.
 
 With --json each loan that is listed is an object of JSON on a line, in the same
-order: `next`, `state`, `due`, `group`, `transaction`, `now` (what `act` takes
-now) and `item`. After them an object has the counts: `loans`, `open`, `mine`
-and `room`. If there are several desks, each object has its PATH in `file`.
+order: `kind`, which is loan, `work`, `state`, `due`, `group`, `transaction`,
+`now` (what `act` takes now) and `item`. After them an object whose `kind` is
+counts has `loans`, `open`, `todo` and `room`. If there are several desks, each
+object has its PATH in `file`.
 
 A desk has at most 67,108,864 bytes and is not changed. Standard input is not
 read. The exit status is 0 if the loans are listed, 1 with `no-record`, 2 for
@@ -514,16 +519,18 @@ pub const LIST_EXAMPLE: &str = "Example:
   $ ill act here G1 T1 request none Maps
   done PENDING - 1/1
   $ ill list here
-  theirs  PENDING               -         G1  T1  Maps
-  loans 1, open 1, mine 0, room for 999
+  wait for the other library (1):
+    PENDING  -         G1  T1  Maps
+  loans 1, open 1, to do 0, room for 999
   $ ill send here G1 T1 1 > message
   $ ill new there responder
   done
   $ ill take there < message
   taken IN-PROCESS - 0/0
-  $ ill list there --mine
-  mine    IN-PROCESS            -         G1  T1  answer,ship           Maps
-  loans 1, open 1, mine 1, room for 999";
+  $ ill list there --mine --actions
+  answer, or ship (1):
+    IN-PROCESS  -         G1  T1  answer,ship  Maps
+  loans 1, open 1, to do 1, room for 999";
 
 pub const STATUS: &str = "\
 Show how each loan in a file stands.
@@ -636,6 +643,36 @@ pub const LOAN_EXAMPLE: &str = "Example:
   item Maps
   leaves yes";
 
+pub const SLIP: &str = "\
+Write a slip of one loan, to print and to lay in its item.
+
+The slip is one file of HTML, on standard output, for a sheet of A6. It has no
+scripts, and it needs nothing from elsewhere. On it stand the title, the role of
+this library in plain words, the group and transaction of the loan, and the day
+on which it is due, if there is one. A day is YYYY-MM-DD. Below is room for a
+note by hand.
+
+Between them stand bars, as Code 128 has them, for a scanner that is a keyboard.
+It types GROUP, a space and TRANSACTION, as they stand after FILE in other
+commands. The longer the names, the finer are the bars. There are none if a name
+has a character that is no letter, no digit and none of - . / : _ and +: a shell
+might take it for more than a name.
+
+What a person wrote stands there as text, whatever its characters. One on which
+a terminal or an editor may act is shown by its number, as \\u{202e}.
+
+FILE has at most 67,108,864 bytes and is not changed. Standard input is not
+read. The exit status is 0 if the slip is written, 1 with `no-such-transaction`
+or `no-record`, 2 for wrong arguments or a bad record, and 3 with `store
+failed`, `store too-large`, `write` or `memory`.";
+
+pub const SLIP_EXAMPLE: &str = "Example:
+  $ ill new box requester
+  done
+  $ ill act box G1 T1 request none Maps
+  done PENDING - 1/1
+  $ ill slip box G1 T1 > slip.html";
+
 pub const VERIFY: &str = "\
 Read a desk, and tell what it has or what is wrong with it.
 
@@ -668,18 +705,19 @@ pub const REPORT: &str = "\
 Write a page for a browser of the loans of desks.
 
 The page is one file of HTML, on standard output. It has no scripts, and it
-needs nothing from elsewhere. Each PATH is as for `list`. The page has of each
-desk, with how many they are, and the most urgent first:
-  Waits for us today     the loans that wait for this library on DAY, and what
-                         it may do in them, in plain words
-  Open loans             all loans that are not over, each with a chart of the
-                         messages that it has issued
-  Over                   the others, likewise, folded away
+needs nothing from elsewhere. It may be printed. Each PATH is as for `list`.
 
-A loan has its title, its group and transaction, its state, the day on which it
-is due, and the day after which its request may expire. A day is YYYY-MM-DD, and
-a dash stands for none. DAY is eight digits, as 20250315. What waits on DAY is
-what `list` lists with --mine and --today.
+Of each desk the page counts the loans that want a hand on DAY, those that are
+not over, all loans, and the room for more. Then it has a table for each kind of
+work, with the number of its loans. The work says what staff do next with a loan
+on DAY. The most pressing work stands first, and loans that are over stand last.
+A due date is soon if it is at most 7 days away.
+
+A row has the title of a loan, its group and transaction, and its state in plain
+words. It has the day on which the item is due, or else the day after which the
+request may expire. Last it has the verbs that `ill act` takes on DAY. In each
+table the earliest of these days stands first, and loans without one last. A day
+is YYYY-MM-DD. DAY is eight digits, as 20250315.
 
 What a person wrote, titles, groups, transactions and names of files, stands
 there as text, whatever its characters. One on which a terminal or an editor
@@ -892,6 +930,11 @@ pub const SHELF_LOAN: &str = "\
 Show all of one loan: request, messages, what may be done.
 
 It shows what `ill loan` shows, of the desk of GROUP.";
+
+pub const SHELF_SLIP: &str = "\
+Write a slip of one loan, to print and to lay in its item.
+
+It writes what `ill slip` writes, of the desk of GROUP.";
 
 pub const SHELF_STATUS: &str = "\
 Show how each loan stands, desk by desk.

@@ -8,7 +8,7 @@ ghost use Rattle.ill_line.specs.CommandLine.{is_option};
 ghost use Rattle.ill_line.specs.declared.request.Refusal.TheVariants.{Usage, Fault};
 ghost use Rattle.ill_text.specs.declared.fault.ToolFault.TheVariants.{OutOfMemory};
 ghost use Rattle.ill_line.specs.declared.command_line.Name.TheVariants as names;
-ghost use Rattle.ill_line.specs.Asked.{GivesId, ReadsValue, IsRefusal, asked_by, asked_in, asked_of, text_of, texts_of, role_of, loan_of, group_of, new_file_of, day_in, state_in, number_of_message, dates_of, outlet_of, is_set, which_of, form_of, wanted_of, report_day_of, asked, desk_at_stake, end_with_dashes, has_option, said_free, unless_option};
+ghost use Rattle.ill_line.specs.Asked.{GivesId, ReadsValue, IsRefusal, asked_by, asked_in, asked_of, text_of, texts_of, role_of, loan_of, group_of, new_file_of, day_in, state_in, number_of_message, dates_of, outlet_of, is_set, which_of, form_of, wanted_of, wanted_on, ahead_in, due_in, day_or_days, days_on, report_day_of, asked, desk_at_stake, end_with_dashes, has_option, said_free, unless_option};
 
 use crate::command_line::{Argument, Name, SHELF, command, is_option};
 use clap::error::ErrorKind;
@@ -19,6 +19,7 @@ use ill_files::paths::is_beside;
 use ill_night::dates::Dates;
 use ill_night::night::Night;
 use ill_show::loan::LoanForm;
+use ill_show::soon::SOON;
 use ill_show::wanted::{Wanted, Which};
 use ill_text::fault::ToolFault;
 use ill_text::form::Form;
@@ -127,6 +128,13 @@ pub enum Request<'a> {
         txn: TxnId,
         /// The form of the loan that is shown.
         form: LoanForm,
+    },
+    /// Write a slip of a loan: `ill slip`.
+    Slip {
+        /// The path of the file.
+        file: &'a str,
+        /// The transaction.
+        txn: TxnId,
     },
     /// Retire a group of a shelf: `ill shelf retire`.
     Retire {
@@ -311,6 +319,7 @@ fn requested<'a>(
         Name::List => list_request(alloc, matches),
         Name::Status => status_request(alloc, matches),
         Name::Loan => loan_request(alloc, matches),
+        Name::Slip => slip_request(alloc, matches),
         Name::Retire => retire_request(alloc, matches),
         Name::Verify => verify_request(alloc, matches),
         Name::Report => report_request(alloc, matches),
@@ -501,6 +510,15 @@ fn loan_request<'a>(alloc: Global, matches: &ArgMatches<'a>) -> Result<Request<'
     Ok(Request::Loan { file, txn, form })
 }
 
+/// Returns the request of `ill slip`.
+fn slip_request<'a>(alloc: Global, matches: &ArgMatches<'a>) -> Result<Request<'a>, Refusal>
+    ensures { ReadsValue asked (asked_of names.Slip (rows_of (found_of matches.now))) result }
+{
+    let file = text(alloc, matches, Argument::File)?;
+    let txn = loan(alloc, matches)?;
+    Ok(Request::Slip { file, txn })
+}
+
 /// Returns the request of `ill shelf retire`.
 fn retire_request<'a>(alloc: Global, matches: &ArgMatches<'a>) -> Result<Request<'a>, Refusal>
     ensures { ReadsValue asked (asked_of names.Retire (rows_of (found_of matches.now))) result }
@@ -575,9 +593,20 @@ fn loan(alloc: Global, matches: &ArgMatches<'_>) -> Result<TxnId, Refusal>
 fn wanted(matches: &ArgMatches<'_>) -> Result<Wanted, Refusal>
     ensures { ReadsValue (λ wanted. wanted) (wanted_of (rows_of (found_of matches.now))) result }
 {
-    let which = which(matches);
     let today = day(matches, Argument::OnDay)?;
-    let due_before = match day(matches, Argument::DueBefore) {
+    wanted_on(matches, &today)
+}
+
+/// Returns the conditions on the loans to list on the day `today`, if it is given.
+fn wanted_on(matches: &ArgMatches<'_>, today: &Option<Day>) -> Result<Wanted, Refusal>
+    ensures { ReadsValue (λ wanted. wanted) (wanted_on today.now (rows_of (found_of matches.now))) result }
+{
+    let which = which(matches);
+    let ahead = match ahead(matches) {
+        Ok(ahead) => ahead,
+        Err(refusal) => return Err(refusal),
+    };
+    let due_before = match due_before(matches, *today) {
         Ok(day) => day,
         Err(refusal) => return Err(refusal),
     };
@@ -587,10 +616,55 @@ fn wanted(matches: &ArgMatches<'_>) -> Result<Wanted, Refusal>
     };
     Ok(Wanted {
         which,
-        today,
+        today: *today,
+        ahead,
         due_before,
         state,
+        has_actions: is_set(matches, Argument::Actions),
     })
+}
+
+/// Returns the number of days of the option `--ahead`, or 7 if it is not given.
+fn ahead(matches: &ArgMatches<'_>) -> Result<u32, Refusal>
+    ensures { ReadsValue (λ days. days) (ahead_in (rows_of (found_of matches.now))) result }
+{
+    match matches.get_str(Argument::Ahead.id()) {
+        Some(word) => match number(word.as_bytes()) {
+            Some(days) => Ok(days.get().into()),
+            None => Err(Refusal::Fault(ToolFault::Arguments)),
+        },
+        None => Ok(SOON),
+    }
+}
+
+/// Returns the day of the option `--due-before`, if it is given. It may be a number of days after `today`.
+fn due_before(matches: &ArgMatches<'_>, today: Option<Day>) -> Result<Option<Day>, Refusal>
+    ensures { ReadsValue (λ day. day) (due_in today (rows_of (found_of matches.now))) result }
+{
+    match matches.get_str(Argument::DueBefore.id()) {
+        Some(word) => match day_or_days(word.as_bytes(), today) {
+            Some(day) => Ok(Some(day)),
+            None => Err(Refusal::Fault(ToolFault::Arguments)),
+        },
+        None => Ok(None),
+    }
+}
+
+/// Returns the day that `word` says. It is a day or, if `today` is given, `+` and a number of days after it.
+fn day_or_days(word: &[u8], today: Option<Day>) -> Option<Day>
+    ensures { result ≡ day_or_days today word.now }
+{
+    match (today, word) {
+        (Some(today), [b'+', digits @ ..]) => days_on(today, digits),
+        _ => Day::read(word).ok(),
+    }
+}
+
+/// Returns the day that lies a number of days after `today`, if `digits` are one and the calendar has it.
+fn days_on(today: Day, digits: &[u8]) -> Option<Day>
+    ensures { result ≡ days_on today digits.now }
+{
+    today.after(number(digits)?.get().into()).ok()
 }
 
 /// Returns the state of the option `--state`, if it is given.
@@ -630,7 +704,7 @@ fn report_day(alloc: Global, matches: &ArgMatches<'_>) -> Result<Day, Refusal>
     }
 }
 
-/// Returns the turns of the loans to list.
+/// Returns the loans to list, by their work.
 fn which(matches: &ArgMatches<'_>) -> Which
     ensures { result ≡ which_of (rows_of (found_of matches.now)) }
 {

@@ -20,7 +20,7 @@ use Rattle.ill_night.specs.Person.{wants_person}
 use Rattle.ill_night.specs.Inbox.{RunsInbox, ending, is_waiting, tally_of}
 use Rattle.ill_text.specs.Input.{AreIn}
 use Rattle.ill_night.specs.Outbox.{StreamsOutbox, asked_by, letters_of, sent_line}
-use Rattle.ill_files.specs.AtFile.{GoesWell, FailsToOpen}
+use Rattle.ill_files.specs.Opening.{GoesWell, FailsToOpen}
 use Rattle.ill_text.specs.Fault.{IsFileFault, IsOpenFault}
 
 -- The mails of a run, their verdicts, and the number of further mails that wait.

@@ -16,7 +16,8 @@ use Rattle.ill_shelf.specs.declared.visit.Visit.{Visit}
 use Rattle.ill_shelf.specs.declared.visit.Visit.TheVariants as visits
 use Rattle.ill_der.specs.Handling.{Handles}
 use Rattle.ill_der.specs.ShortForm.{spelling}
-use Rattle.ill_files.specs.AtFile.{FailsToOpen, ShowsFile, TakesAtFile}
+use Rattle.ill_commands.specs.AtFile.{ShowsFile, TakesAtFile}
+use Rattle.ill_files.specs.Opening.{FailsToOpen}
 use Rattle.ill_mail.specs.Nights.{ExchangesAtFile, InboxAtFile, OutboxAtFile}
 use Rattle.ill_text.specs.Input.{ReadsInput}
 use Rattle.ill_desk.specs.Take.{answer_of}

@@ -1,7 +1,7 @@
 //! The commands on a shelf. In a transaction each does at the desk of its group as the command for one desk does.
 
 ghost use Rattle.std.specs.Prelude.{◌≡◌, true, map, is_some, IfErr};
-ghost use Rattle.ill_files.specs.AtFile.{ActsAtFile, LoanAtFile, NewAtFile, SendsAtFile, ShowsFile};
+ghost use Rattle.ill_commands.specs.AtFile.{ActsAtFile, LoanAtFile, NewAtFile, SendsAtFile, ShowsFile, SlipAtFile};
 ghost use Rattle.ill_mail.specs.Nights.{ExchangesAtFile, InboxAtFile, OutboxAtFile};
 ghost use Rattle.ill_shelf.specs.Shelf.{IsFurther, RetiresAtFile, VisitsShelf, is_lines, retired_line, told_with};
 ghost use Rattle.ill_text.specs.Fault.{IsOpenFault};
@@ -9,8 +9,8 @@ ghost use Rattle.ill_text.specs.Fault.{IsOpenFault};
 use crate::last_words::{load_mark, send_last_words};
 use crate::sorting::sort_mails;
 use crate::visit::{Visit, visit_all};
+use ill_commands::commands::{ActionView, act_at, loan, new, send, slip};
 use ill_files::durable::error_of_store;
-use ill_files::file::{ActionView, act_at, loan, new, send};
 use ill_files::home::refuse_lost;
 use ill_files::machine::Machine;
 use ill_files::open::{lock, open};
@@ -122,6 +122,18 @@ pub fn loan_on_shelf<T: Files, W: Write, E: Write>(
 {
     let file = home_of(machine.rt, machine.alloc, folder, view.txn)?;
     loan(machine, file.as_str(), view)
+}
+
+/// `ill shelf slip`: writes a slip of a transaction.
+pub fn slip_on_shelf<T: Files, W: Write, E: Write>(
+    machine: &mut Machine<'_, T, W, E>,
+    folder: &str,
+    txn: &TxnId,
+) -> Result<bool, ToolFault>
+    ensures { SlipAtFile txn.now (W.contents machine.old.writer) (W.contents machine.new.writer) result }
+{
+    let file = home_of(machine.rt, machine.alloc, folder, txn)?;
+    slip(machine, file.as_str(), txn)
 }
 
 /// Returns the path of the desk of the group of `txn`, unless the group is retired.

@@ -6,9 +6,9 @@ ghost use Rattle.ill_shelf.specs.Shelf.{TakesAtShelf, TakesAtHome};
 ghost use Rattle.ill_text.specs.Fault.{IsOpenFault};
 
 use crate::sorting::{Route, make_desk, route_of};
+use ill_commands::commands::take;
 use ill_der::{ApduView, BodyView, Handler, encode};
 use ill_desk::take::TakeForm;
-use ill_files::file::take;
 use ill_files::home::home_at;
 use ill_files::machine::Machine;
 use ill_files::shelf::Shelf;

@@ -33,6 +33,18 @@ kept_apart text keeps (item ∷ items) =
     kept_first text (keeps item) item (filter keeps items)
     ∙ ap (λ more. flat_map text (filter keeps (item ∷ [])) ++ more) (kept_apart text keeps items)
 
+-- Filtering the values of items equals filtering the items by their values.
+pub filter_mapped : {X Y : Type 0} (now : X → Y) (keeps : Y → Bool) (items : List X)
+    → map now (filter (λ item. keeps (now item)) items) ≡ filter keeps (map now items)
+filter_mapped now keeps [] = refl
+filter_mapped {X} now keeps (item ∷ items) = go (keeps (now item)) (filter_mapped now keeps items)
+  where
+    go : (is_kept : Bool) → map now (filter (λ item. keeps (now item)) items) ≡ filter keeps (map now items)
+        → map now (cond is_kept (item ∷ filter (λ item. keeps (now item)) items) (filter (λ item. keeps (now item)) items))
+        ≡ cond is_kept (now item ∷ filter keeps (map now items)) (filter keeps (map now items))
+    go true rest = ap (λ others. now item ∷ others) rest
+    go false rest = rest
+
 -- If `rest` begins with `byte`, the column goes on with this byte as it is shown, and then with the bytes after it.
 pub column_goes_on : (shown more all : List ℕ) (is_edge : Bool) (byte : ℕ) (after rest : List ℕ) → rest ≡ byte ∷ after
     → shown ++ column_rest is_edge rest ≡ all → more ≡ shown ++ column_byte (is_edge || is_end after) byte

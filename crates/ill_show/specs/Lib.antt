@@ -7,5 +7,6 @@ pub mod Numbers
 pub mod Objects
 pub mod Picture
 pub mod Report
+pub mod StateWords
 pub mod Status
 pub mod Verify

@@ -1,11 +1,9 @@
--- The loans in the output of `list`, the line of each, and the line of the counts.
+-- The loans in the output of `list`, their work, the line of each, and the line of the counts.
 use Rattle.std.specs.Prelude.{ℕ, ◌-◌, max, Bool, true, false, ◌&&◌, ◌||◌, ◌==◌, if◌then◌else◌, List, [], ◌∷◌, ◌++◌, length, fold}
-use Rattle.std.specs.Prelude.{count_by, replicate, Option, Some, None, is_none, not, codes}
+use Rattle.std.specs.Prelude.{count_by, filter, replicate, Option, Some, None, is_none, not, codes}
 use Rattle.std.specs.List.{join_by}
 use Rattle.std.specs.Fmt.{decimal}
 use Rattle.ill_values.specs.Day.{Date}
-use Rattle.ill_core.specs.declared.turn.Turn.{Turn}
-use Rattle.ill_core.specs.declared.turn.Turn.TheVariants as turns
 use Rattle.ill_core.specs.declared.state.State.{State}
 use Rattle.ill_core.specs.State.{is_among, state_name}
 use Rattle.ill_core.specs.Verbs.{verb_name}
@@ -19,17 +17,40 @@ use Rattle.ill_show.specs.declared.wanted.Wanted.{Wanted}
 use Rattle.ill_show.specs.declared.counts.Counts.{Counts}
 use Rattle.ill_show.specs.declared.row.Columns.{Columns}
 use Rattle.ill_text.specs.Escape.{escaped}
-use Rattle.ill_core.specs.Words.{turn_name}
 use Rattle.ill_words.specs.Possible.{possible_on, request_of, item_asked}
-use Rattle.ill_words.specs.Waiting.{is_turn, is_sooner, turn_on, waits_by_date}
+use Rattle.ill_words.specs.Waiting.{is_sooner, waits_by_date}
+use Rattle.ill_work.specs.declared.work.Work.{Work}
+use Rattle.ill_work.specs.declared.work.Work.TheVariants.{Over}
+use Rattle.ill_work.specs.Work.{is_work_among, wants_a_hand}
+use Rattle.ill_work.specs.Table.{work_on}
+
+-- ---- the work with a loan
+
+-- Returns the kind of work with a loan on the day of the list. Without a day no date is past, and none is soon.
+abbrev pub work_of : Wanted → Side → Work
+work_of wanted side = work_on wanted.today wanted.ahead side
+
+-- Returns true if `work` is the kind of work with the loan.
+abbrev pub has_work : Wanted → Work → Side → Bool
+has_work wanted work side = is_work_among (work ∷ []) (work_of wanted side)
+
+-- Returns true if the loan wants a hand.
+abbrev pub is_to_do : Wanted → Side → Bool
+is_to_do wanted side = wants_a_hand (work_of wanted side)
+
+-- Returns true if loans with this work are listed. `Mine` lists the work that wants a hand, and `Open` all but `Over`.
+abbrev pub lists : Which → Work → Bool
+lists All work = true
+lists Open work = not (is_work_among (Over ∷ []) work)
+lists Mine work = wants_a_hand work
+
+-- Returns true if only the loans that want a hand are listed.
+abbrev pub is_mine : Which → Bool
+is_mine All = false
+is_mine Open = false
+is_mine Mine = true
 
 -- ---- the loans that are listed
-
--- Returns the turns of the loans that are listed, in the order of the list.
-abbrev pub turns_of : Which → List Turn
-turns_of All = turns.Mine ∷ turns.Theirs ∷ turns.Over ∷ []
-turns_of Open = turns.Mine ∷ turns.Theirs ∷ []
-turns_of Mine = turns.Mine ∷ []
 
 -- Returns true if the due date `due` is before the wanted day, or no day is wanted.
 abbrev pub is_due_before : Option Date → Option Date → Bool
@@ -45,6 +66,14 @@ is_in (Some wanted) state = is_among (wanted ∷ []) state
 abbrev pub is_wanted : Wanted → Side → Bool
 is_wanted wanted side =
     is_due_before wanted.due_before (due_date_of side) && is_in wanted.state (state_of side)
+
+-- Returns true if a list has the loan: its work is listed, and it meets the other conditions.
+abbrev pub is_listed : Wanted → Side → Bool
+is_listed wanted side = lists wanted.which (work_of wanted side) && is_wanted wanted side
+
+-- Returns the loans that are listed, in the order of `sides`.
+abbrev pub listed_of : Wanted → List Side → List Side
+listed_of wanted sides = filter (is_listed wanted) sides
 
 -- ---- the item of a loan
 
@@ -81,63 +110,55 @@ padded width text = text ++ replicate (width - length text) 32
 abbrev pub cell : ℕ → List ℕ → List ℕ
 cell width text = padded width text ++ codes "  "
 
--- Returns the greatest length of `text` over these sides.
-abbrev pub widest : (Side → List ℕ) → List Side → ℕ
-widest text sides = fold (λ width side. max width (length (text side))) 0 sides
-
--- Returns true if only the loans that wait for this library are listed. The list then has a column of the
--- actions that it may do now.
-abbrev pub has_verbs : Which → Bool
-has_verbs All = false
-has_verbs Open = false
-has_verbs Mine = true
-
--- Returns the columns that are wide enough for all sides of a desk, listed or not.
-abbrev pub columns_of : Bool → List Side → Columns
-columns_of has_verbs sides = record {
-  group = widest (λ side. column (txn_of side).group) sides;
-  transaction = widest (λ side. column (txn_of side).transaction) sides;
-  has_verbs = has_verbs;
-}
-
 -- Returns the actions that the side may do on the day `today`, or on some day without one. A comma stands between two
 -- of them.
 abbrev pub verbs_text : Option Date → Side → List ℕ
 verbs_text today side = join_by verb_name (codes ",") (possible_on today side)
 
+-- Returns these actions, if the list has a column of them.
+abbrev pub actions_text : Bool → Option Date → Side → List ℕ
+actions_text false today side = []
+actions_text true today side = verbs_text today side
+
 -- Returns the column of these actions, if the list has one.
-abbrev pub verbs_cell : Bool → Option Date → Side → List ℕ
-verbs_cell true today side = cell 20 (verbs_text today side)
-verbs_cell false today side = []
+abbrev pub actions_cell : Columns → Option Date → Side → List ℕ
+actions_cell columns today side =
+    if columns.has_actions then cell columns.actions (verbs_text today side) else []
 
--- Returns the line of a loan with the turn `turn` on the day `today`.
-unfoldable pub row : Columns → Option Date → Turn → Side → List ℕ
-row columns today turn side =
-    cell 6 (turn_name turn) ++ cell 20 (state_name (state_of side))
-    ++ cell 8 (due_text (due_date_of side)) ++ cell columns.group (column (txn_of side).group)
-    ++ cell columns.transaction (column (txn_of side).transaction) ++ verbs_cell columns.has_verbs today side
-    ++ title_text (item_asked (request_of side)) ++ codes "\n"
+-- Returns columns without a width.
+abbrev pub no_columns : Bool → Columns
+no_columns has_actions = record { has_actions = has_actions; state = 0; group = 0; transaction = 0; actions = 0 }
 
--- ---- the loans that have a line
+-- Returns `columns`, and each as wide as the text of `side` at least.
+abbrev pub widened : Option Date → Columns → Side → Columns
+widened today columns side = record {
+  has_actions = columns.has_actions;
+  state = max columns.state (length (state_name (state_of side)));
+  group = max columns.group (length (column (txn_of side).group));
+  transaction = max columns.transaction (length (column (txn_of side).transaction));
+  actions = max columns.actions (length (actions_text columns.has_actions today side));
+}
 
--- Returns true if the loan has the turn `turn` on the day `today`. Without a day its turn is by the record.
-abbrev pub has_turn : Option Date → Turn → Side → Bool
-has_turn today turn side = is_turn turn (turn_on today side)
+-- Returns the columns of a list: each is as wide as its longest text.
+abbrev pub columns_of : Wanted → List Side → Columns
+columns_of wanted listed = fold (widened wanted.today) (no_columns wanted.has_actions) listed
 
--- Returns true if the loan has the turn `turn` and meets the other conditions.
-abbrev pub is_listed : Wanted → Turn → Side → Bool
-is_listed wanted turn side = has_turn wanted.today turn side && is_wanted wanted side
+-- Returns the line of a loan, with its actions on the day `today` if the list has them.
+unfoldable pub row : Columns → Option Date → Side → List ℕ
+row columns today side =
+    codes "  " ++ cell columns.state (state_name (state_of side)) ++ cell 8 (due_text (due_date_of side))
+    ++ cell columns.group (column (txn_of side).group) ++ cell columns.transaction (column (txn_of side).transaction)
+    ++ actions_cell columns today side ++ title_text (item_asked (request_of side)) ++ codes "\n"
 
 -- ---- the loans that a list without a day leaves out
 
--- Returns true if only the loans that wait for this library are listed, and no day is given.
+-- Returns true if only the loans that want a hand are listed, and no day is given.
 abbrev pub lacks_day : Wanted → Bool
-lacks_day wanted = has_verbs wanted.which && is_none wanted.today
+lacks_day wanted = is_mine wanted.which && is_none wanted.today
 
--- Returns true if the loan is not among those that wait for this library, and may wait for it by its date. It
--- meets the other conditions.
+-- Returns true if the loan wants no hand without a day, and may want one by its date. It meets the other conditions.
 abbrev pub is_left_out : Wanted → Side → Bool
-is_left_out wanted side = not (has_turn wanted.today turns.Mine side) && waits_by_date side && is_wanted wanted side
+is_left_out wanted side = not (is_to_do wanted side) && waits_by_date side && is_wanted wanted side
 
 -- Returns the number of loans that a list leaves out since no day is given.
 abbrev pub left_out : Wanted → List Side → ℕ
@@ -145,17 +166,13 @@ left_out wanted sides = if lacks_day wanted then count_by (is_left_out wanted) s
 
 -- ---- counts
 
--- Returns the number of loans with the turn `turn`.
-abbrev pub count_of : Option Date → Turn → List Side → ℕ
-count_of today turn sides = count_by (has_turn today turn) sides
-
--- Returns the counts of a desk: all loans, open loans, and loans that wait for this library. The last count
--- is the room for further loans.
-abbrev pub counts_of : Option Date → List Side → Counts
-counts_of today sides = record {
+-- Returns the counts of a desk: all loans, open loans, and loans that want a hand. The last count is the room for further
+-- loans.
+abbrev pub counts_of : Wanted → List Side → Counts
+counts_of wanted sides = record {
   loans = length sides;
-  open_loans = length sides - count_of today turns.Over sides;
-  mine = count_of today turns.Mine sides;
+  open_loans = length sides - count_by (has_work wanted Over) sides;
+  to_do = count_by (is_to_do wanted) sides;
   room = most_sides - length sides;
 }
 
@@ -163,4 +180,4 @@ counts_of today sides = record {
 unfoldable pub counts_line : Counts → List ℕ
 counts_line counts =
     codes "loans " ++ decimal counts.loans ++ codes ", open " ++ decimal counts.open_loans
-    ++ codes ", mine " ++ decimal counts.mine ++ codes ", room for " ++ decimal counts.room ++ codes "\n"
+    ++ codes ", to do " ++ decimal counts.to_do ++ codes ", room for " ++ decimal counts.room ++ codes "\n"

@@ -1,54 +1,77 @@
 -- The texts of `list`, in lines or in objects of JSON.
-use Rattle.std.specs.Prelude.{ℕ, Bool, true, false, nat_eq, List, [], ◌++◌, filter, Option, None, Some, option_map, codes}
+use Rattle.std.specs.Prelude.{ℕ, Bool, true, false, nat_eq, List, [], ◌∷◌, ◌++◌, length, filter, Option, None, Some}
+use Rattle.std.specs.Prelude.{option_map, codes}
 use Rattle.std.specs.List.{flat_map}
 use Rattle.std.specs.Fmt.{decimal}
 use Rattle.ill_values.specs.Day.{Date}
-use Rattle.ill_core.specs.declared.turn.Turn.{Turn}
 use Rattle.ill_saved.specs.declared.side.Side.{Side}
 use Rattle.ill_text.specs.declared.form.Form.{Form}
 use Rattle.ill_text.specs.declared.form.Form.TheVariants.{Lines, Json}
 use Rattle.ill_show.specs.declared.wanted.Wanted.{Wanted}
 use Rattle.ill_show.specs.declared.counts.Counts.{Counts}
+use Rattle.ill_show.specs.declared.row.Columns.{Columns}
 use Rattle.ill_show.specs.declared.list.Rows.{Rows}
 use Rattle.ill_show.specs.declared.list.Rows.TheVariants as rows
 use Rattle.ill_text.specs.Escape.{escaped}
 use Rattle.ill_words.specs.Waiting.{most_urgent_first}
-use Rattle.ill_show.specs.List.{turns_of, has_verbs, columns_of, row, is_listed, counts_of, counts_line}
+use Rattle.ill_work.specs.declared.work.Work.{Work}
+use Rattle.ill_work.specs.Work.{all_work, work_words}
+use Rattle.ill_show.specs.List.{columns_of, row, has_work, listed_of, counts_of, counts_line}
 use Rattle.ill_show.specs.Objects.{row_object, counts_object}
+
+-- ---- one kind of work
+
+-- Returns the heading of a kind of work with `count` listed loans.
+abbrev pub work_heading : Work → ℕ → List ℕ
+work_heading work count = work_words work ++ (codes " (" ++ (decimal count ++ codes "):\n"))
+
+-- Returns the lines of the loans with this work: a heading, and a line for each. Without a loan there is no line.
+abbrev pub work_lines : Columns → Option Date → Work → List Side → List ℕ
+work_lines columns today work [] = []
+work_lines columns today work (first ∷ others) =
+    work_heading work (length (first ∷ others)) ++ flat_map (row columns today) (first ∷ others)
+
+-- Returns the objects of the loans with this work.
+abbrev pub work_objects : Option (List ℕ) → Option Date → Work → List Side → List ℕ
+work_objects file today work sides = flat_map (row_object file today work) sides
 
 -- ---- one desk
 
--- Returns the rows of the listed loans that have the turn `turn`, in the order of `sides`.
-abbrev pub rows_of : (Option Date → Turn → Side → List ℕ) → Wanted → List Side → Turn → List ℕ
-rows_of text wanted sides turn = flat_map (text wanted.today turn) (filter (is_listed wanted turn) sides)
+-- Returns the text of those of the listed loans that have this work, in their order.
+abbrev pub section : (Option Date → Work → List Side → List ℕ) → Wanted → List Side → Work → List ℕ
+section text wanted listed work = text wanted.today work (filter (has_work wanted work) listed)
 
--- Returns the rows of the listed loans, grouped by turn, and then the counts of all loans. Within a turn the
--- loans are in the order of `sides`.
-abbrev pub listed : (Option Date → Turn → Side → List ℕ) → (Counts → List ℕ) → Wanted → List Side → List ℕ
+-- Returns the texts of the listed loans, kind by kind, the most pressing work first.
+abbrev pub sections : (Option Date → Work → List Side → List ℕ) → Wanted → List Side → List ℕ
+sections text wanted listed = flat_map (section text wanted listed) all_work
+
+-- Returns the texts of the listed loans, and then the counts of all loans. Loans with one kind of work are in the order of
+-- `sides`.
+abbrev pub listed : (Option Date → Work → List Side → List ℕ) → (Counts → List ℕ) → Wanted → List Side → List ℕ
 listed text counts_text wanted sides =
-    flat_map (rows_of text wanted sides) (turns_of wanted.which) ++ counts_text (counts_of wanted.today sides)
+    sections text wanted (listed_of wanted sides) ++ counts_text (counts_of wanted sides)
 
--- Returns the row of a loan of this turn on a day, as a line or an object.
-abbrev pub row_text : Rows → Option Date → Turn → Side → List ℕ
-row_text (rows.Lines columns) = row columns
-row_text (rows.Objects file) = row_object (option_map (λ path. path.now) file)
+-- Returns the text of the loans with one kind of work, in lines or in objects.
+abbrev pub work_text : Rows → Option Date → Work → List Side → List ℕ
+work_text (rows.Lines columns) = work_lines columns
+work_text (rows.Objects file) = work_objects (option_map (λ path. path.now) file)
 
 -- Returns the counts as a line or an object.
 abbrev pub counts_text : Rows → Counts → List ℕ
 counts_text (rows.Lines columns) = counts_line
 counts_text (rows.Objects file) = counts_object (option_map (λ path. path.now) file)
 
--- Returns the lines of a list of `sides`, within each turn in the order of `sides`.
+-- Returns the lines of a list of `sides`. Its columns are wide enough for the listed loans.
 abbrev pub ordered_lines : Wanted → List Side → List ℕ
-ordered_lines wanted sides = listed (row (columns_of (has_verbs wanted.which) sides)) counts_line wanted sides
+ordered_lines wanted sides = listed (work_lines (columns_of wanted (listed_of wanted sides))) counts_line wanted sides
 
--- Returns the lines of a desk. Within each turn the most urgent loans come first.
+-- Returns the lines of a desk. Loans with one kind of work are in the order of their deadlines.
 abbrev pub list_lines : Wanted → List Side → List ℕ
 list_lines wanted sides = ordered_lines wanted (most_urgent_first sides)
 
 -- Returns the objects of a desk, in the order of `list_lines`.
 abbrev pub list_objects : Option (List ℕ) → Wanted → List Side → List ℕ
-list_objects file wanted sides = listed (row_object file) (counts_object file) wanted (most_urgent_first sides)
+list_objects file wanted sides = listed (work_objects file) (counts_object file) wanted (most_urgent_first sides)
 
 -- ---- several desks
 
@@ -84,8 +107,8 @@ room_line path room =
 
 -- Returns the words of the line that tells what a list leaves out, after the number of loans.
 abbrev pub left_out_words : Bool → List ℕ
-left_out_words true = codes " more loan may wait for us by its date: give --today DAY\n"
-left_out_words false = codes " more loans may wait for us by their dates: give --today DAY\n"
+left_out_words true = codes " more loan may want a hand by its date: give --today DAY\n"
+left_out_words false = codes " more loans may want a hand by their dates: give --today DAY\n"
 
 -- Returns the line that tells how many loans of a desk a list leaves out since no day is given.
 abbrev pub left_out_line : List ℕ → ℕ → List ℕ

@@ -4,7 +4,6 @@ use Rattle.std.specs.List.{flat_map}
 use Rattle.std.specs.Fmt.{decimal}
 use Rattle.ill_values.specs.Day.{Date}
 use Rattle.ill_values.specs.declared.apdu.Apdu.{Apdu}
-use Rattle.ill_core.specs.declared.turn.Turn.{Turn}
 use Rattle.ill_core.specs.State.{state_name}
 use Rattle.ill_core.specs.Verbs.{verb_name}
 use Rattle.ill_core.specs.ResponderActions.{expiry_of}
@@ -20,6 +19,8 @@ use Rattle.ill_text.specs.Json.{Field, array, day, flag, object, optional, quote
 use Rattle.ill_show.specs.Status.{status_lines, marks_of}
 use Rattle.ill_core.specs.Words.{turn_name}
 use Rattle.ill_saved.specs.Roles.{role_name}
+use Rattle.ill_work.specs.declared.work.Work.{Work}
+use Rattle.ill_work.specs.Work.{work_words}
 use Rattle.ill_words.specs.Possible.{possible_on, request_of, item_asked}
 use Rattle.ill_text.specs.ApduObject.{object_line, apdu_fields}
 
@@ -111,23 +112,32 @@ abbrev pub file_fields : Option (List ℕ) → List Field
 file_fields None = []
 file_fields (Some path) = (codes "file", quoted path) ∷ []
 
--- Returns the fields of a listed loan of this turn, with the actions `names`.
-abbrev pub row_fields : Turn → Side → List (List ℕ) → List Field
-row_fields turn side names =
-    (codes "next", quoted (turn_name turn)) ∷ (codes "state", quoted (state_name (state_of side)))
+-- Returns the field that says that a line is of a loan, and the field of its work.
+abbrev pub kind_fields : Work → List Field
+kind_fields work = (codes "kind", quoted (codes "loan")) ∷ (codes "work", quoted (work_words work)) ∷ []
+
+-- Returns the fields that say how a loan stands, with the actions `names`.
+abbrev pub listed_fields : Side → List (List ℕ) → List Field
+listed_fields side names =
+    (codes "state", quoted (state_name (state_of side)))
     ∷ (codes "due", optional day (due_date_of side)) ∷ (codes "group", quoted (txn_of side).group)
     ∷ (codes "transaction", quoted (txn_of side).transaction) ∷ (codes "now", array quoted names)
     ∷ (codes "item", optional quoted (item_asked (request_of side))) ∷ []
 
--- Returns the object of a listed loan of this turn, with the actions of the day `today`.
-abbrev pub row_object : Option (List ℕ) → Option Date → Turn → Side → List ℕ
-row_object file today turn side = object_line (row_fields turn side (names_of today side) ++ file_fields file)
+-- Returns the fields of a listed loan with this work and the actions `names`.
+abbrev pub row_fields : Work → Side → List (List ℕ) → List Field
+row_fields work side names = kind_fields work ++ listed_fields side names
+
+-- Returns the object of a listed loan with this work, with the actions of the day `today`.
+abbrev pub row_object : Option (List ℕ) → Option Date → Work → Side → List ℕ
+row_object file today work side = object_line (row_fields work side (names_of today side) ++ file_fields file)
 
 -- Returns the fields of the counts of a desk.
 abbrev pub counts_fields : Counts → List Field
 counts_fields counts =
-    (codes "loans", decimal counts.loans) ∷ (codes "open", decimal counts.open_loans)
-    ∷ (codes "mine", decimal counts.mine) ∷ (codes "room", decimal counts.room) ∷ []
+    (codes "kind", quoted (codes "counts")) ∷ (codes "loans", decimal counts.loans)
+    ∷ (codes "open", decimal counts.open_loans) ∷ (codes "todo", decimal counts.to_do)
+    ∷ (codes "room", decimal counts.room) ∷ []
 
 -- Returns the object of the counts of a desk.
 abbrev pub counts_object : Option (List ℕ) → Counts → List ℕ

@@ -1,182 +1,129 @@
 -- The command `report`: a page of HTML of the loans of desks. Texts that people wrote go into it by
 -- `html_text`: the file, the item and both qualifiers. All else is a constant of this program, a name, a
 -- number or a date.
-use Rattle.std.specs.Prelude.{ℕ, ◌+◌, ◌*◌, Bool, true, false, ◌≡◌, List, [], ◌∷◌, ◌++◌, length, filter, count_by, codes, Option}
-use Rattle.std.specs.Prelude.{Some, None, map, Result, Ok, Err}
-use Rattle.std.specs.List.{flat_map, list_any}
+use Rattle.std.specs.Prelude.{ℕ, ◌-◌, Bool, true, ◌≡◌, ◌==◌, if◌then◌else◌, List, [], ◌++◌, length, filter, count_by, codes}
+use Rattle.std.specs.Prelude.{Option, Some, None, map, Result, Ok, Err}
+use Rattle.std.specs.List.{flat_map}
 use Rattle.std.specs.Fmt.{decimal}
 use Rattle.ill_values.specs.Day.{Date, iso_text}
-use Rattle.ill_values.specs.Types.{type_name}
-use Rattle.ill_values.specs.Results.{result_name}
-use Rattle.ill_values.specs.declared.apdu.Apdu.{Apdu}
-use Rattle.ill_values.specs.Body.{Body}
-use Rattle.ill_values.specs.declared.apdu.BodyWith.TheVariants.{IllAnswer, ConditionalReply, CancelReply, Shipped, Overdue, Renew}
-use Rattle.ill_values.specs.declared.apdu.BodyWith.TheVariants.{RenewAnswer}
-use Rattle.ill_core.specs.declared.turn.Turn.{Turn}
-use Rattle.ill_core.specs.declared.turn.Turn.TheVariants.{Over, Mine, Theirs}
 use Rattle.ill_core.specs.declared.verb.Verb.{Verb}
-use Rattle.ill_core.specs.declared.verb.Verb.TheVariants as verbs
-use Rattle.ill_core.specs.State.{state_name}
 use Rattle.ill_core.specs.Verbs.{verb_name}
 use Rattle.ill_core.specs.ResponderActions.{expiry_of}
 use Rattle.ill_saved.specs.declared.side.Side.{Side}
-use Rattle.ill_saved.specs.Side.{issued_of, txn_of, state_of, due_date_of}
+use Rattle.ill_saved.specs.Side.{txn_of, due_date_of}
+use Rattle.ill_saved.specs.Sides.{most_sides}
+use Rattle.ill_text.specs.declared.fault.ToolFault.{ToolFault}
+use Rattle.ill_text.specs.Html.{html_escaped, html_text}
+use Rattle.ill_text.specs.Visits.{gravest_of}
+use Rattle.ill_words.specs.Possible.{possible_on, request_of, item_asked}
+use Rattle.ill_words.specs.Waiting.{most_urgent_first}
+use Rattle.ill_work.specs.declared.work.Work.{Work}
+use Rattle.ill_work.specs.declared.work.Work.TheVariants.{Over}
+use Rattle.ill_work.specs.Order.{count_of, has_work}
+use Rattle.ill_work.specs.Table.{kind_of_work}
+use Rattle.ill_work.specs.Work.{all_work, wants_a_hand, work_words}
 use Rattle.ill_show.specs.declared.report_parts.Field.{Field}
 use Rattle.ill_show.specs.declared.report_parts.Field.TheVariants as fields
-use Rattle.ill_show.specs.declared.report_parts.TheConstants.{PAGE, DESKS, END, DESK, LOANS, DESK_END, WAITING, OPEN, OPENING}
-use Rattle.ill_show.specs.declared.report_parts.TheConstants.{OVER, FOLDED, TASK, LOAN, LIFELINES, ROW, NAME, ARROW, UNREAD}
-use Rattle.ill_show.specs.declared.report_parts.TheConstants.{UNREAD_END}
-use Rattle.ill_text.specs.declared.fault.ToolFault.{ToolFault}
-use Rattle.ill_text.specs.Lines.{reply_word}
-use Rattle.ill_text.specs.Html.{html_escaped, html_text}
-use Rattle.ill_words.specs.Possible.{possible_on, request_of, item_asked}
+use Rattle.ill_show.specs.declared.report_parts.TheConstants.{PAGE, DESKS, END, DESK, TO_DO, OPEN, LOANS, ROOM, COUNTS_END}
+use Rattle.ill_show.specs.declared.report_parts.TheConstants.{DESK_END, TASK, HEADING, COUNT, TABLE, ROW, TABLE_END, UNREAD}
+use Rattle.ill_show.specs.declared.report_parts.TheConstants.{UNREAD_END, TIME_END}
+use Rattle.ill_show.specs.declared.soon.TheConstants.{SOON}
 use Rattle.ill_show.specs.List.{title_text}
-use Rattle.ill_words.specs.Waiting.{is_turn, turn_on, most_urgent_first}
-use Rattle.ill_text.specs.Visits.{gravest_of}
-
--- ---- a message
-
--- Returns a day, or a dash if there is none.
-abbrev pub day_text : Option Date → List ℕ
-day_text None = codes "-"
-day_text (Some day) = iso_text day
-
--- Returns the words of a Renew-Answer: yes and its new due date, or no if it has none.
-abbrev pub grant_words : Option Date → List ℕ
-grant_words None = codes " no"
-grant_words (Some day) = codes " yes " ++ iso_text day
-
--- Returns the date that a Renew wishes, with a space before it, or nothing if it wishes none.
-abbrev pub wish_words : Option Date → List ℕ
-wish_words None = []
-wish_words (Some day) = codes " " ++ iso_text day
-
--- Returns the answer or the day in a message, with a space before each.
-abbrev pub detail_text : Body → List ℕ
-detail_text (IllAnswer result) = codes " " ++ result_name result
-detail_text (ConditionalReply answers is_yes) = codes " " ++ reply_word is_yes
-detail_text (CancelReply answers is_yes) = codes " " ++ reply_word is_yes
-detail_text (Shipped due) = codes " " ++ iso_text due
-detail_text (Overdue due) = codes " " ++ iso_text due
-detail_text (Renew wished) = wish_words wished
-detail_text (RenewAnswer answers granted) = grant_words granted
-detail_text other = []
-
--- Returns the type of a message, with its answer or its day.
-abbrev pub message_name : Body → List ℕ
-message_name body = type_name body ++ detail_text body
-
--- Returns a message as an arrow of a chart, in the row of its number. If the Bool is false, it returns the
--- name of the message, for a screen reader.
-abbrev pub message_text : Bool → Apdu → List ℕ
-message_text true apdu =
-    ROW.now ++ (decimal (28 * apdu.number + 24) ++ (NAME.now ++ (message_name apdu.body ++ ARROW.now)))
-message_text false apdu = message_name apdu.body ++ codes "; "
+use Rattle.ill_show.specs.StateWords.{state_words}
 
 -- ---- a loan
 
--- Returns the words for the library that acts next.
-abbrev pub actor : Turn → List ℕ
-actor Mine = codes "we"
-actor Theirs = codes "the partner"
-actor Over = codes "nobody"
+-- Returns the words of a deadline: the due date, or else the expiry date of the request, if there is one.
+abbrev pub deadline_text : Option Date → Option Date → List ℕ
+deadline_text (Some due) expiry = codes "due <time>" ++ (iso_text due ++ TIME_END.now)
+deadline_text None (Some expiry) = codes "expires <time>" ++ (iso_text expiry ++ TIME_END.now)
+deadline_text None None = []
 
--- Returns the meaning of an action, for people.
-abbrev pub verb_meaning : Verb → List ℕ
-verb_meaning verbs.Request = codes "ask for the item"
-verb_meaning verbs.Cancel = codes "ask to drop the request"
-verb_meaning verbs.Reply = codes "accept the conditions, or decline them"
-verb_meaning verbs.Receive = codes "say that the item has come"
-verb_meaning verbs.Renew = codes "ask to keep the item longer"
-verb_meaning verbs.Return = codes "send the item back"
-verb_meaning verbs.Answer = codes "answer the request"
-verb_meaning verbs.CancelReply = codes "agree to cancel, or refuse to"
-verb_meaning verbs.Ship = codes "send the item"
-verb_meaning verbs.RenewAnswer = codes "let the item be kept longer, or refuse to"
-verb_meaning verbs.Overdue = codes "say that the item is overdue"
-verb_meaning verbs.Recall = codes "ask for the item back"
-verb_meaning verbs.CheckIn = codes "say that the item is back"
-verb_meaning verbs.Expire = codes "end the request, if its expiry day is past"
-
--- Returns the line of an action that this library may take.
+-- Returns an action that this library may do.
 abbrev pub action_text : Verb → List ℕ
-action_text verb = codes "<li><b>" ++ verb_name verb ++ codes "</b>: " ++ verb_meaning verb ++ codes "</li>"
+action_text verb = codes "<code>" ++ (verb_name verb ++ codes "</code> ")
 
--- Returns the value of a field of a loan on the day `today`. The messages are the ones that its side has
--- issued.
+-- Returns the value of a field of a loan on the day `today`.
 abbrev pub value_text : Date → Side → Field → List ℕ
 value_text today side fields.Title = html_escaped (title_text (item_asked (request_of side)))
 value_text today side fields.Group = html_text (txn_of side).group
 value_text today side fields.Transaction = html_text (txn_of side).transaction
-value_text today side fields.State = state_name (state_of side)
-value_text today side fields.Due = day_text (due_date_of side)
-value_text today side fields.Expiry = day_text (expiry_of (request_of side))
-value_text today side fields.Next = actor (turn_on (Some today) side)
+value_text today side fields.State = state_words side
+value_text today side fields.Deadline = deadline_text (due_date_of side) (expiry_of (request_of side))
 value_text today side fields.Actions = flat_map action_text (possible_on (Some today) side)
-value_text today side fields.Height = decimal (28 * length (issued_of side) + 36)
-value_text today side fields.Names = flat_map (message_text false) (issued_of side)
-value_text today side fields.Arrows = flat_map (message_text true) (issued_of side)
 
 -- Returns the text of the page before a field.
 abbrev pub before : Field → List ℕ
-before fields.Title = codes "<article>\n<h4 dir=\"auto\">"
-before fields.Group = codes "<div><dt>Group</dt><dd>"
-before fields.Transaction = codes "<div><dt>Transaction</dt><dd>"
-before fields.State = codes "<div><dt>State</dt><dd>"
-before fields.Due = codes "<div><dt>Due</dt><dd>"
-before fields.Expiry = codes "<div><dt>Request expires</dt><dd>"
-before fields.Next = codes "<div><dt>Next</dt><dd>"
-before fields.Actions = codes "</dl>\n<ul>"
-before fields.Height = codes "</dl>\n<svg role=\"img\" viewBox=\"0 0 320 "
-before fields.Names = codes "<title>Messages that we have issued: "
-before fields.Arrows = LIFELINES.now
+before fields.Title = codes "<tr><th scope=\"row\" dir=\"auto\">"
+before fields.Group = codes "<td><bdi>"
+before fields.Transaction = codes "<bdi>"
+before other = codes "<td>"
 
 -- Returns the text of the page after a field.
 abbrev pub after : Field → List ℕ
-after fields.Title = codes "</h4>\n<dl>"
-after fields.Actions = codes "</ul>\n</article>\n"
-after fields.Height = codes "\">"
-after fields.Names = codes "</title>\n"
-after fields.Arrows = codes "</svg>\n</article>\n"
-after other = codes "</dd></div>"
+after fields.Title = codes "</th>"
+after fields.Group = codes "</bdi> "
+after fields.Transaction = codes "</bdi></td>"
+after fields.Actions = codes "</td></tr>\n"
+after other = codes "</td>"
 
 -- Returns a field of a loan, between the texts before and after it.
 abbrev pub field_text : Date → Side → Field → List ℕ
 field_text today side field = before field ++ (value_text today side field ++ after field)
 
--- Returns the given fields of a loan, one after another.
-abbrev pub loan_text : Date → List Field → Side → List ℕ
-loan_text today fields side = flat_map (field_text today side) fields
+-- Returns the row of a loan: its fields, one after another.
+abbrev pub row_text : Date → Side → List ℕ
+row_text today side = flat_map (field_text today side) ROW
 
--- ---- a page
+-- ---- the loans of a desk
 
--- Returns true if the loan has one of `turns` on the day `today`.
-abbrev pub is_on : Date → List Turn → Side → Bool
-is_on today turns side = list_any (is_turn (turn_on (Some today) side)) turns
+-- Returns `words`, and then a number.
+unfoldable pub counted : List ℕ → ℕ → List ℕ
+counted words count = words ++ decimal count
 
--- Returns the texts of the loans that have one of `turns` on the day `today`.
-abbrev pub loans_text : Date → List Turn → List Field → List Side → List ℕ
-loans_text today turns fields sides = flat_map (loan_text today fields) (filter (is_on today turns) sides)
+-- Returns true if the work with a loan wants a hand on the day `today`.
+abbrev pub is_to_do : Date → Side → Bool
+is_to_do today side = wants_a_hand (kind_of_work today SOON side)
 
--- Returns a section of a page: `heading`, the number of loans with one of `turns`, `opening`, and these
--- loans.
-abbrev pub section_text : Date → List Side → List ℕ → List Turn → List ℕ → List Field → List ℕ
-section_text today sides heading turns opening fields =
-    heading ++ (decimal (count_by (is_on today turns) sides) ++ (opening ++ loans_text today turns fields sides))
+-- Returns the counts of a desk: loans that want a hand, open loans, all loans, and the room for further ones.
+unfoldable pub counts_text : Date → List Side → List ℕ
+counts_text today sides =
+    counted TO_DO.now (count_by (is_to_do today) sides)
+    ++ (counted OPEN.now (length sides - count_of today SOON Over sides)
+    ++ (counted LOANS.now (length sides)
+    ++ (counted ROOM.now (most_sides - length sides) ++ COUNTS_END.now)))
 
--- Returns the three sections of a desk: loans that wait for this library, open loans, and loans that are
--- over.
-unfoldable pub sections_text : Date → List Side → List ℕ
-sections_text today sides =
-    section_text today sides WAITING.now (Mine ∷ []) OPENING.now TASK
-    ++ (section_text today sides OPEN.now (Mine ∷ Theirs ∷ []) OPENING.now LOAN
-    ++ section_text today sides OVER.now (Over ∷ []) FOLDED.now LOAN)
+-- Returns the text before the words of a kind of work. It marks work that wants a hand.
+abbrev pub heading : Work → List ℕ
+heading work = if wants_a_hand work then TASK.now else HEADING.now
 
--- Returns the part of a page about a desk: its file, and its loans, the most urgent first.
+-- Returns the rows of the loans with this work.
+abbrev pub rows_text : Date → Work → List Side → List ℕ
+rows_text today work sides = flat_map (row_text today) (filter (has_work today SOON work) sides)
+
+-- Returns the words for this work, the number of its loans, and the head of their table.
+unfoldable pub table_head : Work → ℕ → List ℕ
+table_head work count = heading work ++ (work_words work ++ (counted COUNT.now count ++ TABLE.now))
+
+-- Returns the table of the loans with this work: its head, and a row for each.
+unfoldable pub table_text : Date → List Side → Work → List ℕ
+table_text today sides work =
+    table_head work (count_of today SOON work sides) ++ (rows_text today work sides ++ TABLE_END.now)
+
+-- Returns the table of the loans with this work, or nothing if there is no such loan.
+abbrev pub work_text : Date → List Side → Work → List ℕ
+work_text today sides work = if count_of today SOON work sides == 0 then [] else table_text today sides work
+
+-- Returns the loans of a desk: their counts, and a table for each kind of work that a loan has, the most pressing first.
+unfoldable pub loans_text : Date → List Side → List ℕ
+loans_text today sides = counts_text today sides ++ flat_map (work_text today sides) all_work
+
+-- Returns the part of a page about a desk: its file, and its loans. In each table the most urgent loan is first.
 unfoldable pub desk_text : Date → List ℕ × List Side → List ℕ
 desk_text today (file, sides) =
-    DESK.now ++ (html_text file ++ (LOANS.now
-    ++ (sections_text today (most_urgent_first sides) ++ DESK_END.now)))
+    DESK.now ++ (html_text file ++ (loans_text today (most_urgent_first sides) ++ DESK_END.now))
+
+-- ---- a page
 
 -- Returns the part of a page about a desk that cannot be read: its file, and the text of the fault.
 unfoldable pub unread_text : List ℕ → List ℕ → List ℕ

@@ -16,6 +16,8 @@ mod picture;
 pub mod report;
 mod report_parts;
 mod row;
+pub mod soon;
+mod state_words;
 pub mod status;
 pub mod verify;
 pub mod wanted;

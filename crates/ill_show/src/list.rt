@@ -1,24 +1,25 @@
 //! The command `list`.
 
-ghost use Rattle.std.specs.Prelude.{◌≡◌, [], ◌∷◌, ◌++◌, map, count_by, option_map, IfOk, OnOk};
+ghost use Rattle.std.specs.Prelude.{◌≡◌, ◌++◌, map, count_by, filter, option_map, IfOk, OnOk};
+ghost use Rattle.std.specs.List.{flat_map};
 ghost use Rattle.ill_saved.specs.ManySides.{sides_held};
 ghost use Rattle.ill_text.specs.Output.{WritesText};
-ghost use Rattle.ill_show.specs.List.{has_verbs, is_wanted, has_turn, lacks_day, is_left_out, left_out, counts_line};
-ghost use Rattle.ill_show.specs.Listing.{between, counts_text, file_told, gap, heading, list_lines, list_objects, listed, listed_desk, ordered_lines, row_text, rows_of};
+ghost use Rattle.ill_show.specs.List.{counts_line, counts_of, has_work, is_left_out, lacks_day, left_out, row};
+ghost use Rattle.ill_show.specs.Listing.{between, counts_text, file_told, gap, heading, list_lines, list_objects, listed_desk, ordered_lines, section, sections, work_heading, work_lines, work_objects, work_text};
 
-use crate::counts::{Counts, count};
+use crate::counts::Counts;
 use crate::list_objects::{push_counts_object, push_row_object};
 use crate::listed::{Listed, heading};
 use crate::row::{Columns, push_row};
-use crate::wanted::{Wanted, has_turn, is_wanted};
-use ill_core::Turn;
+use crate::wanted::{Wanted, has_work, is_to_do, is_wanted, listed_of};
 use ill_saved::{Desk, Side, Sides, Store};
 use ill_text::fault::ToolFault;
 use ill_text::form::Form;
 use ill_text::output::write_whole;
-use ill_values::{Day, OutOfMemory};
+use ill_values::OutOfMemory;
 use ill_words::sides::all_of;
 use ill_words::waiting::{most_urgent_first, waits_by_date};
+use ill_work::Work;
 use std::alloc::Global;
 use std::io::Write;
 
@@ -32,8 +33,8 @@ pub(crate) enum Rows<'a> {
 }
 
 /// Writes a line or an object of JSON for each wanted loan of `desk`, and one that counts all of its loans. Lines stand
-/// after a heading with the path of the desk, if that is written; each object has it. The loans that wait for this
-/// library come first. Within a turn the most urgent loans come first.
+/// after a heading with the path of the desk, if that is written; each object has it. The most pressing work comes first.
+/// In lines each kind of work has a heading. Within a kind the loans are in the order of their deadlines.
 pub fn run_desk_list<S: Store, W: Write>(
     alloc: Global,
     desk: &Desk<S>,
@@ -97,8 +98,10 @@ fn push_ordered(lines: &mut Vec<u8>, sides: &[&Side], wanted: &Wanted) -> Result
     ensures { OnOk result (lines.new.items ≡ lines.old.items
         ++ ordered_lines wanted.now (map (λ side. side.now) sides.now)) }
 {
-    let columns = Columns::of(*lines.allocator(), sides, wanted.which.has_verbs())?;
-    push_listed(lines, &Rows::Lines(columns), wanted, sides)
+    let alloc = *lines.allocator();
+    let listed = listed_of(alloc, sides, wanted)?;
+    let columns = Columns::of(alloc, &listed, wanted)?;
+    push_listed(lines, &Rows::Lines(columns), wanted, sides, &listed)
 }
 
 /// Appends all objects of a list of `sides`.
@@ -111,75 +114,167 @@ fn push_list_objects(
     ensures { OnOk result (text.new.items ≡ text.old.items
         ++ list_objects (option_map (λ path. path.now) file.entry) wanted.now sides.now.sides) }
 {
-    let sides = most_urgent_first(*text.allocator(), sides)?;
-    push_listed(text, &Rows::Objects(file), wanted, &sides)
+    let alloc = *text.allocator();
+    let sides = most_urgent_first(alloc, sides)?;
+    let listed = listed_of(alloc, &sides, wanted)?;
+    push_listed(text, &Rows::Objects(file), wanted, &sides, &listed)
 }
 
-/// Appends the listed loans of `sides`, and the counts of all loans.
+/// Appends the `listed` loans, kind by kind, and the counts of all `sides`.
 fn push_listed(
     text: &mut Vec<u8>,
     rows: &Rows<'_>,
     wanted: &Wanted,
     sides: &[&Side],
+    listed: &[&Side],
 ) -> Result<(), OutOfMemory>
     ensures { OnOk result (text.new.items ≡ text.old.items
-        ++ listed (row_text rows.now) (counts_text rows.now) wanted.now (map (λ side. side.now) sides.now)) }
+        ++ (sections (work_text rows.now) wanted.now (map (λ side. side.now) listed.now)
+        ++ counts_text rows.now (counts_of wanted.now (map (λ side. side.now) sides.now)))) }
 {
-    let turns = wanted.which.turns();
-    for turn in turns {
-        push_rows(text, rows, wanted, sides, *turn)?;
-    }
+    push_sections(text, rows, wanted, listed)?;
     push_counts(text, rows, &Counts::of(sides, wanted))
 }
 
-/// Appends the listed loans of `sides` that have the turn `turn`, in their order.
-fn push_rows(
+/// Appends the `listed` loans, kind by kind, the most pressing work first.
+fn push_sections(
     text: &mut Vec<u8>,
     rows: &Rows<'_>,
     wanted: &Wanted,
+    listed: &[&Side],
+) -> Result<(), OutOfMemory>
+    ensures { OnOk result (text.new.items ≡ text.old.items
+        ++ sections (work_text rows.now) wanted.now (map (λ side. side.now) listed.now)) }
+{
+    let works = Work::all();
+    for work in works {
+        push_section(text, rows, wanted, listed, *work)?;
+    }
+    Ok(())
+}
+
+/// Appends those of the `listed` loans that have this work, in their order.
+fn push_section(
+    text: &mut Vec<u8>,
+    rows: &Rows<'_>,
+    wanted: &Wanted,
+    listed: &[&Side],
+    work: Work,
+) -> Result<(), OutOfMemory>
+    ensures { OnOk result (text.new.items ≡ text.old.items
+        ++ section (work_text rows.now) wanted.now (map (λ side. side.now) listed.now) work) }
+{
+    let sides = with_work(*text.allocator(), listed, wanted, work)?;
+    push_work(text, rows, wanted, work, &sides)
+}
+
+/// Returns those of the `listed` loans that have this work, in their order.
+fn with_work<'a>(
+    alloc: Global,
+    listed: &[&'a Side],
+    wanted: &Wanted,
+    work: Work,
+) -> Result<Vec<&'a Side>, OutOfMemory>
+    ensures { IfOk result (λ sides. map (λ side. side.now) sides.items
+        ≡ filter (has_work wanted.now work) (map (λ side. side.now) listed.now)) }
+{
+    Ok(kept_with_work(alloc, listed, wanted, work)?)
+}
+
+/// Returns the references to the loans of `listed` that have the work `work`, in their order.
+fn kept_with_work<'a>(
+    alloc: Global,
+    listed: &[&'a Side],
+    wanted: &Wanted,
+    work: Work,
+) -> Result<Vec<&'a Side>, OutOfMemory>
+    ensures { IfOk result (λ sides. sides.items ≡ filter (λ side. has_work wanted.now work side.now) listed.now) }
+{
+    Ok(
+        listed
+            .iter()
+            .copied()
+            .filter(|side| has_work(wanted, work, side))
+            .collect(alloc)?,
+    )
+}
+
+/// Appends the loans of `sides`, which have this work, as lines or as objects.
+fn push_work(
+    text: &mut Vec<u8>,
+    rows: &Rows<'_>,
+    wanted: &Wanted,
+    work: Work,
     sides: &[&Side],
-    turn: Turn,
 ) -> Result<(), OutOfMemory>
     ensures { OnOk result (text.new.items ≡ text.old.items
-        ++ rows_of (row_text rows.now) wanted.now (map (λ side. side.now) sides.now) turn) }
-{
-    for side in sides {
-        push_row_at(text, rows, wanted, side, turn)?;
-    }
-    Ok(())
-}
-
-/// Appends the loan of `side`, if it is listed and has the turn `turn`.
-fn push_row_at(
-    text: &mut Vec<u8>,
-    rows: &Rows<'_>,
-    wanted: &Wanted,
-    side: &Side,
-    turn: Turn,
-) -> Result<(), OutOfMemory>
-    ensures { OnOk result (text.new.items ≡ text.old.items
-        ++ rows_of (row_text rows.now) wanted.now (side.now ∷ []) turn) }
-{
-    if has_turn(wanted, turn, side) && is_wanted(wanted, side) {
-        return push_row_as(text, rows, wanted.today, turn, side);
-    }
-    Ok(())
-}
-
-/// Appends the loan of `side`, which has the turn `turn` on the day `today`, as a line or as an object.
-fn push_row_as(
-    text: &mut Vec<u8>,
-    rows: &Rows<'_>,
-    today: Option<Day>,
-    turn: Turn,
-    side: &Side,
-) -> Result<(), OutOfMemory>
-    ensures { OnOk result (text.new.items ≡ text.old.items ++ row_text rows.now today turn side.now) }
+        ++ work_text rows.now wanted.now.today work (map (λ side. side.now) sides.now)) }
 {
     match rows {
-        Rows::Lines(columns) => push_row(text, columns, today, turn, side),
-        Rows::Objects(file) => push_row_object(text, *file, today, turn, side),
+        Rows::Lines(columns) => push_work_lines(text, columns, wanted, work, sides),
+        Rows::Objects(file) => push_work_objects(text, *file, wanted, work, sides),
     }
+}
+
+/// Appends a heading of this work, and a line for each loan of `sides`. Without a loan it appends nothing.
+fn push_work_lines(
+    lines: &mut Vec<u8>,
+    columns: &Columns,
+    wanted: &Wanted,
+    work: Work,
+    sides: &[&Side],
+) -> Result<(), OutOfMemory>
+    ensures { OnOk result (lines.new.items ≡ lines.old.items
+        ++ work_lines columns.now wanted.now.today work (map (λ side. side.now) sides.now)) }
+{
+    if sides.is_empty() {
+        return Ok(());
+    }
+    push_work_heading(lines, work, sides.len())?;
+    push_rows(lines, columns, wanted, sides)
+}
+
+/// Appends the heading of a kind of work with `count` listed loans.
+fn push_work_heading(lines: &mut Vec<u8>, work: Work, count: usize) -> Result<(), OutOfMemory>
+    ensures { OnOk result (lines.new.items ≡ lines.old.items ++ work_heading work count) }
+{
+    let told = format!(in *lines.allocator(); " ({count}):\n")?;
+    lines.extend_from_slice(work.words().as_bytes())?;
+    lines.extend_from_slice(told.as_bytes())?;
+    Ok(())
+}
+
+/// Appends a line for each loan of `sides`.
+fn push_rows(
+    lines: &mut Vec<u8>,
+    columns: &Columns,
+    wanted: &Wanted,
+    sides: &[&Side],
+) -> Result<(), OutOfMemory>
+    ensures { OnOk result (lines.new.items ≡ lines.old.items
+        ++ flat_map (row columns.now wanted.now.today) (map (λ side. side.now) sides.now)) }
+{
+    for side in sides {
+        push_row(lines, columns, wanted.today, side)?;
+    }
+    Ok(())
+}
+
+/// Appends an object for each loan of `sides`, with this work.
+fn push_work_objects(
+    text: &mut Vec<u8>,
+    file: Option<&str>,
+    wanted: &Wanted,
+    work: Work,
+    sides: &[&Side],
+) -> Result<(), OutOfMemory>
+    ensures { OnOk result (text.new.items ≡ text.old.items
+        ++ work_objects (option_map (λ path. path.now) file.entry) wanted.now.today work (map (λ side. side.now) sides.now)) }
+{
+    for side in sides {
+        push_row_object(text, file, wanted.today, work, side)?;
+    }
+    Ok(())
 }
 
 /// Returns the number of loans that a list of `sides` leaves out since no day is given.
@@ -193,7 +288,7 @@ pub fn count_left_out(alloc: Global, sides: &Sides, wanted: &Wanted) -> Result<u
     Ok(count_by_date(&all, wanted))
 }
 
-/// Returns the number of loans of `sides` that are not listed, and may wait for this library by their dates.
+/// Returns the number of loans of `sides` that are not listed, and may want a hand by their dates.
 fn count_by_date(sides: &[&Side], wanted: &Wanted) -> usize
     ensures { result ≡ count_by (is_left_out wanted.now) (map (λ side. side.now) sides.now) }
 {
@@ -203,19 +298,18 @@ fn count_by_date(sides: &[&Side], wanted: &Wanted) -> usize
         .count()
 }
 
-/// Returns true if only the loans that wait for this library are listed, and no day is given.
+/// Returns true if only the loans that want a hand are listed, and no day is given.
 fn lacks_day(wanted: &Wanted) -> bool
     ensures { result ≡ lacks_day wanted.now }
 {
-    wanted.which.has_verbs() && wanted.today.is_none()
+    wanted.which.is_mine() && wanted.today.is_none()
 }
 
-/// Returns true if the loan of `side` is not listed as one that waits for this library, but may wait for it by its
-/// date.
+/// Returns true if the loan of `side` wants no hand without a day, but may want one by its date.
 fn is_left_out(wanted: &Wanted, side: &Side) -> bool
     ensures { result ≡ is_left_out wanted.now side.now }
 {
-    !has_turn(wanted, Turn::Mine, side) && waits_by_date(side) && is_wanted(wanted, side)
+    !is_to_do(wanted, side) && waits_by_date(side) && is_wanted(wanted, side)
 }
 
 /// Appends `counts`, as a line or as an object.
@@ -236,11 +330,11 @@ fn push_counts_line(lines: &mut Vec<u8>, counts: &Counts) -> Result<(), OutOfMem
     let Counts {
         loans,
         open_loans,
-        mine,
+        to_do,
         room,
     } = *counts;
     let line = format!(in *lines.allocator();
-        "loans {loans}, open {open_loans}, mine {mine}, room for {room}\n"
+        "loans {loans}, open {open_loans}, to do {to_do}, room for {room}\n"
     )?;
     lines.extend_from_slice(line.as_bytes())?;
     Ok(())

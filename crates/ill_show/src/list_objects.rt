@@ -2,31 +2,31 @@
 
 ghost use Rattle.std.specs.Prelude.{◌≡◌, [], ◌++◌, map, option_map, codes, OnOk};
 ghost use Rattle.ill_text.specs.Json.{joined, member};
-ghost use Rattle.ill_show.specs.Objects.{counts_fields, counts_object, file_fields, names_of, row_fields, row_object};
+ghost use Rattle.ill_show.specs.Objects.{kind_fields, listed_fields, counts_fields, counts_object, file_fields, names_of, row_fields, row_object};
 
 use crate::counts::Counts;
 use crate::objects::title;
-use ill_core::Turn;
 use ill_saved::Side;
 use ill_text::json::{Value, push_members, push_plain};
 use ill_values::{Day, OutOfMemory};
 use ill_words::names::names;
 use ill_words::possible::possible_on;
+use ill_work::Work;
 
-/// Appends the object of the loan of `side` on the day `today`, on a line. It has the path `file` of the desk, if it
+/// Appends the object of the loan of `side` with this work on the day `today`, on a line. It has the path `file` of the desk, if it
 /// is given.
 pub(crate) fn push_row_object(
     text: &mut Vec<u8>,
     file: Option<&str>,
     today: Option<Day>,
-    turn: Turn,
+    work: Work,
     side: &Side,
 ) -> Result<(), OutOfMemory>
     ensures { OnOk result (text.new.items ≡ text.old.items
-        ++ row_object (option_map (λ path. path.now) file.entry) today turn side.now) }
+        ++ row_object (option_map (λ path. path.now) file.entry) today work side.now) }
 {
     push_plain(text, "{")?;
-    push_row_and_file(text, file, today, turn, side)?;
+    push_row_and_file(text, file, today, work, side)?;
     push_plain(text, "}\n")
 }
 
@@ -35,13 +35,13 @@ fn push_row_and_file(
     text: &mut Vec<u8>,
     file: Option<&str>,
     today: Option<Day>,
-    turn: Turn,
+    work: Work,
     side: &Side,
 ) -> Result<(), OutOfMemory>
     ensures { OnOk result (text.new.items ≡ text.old.items
-        ++ joined member [] (row_fields turn side.now (names_of today side.now) ++ file_fields (option_map (λ path. path.now) file.entry))) }
+        ++ joined member [] (row_fields work side.now (names_of today side.now) ++ file_fields (option_map (λ path. path.now) file.entry))) }
 {
-    push_row_fields(text, today, turn, side)?;
+    push_row_fields(text, today, work, side)?;
     push_file(text, file)
 }
 
@@ -49,33 +49,60 @@ fn push_row_and_file(
 fn push_row_fields(
     text: &mut Vec<u8>,
     today: Option<Day>,
-    turn: Turn,
+    work: Work,
     side: &Side,
 ) -> Result<(), OutOfMemory>
     ensures { OnOk result (text.new.items ≡ text.old.items
-        ++ joined member [] (row_fields turn side.now (names_of today side.now))) }
+        ++ joined member [] (row_fields work side.now (names_of today side.now))) }
 {
     let alloc = *text.allocator();
     let names = names(alloc, &possible_on(alloc, today, side)?)?;
-    push_row_with(text, turn, side, &names)
+    push_row_with(text, work, side, &names)
 }
 
 /// Appends the fields of the loan of `side`, with the actions `names`.
-#[tactic(auto, unfolding(ill_text::specs::Json::joined))]
 fn push_row_with<'a>(
     text: &mut Vec<u8>,
-    turn: Turn,
+    work: Work,
     side: &'a Side,
     names: &'a [&'a str],
 ) -> Result<(), OutOfMemory>
     ensures { OnOk result (text.new.items ≡ text.old.items
-        ++ joined member [] (row_fields turn side.now (map (λ name. name.now) names.now))) }
+        ++ joined member [] (row_fields work side.now (map (λ name. name.now) names.now))) }
+{
+    push_kind(text, work)?;
+    push_listed_fields(text, side, names)
+}
+
+/// Appends the field that says that a line is of a loan, and the field of its work.
+#[tactic(auto, unfolding(ill_text::specs::Json::joined))]
+fn push_kind(text: &mut Vec<u8>, work: Work) -> Result<(), OutOfMemory>
+    ensures { OnOk result (text.new.items ≡ text.old.items ++ joined member [] (kind_fields work)) }
 {
     push_members(
         text,
         b"",
         &[
-            ("next", Value::Text(turn.name().as_bytes())),
+            ("kind", Value::Text(b"loan")),
+            ("work", Value::Text(work.words().as_bytes())),
+        ],
+    )
+}
+
+/// Appends the fields that say how the loan of `side` stands, with the actions `names`.
+#[tactic(auto, unfolding(ill_text::specs::Json::joined))]
+fn push_listed_fields<'a>(
+    text: &mut Vec<u8>,
+    side: &'a Side,
+    names: &'a [&'a str],
+) -> Result<(), OutOfMemory>
+    ensures { OnOk result (text.new.items ≡ text.old.items
+        ++ joined member (codes ",") (listed_fields side.now (map (λ name. name.now) names.now))) }
+{
+    push_members(
+        text,
+        b",",
+        &[
             ("state", Value::Text(side.state().name().as_bytes())),
             ("due", Value::day(side.due())),
             ("group", Value::Text(side.txn().group())),
@@ -135,9 +162,10 @@ fn push_counts_fields(text: &mut Vec<u8>, counts: &Counts) -> Result<(), OutOfMe
         text,
         b"",
         &[
+            ("kind", Value::Text("counts".as_bytes())),
             ("loans", Value::Count(counts.loans)),
             ("open", Value::Count(counts.open_loans)),
-            ("mine", Value::Count(counts.mine)),
+            ("todo", Value::Count(counts.to_do)),
             ("room", Value::Count(counts.room)),
         ],
     )

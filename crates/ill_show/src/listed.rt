@@ -68,9 +68,9 @@ fn left_out_words(is_one: bool) -> &'static str
     ensures { result.now ≡ left_out_words is_one }
 {
     if is_one {
-        " more loan may wait for us by its date: give --today DAY\n"
+        " more loan may want a hand by its date: give --today DAY\n"
     } else {
-        " more loans may wait for us by their dates: give --today DAY\n"
+        " more loans may want a hand by their dates: give --today DAY\n"
     }
 }
 

@@ -2,27 +2,32 @@
 
 ghost use Rattle.std.specs.Prelude.{◌≡◌, ◌++◌, ℕ, List, [], ◌∷◌, Some, map, count_by, codes, OnOk};
 ghost use Rattle.std.specs.List.{flat_map};
-ghost use Rattle.std.specs.Fmt.{decimal};
-ghost use Rattle.ill_values.specs.Types.{type_name};
+ghost use Rattle.ill_values.specs.Day.{iso_text};
 ghost use Rattle.ill_text.specs.Output.{WritesText};
 ghost use Rattle.ill_text.specs.Html.{html_escaped};
 ghost use Rattle.ill_words.specs.Possible.{possible_on, request_of, item_asked};
+ghost use Rattle.ill_work.specs.Order.{has_work};
+ghost use Rattle.ill_show.specs.declared.report_parts.TheConstants.{TIME_END};
 ghost use Rattle.ill_show.specs.List.{title_text};
-ghost use Rattle.ill_show.specs.Report.{action_text, actor, day_text, desk_text, detail_text, field_text, is_on, loan_text, loans_text, message_text, page_end, page_head, section_text, sections_text, unread_text, value_text, verb_meaning};
+ghost use Rattle.ill_show.specs.Report.{action_text, counted, counts_text, deadline_text, desk_text, field_text, is_to_do, loans_text, page_end, page_head, row_text, rows_text, table_head, table_text, unread_text, value_text, work_text};
 
 use crate::report_parts::{
-    ARROW, DESK, DESK_END, DESKS, END, FOLDED, Field, LOAN, LOANS, NAME, OPEN, OPENING, OVER, PAGE,
-    ROW, Section, TASK, UNREAD, UNREAD_END, WAITING,
+    COUNT, COUNTS_END, DESK, DESK_END, DESKS, END, Field, LOANS, OPEN, PAGE, ROOM, ROW, TABLE,
+    TABLE_END, TIME_END, TO_DO, UNREAD, UNREAD_END, heading,
 };
 use crate::row::push_title;
-use ill_core::{Turn, Verb};
-use ill_saved::{Side, Sides};
+use crate::soon::SOON;
+use crate::state_words::words_of;
+use ill_core::Verb;
+use ill_saved::{SIDES_LIMIT, Side, Sides};
 use ill_text::fault::ToolFault;
 use ill_text::html::{push_html, push_text};
+use ill_text::json::push_plain;
 use ill_text::output::write_whole;
-use ill_values::{Apdu, Body, Day, OutOfMemory};
+use ill_values::{Day, OutOfMemory};
 use ill_words::possible::{expiry, possible_on};
-use ill_words::waiting::{most_urgent_first, turn_on};
+use ill_words::waiting::most_urgent_first;
+use ill_work::{Work, count};
 use itoa::Buffer;
 use std::io::Write;
 
@@ -58,8 +63,7 @@ pub fn push_desk(
     let sides = most_urgent_first(*page.allocator(), sides)?;
     page.extend_from_slice(DESK.as_bytes())?;
     push_text(page, file.as_bytes())?;
-    page.extend_from_slice(LOANS.as_bytes())?;
-    push_sections(page, today, &sides)?;
+    push_loans(page, today, &sides)?;
     page.extend_from_slice(DESK_END.as_bytes())?;
     Ok(())
 }
@@ -86,110 +90,151 @@ fn push_unread(page: &mut Vec<u8>, file: &str, words: &str) -> Result<(), OutOfM
     Ok(())
 }
 
-/// Appends the loans of a desk: loans that wait for this library, open loans, and loans that are over.
-#[tactic(auto, unfolding(crate::specs::Report::sections_text))]
-fn push_sections(page: &mut Vec<u8>, today: Day, sides: &[&Side]) -> Result<(), OutOfMemory>
+/// Appends the loans of a desk: their counts, and a table for each kind of work that a loan has.
+#[tactic(auto, unfolding(crate::specs::Report::loans_text))]
+fn push_loans(page: &mut Vec<u8>, today: Day, sides: &[&Side]) -> Result<(), OutOfMemory>
     ensures { OnOk result (page.new.items ≡ page.old.items
-        ++ sections_text today (map (λ side. side.now) sides.now)) }
+        ++ loans_text today (map (λ side. side.now) sides.now)) }
 {
-    let waiting = Section {
-        heading: WAITING,
-        turns: &[Turn::Mine],
-        opening: OPENING,
-        fields: &TASK,
-    };
-    push_section(page, today, sides, &waiting)?;
-    let open = Section {
-        heading: OPEN,
-        turns: &[Turn::Mine, Turn::Theirs],
-        opening: OPENING,
-        fields: &LOAN,
-    };
-    push_section(page, today, sides, &open)?;
-    let over = Section {
-        heading: OVER,
-        turns: &[Turn::Over],
-        opening: FOLDED,
-        fields: &LOAN,
-    };
-    push_section(page, today, sides, &over)
+    push_counts(page, today, sides)?;
+    push_works(page, today, sides, Work::all())
 }
 
-/// Appends the number of loans of `section`, and then the loans.
-fn push_section(
+/// Appends the counts of a desk: loans that want a hand, open loans, all loans, and the room for further ones.
+#[tactic(auto, unfolding(crate::specs::Report::counts_text))]
+fn push_counts(page: &mut Vec<u8>, today: Day, sides: &[&Side]) -> Result<(), OutOfMemory>
+    ensures { OnOk result (page.new.items ≡ page.old.items
+        ++ counts_text today (map (λ side. side.now) sides.now)) }
+{
+    let loans = sides.len();
+    let over = count(sides, Work::Over, today, SOON);
+    push_counted(page, TO_DO, count_to_do(today, sides))?;
+    push_counted(page, OPEN, loans.saturating_sub(over))?;
+    push_counted(page, LOANS, loans)?;
+    push_counted(page, ROOM, SIDES_LIMIT.saturating_sub(loans))?;
+    page.extend_from_slice(COUNTS_END.as_bytes())
+}
+
+/// Appends `words`, and then `count`.
+#[tactic(auto, unfolding(crate::specs::Report::counted))]
+fn push_counted(page: &mut Vec<u8>, words: &str, count: usize) -> Result<(), OutOfMemory>
+    ensures { OnOk result (page.new.items ≡ page.old.items ++ counted words.now count) }
+{
+    page.extend_from_slice(words.as_bytes())?;
+    page.extend_from_slice(Buffer::new().format(count).as_bytes())
+}
+
+/// Returns the number of loans that want a hand on the day `today`.
+fn count_to_do(today: Day, sides: &[&Side]) -> usize
+    ensures { result ≡ count_by (is_to_do today) (map (λ side. side.now) sides.now) }
+{
+    sides.iter().filter(|side| is_to_do(today, side)).count()
+}
+
+/// Returns true if the work with `side` wants a hand on the day `today`.
+fn is_to_do(today: Day, side: &Side) -> bool
+    ensures { result ≡ is_to_do today side.now }
+{
+    Work::of(side, today, SOON).wants_a_hand()
+}
+
+/// Appends a table for each of `works` that a loan has.
+fn push_works(
     page: &mut Vec<u8>,
     today: Day,
     sides: &[&Side],
-    section: &Section<'_>,
+    works: &[Work],
 ) -> Result<(), OutOfMemory>
     ensures { OnOk result (page.new.items ≡ page.old.items
-        ++ section_text today (map (λ side. side.now) sides.now) section.now.heading.now
-        section.now.turns.now section.now.opening.now section.now.fields.now) }
+        ++ flat_map (work_text today (map (λ side. side.now) sides.now)) works.now) }
 {
-    page.extend_from_slice(section.heading.as_bytes())?;
-    push_number(page, count(today, sides, section.turns))?;
-    page.extend_from_slice(section.opening.as_bytes())?;
-    push_loans(page, today, sides, section)
+    for work in works {
+        push_work(page, today, sides, *work)?;
+    }
+    Ok(())
 }
 
-/// Returns the number of loans that have one of `turns`.
-fn count(today: Day, sides: &[&Side], turns: &[Turn]) -> usize
-    ensures { result ≡ count_by (is_on today turns.now) (map (λ side. side.now) sides.now) }
+/// Appends the table of the loans with the work `work`, if there is such a loan.
+fn push_work(page: &mut Vec<u8>, today: Day, sides: &[&Side], work: Work) -> Result<(), OutOfMemory>
+    ensures { OnOk result (page.new.items ≡ page.old.items
+        ++ work_text today (map (λ side. side.now) sides.now) work) }
 {
-    sides
-        .iter()
-        .filter(|side| is_on(today, turns, side))
-        .count()
+    if count(sides, work, today, SOON) == 0 {
+        return Ok(());
+    }
+    push_table(page, today, sides, work)
 }
 
-/// Returns true if the loan of `side` has one of `turns` on the day `today`.
-fn is_on(today: Day, turns: &[Turn], side: &Side) -> bool
-    ensures { result ≡ is_on today turns.now side.now }
-{
-    let turn = turn_on(Some(today), side);
-    turns.iter().any(|other| turn == *other)
-}
-
-/// Appends the loans that have a turn of `section`.
-fn push_loans(
+/// Appends the table of the loans with the work `work`: the words for it, their number, and a row for each.
+#[tactic(auto, unfolding(crate::specs::Report::table_text))]
+fn push_table(
     page: &mut Vec<u8>,
     today: Day,
     sides: &[&Side],
-    section: &Section<'_>,
+    work: Work,
 ) -> Result<(), OutOfMemory>
     ensures { OnOk result (page.new.items ≡ page.old.items
-        ++ loans_text today section.now.turns.now section.now.fields.now (map (λ side. side.now) sides.now)) }
+        ++ table_text today (map (λ side. side.now) sides.now) work) }
+{
+    push_table_head(page, work, count(sides, work, today, SOON))?;
+    push_rows(page, today, sides, work)?;
+    push_plain(page, TABLE_END)
+}
+
+/// Appends the words for the work `work`, with the number of its loans, and the head of their table.
+#[tactic(auto, unfolding(crate::specs::Report::table_head))]
+fn push_table_head(page: &mut Vec<u8>, work: Work, count: usize) -> Result<(), OutOfMemory>
+    ensures { OnOk result (page.new.items ≡ page.old.items ++ table_head work count) }
+{
+    push_plain(page, heading(work))?;
+    push_plain(page, work.words())?;
+    push_counted(page, COUNT, count)?;
+    push_plain(page, TABLE)
+}
+
+/// Appends the rows of the loans with the work `work`.
+fn push_rows(page: &mut Vec<u8>, today: Day, sides: &[&Side], work: Work) -> Result<(), OutOfMemory>
+    ensures { OnOk result (page.new.items ≡ page.old.items
+        ++ rows_text today work (map (λ side. side.now) sides.now)) }
 {
     for side in sides {
-        push_loan_on(page, today, side, section)?;
+        push_row_of(page, today, side, work)?;
     }
     Ok(())
 }
 
-/// Appends the part of the loan of `side`, if it has a turn of `section`.
-fn push_loan_on(
-    page: &mut Vec<u8>,
-    today: Day,
-    side: &Side,
-    section: &Section<'_>,
-) -> Result<(), OutOfMemory>
-    ensures { OnOk result (page.new.items ≡ page.old.items
-        ++ loans_text today section.now.turns.now section.now.fields.now (side.now ∷ [])) }
+/// Appends the row of the loan of `side`, if it has the work `work`.
+fn push_row_of(page: &mut Vec<u8>, today: Day, side: &Side, work: Work) -> Result<(), OutOfMemory>
+    ensures { OnOk result (page.new.items ≡ page.old.items ++ rows_text today work (side.now ∷ [])) }
 {
-    if is_on(today, section.turns, side) {
-        return push_loan(page, today, side, section.fields);
+    if has_work(today, side, work) {
+        return push_row(page, today, side);
     }
     Ok(())
 }
 
-/// Appends the given fields of the loan of `side`.
-fn push_loan(
+/// Returns true if `work` is the work with `side` on the day `today`.
+fn has_work(today: Day, side: &Side, work: Work) -> bool
+    ensures { result ≡ has_work today SOON work side.now }
+{
+    Work::of(side, today, SOON) == work
+}
+
+/// Appends the row of the loan of `side`.
+fn push_row(page: &mut Vec<u8>, today: Day, side: &Side) -> Result<(), OutOfMemory>
+    ensures { OnOk result (page.new.items ≡ page.old.items ++ row_text today side.now) }
+{
+    push_fields(page, today, side, &ROW)
+}
+
+/// Appends `fields` of the loan of `side`, one after another.
+fn push_fields(
     page: &mut Vec<u8>,
     today: Day,
     side: &Side,
     fields: &[Field],
 ) -> Result<(), OutOfMemory>
-    ensures { OnOk result (page.new.items ≡ page.old.items ++ loan_text today fields.now side.now) }
+    ensures { OnOk result (page.new.items ≡ page.old.items ++ flat_map (field_text today side.now) fields.now) }
 {
     for field in fields {
         push_field(page, today, side, *field)?;
@@ -214,14 +259,9 @@ fn push_value(page: &mut Vec<u8>, today: Day, side: &Side, field: Field) -> Resu
         Field::Title => push_html_title(page, side),
         Field::Group => push_text(page, side.txn().group()),
         Field::Transaction => push_text(page, side.txn().transaction()),
-        Field::State => page.extend_from_slice(side.state().name().as_bytes()),
-        Field::Due => push_day(page, side.due()),
-        Field::Expiry => push_day(page, expiry(side)),
-        Field::Next => page.extend_from_slice(actor(turn_on(Some(today), side)).as_bytes()),
+        Field::State => page.extend_from_slice(words_of(side).as_bytes()),
+        Field::Deadline => push_deadline(page, side.due(), expiry(side)),
         Field::Actions => push_possible(page, today, side),
-        Field::Height => push_number(page, 28 * usize::from(side.issued_count()) + 36),
-        Field::Names => push_messages(page, side.all_issued(), false),
-        Field::Arrows => push_messages(page, side.all_issued(), true),
     }
 }
 
@@ -235,35 +275,32 @@ fn push_html_title(page: &mut Vec<u8>, side: &Side) -> Result<(), OutOfMemory>
     push_html(page, &title)
 }
 
-/// Appends `number`.
-fn push_number(page: &mut Vec<u8>, number: usize) -> Result<(), OutOfMemory>
-    ensures { OnOk result (page.new.items ≡ page.old.items ++ decimal number) }
+/// Appends the words of a deadline: the due date, or else the expiry date of the request, if there is one.
+fn push_deadline(
+    page: &mut Vec<u8>,
+    due: Option<Day>,
+    expiry: Option<Day>,
+) -> Result<(), OutOfMemory>
+    ensures { OnOk result (page.new.items ≡ page.old.items ++ deadline_text due expiry) }
 {
-    page.extend_from_slice(Buffer::new().format(number).as_bytes())
-}
-
-/// Appends `day`, or a dash if there is none.
-fn push_day(page: &mut Vec<u8>, day: Option<Day>) -> Result<(), OutOfMemory>
-    ensures { OnOk result (page.new.items ≡ page.old.items ++ day_text day) }
-{
-    match day {
-        Some(day) => page.extend_from_slice(&day.iso()),
-        None => page.extend_from_slice(b"-"),
+    match (due, expiry) {
+        (Some(due), _) => push_day(page, "due <time>", due),
+        (None, Some(expiry)) => push_day(page, "expires <time>", expiry),
+        (None, None) => Ok(()),
     }
 }
 
-/// Returns the words for the library that acts next.
-fn actor(turn: Turn) -> &'static str
-    ensures { result.now ≡ actor turn }
+/// Appends `words`, and then `day`, up to the end of its element.
+fn push_day(page: &mut Vec<u8>, words: &str, day: Day) -> Result<(), OutOfMemory>
+    ensures { OnOk result (page.new.items ≡ page.old.items ++ (words.now ++ (iso_text day ++ TIME_END.now))) }
 {
-    match turn {
-        Turn::Mine => "we",
-        Turn::Theirs => "the partner",
-        Turn::Over => "nobody",
-    }
+    page.extend_from_slice(words.as_bytes())?;
+    page.extend_from_slice(&day.iso())?;
+    page.extend_from_slice(TIME_END.as_bytes())?;
+    Ok(())
 }
 
-/// Appends the actions that this library may take on the day `today`.
+/// Appends the actions that this library may do on the day `today`.
 fn push_possible(page: &mut Vec<u8>, today: Day, side: &Side) -> Result<(), OutOfMemory>
     ensures { OnOk result (page.new.items ≡ page.old.items
         ++ flat_map action_text (possible_on (Some today) side.now)) }
@@ -272,7 +309,7 @@ fn push_possible(page: &mut Vec<u8>, today: Day, side: &Side) -> Result<(), OutO
     push_actions(page, &verbs)
 }
 
-/// Appends the lines of the actions `verbs`.
+/// Appends the actions `verbs`.
 fn push_actions(page: &mut Vec<u8>, verbs: &[Verb]) -> Result<(), OutOfMemory>
     ensures { OnOk result (page.new.items ≡ page.old.items ++ flat_map action_text verbs.now) }
 {
@@ -282,101 +319,11 @@ fn push_actions(page: &mut Vec<u8>, verbs: &[Verb]) -> Result<(), OutOfMemory>
     Ok(())
 }
 
-/// Appends the line of an action that this library may take.
+/// Appends an action that this library may do.
 fn push_action(page: &mut Vec<u8>, verb: Verb) -> Result<(), OutOfMemory>
     ensures { OnOk result (page.new.items ≡ page.old.items ++ action_text verb) }
 {
-    page.extend_from_slice(b"<li><b>")?;
+    page.extend_from_slice(b"<code>")?;
     page.extend_from_slice(verb.name().as_bytes())?;
-    page.extend_from_slice(b"</b>: ")?;
-    page.extend_from_slice(meaning(verb).as_bytes())?;
-    page.extend_from_slice(b"</li>")
-}
-
-/// Returns the meaning of an action, for people.
-fn meaning(verb: Verb) -> &'static str
-    ensures { result.now ≡ verb_meaning verb }
-{
-    match verb {
-        Verb::Request => "ask for the item",
-        Verb::Cancel => "ask to drop the request",
-        Verb::Reply => "accept the conditions, or decline them",
-        Verb::Receive => "say that the item has come",
-        Verb::Renew => "ask to keep the item longer",
-        Verb::Return => "send the item back",
-        Verb::Answer => "answer the request",
-        Verb::CancelReply => "agree to cancel, or refuse to",
-        Verb::Ship => "send the item",
-        Verb::RenewAnswer => "let the item be kept longer, or refuse to",
-        Verb::Overdue => "say that the item is overdue",
-        Verb::Recall => "ask for the item back",
-        Verb::CheckIn => "say that the item is back",
-        Verb::Expire => "end the request, if its expiry day is past",
-    }
-}
-
-/// Appends `apdus`, drawn as arrows or named.
-fn push_messages(page: &mut Vec<u8>, apdus: &[Apdu], is_drawn: bool) -> Result<(), OutOfMemory>
-    ensures { OnOk result (page.new.items ≡ page.old.items
-        ++ flat_map (message_text is_drawn) apdus.now) }
-{
-    for apdu in apdus {
-        push_message(page, apdu, is_drawn)?;
-    }
-    Ok(())
-}
-
-/// Appends `apdu`, drawn as an arrow or named.
-fn push_message(page: &mut Vec<u8>, apdu: &Apdu, is_drawn: bool) -> Result<(), OutOfMemory>
-    ensures { OnOk result (page.new.items ≡ page.old.items ++ message_text is_drawn apdu.now) }
-{
-    if !is_drawn {
-        push_name(page, &apdu.body)?;
-        return page.extend_from_slice(b"; ");
-    }
-    page.extend_from_slice(ROW.as_bytes())?;
-    push_number(page, 28 * usize::from(apdu.number.get()) + 24)?;
-    page.extend_from_slice(NAME.as_bytes())?;
-    push_name(page, &apdu.body)?;
-    page.extend_from_slice(ARROW.as_bytes())
-}
-
-/// Appends the type of a message, with its answer or its day.
-fn push_name(page: &mut Vec<u8>, body: &Body) -> Result<(), OutOfMemory>
-    ensures { OnOk result (page.new.items ≡ page.old.items
-        ++ (type_name body.now ++ detail_text body.now)) }
-{
-    page.extend_from_slice(body.type_name().as_bytes())?;
-    push_detail(page, body)
-}
-
-/// Appends the answer or the day in a message, with a space before each.
-fn push_detail(page: &mut Vec<u8>, body: &Body) -> Result<(), OutOfMemory>
-    ensures { OnOk result (page.new.items ≡ page.old.items ++ detail_text body.now) }
-{
-    match body {
-        Body::IllAnswer { result } => push_word(page, result.name().as_bytes()),
-        Body::ConditionalReply { yes, .. } => push_word(page, if *yes { b"yes" } else { b"no" }),
-        Body::CancelReply { yes, .. } => push_word(page, if *yes { b"yes" } else { b"no" }),
-        Body::Shipped { due } => push_word(page, &due.iso()),
-        Body::Overdue { due } => push_word(page, &due.iso()),
-        Body::Renew { wished: Some(day) } => push_word(page, &day.iso()),
-        Body::RenewAnswer {
-            granted: Some(day),
-            ..
-        } => {
-            push_word(page, b"yes")?;
-            push_word(page, &day.iso())
-        }
-        Body::RenewAnswer { granted: None, .. } => push_word(page, b"no"),
-        _ => Ok(()),
-    }
-}
-
-/// Appends `word`, with a space before it.
-fn push_word(page: &mut Vec<u8>, word: &[u8]) -> Result<(), OutOfMemory>
-    ensures { OnOk result (page.new.items ≡ page.old.items ++ (codes " " ++ word.now)) }
-{
-    page.push(b' ')?;
-    page.extend_from_slice(word)
+    page.extend_from_slice(b"</code> ")
 }

@@ -2,11 +2,11 @@
 //! written by a user.
 
 ghost use Rattle.std.specs.Prelude.{◌≡◌};
-ghost use Rattle.ill_show.specs.Report.{after, before};
+ghost use Rattle.ill_show.specs.Report.{after, before, heading};
 
-use ill_core::Turn;
+use ill_work::Work;
 
-/// A field of a loan.
+/// A field of a loan. The group and the transaction share a cell of its row.
 #[derive(Clone, Copy)]
 pub(crate) enum Field {
     /// The item that is asked for.
@@ -15,47 +15,22 @@ pub(crate) enum Field {
     Group,
     /// The transaction qualifier.
     Transaction,
-    /// The state.
+    /// The state, in words.
     State,
-    /// The due date of the item.
-    Due,
-    /// The expiry date of the request.
-    Expiry,
-    /// The library that acts next.
-    Next,
+    /// The due date, or else the expiry date of the request.
+    Deadline,
     /// The actions that this library may do.
     Actions,
-    /// The height of the chart of its messages.
-    Height,
-    /// The names of its messages, for a screen reader.
-    Names,
-    /// Its messages, as arrows of the chart.
-    Arrows,
 }
 
-/// The fields of a loan that waits for this library, with its actions.
-pub(crate) const TASK: [Field; 7] = [
+/// The fields of a loan, in the order of its row.
+pub(crate) const ROW: [Field; 6] = [
     Field::Title,
     Field::Group,
     Field::Transaction,
     Field::State,
-    Field::Due,
-    Field::Expiry,
+    Field::Deadline,
     Field::Actions,
-];
-
-/// All fields of a loan, with a chart of the messages that this library has issued.
-pub(crate) const LOAN: [Field; 10] = [
-    Field::Title,
-    Field::Group,
-    Field::Transaction,
-    Field::State,
-    Field::Due,
-    Field::Expiry,
-    Field::Next,
-    Field::Height,
-    Field::Names,
-    Field::Arrows,
 ];
 
 impl Field {
@@ -64,17 +39,10 @@ impl Field {
         ensures { result.now ≡ before self }
     {
         match self {
-            Field::Title => "<article>\n<h4 dir=\"auto\">",
-            Field::Group => "<div><dt>Group</dt><dd>",
-            Field::Transaction => "<div><dt>Transaction</dt><dd>",
-            Field::State => "<div><dt>State</dt><dd>",
-            Field::Due => "<div><dt>Due</dt><dd>",
-            Field::Expiry => "<div><dt>Request expires</dt><dd>",
-            Field::Next => "<div><dt>Next</dt><dd>",
-            Field::Actions => "</dl>\n<ul>",
-            Field::Height => "</dl>\n<svg role=\"img\" viewBox=\"0 0 320 ",
-            Field::Names => "<title>Messages that we have issued: ",
-            Field::Arrows => LIFELINES,
+            Field::Title => "<tr><th scope=\"row\" dir=\"auto\">",
+            Field::Group => "<td><bdi>",
+            Field::Transaction => "<bdi>",
+            Field::State | Field::Deadline | Field::Actions => "<td>",
         }
     }
 
@@ -83,27 +51,20 @@ impl Field {
         ensures { result.now ≡ after self }
     {
         match self {
-            Field::Title => "</h4>\n<dl>",
-            Field::Actions => "</ul>\n</article>\n",
-            Field::Height => "\">",
-            Field::Names => "</title>\n",
-            Field::Arrows => "</svg>\n</article>\n",
-            _ => "</dd></div>",
+            Field::Title => "</th>",
+            Field::Group => "</bdi> ",
+            Field::Transaction => "</bdi></td>",
+            Field::State | Field::Deadline => "</td>",
+            Field::Actions => "</td></tr>\n",
         }
     }
 }
 
-/// A section of the loans of a desk.
-#[derive(Clone, Copy)]
-pub(crate) struct Section<'a> {
-    /// The text before their count.
-    pub heading: &'a str,
-    /// The turns of its loans.
-    pub turns: &'a [Turn],
-    /// The text after their count.
-    pub opening: &'a str,
-    /// The fields of each loan.
-    pub fields: &'a [Field],
+/// Returns the text before the words of a kind of work. It marks work that wants a hand.
+pub(crate) fn heading(work: Work) -> &'static str
+    ensures { result.now ≡ heading work }
+{
+    if work.wants_a_hand() { TASK } else { HEADING }
 }
 
 /// The text before the day of a page.
@@ -116,35 +77,55 @@ pub(crate) const PAGE: &str = "\
 <meta http-equiv=\"Content-Security-Policy\" content=\"default-src 'none'; style-src 'unsafe-inline'\">
 <title>Loans</title>
 <style>
-:root { color-scheme: light dark; --page: #fff; --card: #f3f3f3; --text: #1a1a1a; --quiet: #505050 }
+:root { color-scheme: light dark; --page: #fff; --text: #1a1a1a; --quiet: #505050; --rule: #d0d0d0 }
 :root { --mark: #0b4f9c; --fault: #a3130c }
 @media (prefers-color-scheme: dark) {
-  :root { --page: #151515; --card: #232323; --text: #eee; --quiet: #bbb; --mark: #8ab8ff; --fault: #ff9a8f }
+  :root { --page: #151515; --text: #eee; --quiet: #bbb; --rule: #444; --mark: #8ab8ff; --fault: #ff9a8f }
 }
 * { box-sizing: border-box }
-body { max-width: 64rem; margin: 0 auto; padding: 1rem; font: 1rem/1.5 system-ui, sans-serif }
+body { max-width: 76rem; margin: 0 auto; padding: 1rem; font: 1rem/1.4 system-ui, sans-serif }
 body { color: var(--text); background: var(--page); overflow-wrap: anywhere }
-h1, h2, h3, h4 { margin: 2rem 0 .75rem; line-height: 1.25 }
-h1 { margin-top: 0; font-size: 1.625rem }
-h2, h4 { text-align: left }
-h4 { margin: 0 0 .5rem; font-size: 1.125rem }
-article { margin: 0 0 1rem; padding: 1rem; background: var(--card); border-left: .25rem solid var(--mark) }
-dl { display: flex; flex-wrap: wrap; gap: .25rem 1.5rem; margin: 0 }
-dt { color: var(--quiet); font-size: .875rem }
-dd { margin: 0 }
-p { margin: 0; color: var(--fault) }
-ul { margin: .75rem 0 0; padding-left: 1.25rem }
-summary { margin: 2rem 0 .75rem; font-size: 1.17rem; font-weight: bold; cursor: pointer }
-svg { display: block; width: 100%; max-width: 28rem; height: auto; margin-top: .75rem }
-svg text { fill: var(--text); font-size: 12px; text-anchor: middle }
-svg path { fill: none; stroke: var(--mark) }
+h1, h2, h3 { margin: 0; line-height: 1.25 }
+h1 { font-size: 1.625rem }
+h2 { margin-top: 2rem; font-size: 1.375rem; text-align: left }
+h3 { margin: 1.75rem 0 .25rem; font-size: 1.125rem }
+h3::first-letter { text-transform: uppercase }
+h3.task { color: var(--mark) }
+p { margin: .25rem 0 0 }
+strong { color: var(--fault) }
+table { width: 100%; table-layout: fixed; border-collapse: collapse }
+tr { border-bottom: 1px solid var(--rule) }
+th, td { padding: .25rem .75rem .25rem 0; text-align: left; vertical-align: top }
+thead th { width: 13%; color: var(--quiet); font-size: .875rem; font-weight: normal }
+thead th:nth-child(1) { width: 26% }
+thead th:nth-child(2) { width: 15% }
+thead th:nth-child(3) { width: 32% }
+thead th:nth-child(4) { width: 14% }
+bdi:first-child { margin-right: .25rem }
+bdi + bdi { font-weight: bold }
+time { white-space: nowrap }
+code { margin-right: .5rem; font-family: ui-monospace, monospace }
+@media screen and (max-width: 48rem) {
+  thead { display: none }
+  table, tbody, tr, th, td { display: block }
+  tr { padding: .5rem 0 }
+  th, td { padding: 0 }
+  td:nth-child(4), td:nth-child(5) { display: inline-block; margin-right: .75rem }
+  td:empty { display: none }
+}
+@media print {
+  :root { color-scheme: light; --page: #fff; --text: #000; --quiet: #000; --rule: #999; --mark: #000; --fault: #000 }
+  body { max-width: none; padding: 0; font-size: 10pt }
+  h2, h3, p { break-after: avoid }
+  tr { break-inside: avoid }
+}
 </style>
 </head>
 <body>
-<h1>Loans on ";
+<h1>Loans on <time>";
 
 /// The text after the day of a page, before its desks.
-pub(crate) const DESKS: &str = "</h1>\n";
+pub(crate) const DESKS: &str = "</time></h1>\n";
 
 /// The text after the desks of a page.
 pub(crate) const END: &str = "</body>\n</html>\n";
@@ -152,43 +133,49 @@ pub(crate) const END: &str = "</body>\n</html>\n";
 /// The text before the file of a desk.
 pub(crate) const DESK: &str = "<section>\n<h2 dir=\"auto\">";
 
-/// The text after the file of a desk, before its loans.
-pub(crate) const LOANS: &str = "</h2>\n";
+/// The text after the file of a desk, before the number of loans that want a hand.
+pub(crate) const TO_DO: &str = "</h2>\n<p>To do: ";
+
+/// The text before the number of open loans.
+pub(crate) const OPEN: &str = ". Open: ";
+
+/// The text before the number of all loans.
+pub(crate) const LOANS: &str = ". Loans: ";
+
+/// The text before the number of further loans for which there is room.
+pub(crate) const ROOM: &str = ". Room for ";
+
+/// The text after the counts of a desk, before its loans.
+pub(crate) const COUNTS_END: &str = " more.</p>\n";
 
 /// The text after the loans of a desk.
-pub(crate) const DESK_END: &str = "</details>\n</section>\n";
+pub(crate) const DESK_END: &str = "</section>\n";
 
-/// The text after the file of a desk that cannot be read, before the text of its fault.
-pub(crate) const UNREAD: &str = "</h2>\n<p>This desk cannot be read: ";
+/// The text before the words of a kind of work that wants a hand.
+pub(crate) const TASK: &str = "<h3 class=\"task\">";
 
-/// The text after the text of a fault.
-pub(crate) const UNREAD_END: &str = "</p>\n</section>\n";
+/// The text before the words of any other kind of work.
+pub(crate) const HEADING: &str = "<h3>";
 
-/// The text before the count of the loans that wait for this library.
-pub(crate) const WAITING: &str = "<h3>Waits for us today: ";
+/// The text after the words of a kind of work, before the number of its loans.
+pub(crate) const COUNT: &str = ": ";
 
-/// The text before the count of the loans that are open.
-pub(crate) const OPEN: &str = "<h3>Open loans: ";
-
-/// The text after the count of a section, before its loans.
-pub(crate) const OPENING: &str = "</h3>\n";
-
-/// The text before the count of the loans that are over.
-pub(crate) const OVER: &str = "<details>\n<summary>Over: ";
-
-/// The text after the count of the loans that are over, before these loans.
-pub(crate) const FOLDED: &str = "</summary>\n";
-
-/// The text of a chart before its messages: the two libraries, with a line below each.
-pub(crate) const LIFELINES: &str = "\
-<text x=\"30\" y=\"14\">We</text><text x=\"290\" y=\"14\">Partner</text><path d=\"M30 20V7999M290 20V7999\"/>
+/// The text after the number of the loans of a kind of work, before their rows.
+pub(crate) const TABLE: &str = "\
+</h3>
+<table>
+<thead><tr><th>Title</th><th>Loan</th><th>State</th><th>Date</th><th>Actions</th></tr></thead>
+<tbody>
 ";
 
-/// The text before the row of a message in a chart.
-pub(crate) const ROW: &str = "<g transform=\"translate(0 ";
+/// The text after the rows of the loans of a kind of work.
+pub(crate) const TABLE_END: &str = "</tbody>\n</table>\n";
 
-/// The text after the row of a message, before its name.
-pub(crate) const NAME: &str = ")\"><text x=\"160\" y=\"-6\">";
+/// The text after the file of a desk that cannot be read, before the text of its fault.
+pub(crate) const UNREAD: &str = "</h2>\n<p><strong>This desk cannot be read: ";
 
-/// The text after the name of a message: its arrow.
-pub(crate) const ARROW: &str = "</text><path d=\"M30 0H289m-8-5 8 5-8 5\"/></g>\n";
+/// The text after a day.
+pub(crate) const TIME_END: &str = "</time>";
+
+/// The text after the text of a fault.
+pub(crate) const UNREAD_END: &str = "</strong></p>\n</section>\n";

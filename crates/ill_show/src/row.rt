@@ -1,14 +1,13 @@
 //! The line of a loan in a list.
 
-ghost use Rattle.std.specs.Prelude.{◌≡◌, ◌++◌, ◌||◌, map, string_bytes, IfOk, OnOk};
+ghost use Rattle.std.specs.Prelude.{◌≡◌, ◌++◌, ◌||◌, map, length, string_bytes, codes, IfOk, OnOk};
 ghost use Rattle.ill_core.specs.State.{state_name};
 ghost use Rattle.ill_saved.specs.Side.{state_of, due_date_of};
 ghost use Rattle.ill_words.specs.Shown.{due_text};
-ghost use Rattle.ill_core.specs.Words.{turn_name};
 ghost use Rattle.ill_words.specs.Possible.{request_of, item_asked};
-ghost use Rattle.ill_show.specs.List.{title_text, padded, cell, column, column_byte, columns_of, is_end, verbs_text, verbs_cell, row};
+ghost use Rattle.ill_show.specs.List.{title_text, padded, cell, column, column_byte, columns_of, is_end, actions_cell, actions_text, no_columns, row, verbs_text, widened};
 
-use ill_core::Turn;
+use crate::wanted::Wanted;
 use ill_saved::Side;
 use ill_text::escape::push_escaped;
 use ill_values::{Day, OutOfMemory};
@@ -16,55 +15,88 @@ use ill_words::names::names;
 use ill_words::possible::{item_asked, possible_on};
 use std::alloc::Global;
 
-/// The widths of the columns of a turn, a state, a day and the verbs.
-const TURN: usize = 6;
-
-const STATE: usize = 20;
-
+/// The width of the column of a day.
 const DUE: usize = 8;
 
-const VERBS: usize = 20;
-
-/// The columns of a list: the widths that depend on the loans, and true if verbs have a column.
+/// The columns of a list: the widths of all but that of a day, and true if actions have a column.
 #[derive(Clone, Copy)]
 pub struct Columns {
+    pub has_actions: bool,
+    pub state: usize,
     pub group: usize,
     pub transaction: usize,
-    pub has_verbs: bool,
+    pub actions: usize,
 }
 
 impl Columns {
-    /// Returns the columns that are wide enough for all of `sides`.
-    pub fn of(alloc: Global, sides: &[&Side], has_verbs: bool) -> Result<Columns, OutOfMemory>
-        ensures { IfOk result (λ columns. columns ≡ columns_of has_verbs (map (λ side. side.now) sides.now)) }
+    /// Returns the columns that are wide enough for each of the listed loans.
+    pub fn of(alloc: Global, listed: &[&Side], wanted: &Wanted) -> Result<Columns, OutOfMemory>
+        ensures { IfOk result (λ columns. columns ≡ columns_of wanted.now (map (λ side. side.now) listed.now)) }
     {
-        let mut columns = Columns {
-            group: 0,
-            transaction: 0,
-            has_verbs,
-        };
-        for side in sides {
-            let group = column(alloc, side.txn().group())?;
-            columns.group = columns.group.max(group.len());
-            let transaction = column(alloc, side.txn().transaction())?;
-            columns.transaction = columns.transaction.max(transaction.len());
+        let mut columns = Columns::empty(wanted.has_actions);
+        for side in listed {
+            columns = columns.widened(alloc, wanted.today, side)?;
         }
         Ok(columns)
     }
+
+    /// Returns columns without a width.
+    fn empty(has_actions: bool) -> Columns
+        ensures { result ≡ no_columns has_actions }
+    {
+        Columns {
+            has_actions,
+            state: 0,
+            group: 0,
+            transaction: 0,
+            actions: 0,
+        }
+    }
+
+    /// Returns these columns, and each as wide as the text of `side` at least.
+    fn widened(self, alloc: Global, today: Option<Day>, side: &Side) -> Result<Columns, OutOfMemory>
+        ensures { IfOk result (λ columns. columns ≡ widened today self side.now) }
+    {
+        let group = column(alloc, side.txn().group())?.len();
+        let transaction = column(alloc, side.txn().transaction())?.len();
+        let actions = actions_width(alloc, self.has_actions, today, side)?;
+        Ok(Columns {
+            has_actions: self.has_actions,
+            state: self.state.max(side.state().name().len()),
+            group: self.group.max(group),
+            transaction: self.transaction.max(transaction),
+            actions: self.actions.max(actions),
+        })
+    }
 }
 
-/// Appends the line of `side`, whose turn on the day `today` is `turn`.
+/// Returns the width of the actions of `side`, if the list has a column of them.
+fn actions_width(
+    alloc: Global,
+    has_actions: bool,
+    today: Option<Day>,
+    side: &Side,
+) -> Result<usize, OutOfMemory>
+    ensures { IfOk result (λ width. width ≡ length (actions_text has_actions today side.now)) }
+{
+    if !has_actions {
+        return Ok(0);
+    }
+    let text = verbs_text(alloc, today, side)?;
+    Ok(text.len())
+}
+
+/// Appends the line of `side`, with its actions on the day `today` if the list has them.
 #[tactic(auto, unfolding(crate::specs::List::row))]
 pub fn push_row(
     lines: &mut Vec<u8>,
     columns: &Columns,
     today: Option<Day>,
-    turn: Turn,
     side: &Side,
 ) -> Result<(), OutOfMemory>
-    ensures { OnOk result (lines.new.items ≡ lines.old.items ++ row columns.now today turn side.now) }
+    ensures { OnOk result (lines.new.items ≡ lines.old.items ++ row columns.now today side.now) }
 {
-    push_standing(lines, turn, side)?;
+    push_standing(lines, columns.state, side)?;
     let alloc = *lines.allocator();
     push_cell(lines, columns.group, &column(alloc, side.txn().group())?)?;
     push_cell(
@@ -72,20 +104,19 @@ pub fn push_row(
         columns.transaction,
         &column(alloc, side.txn().transaction())?,
     )?;
-    push_verbs(lines, columns.has_verbs, today, side)?;
+    push_actions(lines, columns, today, side)?;
     push_title(lines, side)?;
     lines.push(b'\n')?;
     Ok(())
 }
 
-/// Appends the turn, the state, and the due date, or a dash for it.
-fn push_standing(lines: &mut Vec<u8>, turn: Turn, side: &Side) -> Result<(), OutOfMemory>
+/// Appends two spaces, the state in a column of this width, and the due date, or a dash for it.
+fn push_standing(lines: &mut Vec<u8>, width: usize, side: &Side) -> Result<(), OutOfMemory>
     ensures { OnOk result (lines.new.items ≡ lines.old.items
-        ++ (cell 6 (turn_name turn) ++ cell 20 (state_name (state_of side.now))
-        ++ cell 8 (due_text (due_date_of side.now)))) }
+        ++ (codes "  " ++ cell width (state_name (state_of side.now)) ++ cell 8 (due_text (due_date_of side.now)))) }
 {
-    push_cell(lines, TURN, turn.name().as_bytes())?;
-    push_cell(lines, STATE, side.state().name().as_bytes())?;
+    lines.extend_from_slice(b"  ")?;
+    push_cell(lines, width, side.state().name().as_bytes())?;
     match side.due() {
         None => push_cell(lines, DUE, b"-"),
         Some(day) => push_cell(lines, DUE, &day.digits()),
@@ -93,19 +124,19 @@ fn push_standing(lines: &mut Vec<u8>, turn: Turn, side: &Side) -> Result<(), Out
 }
 
 /// Appends the actions that the side may do on the day `today`, if the list has this column.
-fn push_verbs(
+fn push_actions(
     lines: &mut Vec<u8>,
-    has_verbs: bool,
+    columns: &Columns,
     today: Option<Day>,
     side: &Side,
 ) -> Result<(), OutOfMemory>
-    ensures { OnOk result (lines.new.items ≡ lines.old.items ++ verbs_cell has_verbs today side.now) }
+    ensures { OnOk result (lines.new.items ≡ lines.old.items ++ actions_cell columns.now today side.now) }
 {
-    if !has_verbs {
+    if !columns.has_actions {
         return Ok(());
     }
     let verbs = verbs_text(*lines.allocator(), today, side)?;
-    push_cell(lines, VERBS, verbs.as_bytes())
+    push_cell(lines, columns.actions, verbs.as_bytes())
 }
 
 /// Returns the actions that the side may do on the day `today`, with a comma between two.

@@ -14,8 +14,10 @@ use Rattle.ill_line.specs.declared.request.Call.TheVariants as calls
 use Rattle.ill_line.specs.declared.request.Refusal.{Refusal}
 use Rattle.ill_line.specs.declared.request.Refusal.TheVariants.{Usage, Fault}
 use Rattle.ill_tool.specs.ExitStatus.{IsFlushed, TellsKind, exit_status, status_of}
-use Rattle.ill_files.specs.AtFile.{GoesWell, NewAtFile, ActsAtFile, TakesAtFile, SendsAtFile, ShowsFile, ListsPaths, LoanAtFile}
-use Rattle.ill_files.specs.AtFile.{VerifiesFile, ReportsPaths}
+use Rattle.ill_commands.specs.AtFile.{NewAtFile, ActsAtFile, TakesAtFile, SendsAtFile, ShowsFile, ListsPaths, LoanAtFile}
+use Rattle.ill_commands.specs.AtFile.{SlipAtFile}
+use Rattle.ill_files.specs.Opening.{GoesWell}
+use Rattle.ill_commands.specs.AtFile.{VerifiesFile, ReportsPaths}
 use Rattle.ill_mail.specs.Nights.{InboxAtFile, OutboxAtFile, ExchangesAtFile}
 use Rattle.ill_line.specs.Guard.{IsGuarded}
 use Rattle.ill_shelf.specs.Shelf.{is_lines, VisitsShelf, RetiresAtFile, TakesAtShelf}
@@ -45,6 +47,7 @@ Runs (asks.Listing paths wanted form) left rest before after result =
 Runs (asks.Status file form) left rest before after result = (rest ≡ left) × ShowsFile form before after result
 Runs (asks.Loan file txn form) left rest before after result =
     (rest ≡ left) × LoanAtFile form txn before after result
+Runs (asks.Slip file txn) left rest before after result = (rest ≡ left) × SlipAtFile txn before after result
 Runs (asks.Report paths today) left rest before after result = (rest ≡ left) × ReportsPaths today before after result
 Runs (asks.Verify file) left rest before after result = (rest ≡ left) × VerifiesFile before after result
 Runs (asks.Retire file group) left rest before after result =
@@ -68,6 +71,7 @@ RunsShelf (asks.Send folder txn number) left rest before after result =
     (rest ≡ left) × SendsAtFile txn number before after result
 RunsShelf (asks.Loan folder txn form) left rest before after result =
     (rest ≡ left) × LoanAtFile form txn before after result
+RunsShelf (asks.Slip folder txn) left rest before after result = (rest ≡ left) × SlipAtFile txn before after result
 RunsShelf (asks.Status folder form) left rest before after result =
     (rest ≡ left) × VisitsShelf (is_lines form) (ShowsFile form) before after result
 RunsShelf (asks.Inbox folder incoming) left rest before after result =

@@ -25,6 +25,7 @@ pub use ill_show::loan::{LoanForm, LoanView, run_desk_loan};
 pub use ill_show::status::{run_desk_status, run_desk_status_as, run_status};
 pub use ill_show::verify::run_desk_verify;
 pub use ill_show::wanted::{Wanted, Which};
+pub use ill_slip::slip::run_desk_slip;
 pub use ill_text::check::run_check;
 pub use ill_text::fault::ToolFault;
 pub use ill_text::form::Form;

@@ -10,8 +10,10 @@ ghost use Rattle.ill_tool.specs.ExitStatus.{IsFlushed, TellsKind, desk_status, e
 use crate::simulate::{run_simulate, run_simulate_desks};
 use clap::Error;
 use clap::error::ErrorKind;
+use ill_commands::commands::{
+    ActionView, act, list, loan, new, report, send, slip, status, take, verify,
+};
 use ill_explain::{Passed, Watched, explain, is_asked};
-use ill_files::file::{ActionView, act, list, loan, new, report, send, status, take, verify};
 use ill_files::machine::Machine;
 use ill_files::open::all_well;
 use ill_line::guard::refuse_desk_of_shelf;
@@ -21,7 +23,7 @@ use ill_mail::mail::Incoming;
 use ill_saved::{DeskFault, LockFiles};
 use ill_shelf::on_shelf::{
     act_on_shelf, exchange_of_shelf, inbox_of_shelf, loan_on_shelf, new_shelf, outbox_of_shelf,
-    retire, send_on_shelf, status_of_shelf,
+    retire, send_on_shelf, slip_on_shelf, status_of_shelf,
 };
 use ill_shelf::take_home::take_on_shelf;
 use ill_show::loan::LoanView;
@@ -283,6 +285,7 @@ fn run<T: LockFiles, R: Read, W: Write, E: Write>(
         } => list(machine, paths, wanted, *form),
         Request::Status { file, form } => status(machine, file, *form),
         Request::Loan { file, txn, form } => loan(machine, file, &LoanView { txn, form: *form }),
+        Request::Slip { file, txn } => slip(machine, file, txn),
         Request::Retire { .. } => Err(ToolFault::Arguments),
         Request::Verify { file } => verify(machine, file),
         Request::Report { paths, today } => { report(machine, paths, *today) }
@@ -329,6 +332,7 @@ fn run_on_shelf<T: LockFiles, R: Read, W: Write, E: Write>(
         Request::Loan { file, txn, form } => {
             loan_on_shelf(machine, file, &LoanView { txn, form: *form })
         }
+        Request::Slip { file, txn } => slip_on_shelf(machine, file, txn),
         Request::Status { file, form } => status_of_shelf(machine, file, *form),
         Request::Inbox { file, folder } => inbox_of_shelf(machine, file, folder),
         Request::Outbox { file, folder } => { outbox_of_shelf(machine, file, *folder) }

@@ -5,4 +5,5 @@ mod OrderLemmas
 mod RequesterWork
 mod ResponderWork
 mod TurnLemmas
+mod UndatedLemmas
 mod WaitingLemmas

@@ -1,5 +1,5 @@
 -- Proves that a requester's work is possible on its day, and that it agrees with the turn on that day.
-use Rattle.std.proofs.Common.{rules, ◌≡◌, Bool, true, false, Some, [], ◌∷◌}
+use Rattle.std.proofs.Common.{rules, ◌≡◌, Bool, true, false, Some, None, [], ◌∷◌}
 use Rattle.std.specs.Prelude.{◌&&◌, ◌||◌, filter, nat_lt, length, if◌then◌else◌}
 use Rattle.ill_values.specs.Day.{Date}
 use Rattle.ill_core.specs.declared.state.State.{State}
@@ -22,6 +22,12 @@ module _ (s : State) (declined received checked_in : Bool) (on : Dates) where
       → is_verb_among (work_verbs (requester_work_in s declined received checked_in on)) verb ≡ true
       → is_verb_among (filter (is_allowed (Some today) side) (requester_verbs_in s declined received)) verb ≡ true
   is_possible today side verb is = search rules
+
+  -- Each verb of the work is possible on some day.
+  pub is_possible_some_day : (side : Side) (verb : Verb)
+      → is_verb_among (work_verbs (requester_work_in s declined received checked_in on)) verb ≡ true
+      → is_verb_among (filter (is_allowed None side) (requester_verbs_in s declined received)) verb ≡ true
+  is_possible_some_day side verb is = search rules
 
   -- Let `past` say that the deadline is past: the due date in SHIPPED or later, and else the expiry date. Then the turn is
   -- the requester's if, and only if, its work wants a hand, or the item is with its reader.

@@ -21,7 +21,7 @@ use Rattle.ill_work.specs.declared.dates.Dates.{Dates}
 use Rattle.ill_work.specs.declared.work.Work.TheVariants as kinds
 use Rattle.ill_work.specs.Dates.{may_name_due}
 use Rattle.ill_work.specs.Work.{work_verbs, wants_a_hand, is_work_among}
-use Rattle.ill_work.specs.Table.{responder_work_in, responder_work, dates_on}
+use Rattle.ill_work.specs.Table.{responder_work_in, responder_work, dates_on, no_date_presses}
 
 module _ (s : State) (received : Bool) (on : Dates) where
   -- Each verb of the work is one of the responder's.
@@ -51,6 +51,12 @@ pub is_possible : (y : ResponderRecord) (s : State) (received : Bool) (today : D
     → is_verb_among (work_verbs (responder_work_in s received (dates_on today ahead (sides.Responder y)))) verb ≡ true
     → is_verb_among (filter (is_allowed (Some today) (sides.Responder y)) (responder_verbs_in s)) verb ≡ true
 is_possible y s received today ahead verb is = search rules
+
+-- If no date presses, each verb of the work is possible on some day.
+pub is_possible_some_day : (y : ResponderRecord) (s : State) (received : Bool) (verb : Verb)
+    → is_verb_among (work_verbs (responder_work_in s received no_date_presses)) verb ≡ true
+    → is_verb_among (filter (is_allowed None (sides.Responder y)) (responder_verbs_in s)) verb ≡ true
+is_possible_some_day y s received verb is = search rules
 
 -- A deed that is not `NotNow` is done if, and only if, it may name its due date. A number is left, and the date of an Overdue
 -- or an Expire is past.

@@ -132,19 +132,19 @@ stays_past today later None order is = search rules
 stays_past today later (Some limit) order is = grind (arith, nat_tests)
 
 -- On the day of `later` each date is past, or soon, that is so on the day of `on`.
-record AreLater (on later : Dates) : Type 0 where
-  expired : on.has_expired ≡ true → later.has_expired ≡ true
-  overdue : on.is_overdue ≡ true → later.is_overdue ≡ true
-  soon : on.is_due_soon ≡ true → later.is_due_soon ≡ true
+pub record AreLater (on later : Dates) : Type 0 where
+  pub expired : on.has_expired ≡ true → later.has_expired ≡ true
+  pub overdue : on.is_overdue ≡ true → later.is_overdue ≡ true
+  pub soon : on.is_due_soon ≡ true → later.is_due_soon ≡ true
 
 -- The work of a requester is at least as pressing on the later day.
-requester_waits : (s : State) (declined received checked_in : Bool) (on later : Dates) → AreLater on later
+pub requester_waits : (s : State) (declined received checked_in : Bool) (on later : Dates) → AreLater on later
     → urgency_of (requester_work_in s declined received checked_in later)
     ≤ urgency_of (requester_work_in s declined received checked_in on)
 requester_waits s declined received checked_in on later h = search (rules, h.expired, h.overdue, h.soon)
 
 -- The work of a responder is at least as pressing on the later day.
-responder_waits : (s : State) (received : Bool) (on later : Dates) → AreLater on later
+pub responder_waits : (s : State) (received : Bool) (on later : Dates) → AreLater on later
     → urgency_of (responder_work_in s received later) ≤ urgency_of (responder_work_in s received on)
 responder_waits s received on later h = search (rules, h.expired, h.overdue)
 

@@ -1,6 +1,6 @@
 -- The table of the kinds of work: what staff do next with a side, by its state, its marks and how its dates stand to a day
 -- (this profile's own; the states are those of ISO 10161-1).
-use Rattle.std.specs.Prelude.{ℕ, Bool, if◌then◌else◌}
+use Rattle.std.specs.Prelude.{ℕ, Bool, false, if◌then◌else◌, Option, None, Some}
 use Rattle.ill_values.specs.Day.{Date}
 use Rattle.ill_core.specs.declared.state.State.{State}
 use Rattle.ill_core.specs.declared.state.State.TheVariants as states
@@ -90,3 +90,14 @@ work_with (sides.Responder y) on = responder_work y on
 -- Returns the kind of work with `side` on the day `today`. A due date is soon if it is at most `ahead` days away.
 abbrev pub kind_of_work : Date → ℕ → Side → Work
 kind_of_work today ahead side = work_with side (dates_on today ahead side)
+
+-- ---- a side without a day
+
+-- Says that no date of a loan is past, and that none is soon.
+abbrev pub no_date_presses : Dates
+no_date_presses = record { has_expired = false; is_overdue = false; is_due_soon = false }
+
+-- Returns the kind of work with `side` on the day `today`. Without a day no date is past, and none is soon.
+abbrev pub work_on : Option Date → ℕ → Side → Work
+work_on None ahead side = work_with side no_date_presses
+work_on (Some today) ahead side = kind_of_work today ahead side

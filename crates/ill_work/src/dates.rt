@@ -20,6 +20,13 @@ pub(crate) struct Dates {
     pub is_due_soon: bool,
 }
 
+/// No date of a loan is past, and none is soon.
+pub(crate) const NO_DATE_PRESSES: Dates = Dates {
+    has_expired: false,
+    is_overdue: false,
+    is_due_soon: false,
+};
+
 /// Returns how the dates of `side` stand to the day `today`. A due date is soon if it is at most `ahead` days away.
 pub(crate) fn dates_on(today: Day, ahead: u32, side: &Side) -> Dates
     ensures { result ≡ dates_on today ahead side.now }

@@ -1,6 +1,6 @@
 //! States the laws of the kinds of work, as contracts of functions that do nothing.
 
-ghost use Rattle.std.specs.Prelude.{◌≡◌, ◌<◌, ◌≤◌, ◌||◌, ℕ, true, false, List, [], ◌∷◌, length, nat_lt, sum_by, IsPermutation, Some};
+ghost use Rattle.std.specs.Prelude.{◌≡◌, ◌<◌, ◌≤◌, ◌||◌, ℕ, true, false, List, [], ◌∷◌, length, nat_lt, sum_by, IsPermutation, Some, None};
 ghost use Rattle.std.specs.Result.{is_ok};
 ghost use Rattle.ill_values.specs.Day.{Date, IsDate};
 ghost use Rattle.ill_core.specs.declared.requester.Wish.{Wish};
@@ -26,7 +26,7 @@ ghost use Rattle.ill_work.specs.declared.work.Work.TheVariants as kinds;
 ghost use Rattle.ill_work.specs.BadWork.{MisjudgesWork};
 ghost use Rattle.ill_work.specs.Dates.{may_name_due};
 ghost use Rattle.ill_work.specs.Order.{count_of, most_pressing_first, urgency_on};
-ghost use Rattle.ill_work.specs.Table.{kind_of_work};
+ghost use Rattle.ill_work.specs.Table.{kind_of_work, work_on};
 ghost use Rattle.ill_work.specs.Work.{all_work, is_work_among, requesters_work, responders_work, urgency_of, wants_a_hand, work_verbs};
 
 /// Work can be done on its day. Each verb of a kind of work is possible on that day. If a number is left, each wish
@@ -101,6 +101,19 @@ pub fn hands_come_first()
 pub fn waiting_makes_no_work_less_pressing()
     ensures { (today later : Date) (ahead : ℕ) (side : Side) → IsDate today → IsDate later →
         is_before later today ≡ false → urgency_on later ahead side ≤ urgency_on today ahead side }
+{}
+
+/// Without a day the work is what it is before each date. Each of its verbs is possible on some day. Work that wants a
+/// hand, or an item with its reader, is of a side in its own turn. On each day the work is at least as pressing.
+#[tactic(auto, using(crate::proofs::UndatedLemmas::is_possible, crate::proofs::UndatedLemmas::agrees, crate::proofs::UndatedLemmas::least_pressing))]
+pub fn work_without_a_day()
+    ensures possible { (ahead : ℕ) (side : Side) (verb : Verb) →
+        is_verb_among (work_verbs (work_on None ahead side)) verb ≡ true →
+        is_verb_among (possible_on None side) verb ≡ true }
+    ensures agrees { (ahead : ℕ) (side : Side) → is_turn Mine (turn_of side)
+        ≡ (wants_a_hand (work_on None ahead side) || is_work_among (kinds.WithReader ∷ []) (work_on None ahead side)) }
+    ensures least { (today : Date) (ahead : ℕ) (side : Side) →
+        urgency_on today ahead side ≤ urgency_of (work_on None ahead side) }
 {}
 
 /// The order of loans by their work keeps each loan. The numbers of loans of all kinds add up to the number of loans.

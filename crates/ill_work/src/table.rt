@@ -1,9 +1,9 @@
 //! The table of the kinds of work: one for each state, its marks and how its dates stand to a day.
 
 ghost use Rattle.std.specs.Prelude.{◌≡◌};
-ghost use Rattle.ill_work.specs.Table.{kind_of_work, received_work, requester_work, responder_work, shipped_work};
+ghost use Rattle.ill_work.specs.Table.{kind_of_work, received_work, requester_work, responder_work, shipped_work, work_on, work_with};
 
-use crate::dates::{Dates, dates_on};
+use crate::dates::{Dates, NO_DATE_PRESSES, dates_on};
 use crate::work::Work;
 use ill_core::{Requester, Responder, State};
 use ill_saved::Side;
@@ -15,11 +15,28 @@ impl Work {
     pub fn of(side: &Side, today: Day, ahead: u32) -> Work
         ensures { result ≡ kind_of_work today ahead side.now }
     {
-        let dates = dates_on(today, ahead, side);
-        match side {
-            Side::Requester(requester) => requester_work(requester, dates),
-            Side::Responder(responder) => responder_work(responder, dates),
+        work_with(side, dates_on(today, ahead, side))
+    }
+
+    /// Returns the work with `side` on the day `today`. Without a day no date is past, and none is soon. Allocates
+    /// nothing.
+    pub fn on(side: &Side, today: Option<Day>, ahead: u32) -> Work
+        ensures { result ≡ work_on today ahead side.now }
+    {
+        match today {
+            Some(today) => Work::of(side, today, ahead),
+            None => work_with(side, NO_DATE_PRESSES),
         }
+    }
+}
+
+/// Returns the work with `side`, whose dates stand to the day as `dates` says.
+fn work_with(side: &Side, dates: Dates) -> Work
+    ensures { result ≡ work_with side.now dates }
+{
+    match side {
+        Side::Requester(requester) => requester_work(requester, dates),
+        Side::Responder(responder) => responder_work(responder, dates),
     }
 }
 

@@ -75,7 +75,7 @@ idle_message txn a (types.ConditionalReply c false) is = refl
 idle_message txn a body is = refl
 
 -- An idle side of a responder takes no message but an ILL-Request.
-idle_takes : (txn : Qualifiers) (a : Apdu) → is_ill_request a.body ≡ false
+pub idle_takes : (txn : Qualifiers) (a : Apdu) → is_ill_request a.body ≡ false
     → (takes (idle_side who.Responder txn) a).1 ≡ idle_side who.Responder txn
 idle_takes txn a is =
     ap sides.Responder
@@ -100,7 +100,7 @@ same_party v who.Requester = refl
 same_party v who.Responder = refl
 
 -- An event of the transaction leads to the expected world, if an event that reaches no side changes nothing.
-seen_alike : (own : Bool) → own ≡ true → (expected : Outcome × Parties) (old new : Parties) (outcome : DeskOutcome)
+pub seen_alike : (own : Bool) → own ≡ true → (expected : Outcome × Parties) (old new : Parties) (outcome : DeskOutcome)
     → IsSeenAs (if_reached outcome own) expected old outcome new
     → (outcome ≡ DeskFull → ⊥) → (outcome ≡ NoSuchTransaction → expected.1 ≡ old) → new ≡ expected.1
 seen_alike true is expected old new (Plain outcome) seen room stays = seen.1
@@ -109,7 +109,7 @@ seen_alike true is expected old new DeskFull seen room stays = absurd (room refl
 seen_alike false is expected old new outcome seen room stays = absurd (true≢false (sym is))
 
 -- An event of another transaction changes nothing, with any outcome.
-seen_elsewhere : (own : Bool) → own ≡ false
+pub seen_elsewhere : (own : Bool) → own ≡ false
     → (expected : Outcome × Parties) (old new : Parties) (outcome : DeskOutcome)
     → IsSeenAs (if_reached outcome own) expected old outcome new → new ≡ old
 seen_elsewhere true is expected old new outcome seen = absurd (true≢false is)
@@ -118,7 +118,7 @@ seen_elsewhere false is expected old new NoSuchTransaction seen = seen
 seen_elsewhere false is expected old new DeskFull seen = seen
 
 -- If the outcome is NoSuchTransaction, the transaction is not held, and the event may not begin it.
-not_reached : (may_begin has_room : Bool) (found : Option DeskEntry) → Reaches may_begin has_room found NoSuchTransaction
+pub not_reached : (may_begin has_room : Bool) (found : Option DeskEntry) → Reaches may_begin has_room found NoSuchTransaction
     → (found ≡ None) × (may_begin ≡ false)
 not_reached may_begin has_room (Some held) reaches = absurd reaches
 not_reached true true None reaches = absurd reaches

@@ -6,13 +6,13 @@ are written here, as docs/RECORDS.md has them, from a model of docs/PROTOCOL.md.
 same courses must have the same bytes. Of each desk the program writes
 
 - `list` and its objects with each combination of its options, in the order, with the columns and counts of the model;
-- `loan`, its picture and its object, of each loan or, on the large desks, of some;
+- `loan`, its picture and its object, and `slip`, of each loan or, on the large desks, of some;
 - `status`, its objects, `report` and `verify`;
 
 and all but the slowest once more to a full device, to a closed output and to a pipe that is read byte by byte.
 
 Then each kind of loan that actions and deliveries between two desks lead to, as far as the model finds any, is made by
-commands. A verb that `loan` and `list --mine` list must never be answered `not-now` there, and any other always.
+commands. A verb that `loan` and `list --actions` show must never be answered `not-now` there, and any other always.
 
 The model is written from the documents and shares nothing with the program.
 """
@@ -30,13 +30,13 @@ from ill import harness
 from ill.der import ASKED
 from ill.harness import CLOSED, FULL, read, write
 from ill.model import REQUESTER, RESPONDER, ROLES, FORMS, Fault, Side
+from ill.morning import AHEAD, Loan, Morning, work_with, works
 from ill.records import desk_record
 from ill.screen import ACTING, shown
+from ill.slips import Slip
 
 REPORT = harness.Report()
 
-# The width of the column of verbs in `list --mine`.
-VERBS_WIDTH = 20
 TODAY, SHIPS, LATE = "20250320", "20250301", "20250401"
 # How many loans of a large desk are looked at one by one, and of one with the longest record.
 SAMPLE, FEW = 12, 2
@@ -125,6 +125,12 @@ def loan_object(side):
             "came": []}
 
 
+def slip_parts(side):
+    """Returns the title, the role and the fields of a slip."""
+    fields = {"Group": side.txn[0], "Transaction": side.txn[1], **({"Due": iso(side.due)} if side.due else {})}
+    return [[shown(side.asked()["item"])], ["Asked by us" if side.role == REQUESTER else "Lent by us"], fields]
+
+
 def drawn(text):
     """Returns a text in a chart: what is not plain by its number, and a line feed as the end of a line."""
     return re.sub("[^\\w \n,.\\-\x80-\U0010ffff]|_", lambda found: f"#{ord(found[0])};", text).replace("\n", "<br/>")
@@ -155,49 +161,65 @@ def by_deadline(sides):
     return sorted(sides, key=lambda side: side.deadline() or "99999999")
 
 
-def listed(sides, turns, today=None, due_before=None, state=None):
-    """Yields the loans that `list` lists, each with its turn, in their order."""
-    for turn in turns:
+# The words of each kind of work, and those that want a hand.
+WORKS = works()
+HANDS = [words for words, wants in WORKS.items() if wants]
+OVER = [*WORKS][-1]
+# The works of the loans that are listed, of each flag. If both are set, `--mine` decides.
+LISTED = {"": WORKS, "--open": [name for name in WORKS if name != OVER], "--mine": HANDS}
+
+
+def listed(sides, flag, today=None, due_before=None, state=None, ahead=AHEAD):
+    """Yields the loans that `list` lists, each with its work, in their order."""
+    for name in LISTED[flag]:
         for side in by_deadline(sides):
             is_due = due_before is None or side.due is not None and side.due < due_before
-            if side.turn(today) == turn and is_due and state in (None, side.state):
-                yield turn, side
+            if work_with(side, today, ahead) == name and is_due and state in (None, side.state):
+                yield name, side
 
 
 def left_out(sides, due_before=None, state=None):
-    """Returns how many loans `list --mine` leaves out where no day is given: for some day they are listed."""
-    return sum(1 for turn, side in listed(sides, ("theirs", "over"), None, due_before, state)
-               if side.deadline() and side.verbs())
+    """Returns how many loans `list --mine` leaves out where no day is given: on some day they are listed."""
+    return sum(name not in HANDS and bool(side.deadline() and side.verbs())
+               for name, side in listed(sides, "", None, due_before, state))
 
 
 def left_out_line(path, count):
     """Returns the line on standard error that tells so."""
-    words = "loan may wait for us by its date" if count == 1 else "loans may wait for us by their dates"
+    words = "loan may want a hand by its date" if count == 1 else "loans may want a hand by their dates"
     return f"ill: {path}: {count} more {words}: give --today DAY\n" if count else ""
 
 
-def counts(sides, today=None):
+def counts(sides, today=None, ahead=AHEAD):
     """Returns the counts of a desk."""
-    over = sum(side.turn(today) == "over" for side in sides)
-    mine = sum(side.turn(today) == "mine" for side in sides)
-    return {"loans": len(sides), "open": len(sides) - over, "mine": mine, "room": 1000 - len(sides)}
+    works = [work_with(side, today, ahead) for side in sides]
+    return {"loans": len(sides), "open": len(sides) - works.count(OVER), "todo": sum(name in HANDS for name in works),
+            "room": 1000 - len(sides)}
 
 
-def list_lines(sides, turns, today=None, due_before=None, state=None, verbs=False):
+def list_lines(sides, flag, today=None, due_before=None, state=None, ahead=AHEAD, has_actions=False):
     """Returns the lines of `list`."""
-    groups, txns = (max((len(column(side.txn[place])) for side in sides), default=0) for place in (0, 1))
-    lines = [padded(turn, 6) + padded(side.state, 20) + padded(side.due or "-", 8) + padded(column(side.txn[0]), groups)
-             + padded(column(side.txn[1]), txns)
-             + (padded(",".join(side.possible(today)), VERBS_WIDTH) if verbs else "")
-             + shown(side.asked()["item"]) for turn, side in listed(sides, turns, today, due_before, state)]
-    return [*lines, "loans {loans}, open {open}, mine {mine}, room for {room}".format(**counts(sides, today))]
+    rows = list(listed(sides, flag, today, due_before, state, ahead))
+    cells = [[side.state, side.due or "-", column(side.txn[0]), column(side.txn[1]),
+              *([",".join(side.possible(today))] if has_actions else [])] for _, side in rows]
+    widths = [max(map(len, texts)) for texts in zip(*cells)]
+    widths[1:2] = [8] if widths else []
+    lines, headed = [], None
+    for (name, side), texts in zip(rows, cells):
+        if name != headed:
+            lines.append(f"{name} ({sum(other == name for other, _ in rows)}):")
+            headed = name
+        lines.append("  " + "".join(map(padded, texts, widths)) + shown(side.asked()["item"]))
+    told = counts(sides, today, ahead)
+    return [*lines, "loans {loans}, open {open}, to do {todo}, room for {room}".format(**told)]
 
 
-def list_objects(sides, turns, today=None, due_before=None, state=None):
+def list_objects(sides, flag, today=None, due_before=None, state=None, ahead=AHEAD):
     """Returns the objects of `list`."""
-    return [{"next": turn, "state": side.state, "due": iso(side.due), "group": side.txn[0], "transaction": side.txn[1],
-             "now": side.possible(today), "item": side.asked()["item"]}
-            for turn, side in listed(sides, turns, today, due_before, state)] + [counts(sides, today)]
+    return [{"kind": "loan", "work": name, "state": side.state, "due": iso(side.due), "group": side.txn[0],
+             "transaction": side.txn[1], "now": side.possible(today), "item": side.asked()["item"]}
+            for name, side in listed(sides, flag, today, due_before, state, ahead)
+            ] + [{"kind": "counts", **counts(sides, today, ahead)}]
 
 
 def numbers_lines(path, sides):
@@ -207,45 +229,26 @@ def numbers_lines(path, sides):
             for side, count in left if count <= FEW_NUMBERS]
 
 
-def message_name(apdu):
-    """Returns a message in the chart of a page."""
-    words = [apdu["apdu"], apdu.get("result"), yes_no(apdu["reply"]) if "reply" in apdu else None]
-    if apdu["apdu"] != "ILL-Request":
-        words.append(iso(apdu.get("date")))
-    return " ".join(word for word in words if word)
-
-
-def page_loan(side, is_task):
-    """Returns what a page tells of a loan."""
-    told = [shown(side.asked()["item"]), *side.txn, side.state, iso(side.due) or "-", iso(side.expiry()) or "-"]
-    actors = {"mine": "we", "theirs": "the partner", "over": "nobody"}
-    last = side.possible(TODAY) if is_task else [actors[side.turn(TODAY)], *map(message_name, side.issued)]
-    return told, last
-
-
-def page_parts(sides):
-    """Returns the parts of a page: how many loans each has, and what it tells of them."""
-    turns = {"Waits for us today": ["mine"], "Open loans": ["mine", "theirs"], "Over": ["over"]}
-    return {name: [page_loan(side, name == "Waits for us today") for side in by_deadline(sides)
-                   if side.turn(TODAY) in wanted] for name, wanted in turns.items()}
+def page_loan(side, morning):
+    """Returns a loan and the row that a page has of it."""
+    loan = Loan.of(side)
+    date = f"due {iso(side.due)}" if side.due else f"expires {iso(side.expiry())}" if side.expiry() else ""
+    return loan, ([shown(side.asked()["item"]), *side.txn, morning.state(loan), date], side.possible(TODAY), False)
 
 
 def read_page(text):
-    """Returns the parts of a page, as it has them."""
-    found = {}
-    part = r"<(?:h3|summary)>([\w ]+): (\d+)</(?:h3|summary)>\n(.*?)(?=<h3>|<details>|</details>)"
-    for name, count, body in re.findall(part, text, re.S):
-        loans = []
-        for article in re.findall(r"<article>\n(.*?)</article>\n", body, re.S):
-            title = re.search(r'<h4 dir="auto">(.*?)</h4>', article, re.S)[1]
-            told = dict(re.findall(r"<dt>([^<]*)</dt><dd>([^<]*)</dd>", article))
-            labels = ("Group", "Transaction", "State", "Due", "Request expires")
-            values = [told[label] for label in labels if label in told]
-            last = re.findall(r"<li><b>([^<]*)</b>", article) if "<svg" not in article else [
-                told["Next"], *re.findall(r'<g [^>]*><text [^>]*>([^<]*)</text>', article)]
-            loans.append(([html.unescape(value) for value in (title, *values)], last, "<" in title or "&&" in title))
-        found[name] = int(count), loans
-    return found
+    """Returns the counts of a page of one desk, and its tables: of each the words, whether it wants a hand, and its rows."""
+    found = []
+    head = r'<h3( class="task")?>([^<]*): (\d+)</h3>\n<table>\n<thead>.*?</thead>\n<tbody>\n(.*?)</tbody>\n</table>\n'
+    for task, words, count, body in re.findall(head, text, re.S):
+        rows = []
+        for title, *cells, verbs in re.findall(
+                r'<tr><th scope="row" dir="auto">(.*?)</th><td><bdi>(.*?)</bdi> <bdi>(.*?)</bdi></td><td>(.*?)</td><td>(.*?)</td>'
+                r'<td>(.*?)</td></tr>\n', body, re.S):
+            texts = [html.unescape(re.sub("</?time>", "", cell)) for cell in (title, *cells)]
+            rows.append((texts, re.findall("<code>(.*?)</code> ", verbs), "<" in title or "&&" in title))
+        found.append((words, bool(task), int(count), rows))
+    return re.search(r"<p>([^<]*)</p>", text)[1], found
 
 
 # ---- the desks
@@ -402,18 +405,18 @@ def is_longest(sides):
 
 def check_list(judge, path, sides):
     """Compares `list` with each combination of its options."""
-    whiches = [([], ("mine", "theirs", "over"), False), (["--open"], ("mine", "theirs"), False),
-               (["--mine"], ("mine",), True), (["--open", "--mine"], ("mine",), True)]
+    whiches = [([], "", False), (["--open"], "--open", False), (["--mine", "--actions"], "--mine", True),
+               (["--open", "--mine"], "--mine", False)]
     states = [None, *sorted({side.state for side in sides})[:4], "CHECKED-IN"][:2 if len(sides) > 900 else None]
-    days, dues = [None, "20250315", LATE], [None, "20250315", "20250316"]
+    days, dues = [(None, AHEAD), ("20250315", AHEAD), ("20250310", 5), (LATE, 14)], [None, "20250315", "20250316"]
     if is_longest(sides):
         days, dues, states = days[-1:], dues[:1], states[:1]
-    for (flags, turns, verbs), today, due, state in itertools.product(whiches, days, dues, states):
+    for (flags, flag, has_actions), (today, ahead), due, state in itertools.product(whiches, days, dues, states):
         words = [*flags, *(["--today", today] if today else []), *(["--due-before", due] if due else []),
-                 *(["--state", state] if state else [])]
-        judge.lines(["list", path, *words], list_lines(sides, turns, today, due, state, verbs))
-        judge.objects(["list", path, "--json", *words], list_objects(sides, turns, today, due, state))
-        if verbs:
+                 *(["--state", state] if state else []), *(["--ahead", str(ahead)] if ahead != AHEAD else [])]
+        judge.lines(["list", path, *words], list_lines(sides, flag, today, due, state, ahead, has_actions))
+        judge.objects(["list", path, "--json", *words], list_objects(sides, flag, today, due, state, ahead))
+        if flag == "--mine":
             told = judge.run(["list", path, *words]).errors.decode().rpartition(" more loans\n")[2]
             line = "" if today else left_out_line(path, left_out(sides, due, state))
             judge.same(f"what {' '.join(words)} leaves out of {path}", told, line)
@@ -423,13 +426,16 @@ def check_list(judge, path, sides):
 
 
 def check_loans(judge, path, sides):
-    """Compares `loan` of each loan, or of some."""
+    """Compares `loan` and `slip` of each loan, or of some."""
     many = FEW if is_longest(sides) else SAMPLE
     for side in sides if len(sides) < 100 else sides[::len(sides) // many]:
         words = ["loan", path, *side.txn]
         judge.lines(words, loan_lines(side))
         judge.lines([*words, "--picture"], picture_lines(side))
         judge.objects([*words, "--json"], [loan_object(side)])
+        slip = Slip(judge.text(["slip", path, *side.txn]))
+        judge.same(f"the slip of {' '.join(side.txn)} at {path}", [slip.texts["h1"], slip.texts["p"], slip.fields],
+                   slip_parts(side))
 
 
 def check_rest(judge, path, role, sides):
@@ -439,12 +445,11 @@ def check_rest(judge, path, role, sides):
     issued = sum(len(side.issued) for side in sides)
     judge.lines(["verify", path], ["version 2", f"role {ROLES[role]}", f"loans {len(sides)}", f"messages {issued}",
                                    f"room {1000 - len(sides)}"])
-    page = read_page(judge.text(["report", path, "--today", TODAY]))
-    for name, wanted in page_parts(sides).items():
-        count, loans = page[name]
-        judge.same(f"{name} of {path}", count, len(wanted))
-        judge.same(f"{name} of {path}", [(told, last) for told, last, _ in loans], wanted)
-        judge.same(f"{name} of {path}, bare", any(bare for *_, bare in loans), False)
+    morning = Morning(TODAY)
+    loans = [page_loan(side, morning) for side in sides]
+    counts, tables = read_page(judge.text(["report", path, "--today", TODAY]))
+    judge.same(f"counts of {path}", counts, morning.counts([loan for loan, _ in loans]))
+    judge.same(f"tables of {path}", tables, [(*table, len(rows), rows) for *table, rows in morning.tables(loans)])
 
 
 def reading(path, sides):
@@ -452,6 +457,7 @@ def reading(path, sides):
     commands = [["list", path], ["list", path, "--mine", "--today", TODAY], ["list", path, "--json"], ["status", path],
                 ["status", path, "--json"], ["report", path, "--today", TODAY], ["verify", path]]
     for side in sides[:1]:
+        commands += [["slip", path, *side.txn]]
         commands += [["loan", path, *side.txn, *option] for option in ([], ["--picture"], ["--json"])]
     return commands
 
@@ -567,11 +573,11 @@ def check_kind(judge, role, course, side):
         judge.same(f"the verbs of {kind_of(side)}", verbs, side.possible())
         judge.same(f"the record of {kind_of(side)}", read(desk), desk_record(role, [side]))
         for today in ([], ["--today", "20250301"], ["--today", LATE]):
-            mine = judge.text(["list", desk, "--mine", *today]).split("\n")[:-2]
-            is_mine = side.turn(*today[1:]) == "mine"
-            judge.same(f"--mine of {kind_of(side)} {today}", mine != [], is_mine)
-            judge.same(f"--mine of {kind_of(side)}", [line.split()[5].split(",") for line in mine],
-                       [side.possible(*today[1:])] if is_mine else [])
+            mine = judge.text(["list", desk, "--mine", "--actions", *today]).split("\n")[:-2]
+            wanted = work_with(side, *today[1:])
+            judge.same(f"--mine of {kind_of(side)} {today}", mine[:1], [f"{wanted} (1):"] if wanted in HANDS else [])
+            judge.same(f"--mine of {kind_of(side)}", [line.split()[4].split(",") for line in mine[1:]],
+                       [side.possible(*today[1:])] if wanted in HANDS else [])
         for words in FORMS[role]:
             for day in ([None] if role == REQUESTER else ["20250301", LATE]):
                 check_words(judge, desk, side, words, day)
@@ -641,7 +647,7 @@ def check_folder(judge, desks):
     blocks = []
     for name in sorted(name for name in os.listdir("shelf") if name in desks):
         sides = desks[name][1]
-        blocks.append([f"shelf/{name}:", *list_lines(sides, ("mine",), TODAY, verbs=True)])
+        blocks.append([f"shelf/{name}:", *list_lines(sides, "--mine", TODAY)])
     wanted = [line for place, block in enumerate(blocks) for line in ([""] if place else []) + block]
     judge.lines(["list", "shelf", "--mine", "--today", TODAY], wanted)
     words = ["list", "shelf", "--mine", "--today", TODAY]
@@ -661,8 +667,8 @@ def check_folder(judge, desks):
     os.link("empty-requester", "shelf/.shelf")
     os.link("kinds-requester", "shelf/G%2F1.requester")
     os.link("kinds-responder", "shelf/G2.responder")
-    wanted = [*list_lines(desks["kinds-requester"][1], ("mine",), TODAY, verbs=True), "",
-              *list_lines(desks["kinds-responder"][1], ("mine",), TODAY, verbs=True)]
+    wanted = [*list_lines(desks["kinds-requester"][1], "--mine", TODAY), "",
+              *list_lines(desks["kinds-responder"][1], "--mine", TODAY)]
     told = [line for line in judge.text(words).split("\n")[:-1] if not line.startswith("shelf/")]
     judge.same("a shelf", told, wanted)
 

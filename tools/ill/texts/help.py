@@ -19,13 +19,13 @@ from ill.texts import words as command_line
 from ill.texts.words import HELP, LINE, MAN, body, find, named
 
 EXPLAIN = "crates/ill_explain/src"
-WORLD, WORDS, TEXT, SHOW, DESK, NIGHT, FILES, MAIL, SHELF = (
+WORLD, WORDS, TEXT, SHOW, SLIP, DESK, NIGHT, FILES, COMMANDS, MAIL, SHELF = (
     f"crates/ill_{room}/src"
-    for room in ("world", "words", "text", "show", "desk", "night", "files", "mail", "shelf"))
+    for room in ("world", "words", "text", "show", "slip", "desk", "night", "files", "commands", "mail", "shelf"))
 FILE_KINDS = {"File", "NewFile", "Paths", "Folder"}
-FLAGS = {"Long", "Keep", "Picture", "Open", "Mine", "Json"}
+FLAGS = {"Long", "Keep", "Picture", "Open", "Mine", "Actions", "Json"}
 # The sources of the commands on a file: what locks it is told by their bodies.
-FILED = (f"{FILES}/file.rt", f"{MAIL}/exchange.rt")
+FILED = (f"{COMMANDS}/commands.rt", f"{MAIL}/exchange.rt")
 FIGURES = ("one two three four five six seven eight nine ten eleven twelve thirteen fourteen fifteen sixteen "
            "seventeen eighteen nineteen twenty").split()
 NUMBER = r"(?<![\w.])(?:\d+(?:,\d{3})*|" + "|".join(FIGURES) + r")(?![\w])"
@@ -45,7 +45,9 @@ more than {record} bytes; at most {record} bytes; FILE {record} bytes
 wait for each other: {wait} seconds; held FILE for {wait} seconds
 {day_digits} digits, as {day}, of the years {first_year} to {last_year}; A day is {day_digits} digits, as {day}
 days, such as {day}; The day of the action, as {day}; The day of the report, as {day}; The day of the run, as {day}
-want the day: `--today {day}`; DAY is {day_digits} digits, as {day}; The day, as {day}: what is past
+want the day: `--today {day}`; DAY is {day_digits} digits, as {day}; The day of the work, as {day}
+at most DAYS days away: {first} to {last}, or {ahead} without this option; a due date is soon, or {ahead}
+N days after that day, {first} to {last}
 days {first_day} to {last_day}
 N one to {days_digits} digits
 one to {number_digits} digits, with a value from {first} to {last}; The number of the message, {first} to {last}
@@ -71,16 +73,18 @@ is {well} if the shelf is saved, {refused} with `exists`, {bad} for wrong argume
 If none fails, it is {failed} if mails are left, {refused} if one was put aside or in conflict, else {well}.
 If none fails, it is {failed} if mails are left, or with; Else it is {refused} if a mail wants a person, or {well}.
 If DIR is no shelf, it is {refused} with `no-record`
+A due date is soon if it is at most {soon} days away
 """
 # Numbers in names, and what they are no numbers of: standards, letters, versions of this program.
-NAMES = r"`\+14` is the day 14|UTF-8|`[0-9a-f]{32}-\d{3}`|SHA-256|ISO \d+(?:-\d)?|X\.690|U\+00\d\d" \
+NAMES = r"`\+14` is the day 14|UTF-8|Code 128|`[0-9a-f]{32}-\d{3}`|SHA-256|ISO \d+(?:-\d)?|X\.690|U\+00\d\d" \
         r"|ill 0\.1\b|\b0\.1 does|simple two-party profile"
 
 # What the sentences on the exit status of a command name, by the keys of STATUS below.
 CAUSES = {
     "the desk is saved": "ok", "all mails are done": "ok", "one was put aside or in conflict": "refused",
     "the action is done": "ok", "each was taken, a repeat or stale": "ok", "the message is written": "ok",
-    "the loans are listed": "ok", "the loans are shown": "ok", "the loan is shown": "ok", "the page is written": "ok",
+    "the loans are listed": "ok", "the loans are shown": "ok", "the loan is shown": "ok", "the slip is written": "ok",
+    "the page is written": "ok",
     "it is a desk": "ok", "all messages are there": "ok", "nothing wants a person": "ok",
     "all of them are shown": "ok", "they are counted": "ok", "the whole script was performed": "ok",
     "it is refused": "refused", "one was anything else": "refused", "something does": "refused",
@@ -111,7 +115,7 @@ AT_DESKS = ["NoSuchTransaction", "DeskFull"]
 FORMS = {"yes": ["yes", "no"], "landed": ["old", "new"], "optional_day": ["WISHED"], "read": ["RESULT"],
          "due": ["DUE"], "number": ["NUMBER"], "bytes": ["HEX"], "request": ["EXPIRY ITEM"], "bare": [""]}
 # Words in capitals that stand for others.
-CAPITALS = set("ACL APDU APDUs ASCII COMMAND DAY DER DESK DIGEST DIR DUE EXPIRY FILE FOLDER GROUP HEX HTML ILL IN "
+CAPITALS = set("ACL APDU APDUs ASCII COMMAND DAY DAYS DER DESK DIGEST DIR DUE EXPIRY FILE FOLDER GROUP HEX HTML ILL IN "
                "ISO ISSUED ITEM ITU JSON LOCK N NAME NUMBER OUT OUTCOME PATH REASON RELEASED RESULT ROLE SIDE STATE "
                "TODAY SHA TRANSACTION TYPE U UTF VERB WISHED WORDS X".split())
 
@@ -146,7 +150,8 @@ def numbers_of():
     return {
         "zero": 0, "first": least, "second": least + 1, "third": least + 2, "last": 2 ** int(number) - 1,
         "loans": constant("SIDES_LIMIT", f"{saved}/sides.rt"), "messages": constant("MAX_APDUS", f"{TEXT}/input.rt"),
-        "many": constant("MANY", f"{FILES}/file.rt"), "few": constant("FEW", f"{SHOW}/numbers.rt"),
+        "many": constant("MANY", f"{COMMANDS}/commands.rt"), "few": constant("FEW", f"{SHOW}/numbers.rt"),
+        "soon": constant("SOON", f"{SHOW}/soon.rt"),
         "mails": constant("MAILS", f"{MAIL}/mail.rt"),
         "longer": constant("APDU_LIMIT", f"{der}/header.rt") + constant("LINE_END", f"{MAIL}/mail.rt") + 1,
         "longest": constant("APDU_LIMIT", f"{der}/header.rt"), "shortest": shortest,
@@ -159,6 +164,7 @@ def numbers_of():
         "first_year": int(years[1]), "last_year": int(years[2]),
         "first_day": int(years[1] + "0101"), "last_day": int(years[2] + "1231"),
         "days_digits": constant("DAYS_DIGITS", f"{WORDS}/words.rt"),
+        "ahead": constant("SOON", f"{SHOW}/soon.rt"),
         "number_digits": constant("NUMBER_DIGITS", f"{WORDS}/words.rt"),
         "status_lines": len(status_labels()), "side_fields": len(re.findall(r"\n    pub \w+:", shown)),
         "simulated": len(arguments_of()["simulate"]),
@@ -242,7 +248,7 @@ def statuses():
 
 def source_of(command):
     """Returns the path of the source of a command: it stands in one of the crates of the program."""
-    crates = (TEXT, SHOW, DESK, NIGHT, FILES, MAIL, SHELF, "crates/ill_tool/src")
+    crates = (TEXT, SHOW, SLIP, DESK, NIGHT, FILES, COMMANDS, MAIL, SHELF, "crates/ill_tool/src")
     found = [path for path in (f"{crate}/{command}.rt" for crate in crates) if os.path.exists(repository.full(path))]
     if len(found) != 1:
         raise Unread(f"{command}.rt: it stands {len(found)} times in {', '.join(crates)}")

@@ -16,6 +16,6 @@ unfolding counts_line
 returns c =
     let counts = c.args.counts.now in
     let joined = nine_joined (codes "loans ") (decimal counts.loans) (codes ", open ") (decimal counts.open_loans)
-    (codes ", mine ") (decimal counts.mine) (codes ", room for ") (decimal counts.room) (codes "\n") in
+    (codes ", to do ") (decimal counts.to_do) (codes ", room for ") (decimal counts.room) (codes "\n") in
     c.in_ok-extend_from_slice.ensures.items
     ∙ ap (λ line. c.args.lines.now.items ++ line) (c.as_bytes.ensures.value ∙ c.in_ok-line.ensures.ok ∙ joined)

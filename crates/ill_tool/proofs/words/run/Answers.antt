@@ -20,3 +20,11 @@ returns-in-Loan g c =
     subst (λ (request : Request). Runs (asked request) left left (g.W.Write.contents c.args.machine.now.writer)
     (g.W.Write.contents c.loan.new.machine.writer) c.loan.result)
     (sym c.in-Loan.is) (refl, c.loan.ensures)
+
+-- Proves the contract of `run` for the request `Slip`. It is the contract of `slip`, which reads no input.
+pub returns-in-Slip : goal.returns-in-Slip
+returns-in-Slip g c =
+    let left = g.R.Read.remaining c.args.reader.now in
+    subst (λ (request : Request). Runs (asked request) left left (g.W.Write.contents c.args.machine.now.writer)
+    (g.W.Write.contents c.slip.new.machine.writer) c.slip.result)
+    (sym c.in-Slip.is) (refl, c.slip.ensures)

@@ -51,3 +51,12 @@ returns-in-Exchange g c =
     subst (λ (request : Request). RunsShelf (asked request) left left (g.W.Write.contents c.args.machine.now.writer)
     (g.W.Write.contents c.exchange_of_shelf.new.machine.writer) c.exchange_of_shelf.result)
     (sym c.in-Exchange.is) (refl, c.exchange_of_shelf.ensures)
+
+-- Proves the contract of `run_on_shelf` for the request `Slip`. It is the contract of `slip_on_shelf`, which reads no
+-- input.
+pub returns-in-Slip : goal.returns-in-Slip
+returns-in-Slip g c =
+    let left = g.R.Read.remaining c.args.reader.now in
+    subst (λ (request : Request). RunsShelf (asked request) left left (g.W.Write.contents c.args.machine.now.writer)
+    (g.W.Write.contents c.slip_on_shelf.new.machine.writer) c.slip_on_shelf.result)
+    (sym c.in-Slip.is) (refl, c.slip_on_shelf.ensures)

@@ -1,0 +1,128 @@
+-- The effect of each command. A desk here was loaded from a file, so nothing is known of its content.
+use Rattle.std.specs.Prelude.{◌≡◌, ◌⊎◌, ℕ, Bool, nat_lt, List, ◌++◌, length, codes, Option, Result, Ok}
+use Rattle.std.specs.Prelude.{Err, IfErr}
+use Rattle.ill_values.specs.Day.{Date}
+use Rattle.ill_values.specs.TxnId.{Qualifiers}
+use Rattle.ill_saved.specs.declared.side.Side.{Side}
+use Rattle.ill_saved.specs.declared.store.StoreFault.{StoreFault}
+use Rattle.ill_saved.specs.Holdings.{DeskEntry}
+use Rattle.ill_saved.specs.ManySides.{DeskContents, found_by, txn_held, many_sides}
+use Rattle.ill_text.specs.declared.fault.ToolFault.{ToolFault}
+use Rattle.ill_text.specs.declared.fault.ToolFault.TheVariants.{OutOfMemory}
+use Rattle.ill_files.specs.Opening.{GoesWell, FailsToOpen, names_answer}
+use Rattle.ill_desk.specs.Performing.{HeldAndLanded, command_state, with_input}
+use Rattle.ill_text.specs.Fault.{IsOpenFault}
+use Rattle.ill_text.specs.Output.{WritesText}
+use Rattle.ill_desk.specs.Actions.{action_named}
+use Rattle.ill_desk.specs.New.{RunsNew}
+use Rattle.ill_desk.specs.Act.{RunsAct}
+use Rattle.ill_desk.specs.Telling.{wording}
+use Rattle.ill_desk.specs.Take.{RunsTaking}
+use Rattle.ill_desk.specs.declared.take.TakeForm.{TakeForm}
+use Rattle.ill_desk.specs.Send.{RunsSend}
+use Rattle.ill_show.specs.Loan.{RunsLoan}
+use Rattle.ill_show.specs.declared.loan.LoanForm.{LoanForm}
+use Rattle.ill_slip.specs.Slip.{RunsSlip}
+use Rattle.ill_show.specs.Verify.{VerifiesLoaded}
+use Rattle.ill_show.specs.declared.wanted.Wanted.{Wanted}
+use Rattle.ill_show.specs.Listing.{between, listed_desk}
+use Rattle.ill_show.specs.Report.{Part, gravest_part, report_page}
+use Rattle.ill_text.specs.declared.form.Form.{Form}
+use Rattle.ill_show.specs.Objects.{status_of_desk}
+use Rattle.ill_text.specs.Visits.{Stop, VisitsEach, graver}
+
+-- A desk was begun. Or its file could not be opened.
+abbrev pub NewAtFile : Option (List ℕ) → Option (List ℕ) → Result Bool ToolFault → Type 0
+NewAtFile before after result =
+    FailsToOpen before after result ⊎ GoesWell (RunsNew (codes "done\n") before after) result
+
+-- The action of `words` was performed in `txn` at a desk, on the day `today`. Or its file could not be
+-- opened.
+abbrev pub ActsAtFile : Qualifiers → Option Date → List (List ℕ) → Option (List ℕ) → Option (List ℕ) →
+    Result Bool ToolFault → Type 0
+ActsAtFile txn today words before after result =
+    FailsToOpen before after result
+    ⊎ ((old : HeldAndLanded DeskContents) × (new : HeldAndLanded DeskContents)
+    × RunsAct many_sides txn (action_named old.live.role today words) (command_state old before) result
+    (command_state new after))
+
+-- The APDUs of the input were taken at a desk, in this form. Or its file could not be opened.
+abbrev pub TakesAtFile : TakeForm → Option (List ℕ) → Option (List ℕ) → Option (List ℕ) → Option (List ℕ) →
+    Result Bool ToolFault → Type 0
+TakesAtFile form left rest before after result =
+    (FailsToOpen before after result × (rest ≡ left))
+    ⊎ ((old : HeldAndLanded DeskContents) × (new : HeldAndLanded DeskContents)
+    × RunsTaking form.is_kept (wording form.is_long) many_sides (with_input left (command_state old before)) result
+    (with_input rest (command_state new after)))
+
+-- The message `number` of `txn` at a desk was written. Or a file could not be opened.
+abbrev pub SendsAtFile : Qualifiers → ℕ → Option (List ℕ) → Option (List ℕ) → Result Bool ToolFault → Type 0
+SendsAtFile txn number before after result =
+    FailsToOpen before after result
+    ⊎ ((held : List DeskEntry) × GoesWell (RunsSend (found_by txn_held txn held) number before after) result)
+
+-- The sides of a desk were written in this form. Or a file could not be opened.
+abbrev pub ShowsFile : Form → Option (List ℕ) → Option (List ℕ) → Result Bool ToolFault → Type 0
+ShowsFile form before after result =
+    FailsToOpen before after result
+    ⊎ ((held : List DeskEntry) × GoesWell (WritesText before after (status_of_desk form held)) result)
+
+-- The wanted sides of a desk were listed in a visit. If `is_first`, no desk is before it. If `is_headed`, the
+-- path is written first. Or its file could not be opened, and nothing was written.
+abbrev pub ListsDesk : Form → Wanted → (is_headed is_first : Bool) → Stop → Type 0
+ListsDesk form wanted is_headed is_first stop =
+    FailsToOpen stop.before stop.after stop.answer
+    ⊎ ((sides : List Side)
+    × GoesWell (WritesText stop.before stop.after
+    (between form is_first ++ listed_desk form is_headed wanted stop.path sides)) stop.answer)
+
+-- Returns true if there are several desks to list.
+abbrev pub are_several : List (List ℕ) → Bool
+are_several files = nat_lt 1 (length files)
+
+-- The desks in `files` were listed, one after another. `answer` is the gravest of their answers.
+abbrev pub ListsDesks : Form → Wanted → List (List ℕ) → Option (List ℕ) → Option (List ℕ) → Result Bool ToolFault → Type 0
+ListsDesks form wanted files before after answer =
+    VisitsEach (ListsDesk form wanted (are_several files)) files before after answer
+
+-- The desks at the paths were listed, one after another. The result is the gravest of their answers and of that
+-- about the names in the folders. Or memory ran out before the first desk.
+abbrev pub ListsPaths : Form → Wanted → Option (List ℕ) → Option (List ℕ) → Result Bool ToolFault → Type 0
+ListsPaths form wanted before after result =
+    ((result ≡ Err OutOfMemory) × (after ≡ before))
+    ⊎ ((files : List (List ℕ)) × (are_texts : Bool) × (answer : Result Bool ToolFault)
+    × ListsDesks form wanted files before after answer × (result ≡ graver answer (names_answer are_texts)))
+
+-- The transaction `txn` at a desk was shown or drawn, with the messages that came. Or a file could not be
+-- opened.
+abbrev pub LoanAtFile : LoanForm → Qualifiers → Option (List ℕ) → Option (List ℕ) → Result Bool ToolFault → Type 0
+LoanAtFile form txn before after result =
+    FailsToOpen before after result
+    ⊎ ((held : List DeskEntry) × (came : List ℕ)
+    × GoesWell (RunsLoan form (found_by txn_held txn held) came before after) result)
+
+-- The slip of the transaction `txn` at a desk was written. Or its file could not be opened.
+abbrev pub SlipAtFile : Qualifiers → Option (List ℕ) → Option (List ℕ) → Result Bool ToolFault → Type 0
+SlipAtFile txn before after result =
+    FailsToOpen before after result
+    ⊎ ((held : List DeskEntry) × GoesWell (RunsSlip (found_by txn_held txn held) before after) result)
+
+-- The record in a file was verified. Or the file could not be opened.
+abbrev pub VerifiesFile : Option (List ℕ) → Option (List ℕ) → Result Bool ToolFault → Type 0
+VerifiesFile before after result =
+    FailsToOpen before after result
+    ⊎ ((loaded : Result (Option (List ℕ)) StoreFault) × GoesWell (VerifiesLoaded loaded before after) result)
+
+-- Returns `answer` if the output was written, else the fault.
+abbrev pub after_writing : Result (Unit {0}) ToolFault → Result Bool ToolFault → Result Bool ToolFault
+after_writing (Ok done) answer = answer
+after_writing (Err fault) answer = Err fault
+
+-- A page of the desks at the paths was written, with a part for each. The result is the gravest of the faults of
+-- desks that could not be opened, and of that about the names in the folders. Or memory ran out before the page.
+abbrev pub ReportsPaths : Date → Option (List ℕ) → Option (List ℕ) → Result Bool ToolFault → Type 0
+ReportsPaths today before after result =
+    ((result ≡ Err OutOfMemory) × (after ≡ before))
+    ⊎ ((parts : List Part) × (are_texts : Bool) × (written : Result (Unit {0}) ToolFault)
+    × IfErr (gravest_part parts) IsOpenFault × WritesText before after (report_page today parts) written
+    × (result ≡ after_writing written (graver (gravest_part parts) (names_answer are_texts))))

@@ -1,0 +1,464 @@
+//! The commands that keep a desk in a file. Their arguments are values that were read before, except the words of an
+//! action. A command that may change the file holds its lock from before the load to its end.
+
+ghost use Rattle.std.specs.Prelude.{◌≡◌, map, string_bytes, IfErr, IfOk};
+ghost use Rattle.ill_show.specs.Report.{AddsPart, AddsParts};
+ghost use Rattle.ill_commands.specs.AtFile.{ActsAtFile, ListsDesk, ListsDesks, ListsPaths, LoanAtFile, NewAtFile, ReportsPaths, SendsAtFile, ShowsFile, SlipAtFile, TakesAtFile, VerifiesFile, after_writing};
+ghost use Rattle.ill_files.specs.Opening.{all_well};
+ghost use Rattle.ill_text.specs.Fault.{IsOpenFault};
+
+use ill_desk::act::run_desk_act;
+use ill_desk::new::run_desk_new;
+use ill_desk::send::run_desk_send;
+use ill_desk::take::{TakeForm, run_desk_take_as};
+use ill_files::came::{came_bytes, open_came};
+use ill_files::folder::{desk_paths, warn_of_names};
+use ill_files::machine::Machine;
+use ill_files::open::{all_well, end, lock, open, open_locked};
+use ill_saved::{Desk, FileStore, LockFiles, LockedDesk, RECORD_LIMIT, SIDES_LIMIT, Sides, Store};
+use ill_show::list::{count_left_out, run_desk_list};
+use ill_show::listed::{Listed, left_out_line, warning};
+use ill_show::loan::{LoanView, run_desk_loan};
+use ill_show::numbers::{numbers_lines, push_told};
+use ill_show::report::{end_page, push_desk, push_fault, push_head};
+use ill_show::status::run_desk_status_as;
+use ill_show::verify::run_desk_verify;
+use ill_show::wanted::Wanted;
+use ill_slip::slip::run_desk_slip;
+use ill_text::fault::{ToolFault, graver};
+use ill_text::form::Form;
+use ill_values::{Day, Number, OutOfMemory, TxnId};
+use ill_words::Who;
+use std::alloc::Global;
+use std::io::{Read, Write, sink};
+use std::rt::Files;
+
+/// The number of loans from which on `list` warns of the room left.
+const MANY: usize = 900;
+
+/// `ill new`: begins a desk.
+pub fn new<T: LockFiles, W: Write, E: Write>(
+    machine: &mut Machine<'_, T, W, E>,
+    file: &str,
+    role: Who,
+) -> Result<bool, ToolFault>
+    ensures { NewAtFile (W.contents machine.old.writer) (W.contents machine.new.writer) result }
+{
+    let lock = lock(machine.rt, machine.alloc, file)?;
+    let store = FileStore::at(machine.rt, machine.alloc, file, RECORD_LIMIT)?;
+    let begun = run_desk_new(machine.alloc, store, role, &mut machine.writer);
+    drop(lock);
+    end(begun)
+}
+
+/// An action that is asked for in a transaction.
+#[derive(Clone, Copy)]
+pub struct ActionView<'a> {
+    /// The transaction.
+    pub txn: &'a TxnId,
+    /// The day of the action, if it is given.
+    pub today: Option<Day>,
+    /// The words of the action.
+    pub words: &'a [&'a str],
+}
+
+/// `ill act`: performs the action of `view`.
+pub fn act<T: LockFiles, W: Write, E: Write>(
+    machine: &mut Machine<'_, T, W, E>,
+    file: &str,
+    view: &ActionView<'_>,
+) -> Result<bool, ToolFault>
+    ensures { ActsAtFile view.now.txn.now view.now.today (map (λ word. word.now) view.now.words.now)
+        (W.contents machine.old.writer) (W.contents machine.new.writer) result }
+{
+    let locked = open_locked(machine.rt, machine.alloc, file)?;
+    act_at(machine, file, locked, view)
+}
+
+/// Performs the action of `view` at `locked`, the desk in `file`, and then lets the desk and its lock go. Writes a line to
+/// the errors if the loan has few numbers left.
+pub fn act_at<T: LockFiles, W: Write, E: Write>(
+    machine: &mut Machine<'_, T, W, E>,
+    file: &str,
+    mut locked: LockedDesk<'_, T>,
+    view: &ActionView<'_>,
+) -> Result<bool, ToolFault>
+    ensures { ActsAtFile view.now.txn.now view.now.today (map (λ word. word.now) view.now.words.now)
+        (W.contents machine.old.writer) (W.contents machine.new.writer) result }
+{
+    let acted = run_desk_act(
+        machine.alloc,
+        &mut locked.desk,
+        view.txn,
+        view.today,
+        view.words,
+        &mut machine.writer,
+    );
+    if acted.is_ok() {
+        tell_numbers_of(
+            machine.alloc,
+            file,
+            &locked.desk,
+            view.txn,
+            &mut machine.errors,
+        );
+    }
+    drop(locked);
+    acted
+}
+
+/// Writes to `errors` how many numbers the loan `txn` has left, if these are few.
+fn tell_numbers_of<S: Store, E: Write>(
+    alloc: Global,
+    file: &str,
+    desk: &Desk<S>,
+    txn: &TxnId,
+    errors: &mut E,
+) {
+    let mut line = Vec::new(alloc);
+    if let Some(side) = desk.sides().get(txn)
+        && push_told(&mut line, file, side).is_ok()
+    {
+        let _ = errors.write_all(&line);
+    }
+}
+
+/// `ill take`: takes the APDUs of the input. It holds the lock of the file until the input ends.
+pub fn take<T: LockFiles, R: Read, W: Write, E: Write>(
+    machine: &mut Machine<'_, T, W, E>,
+    file: &str,
+    form: TakeForm,
+    reader: &mut R,
+) -> Result<bool, ToolFault>
+    ensures { TakesAtFile form (R.remaining reader.old) (R.remaining reader.new)
+        (W.contents machine.old.writer) (W.contents machine.new.writer) result }
+{
+    let mut locked = open_locked(machine.rt, machine.alloc, file)?;
+    let taken = take_at(machine, file, &mut locked.desk, form, reader);
+    drop(locked);
+    taken
+}
+
+/// Takes the APDUs of the input at `desk`. Those that are kept go to the file beside `file`, if that can be opened.
+fn take_at<T: Files, S: Store, R: Read, W: Write, E: Write>(
+    machine: &mut Machine<'_, T, W, E>,
+    file: &str,
+    desk: &mut Desk<S>,
+    form: TakeForm,
+    reader: &mut R,
+) -> Result<bool, ToolFault>
+    ensures { TakesAtFile form (R.remaining reader.old) (R.remaining reader.new)
+        (W.contents machine.old.writer) (W.contents machine.new.writer) result }
+{
+    if !form.is_kept {
+        return run_desk_take_as(
+            machine.alloc,
+            desk,
+            form,
+            &mut sink(),
+            reader,
+            &mut machine.writer,
+        );
+    }
+    let mut came = open_came(machine.rt, machine.alloc, file)?;
+    run_desk_take_as(
+        machine.alloc,
+        desk,
+        form,
+        &mut came,
+        reader,
+        &mut machine.writer,
+    )
+}
+
+/// `ill send`: writes the bytes of a message of a transaction.
+pub fn send<T: Files, W: Write, E: Write>(
+    machine: &mut Machine<'_, T, W, E>,
+    file: &str,
+    txn: &TxnId,
+    number: Number,
+) -> Result<bool, ToolFault>
+    ensures { SendsAtFile txn.now number (W.contents machine.old.writer) (W.contents machine.new.writer) result }
+{
+    let desk = open(machine.rt, machine.alloc, file)?;
+    let sent = run_desk_send(machine.alloc, &desk, txn, number, &mut machine.writer);
+    drop(desk);
+    all_well(sent)
+}
+
+/// `ill list`: lists the wanted loans of the desks at `paths`. After a failure at one desk, the others are still listed.
+pub fn list<T: Files, W: Write, E: Write>(
+    machine: &mut Machine<'_, T, W, E>,
+    paths: &[&str],
+    wanted: &Wanted,
+    form: Form,
+) -> Result<bool, ToolFault>
+    ensures { ListsPaths form wanted.now (W.contents machine.old.writer) (W.contents machine.new.writer) result }
+{
+    let Ok(found) = desk_paths(machine.rt, machine.alloc, paths) else {
+        return Err(ToolFault::OutOfMemory);
+    };
+    let answer = list_files(machine, &found.files, wanted, form);
+    graver(
+        answer,
+        warn_of_names(machine.alloc, &found.unnamed, &mut machine.errors),
+    )
+}
+
+/// Lists the desks in `files`, one after another, and returns the gravest of their answers.
+fn list_files<T: Files, W: Write, E: Write>(
+    machine: &mut Machine<'_, T, W, E>,
+    files: &[String],
+    wanted: &Wanted,
+    form: Form,
+) -> Result<bool, ToolFault>
+    ensures { ListsDesks form wanted.now (map (λ file. string_bytes file) files.now)
+        (W.contents machine.old.writer) (W.contents machine.new.writer) result }
+{
+    let mut answer = Ok(true);
+    let mut last = Ok(true);
+    for place in 0..files.len() {
+        let listed = Listed {
+            path: files[place].as_str(),
+            is_headed: files.len() > 1,
+            is_first: place == 0,
+            form,
+        };
+        last = list_told(machine, last, &listed, wanted);
+        answer = graver(answer, last);
+    }
+    answer
+}
+
+/// Lists the desk in a file, and writes a line to `errors` if it cannot be read. If the writer failed at the last desk,
+/// with the answer `last`, it is not called again.
+fn list_told<T: Files, W: Write, E: Write>(
+    machine: &mut Machine<'_, T, W, E>,
+    last: Result<bool, ToolFault>,
+    listed: &Listed<'_>,
+    wanted: &Wanted,
+) -> Result<bool, ToolFault>
+    ensures { ListsDesk listed.now.form wanted.now listed.now.is_headed listed.now.is_first (record {
+      path = listed.now.path.now;
+      before = W.contents machine.old.writer;
+      after = W.contents machine.new.writer;
+      answer = result;
+    }) }
+{
+    if let Err(ToolFault::Write) = last {
+        return last;
+    }
+    let answer = list_file(machine, listed, wanted);
+    if let Err(fault) = answer
+        && fault != ToolFault::Write
+    {
+        machine.warn_of_fault(listed.path, fault);
+    }
+    answer
+}
+
+/// Lists the desk in a file, and tells which loans have few numbers left, its room and what is left out.
+fn list_file<T: Files, W: Write, E: Write>(
+    machine: &mut Machine<'_, T, W, E>,
+    listed: &Listed<'_>,
+    wanted: &Wanted,
+) -> Result<bool, ToolFault>
+    ensures { ListsDesk listed.now.form wanted.now listed.now.is_headed listed.now.is_first (record {
+      path = listed.now.path.now;
+      before = W.contents machine.old.writer;
+      after = W.contents machine.new.writer;
+      answer = result;
+    }) }
+{
+    let desk = open(machine.rt, machine.alloc, listed.path)?;
+    let answer = run_desk_list(machine.alloc, &desk, listed, wanted, &mut machine.writer);
+    tell_numbers(
+        machine.alloc,
+        listed.path,
+        desk.sides(),
+        &mut machine.errors,
+    );
+    warn(
+        machine.alloc,
+        listed.path,
+        desk.sides().len(),
+        &mut machine.errors,
+    );
+    tell_left_out(
+        machine.alloc,
+        listed.path,
+        desk.sides(),
+        wanted,
+        &mut machine.errors,
+    );
+    drop(desk);
+    all_well(answer)
+}
+
+/// Writes to `errors` which loans of a desk have few numbers left, and how many.
+fn tell_numbers<E: Write>(alloc: Global, file: &str, sides: &Sides, errors: &mut E) {
+    if let Ok(lines) = numbers_lines(alloc, file, sides) {
+        let _ = errors.write_all(&lines);
+    }
+}
+
+/// Writes a warning of the room left at a desk to `errors`, if the desk has many loans.
+fn warn<E: Write>(alloc: Global, file: &str, loans: usize, errors: &mut E) {
+    if loans < MANY {
+        return;
+    }
+    if let Ok(line) = warning(alloc, file, SIDES_LIMIT.saturating_sub(loans)) {
+        let _ = errors.write_all(&line);
+    }
+}
+
+/// Writes to `errors` how many loans the list of a desk leaves out since no day is given, if any.
+fn tell_left_out<E: Write>(
+    alloc: Global,
+    file: &str,
+    sides: &Sides,
+    wanted: &Wanted,
+    errors: &mut E,
+) {
+    let count = count_left_out(alloc, sides, wanted).unwrap_or(0);
+    if count == 0 {
+        return;
+    }
+    if let Ok(line) = left_out_line(alloc, file, count) {
+        let _ = errors.write_all(&line);
+    }
+}
+
+/// `ill status`: shows the sides.
+pub fn status<T: Files, W: Write, E: Write>(
+    machine: &mut Machine<'_, T, W, E>,
+    file: &str,
+    form: Form,
+) -> Result<bool, ToolFault>
+    ensures { ShowsFile form (W.contents machine.old.writer) (W.contents machine.new.writer) result }
+{
+    let desk = open(machine.rt, machine.alloc, file)?;
+    let shown = run_desk_status_as(machine.alloc, &desk, form, &mut machine.writer);
+    drop(desk);
+    all_well(shown)
+}
+
+/// `ill loan`: shows all that is known of a transaction.
+pub fn loan<T: Files, W: Write, E: Write>(
+    machine: &mut Machine<'_, T, W, E>,
+    file: &str,
+    view: &LoanView<'_>,
+) -> Result<bool, ToolFault>
+    ensures { LoanAtFile view.now.form view.now.txn.now (W.contents machine.old.writer) (W.contents machine.new.writer) result }
+{
+    let desk = open(machine.rt, machine.alloc, file)?;
+    let came = came_bytes(machine.rt, machine.alloc, file)?;
+    let shown = run_desk_loan(machine.alloc, &desk, view, &came, &mut machine.writer);
+    drop(desk);
+    all_well(shown)
+}
+
+/// `ill slip`: writes a slip of a transaction.
+pub fn slip<T: Files, W: Write, E: Write>(
+    machine: &mut Machine<'_, T, W, E>,
+    file: &str,
+    txn: &TxnId,
+) -> Result<bool, ToolFault>
+    ensures { SlipAtFile txn.now (W.contents machine.old.writer) (W.contents machine.new.writer) result }
+{
+    let desk = open(machine.rt, machine.alloc, file)?;
+    let written = run_desk_slip(machine.alloc, &desk, txn, &mut machine.writer);
+    drop(desk);
+    all_well(written)
+}
+
+/// `ill verify`: checks the record in a file.
+pub fn verify<T: Files, W: Write, E: Write>(
+    machine: &mut Machine<'_, T, W, E>,
+    file: &str,
+) -> Result<bool, ToolFault>
+    ensures { VerifiesFile (W.contents machine.old.writer) (W.contents machine.new.writer) result }
+{
+    let mut store = FileStore::at(machine.rt, machine.alloc, file, RECORD_LIMIT)?;
+    let verified = run_desk_verify(machine.alloc, &mut store, &mut machine.writer);
+    drop(store);
+    all_well(verified)
+}
+
+/// `ill report`: writes a page of the desks at `paths`. A desk that cannot be read has a part with its fault.
+pub fn report<T: Files, W: Write, E: Write>(
+    machine: &mut Machine<'_, T, W, E>,
+    paths: &[&str],
+    today: Day,
+) -> Result<bool, ToolFault>
+    ensures { ReportsPaths today (W.contents machine.old.writer) (W.contents machine.new.writer) result }
+{
+    let found = desk_paths(machine.rt, machine.alloc, paths)?;
+    let mut page = Vec::new(machine.alloc);
+    push_head(&mut page, today)?;
+    let answer = push_files(machine, &mut page, today, &found.files)?;
+    let answer = graver(
+        answer,
+        warn_of_names(machine.alloc, &found.unnamed, &mut machine.errors),
+    );
+    after_writing(end_page(page, &mut machine.writer), answer)
+}
+
+/// Returns `answer` if the output was written, else the fault.
+fn after_writing(
+    written: Result<(), ToolFault>,
+    answer: Result<bool, ToolFault>,
+) -> Result<bool, ToolFault>
+    ensures { result ≡ after_writing written answer }
+{
+    match written {
+        Ok(()) => answer,
+        Err(fault) => Err(fault),
+    }
+}
+
+/// Appends to `page` the part of each desk in `files`, and returns the gravest of their faults.
+fn push_files<T: Files, W: Write, E: Write>(
+    machine: &mut Machine<'_, T, W, E>,
+    page: &mut Vec<u8>,
+    today: Day,
+    files: &[String],
+) -> Result<Result<bool, ToolFault>, OutOfMemory>
+    ensures told { IfOk result (λ answer.
+        AddsParts today (map (λ file. string_bytes file) files.now) page.old.items page.new.items answer) }
+    ensures fault { IfOk result (λ answer. IfErr answer IsOpenFault) }
+    ensures silent { machine.new.writer ≡ machine.old.writer }
+{
+    let mut answer = Ok(true);
+    for place in 0..files.len() {
+        let next = push_file(machine, page, today, files[place].as_str())?;
+        answer = graver(answer, next);
+    }
+    Ok(answer)
+}
+
+/// Appends to `page` the part of the desk in `file`, and returns its fault, if it cannot be read.
+fn push_file<T: Files, W: Write, E: Write>(
+    machine: &mut Machine<'_, T, W, E>,
+    page: &mut Vec<u8>,
+    today: Day,
+    file: &str,
+) -> Result<Result<bool, ToolFault>, OutOfMemory>
+    ensures told { IfOk result (λ answer. AddsPart today file.now page.old.items page.new.items answer) }
+    ensures fault { IfOk result (λ answer. IfErr answer IsOpenFault) }
+    ensures silent { machine.new.writer ≡ machine.old.writer }
+{
+    match open(machine.rt, machine.alloc, file) {
+        Ok(desk) => {
+            let told = push_desk(page, today, file, desk.sides());
+            drop(desk);
+            told?;
+            Ok(Ok(true))
+        }
+        Err(fault) => {
+            machine.warn_of_fault(file, fault);
+            push_fault(page, file, fault)?;
+            Ok(Err(fault))
+        }
+    }
+}

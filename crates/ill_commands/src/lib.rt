@@ -1,0 +1,4 @@
+//! The commands on a desk in a file: the desk is locked, opened, and shown or changed.
+#![tactic(auto)]
+
+pub mod commands;

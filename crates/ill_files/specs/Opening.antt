@@ -1,0 +1,26 @@
+-- The answers of a command at a desk in a file: the file is opened, or the command fails.
+use Rattle.std.specs.Prelude.{◌≡◌, ℕ, Bool, true, false, List, Option, Result, Ok}
+use Rattle.std.specs.Prelude.{Err, IsErrAnd}
+use Rattle.ill_saved.specs.declared.fault.DeskFault.TheVariants.{Store}
+use Rattle.ill_saved.specs.declared.store.StoreFault.TheVariants.{Failed}
+use Rattle.ill_text.specs.declared.fault.ToolFault.{ToolFault}
+use Rattle.ill_text.specs.declared.fault.ToolFault.TheVariants.{Desk}
+use Rattle.ill_text.specs.Fault.{IsOpenFault}
+
+-- Returns true in place of the answer of a command, or its fault.
+abbrev pub all_well : {A : Type 0} → Result A ToolFault → Result Bool ToolFault
+all_well (Ok answer) = Ok true
+all_well (Err fault) = Err fault
+
+-- An answer satisfies `Answers`, and the result is true in its place, or its fault.
+abbrev pub GoesWell : {A : Type 0} → (Result A ToolFault → Type 0) → Result Bool ToolFault → Type 0
+GoesWell {A} Answers result = (answer : Result A ToolFault) × Answers answer × (result ≡ all_well answer)
+
+-- A file could not be opened or locked, and nothing was written.
+abbrev pub FailsToOpen : {A : Type 0} → Option (List ℕ) → Option (List ℕ) → Result A ToolFault → Type 0
+FailsToOpen before after result = IsErrAnd result IsOpenFault × (after ≡ before)
+
+-- Returns that all is well if each name in the folders is a text. Else it returns the fault of a folder.
+abbrev pub names_answer : Bool → Result Bool ToolFault
+names_answer true = Ok true
+names_answer false = Err (Desk (Store Failed))

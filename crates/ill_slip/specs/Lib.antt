@@ -1,0 +1,2 @@
+pub mod Code128
+pub mod Slip

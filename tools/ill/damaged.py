@@ -2,7 +2,7 @@
 
 The desks of a requester and of a responder have five loans in five states. Of both it looks that
 
-- a whole desk is shown as `ill status` shows it, and the example of docs/RECORDS.md as that document has it;
+- a whole desk is shown as `ill status` shows it, and the example of docs/FORMATS.md as that document has it;
 - with one wrong bit in an octet, or if it is cut, no other loan is shown otherwise, and it is not called whole;
 - if the digest is made to fit again, it is called whole exactly if the program reads it;
 - noise is shown without a failure;
@@ -32,7 +32,7 @@ COURSES = {
     "Six": "here request none Six>1 there ship +3>1 here receive>2 here renew none>3",
 }
 
-# The example of docs/RECORDS.md, section 5, and what is in it.
+# The example of docs/FORMATS.md, section 15, and what is in it.
 EXAMPLE = bytes.fromhex(
     "494C4C32 00 0001 002F 494C4C31 00 01 024731 025431 0000 3030303030303030 01 "
     "6116800101A10881024731820254318201018604 4D617073 "
@@ -126,7 +126,7 @@ class Checks:
                 wrong.append(f"{name} is shown otherwise than by ill status")
         texts = []
         self.salvage.report("example", EXAMPLE, False, texts.append)
-        wrong += ["the example of docs/RECORDS.md"] * ("".join(texts) != EXAMPLE_LINES)
+        wrong += ["the example of docs/FORMATS.md"] * ("".join(texts) != EXAMPLE_LINES)
         tell("whole desks", wrong)
 
     def check_bits(self):

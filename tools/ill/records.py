@@ -1,4 +1,4 @@
-"""The record of a desk, written as docs/RECORDS.md says."""
+"""The record of a desk, written as docs/FORMATS.md says."""
 import hashlib
 
 from ill.der import spelled
@@ -6,7 +6,7 @@ from ill.model import REQUESTER
 
 DIGEST = 32  # the bytes at the end of a record of version 2
 
-# The states of each role with their octets (RECORDS.md, section 1).
+# The states of each role with their octets (FORMATS.md, section 12).
 OCTETS = {"IDLE": 0, "PENDING": 1, "IN-PROCESS": 1, "CONDITIONAL": 2, "CANCEL-PENDING": 3, "CANCELLED": 4,
           "NOT-SUPPLIED": 5, "SHIPPED": 6, "RECEIVED": 7, "RENEW/PENDING": 8, "OVERDUE": 9, "RENEW/OVERDUE": 10,
           "NOT-RECEIVED/OVERDUE": 11, "RECALL": 12, "RETURNED": 13, "CHECKED-IN": 14}

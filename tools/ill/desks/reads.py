@@ -2,7 +2,7 @@
 
 The desks are, of each role, one without a loan, one with a loan of each kind, one of 1,000 loans, one with titles in
 many scripts and with characters on which a terminal acts, and one whose record is as long as loans make it. Their files
-are written here, as docs/RECORDS.md has them, from a model of docs/PROTOCOL.md. A desk that the commands make by the
+are written here, as docs/FORMATS.md has them, from a model of docs/PROTOCOL.md. A desk that the commands make by the
 same courses must have the same bytes. Of each desk the program writes
 
 - `list` and its objects with each combination of its options, in the order, with the columns and counts of the model;

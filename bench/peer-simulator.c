@@ -1,4 +1,4 @@
-/* Performs a script of standard input, as `ill simulate` does, and prints the same trace (docs/SCRIPTS.md). It
+/* Performs a script of standard input, as `ill simulate` does, and prints the same trace (docs/MODEL.md). It
  * is written by hand for this one job, as what the speed of `ill` is measured beside.
  *
  *     peer-simulator GROUP TRANSACTION

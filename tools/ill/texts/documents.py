@@ -17,7 +17,7 @@ The map, docs/ARCHITECTURE.md, has to name each crate, with docs/TESTS.md those 
 script of tools/, and the head of each package there its modules. The README has to name each document of docs/, and
 docs/PROMISES.md each LAWS.md. Under a heading that names crates, each name there in
 backquotes stands in the source that its link leads to, or else in a source or a definition of one of these crates or
-of their rooms.
+of their rooms. Each entry of docs/DECISIONS.md has a day at the end of its first sentence.
 """
 import collections
 import fnmatch
@@ -288,6 +288,15 @@ def check_promises(everything):
             expect("names of promises", stands_in(name, sources), page, missing)
 
 
+def check_decisions():
+    """Each entry of docs/DECISIONS.md has a day at the end of its first sentence."""
+    page = "docs/DECISIONS.md"
+    for entry in re.findall(r"(?m)^- (.*(?:\n  .*)*)", read(page)):
+        first = re.split(r"\.(?:\s|$)", " ".join(entry.split()))[0]
+        has_day = re.search(r" \(20\d\d-[01]\d-[0-3]\d\)$", first)
+        expect("days of decisions", has_day, page, f"no day at the end of: {first}")
+
+
 def compare():
     """Returns the faults of all documents, and what was looked up."""
     everything = list(paths())
@@ -304,4 +313,5 @@ def compare():
     check_maps(everything)
     check_places(everything)
     check_promises(everything)
+    check_decisions()
     return list(dict.fromkeys(COMPARED.faults)), COMPARED.told()

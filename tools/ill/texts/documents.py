@@ -17,7 +17,8 @@ The map, docs/ARCHITECTURE.md, has to name each crate, with docs/TESTS.md those 
 script of tools/, and the head of each package there its modules. The README has to name each document of docs/, and
 docs/PROMISES.md each LAWS.md. Under a heading that names crates, each name there in
 backquotes stands in the source that its link leads to, or else in a source or a definition of one of these crates or
-of their rooms. Each entry of docs/DECISIONS.md has a day at the end of its first sentence.
+of their rooms. Each entry of docs/DECISIONS.md has a day at the end of its first sentence. The picture of a night in
+docs/EXCHANGE.md has the steps of its table, for each library.
 """
 import collections
 import fnmatch
@@ -297,6 +298,16 @@ def check_decisions():
         expect("days of decisions", has_day, page, f"no day at the end of: {first}")
 
 
+def check_night():
+    """The picture of a night has the steps of the table below it, for each library and in their order."""
+    page = "docs/EXCHANGE.md"
+    _, picture, rest = re.split(r"(?m)^```\n", read(page).partition("\n## 2. ")[2], maxsplit=2)
+    steps = re.findall(r"(?m)^\| ([a-z]+) \|", rest.partition("\n## ")[0])
+    for column in (0, picture.splitlines()[0].index("B, ")):
+        drawn = [word[0] for line in picture.splitlines() if (word := re.match(r"[a-z]+\b", line[column:]))]
+        expect("steps of a night", drawn[:len(steps)] == steps, page, f"its picture has {', '.join(drawn)}")
+
+
 def compare():
     """Returns the faults of all documents, and what was looked up."""
     everything = list(paths())
@@ -314,4 +325,5 @@ def compare():
     check_places(everything)
     check_promises(everything)
     check_decisions()
+    check_night()
     return list(dict.fromkeys(COMPARED.faults)), COMPARED.told()

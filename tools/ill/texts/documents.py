@@ -18,7 +18,8 @@ script of tools/, and the head of each package there its modules. The README has
 docs/PROMISES.md each LAWS.md. Under a heading that names crates, each name there in
 backquotes stands in the source that its link leads to, or else in a source or a definition of one of these crates or
 of their rooms. Each entry of docs/DECISIONS.md has a day at the end of its first sentence. The picture of a night in
-docs/EXCHANGE.md has the steps of its table, for each library.
+docs/EXCHANGE.md has the steps of its table, for each library. Each definition, law, function and command in the picture
+of docs/THEOREM.md is one.
 """
 import collections
 import fnmatch
@@ -308,6 +309,21 @@ def check_night():
         expect("steps of a night", drawn[:len(steps)] == steps, page, f"its picture has {', '.join(drawn)}")
 
 
+def check_ways(everything):
+    """Each definition, law, function and command in the picture of docs/THEOREM.md is one of the sources."""
+    page = "docs/THEOREM.md"
+    picture, = [block for block in re.findall(r"(?ms)^```\n(.*?)^```", read(page)) if block.startswith("definition ")]
+    forms = {"definition": ("crates/*/specs/*.antt", r"(?m)^[a-z ]+ pub {} :|^pub (?:record|data) {}\b"),
+             "law": ("crates/*/src/*laws.rt", r"\bpub fn {}\("), "function": ("crates/*/src/*.rt", r"\bpub fn {}[<(]"),
+             "command": ("crates/ill_line/src/command_line.rt", r'=> "{}"')}
+    for kind, names in re.findall(r"\b(definition|law|function|command) {2,}([\w-]+(?:, [\w-]+)*)", picture):
+        pattern, form = forms[kind]
+        for name in names.split(", "):
+            sources = "\n".join(read(path) for path in everything if matches(path, [pattern]))
+            is_there = re.search(form.replace("{}", re.escape(name)), sources)
+            expect("names of a picture", is_there, page, f"there is no {kind} {name}")
+
+
 def compare():
     """Returns the faults of all documents, and what was looked up."""
     everything = list(paths())
@@ -326,4 +342,5 @@ def compare():
     check_promises(everything)
     check_decisions()
     check_night()
+    check_ways(everything)
     return list(dict.fromkeys(COMPARED.faults)), COMPARED.told()

@@ -13,7 +13,8 @@ It looks through each .md of the repository. In a document it looks up
 - each block of Rust, against the sources: one has its lines, one after another, however far they are indented;
 - that each line of the crates.txt that it shows, but for one of `yours`, stands there.
 
-The map, docs/ARCHITECTURE.md, has to name each crate, with docs/TESTS.md those of tests. docs/TESTS.md has to name each
+The map, docs/ARCHITECTURE.md, has to name each crate, with docs/TESTS.md those of tests. Its arrows are those of
+crates.txt: of each crate but tests and examples, to the nearest crates below it, each once. docs/TESTS.md has to name each
 script of tools/, and the head of each package there its modules. The README has to name each document of docs/, and
 docs/PROMISES.md each LAWS.md. Under a heading that names crates, each name there in
 backquotes stands in the source that its link leads to, or else in a source or a definition of one of these crates or
@@ -267,6 +268,31 @@ def check_maps(everything):
             expect("documents", f"../{path}" in read(page), page, f"it does not name {path}")
 
 
+def all_below():
+    """Returns the crates, each with all on which it stands, at once or through others."""
+    found = {}
+    for crate, below in stand_on().items():
+        found[crate] = set(below).union(*(found[other] for other in below))
+    return found
+
+
+def check_arrows():
+    """The arrows of the map lead from each crate to those below it on which no other of them stands."""
+    page = "docs/ARCHITECTURE.md"
+    picture = re.search(r"(?ms)^```mermaid\n(.*?)^```", read(page))[1]
+    crates = re.findall(r'(?m)^ +(\w+)\["\1: ', picture)
+    drawn = collections.Counter()
+    for line in picture.splitlines():
+        names = line.strip().split(" --> ")
+        drawn.update(zip(names, names[1:]))
+    nearest, below = stand_on(), all_below()
+    wanted = {(name, other) for name in crates for other in nearest[name]
+              if not any(other in below[nearer] for nearer in nearest[name])}
+    for arrow in sorted(wanted | set(drawn)):
+        expect("arrows", drawn[arrow] == (arrow in wanted), page,
+               f"an arrow leads {drawn[arrow]} times from {arrow[0]} to {arrow[1]}, and crates.txt says otherwise")
+
+
 def stands_in(name, files):
     """Returns true if one of the files has the last part of a name such as `Desk::act`."""
     word = re.compile(rf"\b{re.escape(name.split('::')[-1])}\b")
@@ -343,4 +369,5 @@ def compare():
     check_decisions()
     check_night()
     check_ways(everything)
+    check_arrows()
     return list(dict.fromkeys(COMPARED.faults)), COMPARED.told()

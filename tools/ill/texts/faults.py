@@ -12,7 +12,7 @@ is of each fault of each call, and names one test for all, or one for each call,
 test is a function, or a line, of a crate of tests, or words of a tool. In one that is named alone, CALL stands for
 the name of each call. `none: WHY` is in place of the tests where there can be none, `never: WHY` where by its contract
 no input has the call answer the fault, and # begins a remark. Each fault but these is once in a table of the page, and
-nothing else. A row may be of several calls, each with each fault of the row, which under "Want of memory" is
+nothing else. A row may be of several calls, each with each fault of the row, which under "Out of memory" is
 `OutOfMemory`.
 """
 import re
@@ -32,7 +32,7 @@ NAMES = r"`[^`]+`(?:, `[^`]+`)*"
 NAMED = re.compile(r"`([^`]+)`")
 ENTRY = re.compile(r"([\w:]+(?:, [\w:]+)*): ([\w:]+(?:, [\w:]+)*)")
 TEST = re.compile(r"    (\w+_tests|tools/[\w/.-]+|none|never): (\S.*)")
-MEMORY = "Want of memory"
+MEMORY = "Out of memory"
 CELLS = {MEMORY: 3}
 ALIAS = re.compile(r"^pub type (\w+)<\w+> = (\w+)<", re.M)
 # What a desk holds is called by desks alone, which have its faults.

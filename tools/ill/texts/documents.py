@@ -6,6 +6,8 @@ It looks through each .md of the repository. In a document it looks up
 - each word in backquotes or in a block that looks like a path of the repository. A name in capitals, as in
   `strength/gate/NAME/`, stands for any. Under a heading that names crates a source stands in one of these, or of their
   rooms: libraries that they stand on, and no crate of tests does;
+- each word in backquotes of several parts, as `is_over` or `InStep`: a name of the sources, the definitions or the
+  proofs, or a crate;
 - each target that they give to make, and each file of tools/, wherever it is named;
 - each number of wrong bodies, against those that are there; docs/TESTS.md has to say how many stand where, and how
   those of each crate are refused, in one row each or in one of several crates;
@@ -36,6 +38,7 @@ PARTS = {"src", "specs", "proofs", "messages", "scripts"}
 NUMBERS = ("none one two three four five six seven eight nine ten eleven twelve thirteen fourteen fifteen "
            "sixteen seventeen eighteen nineteen twenty").split()
 NUMBER = r"\b(\d+|" + "|".join(NUMBERS) + r")\b"
+KIT = {"assert_eq", "serde_json"}  # names of the kit that no source of the repository has
 CONTROLS = "strength/controls/*.edit"
 GATE = "strength/gate/*.edit"
 
@@ -112,6 +115,20 @@ def check_paths(words, crates, everything, place):
         patterns = [front + path for front in fronts]
         is_there = any(matches(other, patterns) for other in everything)
         expect("paths", is_there, place, f"there is no {word}" + (" here" if fronts[0] else ""))
+
+
+def names(everything):
+    """Returns the names of the sources, the definitions and the proofs, the crates, and some of the kit."""
+    sources = [path for path in everything if path.startswith("crates/") and path.endswith((".rt", ".antt"))]
+    return set(re.findall(r"[A-Za-z]\w*", "\n".join(map(read, sources)))).union(repository.libraries(), KIT)
+
+
+def check_names(span, known, place):
+    """Each word of several parts in a span of code is a known name."""
+    for word in re.findall(r"(?<![\w./-])[A-Za-z]\w*(?:::\w+)*(?![\w/.-])", span):
+        name = word.split("::")[-1]
+        if re.fullmatch(r"[a-z]+(_[a-z0-9]+)+|[A-Z][a-z0-9]+([A-Z][a-z0-9]*)+", name):
+            expect("names", name in known, place, f"no source has {word}")
 
 
 def check_targets(code, targets, place):
@@ -198,7 +215,7 @@ def check_table_of_places(everything):
            f"the table of wrong bodies has {', '.join(named)}, and these have some: {', '.join(sorted(crates))}")
 
 
-def check_document(document, everything, targets):
+def check_document(document, everything, targets, known):
     """Looks up what a document names, line by line."""
     all_crates = set(stand_on())
     crates = []
@@ -213,6 +230,8 @@ def check_document(document, everything, targets):
         check_paths(words, crates, everything, place)
         for span in code:
             check_targets(span, targets, place)
+            if not in_block:
+                check_names(span, known, place)
         check_tools(line, place)
 
 
@@ -354,10 +373,10 @@ def compare():
     """Returns the faults of all documents, and what was looked up."""
     everything = list(paths())
     targets = set(re.findall(r"(?m)^([a-z-]+):", read("Makefile")))
-    counted = counts(everything)
+    counted, known = counts(everything), names(everything)
     sources = [unindented(read(path)) for path in everything if matches(path, ["crates/*/src/*.rt"])]
     for document in [path for path in everything if path.endswith(".md")]:
-        check_document(document, everything, targets)
+        check_document(document, everything, targets, known)
         check_counts(document, " ".join(read(document).split()), counted)
         check_runs(document)
         check_code(document, sources)

@@ -16,13 +16,13 @@ It looks through each .md of the repository. In a document it looks up
 - that each line of the crates.txt that it shows, but for one of `yours`, stands there.
 
 The map, docs/ARCHITECTURE.md, has to name each crate, with docs/TESTS.md those of tests. Its arrows are those of
-crates.txt: of each crate but tests and examples, to the nearest crates below it, each once. docs/TESTS.md has to name each
-script of tools/, and the head of each package there its modules. The README has to name each document of docs/, and
-docs/PROMISES.md each LAWS.md. Under a heading that names crates, each name there in
-backquotes stands in the source that its link leads to, or else in a source or a definition of one of these crates or
-of their rooms. Each entry of docs/DECISIONS.md has a day at the end of its first sentence. The picture of a night in
-docs/EXCHANGE.md has the steps of its table, for each library. Each definition, law, function and command in the picture
-of docs/THEOREM.md is one.
+crates.txt: of each crate but tests and examples, to the nearest crates below it, each once. docs/TESTS.md has to name
+each script of tools/, and the head of each package there its modules. The README has to name each document of docs/,
+and docs/PROMISES.md each LAWS.md. Under a heading that names crates, each name there in backquotes stands in the source
+that its link leads to, or else in a source or a definition of one of these crates or of their rooms. Each entry of
+docs/DECISIONS.md has a day at the end of its first sentence. The picture of a night in docs/EXCHANGE.md has the steps
+of its table, for each library. Each line of standard error there, as `.. is lost: ..`, is one of the sources. Each
+definition, law, function and command in the picture of docs/THEOREM.md is one.
 """
 import collections
 import fnmatch
@@ -354,6 +354,18 @@ def check_night():
         expect("steps of a night", drawn[:len(steps)] == steps, page, f"its picture has {', '.join(drawn)}")
 
 
+def check_lines(everything):
+    """The words of each line that docs/EXCHANGE.md explains are words of the sources, but for what stands in for others:
+    `..`, a word in capitals, and a number."""
+    page = "docs/EXCHANGE.md"
+    sources = " ".join("\n".join(read(path) for path in everything if matches(path, ["crates/ill_*/src/*.rt"])).split())
+    for line in re.findall(r"`(\.\. [^`]+)`", read(page)):
+        for part in re.split(r"\.\.|\b[A-Z]{3,}\b|\d+|\bas\b", line):
+            words = part.strip(" :;,")
+            if words:
+                expect("lines of a run", words in sources, page, f"no source writes: {words}")
+
+
 def check_ways(everything):
     """Each definition, law, function and command in the picture of docs/THEOREM.md is one of the sources."""
     page = "docs/THEOREM.md"
@@ -387,6 +399,7 @@ def compare():
     check_promises(everything)
     check_decisions()
     check_night()
+    check_lines(everything)
     check_ways(everything)
     check_arrows()
     return list(dict.fromkeys(COMPARED.faults)), COMPARED.told()

@@ -15,7 +15,9 @@ use ill_files::came::{came_bytes, open_came};
 use ill_files::folder::{desk_paths, warn_of_names};
 use ill_files::machine::Machine;
 use ill_files::open::{all_well, end, lock, open, open_locked};
-use ill_saved::{Desk, FileStore, LockFiles, LockedDesk, RECORD_LIMIT, SIDES_LIMIT, Sides, Store};
+use ill_saved::{
+    Desk, FileStore, LockFiles, LockedDesk, RECORD_LIMIT, Role, SIDES_LIMIT, Sides, Store,
+};
 use ill_show::list::{count_left_out, run_desk_list};
 use ill_show::listed::{Listed, left_out_line, warning};
 use ill_show::loan::{LoanView, run_desk_loan};
@@ -28,7 +30,6 @@ use ill_slip::slip::run_desk_slip;
 use ill_text::fault::{ToolFault, graver};
 use ill_text::form::Form;
 use ill_values::{Day, Number, OutOfMemory, TxnId};
-use ill_words::Who;
 use std::alloc::Global;
 use std::io::{Read, Write, sink};
 use std::rt::Files;
@@ -40,7 +41,7 @@ const MANY: usize = 900;
 pub fn new<T: LockFiles, W: Write, E: Write>(
     machine: &mut Machine<'_, T, W, E>,
     file: &str,
-    role: Who,
+    role: Role,
 ) -> Result<bool, ToolFault>
     ensures { NewAtFile (W.contents machine.old.writer) (W.contents machine.new.writer) result }
 {

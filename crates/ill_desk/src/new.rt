@@ -6,10 +6,9 @@ ghost use Rattle.ill_saved.specs.ManySides.{sides_held, no_sides, whole_of};
 ghost use Rattle.ill_saved.specs.Desk.{answer_of, store_of};
 ghost use Rattle.ill_desk.specs.New.{RunsNew, SavesFirst, BeginsIn};
 
-use ill_saved::{Desk, Store};
+use ill_saved::{Desk, Role, Store};
 use ill_text::fault::ToolFault;
 use ill_text::output::write_whole;
-use ill_words::Who;
 use std::alloc::Global;
 use std::io::Write;
 
@@ -21,7 +20,7 @@ use std::io::Write;
 pub fn run_desk_new<S: Store, W: Write>(
     alloc: Global,
     store: S,
-    role: Who,
+    role: Role,
     writer: &mut W,
 ) -> Result<Desk<S>, (ToolFault, S)>
     ensures runs { RunsNew (codes "done\n") (W.contents writer.old) (W.contents writer.new)

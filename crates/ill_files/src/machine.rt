@@ -36,7 +36,7 @@ impl<T, W, E: Write> Machine<'_, T, W, E> {
     }
 
     /// Returns `answer`. If it is a fault of a file or folder, a line of `path` and `text` goes to the errors.
-    pub fn blame<X: Drop>(
+    pub fn report_fault_at<X: Drop>(
         &mut self,
         answer: Result<X, ToolFault>,
         path: &str,

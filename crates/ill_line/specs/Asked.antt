@@ -10,7 +10,7 @@ use Rattle.ill_values.specs.Day.{Date, day_after}
 use Rattle.ill_values.specs.Text.{qualifier_check}
 use Rattle.ill_values.specs.TxnId.{Qualifiers, txn_id_of}
 use Rattle.ill_core.specs.declared.state.State.{State}
-use Rattle.ill_saved.specs.declared.role.Role.{Role as Who}
+use Rattle.ill_saved.specs.declared.role.Role.{Role}
 use Rattle.ill_words.specs.Words.{◌>>=◌, who_named, day_of, number_of}
 use Rattle.ill_values.specs.declared.fault.TextFault.{TextFault}
 use Rattle.ill_text.specs.declared.fault.ToolFault.{ToolFault}
@@ -32,7 +32,8 @@ use Rattle.ill_line.specs.declared.request.Request.TheVariants as requests
 use Rattle.ill_line.specs.declared.command_line.Name.{Name}
 use Rattle.ill_line.specs.declared.command_line.Name.TheVariants as names
 use Rattle.ill_line.specs.declared.command_line.Argument.{Argument}
-use Rattle.ill_line.specs.declared.command_line.Argument.TheVariants.{NewFile, File, Folder, Role, Group, Transaction, Today}
+use Rattle.ill_line.specs.declared.command_line.Argument.TheVariants as arguments
+use Rattle.ill_line.specs.declared.command_line.Argument.TheVariants.{NewFile, File, Folder, Group, Transaction, Today}
 use Rattle.ill_line.specs.declared.command_line.Argument.TheVariants.{Words, Number, Long, Keep, Picture, Open, Mine, Json, Paths}
 use Rattle.ill_line.specs.declared.command_line.Argument.TheVariants.{OnDay, DueBefore, InState, ReportDay, OutFolder, Stream, In}
 use Rattle.ill_line.specs.declared.command_line.Argument.TheVariants.{Out, NightDay, Overdue, Expire, Copy, Beat, NewGroup, Ahead}
@@ -52,8 +53,8 @@ abbrev pub text_of : Argument → Found → Option (List ℕ)
 text_of argument found = first_of (id_of argument) found
 
 -- Returns the role in the arguments, if it is one.
-abbrev pub role_of : Found → Option Who
-role_of found = text_of Role found >>= who_named
+abbrev pub role_of : Found → Option Role
+role_of found = text_of arguments.Role found >>= who_named
 
 -- Returns the transaction in the arguments, if both qualifiers are valid.
 abbrev pub loan_of : Found → Option Qualifiers
@@ -207,7 +208,7 @@ pub data Asked : Type 0 where
   Check : Asked
   Simulate : (group transaction : List ℕ) → Asked
   SimulateDesks : Asked
-  New : (file : List ℕ) → (role : Who) → Asked
+  New : (file : List ℕ) → (role : Role) → Asked
   Act : (file : List ℕ) → (txn : Qualifiers) → (today : Option Date) → (is_new_group : Bool) → (words : List (List ℕ))
       → Asked
   Take : (file : List ℕ) → (form : TakeForm) → Asked

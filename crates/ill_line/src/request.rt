@@ -18,13 +18,13 @@ use ill_desk::take::TakeForm;
 use ill_files::paths::is_beside;
 use ill_night::dates::Dates;
 use ill_night::night::Night;
+use ill_saved::Role;
 use ill_show::loan::LoanForm;
 use ill_show::soon::SOON;
 use ill_show::wanted::{Wanted, Which};
 use ill_text::fault::ToolFault;
 use ill_text::form::Form;
 use ill_values::{Day, Number, TextFault, TxnId};
-use ill_words::Who;
 use ill_words::words::{number, who};
 use std::alloc::{AllocError, Global};
 
@@ -52,7 +52,7 @@ pub enum Request<'a> {
         /// The path of the file.
         file: &'a str,
         /// The role of the desk.
-        role: Who,
+        role: Role,
     },
     /// Perform one action in a transaction: `ill act`.
     Act {
@@ -567,7 +567,7 @@ fn simulate_request<'a>(alloc: Global, matches: &ArgMatches<'a>) -> Result<Reque
 }
 
 /// Returns the role in the arguments.
-fn role(alloc: Global, matches: &ArgMatches<'_>) -> Result<Who, Refusal>
+fn role(alloc: Global, matches: &ArgMatches<'_>) -> Result<Role, Refusal>
     ensures { ReadsValue (λ role. role) (role_of (rows_of (found_of matches.now))) result }
 {
     let word = text(alloc, matches, Argument::Role)?;

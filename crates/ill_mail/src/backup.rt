@@ -64,9 +64,9 @@ pub(crate) fn copy_desk<T: Files, S: Store, W: Write, E: Write>(
     }
     match copied {
         Ok(Copied::Done) => Ok(SendPermit { seal: () }),
-        Ok(Copied::HasMore) => machine.blame(Err(STORE_FAILED), path, HAS_MORE),
-        Ok(Copied::NoRecord) => machine.blame(Err(STORE_FAILED), path, NO_RECORD),
-        Err(fault) => machine.blame(Err(fault), path, NO_COPY),
+        Ok(Copied::HasMore) => machine.report_fault_at(Err(STORE_FAILED), path, HAS_MORE),
+        Ok(Copied::NoRecord) => machine.report_fault_at(Err(STORE_FAILED), path, NO_RECORD),
+        Err(fault) => machine.report_fault_at(Err(fault), path, NO_COPY),
     }
 }
 
@@ -121,7 +121,7 @@ pub fn beat<T: Files, W: Write, E: Write>(
             give_to_owner(machine.rt, path, desk);
             Ok(())
         }
-        Err(_) => machine.blame(Err(STORE_FAILED), path, NO_BEAT),
+        Err(_) => machine.report_fault_at(Err(STORE_FAILED), path, NO_BEAT),
     }
 }
 

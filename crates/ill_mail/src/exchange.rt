@@ -8,7 +8,7 @@ ghost use Rattle.ill_desk.specs.Performing.{command_state, view_of};
 ghost use Rattle.ill_text.specs.Fault.{IsFileFault, IsOpenFault};
 
 use crate::backup::{SendPermit, beat, copy_desk};
-use crate::blame::{NO_BOX, NO_RUN, NOT_READ};
+use crate::fault_lines::{NO_BOX, NO_RUN, NOT_READ};
 use crate::mail::{Incoming, Mails, begin_run, claim_mails, sorted_mails};
 use crate::mail_box::{MailBox, MailPaths, asked_bytes, open_box};
 use crate::places::{Places, look_at_out, look_at_places};
@@ -80,12 +80,16 @@ fn take_mails<T: Files, S: Store, W: Write, E: Write>(
         (answered_with taken_of result)
         (command_state (view_of S.state desk.new) (W.contents machine.new.writer)) }
 {
-    let mail_box = machine.blame(
+    let mail_box = machine.report_fault_at(
         open_box(machine.rt, machine.alloc, file, file),
         file,
         NO_BOX,
     )?;
-    let mut came = machine.blame(open_came(machine.rt, machine.alloc, file), file, NO_CAME)?;
+    let mut came = machine.report_fault_at(
+        open_came(machine.rt, machine.alloc, file),
+        file,
+        NO_CAME,
+    )?;
     let place = MailPaths {
         file,
         folder: incoming.folder,
@@ -100,7 +104,7 @@ fn take_mails<T: Files, S: Store, W: Write, E: Write>(
     };
     let run = run_desk_inbox(machine.alloc, desk, &batch, &mut came, &mut machine.writer);
     match run {
-        Ok(verdicts) => conclude(machine, &place, desk, found, verdicts),
+        Ok(verdicts) => settle_run(machine, &place, desk, found, verdicts),
         Err(fault) => {
             warn_of_came(machine, file, &came);
             Err(fault)
@@ -133,10 +137,10 @@ fn find_mails<T: Files, W: Write, E: Write>(
 {
     if is_sorted {
         let found = sorted_mails(machine.rt, machine.alloc, place, role);
-        return machine.blame(found, place.file, NO_BOX);
+        return machine.report_fault_at(found, place.file, NO_BOX);
     }
     let run = begin_run(machine.rt, machine.alloc, place.mail_box);
-    let run = machine.blame(run, place.file, NO_RUN)?;
+    let run = machine.report_fault_at(run, place.file, NO_RUN)?;
     let found = claim_mails(
         machine.rt,
         machine.alloc,
@@ -144,12 +148,12 @@ fn find_mails<T: Files, W: Write, E: Write>(
         place.folder,
         run.as_str(),
     );
-    machine.blame(found, place.folder, NOT_READ)
+    machine.report_fault_at(found, place.folder, NOT_READ)
 }
 
 /// Settles the files of the mails of a run, after it has kept the messages that ask. If `place` wants it, it first
 /// warns of each mail that wants a person.
-fn conclude<T: Files, S: Store, W: Write, E: Write>(
+fn settle_run<T: Files, S: Store, W: Write, E: Write>(
     machine: &mut Machine<'_, T, W, E>,
     place: &MailPaths<'_>,
     desk: &Desk<S>,
@@ -172,7 +176,7 @@ fn conclude<T: Files, S: Store, W: Write, E: Write>(
     }
     let asked = asked_by(machine.alloc, desk, &found.mails, &verdicts)?;
     if let Err(fault) = keep_asked(machine.rt, machine.alloc, place.mail_box, &asked) {
-        return machine.blame(Err(fault), place.file, NOT_ASKED);
+        return machine.report_fault_at(Err(fault), place.file, NOT_ASKED);
     }
     match settle_mails(machine, place, &found, &verdicts) {
         Ok(()) => Ok(Taken { found, verdicts }),
@@ -229,7 +233,7 @@ fn send_on<T: Files, S: Store, W: Write, E: Write>(
 ) -> Result<(), ToolFault>
     ensures { SendsOn desk.now.live.held (W.contents machine.old.writer) (W.contents machine.new.writer) result }
 {
-    let asking = machine.blame(asking(machine.rt, machine.alloc, file), file, NOT_ASKED)?;
+    let asking = machine.report_fault_at(asking(machine.rt, machine.alloc, file), file, NOT_ASKED)?;
     run_desk_outbox_stream(machine.alloc, desk, &asking, &mut machine.writer)
 }
 
@@ -242,7 +246,7 @@ fn send_to<T: Files, S: Store, W: Write, E: Write>(
 ) -> Result<(), ToolFault>
     ensures { SendsTo desk.now.live.held (W.contents machine.old.writer) (W.contents machine.new.writer) result }
 {
-    let asking = machine.blame(asking(machine.rt, machine.alloc, file), file, NOT_ASKED)?;
+    let asking = machine.report_fault_at(asking(machine.rt, machine.alloc, file), file, NOT_ASKED)?;
     match send_asked(machine, desk, &asking, folder, SendPermit::without_copy()) {
         Ok(_) => Ok(()),
         Err(fault) => Err(fault),
@@ -321,13 +325,13 @@ fn exchange_at<T: Files, S: Store, W: Write, E: Write>(
         is_sorted: night.is_on_shelf,
     };
     match take_mails(machine, file, incoming, true, desk) {
-        Ok(taken) => go_on(machine, file, night, desk, &taken),
+        Ok(taken) => finish_night(machine, file, night, desk, &taken),
         Err(fault) => Err(fault),
     }
 }
 
 /// Performs the deeds of the day, copies the desk, and sends its messages. The mails were taken before.
-fn go_on<T: Files, S: Store, W: Write, E: Write>(
+fn finish_night<T: Files, S: Store, W: Write, E: Write>(
     machine: &mut Machine<'_, T, W, E>,
     file: &str,
     night: &Night<'_>,
@@ -338,14 +342,14 @@ fn go_on<T: Files, S: Store, W: Write, E: Write>(
         (command_state (view_of S.state desk.old) (W.contents machine.old.writer)) result
         (command_state (view_of S.state desk.new) (W.contents machine.new.writer)) }
 {
-    match say_dates(machine.alloc, desk, night.dates, &mut machine.writer) {
+    match act_on_dates(machine.alloc, desk, night.dates, &mut machine.writer) {
         Ok(()) => send_all(machine, file, night, desk, taken),
         Err(fault) => Err(fault),
     }
 }
 
 /// Performs the deeds that are due on the day of `dates`, if it has a day.
-fn say_dates<S: Store, W: Write>(
+fn act_on_dates<S: Store, W: Write>(
     alloc: Global,
     desk: &mut Desk<S>,
     dates: Option<(Day, Dates)>,

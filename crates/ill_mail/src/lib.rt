@@ -2,8 +2,8 @@
 #![tactic(auto)]
 
 pub mod backup;
-pub mod blame;
 pub mod exchange;
+pub mod fault_lines;
 pub mod mail;
 pub mod mail_box;
 pub mod mail_folder;

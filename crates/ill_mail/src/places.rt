@@ -3,7 +3,7 @@
 ghost use Rattle.std.specs.Prelude.{◌≡◌, IfErr};
 ghost use Rattle.ill_text.specs.Fault.{IsOpenFault};
 
-use crate::blame::NO_FOLDER;
+use crate::fault_lines::NO_FOLDER;
 use crate::reserved::{is_one, is_reserved};
 use ill_files::machine::Machine;
 use ill_files::paths::folder_of;
@@ -49,9 +49,9 @@ pub(crate) fn look_at_out<T: Files, W: Write, E: Write>(
     ensures faults { IfErr result IsOpenFault }
     ensures silent { machine.new.writer ≡ machine.old.writer }
 {
-    machine.blame(find_folder(machine.rt, out), out, NO_FOLDER)?;
+    machine.report_fault_at(find_folder(machine.rt, out), out, NO_FOLDER)?;
     if is_reserved(machine.rt, machine.alloc, file, out)? {
-        return machine.blame(Err(STORE_FAILED), out, RESERVED);
+        return machine.report_fault_at(Err(STORE_FAILED), out, RESERVED);
     }
     Ok(())
 }
@@ -78,11 +78,11 @@ pub fn look_at_places<T: Files, W: Write, E: Write>(
 {
     look_at_out(machine, places.file, night.outgoing)?;
     if let Some(copies) = places.copies {
-        machine.blame(find_folder(machine.rt, copies), copies, NO_FOLDER)?;
+        machine.report_fault_at(find_folder(machine.rt, copies), copies, NO_FOLDER)?;
     }
     match find_misplaced(machine.rt, places, night)? {
         None => Ok(()),
-        Some(found) => machine.blame(Err(STORE_FAILED), found.path, found.text),
+        Some(found) => machine.report_fault_at(Err(STORE_FAILED), found.path, found.text),
     }
 }
 

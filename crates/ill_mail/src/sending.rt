@@ -6,7 +6,7 @@ ghost use Rattle.ill_night.specs.Inbox.{answered_with};
 ghost use Rattle.ill_text.specs.Fault.{IsFileFault};
 
 use crate::backup::SendPermit;
-use crate::blame::blame_mail;
+use crate::fault_lines::report_fault_of_mail;
 use crate::mail_folder::MailFolder;
 use ill_der::encode;
 use ill_files::machine::Machine;
@@ -51,7 +51,7 @@ pub(crate) fn send_asked<T: Files, S: Store, W: Write, E: Write>(
 {
     let mut out = MailFolder::at(machine.rt, machine.alloc, folder);
     let sent = run_desk_outbox(machine.alloc, desk, asking, &mut out);
-    let sent = blame_mail(machine, sent, &out)?;
+    let sent = report_fault_of_mail(machine, sent, &out)?;
     let line = format!(in machine.alloc; "sent {sent}\n")?;
     match write_and_flush(&mut machine.writer, line.as_bytes()) {
         Ok(()) => Ok(SentAll { seal: () }),
@@ -70,7 +70,7 @@ pub fn send_words<T: Files, W: Write, E: Write>(
 {
     let mut out = MailFolder::at(machine.rt, machine.alloc, folder);
     let sent = put_words(machine.alloc, words, &mut out);
-    match blame_mail(machine, sent, &out) {
+    match report_fault_of_mail(machine, sent, &out) {
         Ok(_) => Ok(SentAll { seal: () }),
         Err(fault) => Err(fault),
     }

@@ -9,7 +9,7 @@ use Rattle.ill_core.specs.declared.responder.Deed.{Deed}
 use Rattle.ill_core.specs.Issued.{is_none}
 use Rattle.ill_core.specs.Requester.{RequesterRecord}
 use Rattle.ill_core.specs.RequesterDeliveries as requester_deliveries
-use Rattle.ill_saved.specs.declared.role.Role.{Role as Who}
+use Rattle.ill_saved.specs.declared.role.Role.{Role}
 use Rattle.ill_saved.specs.declared.role.Role.TheVariants as who
 use Rattle.ill_saved.specs.declared.side.Side.{Side}
 use Rattle.ill_saved.specs.declared.side.Side.TheVariants as sides
@@ -127,7 +127,7 @@ night_mails old met night (inr took) = go took.2 took.4
     go (Err fault) settles = absurd cc
 
 -- A responder's desk has its role.
-responders_role : (role : Who) (w : DeskParties) → DesksInvariant w → role ≡ who.Responder
+responders_role : (role : Role) (w : DeskParties) → DesksInvariant w → role ≡ who.Responder
     → (party w role).live.role ≡ who.Responder
 responders_role who.Responder w stands is = stands.responder.0
 responders_role who.Requester w stands is = absurd cc
@@ -143,7 +143,7 @@ module _ (projects : EachProjects) (reaches : EachReaches) (stand : EachStands) 
     side : side_for txn held ≡ after_deeds_of (takes_all (side_for txn p.landed) (messages_for txn came)) deeds
 
   -- If a command reached a side that has landed, its file has it.
-  reached_took : (role : Who) (w : DeskParties) (after : Library) (came : List Apdu) (side : Side)
+  reached_took : (role : Role) (w : DeskParties) (after : Library) (came : List Apdu) (side : Side)
       (desk : HeldAndLanded DeskContents)
       → (reached : ReachedByDeeds projects reaches stand changes txn role w desk side)
       → side ≡ takes_all (side_for txn (party w role).landed) (messages_for txn came)
@@ -161,14 +161,14 @@ module _ (projects : EachProjects) (reaches : EachReaches) (stand : EachStands) 
 
   -- What left in a night is all that the side of `txn` sends. If the loan is over for a responder, and the mails of `txn`
   -- were done with, a message of `txn` asks just if one of it came.
-  pub record Sent (role : Who) (p : DeskParty) (after : Library) (mails : List Mail) (verdicts : List Verdict)
+  pub record Sent (role : Role) (p : DeskParty) (after : Library) (mails : List Mail) (verdicts : List Verdict)
       (left asking : List Apdu) : Type 0 where
     took : Took p after (messages_of mails)
     left_all : messages_for txn left ≡ sent_by (is_asked asking txn) (side_for txn took.held)
     right : role ≡ who.Responder → AreBytes mails → AreDone txn mails verdicts → is_over (side_for txn took.held) ≡ true
         → not (is_asked asking txn) ≡ is_none (messages_for txn (messages_of mails))
 
-  module _ (role : Who) (w : DeskParties) (stands : DesksInvariant w) (others : List Apdu)
+  module _ (role : Role) (w : DeskParties) (stands : DesksInvariant w) (others : List Apdu)
       (were : Each (WasSent (party w (other role)).sent) others) (before after : Library) (at : IsAt before (party w role)) where
     -- The landed side of `txn`.
     abbrev landed : Side
@@ -281,7 +281,7 @@ module _ (projects : EachProjects) (reaches : EachReaches) (stand : EachStands) 
   -- ---- what a night does to a loan
 
   -- What left in a night is all of the side of `txn`, or none.
-  pub left_of : (role : Who) (w : DeskParties) → DesksInvariant w → (others : List Apdu)
+  pub left_of : (role : Role) (w : DeskParties) → DesksInvariant w → (others : List Apdu)
       → Each (WasSent (party w (other role)).sent) others → (before after : Library) → IsAt before (party w role)
       → (night : IsNight others before after) → LeftOf txn after night.asking night.command.leaving
   left_of role w stands others were before after at night =
@@ -289,7 +289,7 @@ module _ (projects : EachProjects) (reaches : EachReaches) (stand : EachStands) 
       (sent.took.held, sent.took.file, sent.left_all)
 
   -- What came was taken by the side of `txn`, in order.
-  pub took_of : (role : Who) (w : DeskParties) → DesksInvariant w → (others : List Apdu)
+  pub took_of : (role : Role) (w : DeskParties) → DesksInvariant w → (others : List Apdu)
       → Each (WasSent (party w (other role)).sent) others → (before after : Library) → IsAt before (party w role)
       → (takes : TakesAll others before after) → TookOf txn before after (messages_of_all takes)
   took_of role w stands others were before after at takes =
@@ -310,7 +310,7 @@ module _ (projects : EachProjects) (reaches : EachReaches) (stand : EachStands) 
       (enough : (w : Parties) (people : List Event) → Invariant txn w → list_all is_by_responder people ≡ true
       → CanAnswer (run_of w (asked_and_worked people w)).responder.live
       → AreInStepOrAtRest (run_of w (worked_night_of people w)))
-      (leads : (role : Who) (w : DeskParties) → DesksInvariant w → (others : List Apdu) (before after : Library)
+      (leads : (role : Role) (w : DeskParties) → DesksInvariant w → (others : List Apdu) (before after : Library)
       → Each (WasSent (party w (other role)).sent) others → IsAt before (party w role) → Commands others before after
       → LeadsTo role w after) where
     -- If both desks restart, the sides of a night from there are in step or at rest.

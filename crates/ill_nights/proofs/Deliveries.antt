@@ -15,7 +15,7 @@ use Rattle.ill_core.specs.Responder.{ResponderRecord, responder_of}
 use Rattle.ill_core.specs.ResponderNotices.{has_heard}
 use Rattle.ill_saved.specs.declared.fault.DeskFault.{DeskFault}
 use Rattle.ill_saved.specs.declared.fault.DeskFault.TheVariants as faults
-use Rattle.ill_saved.specs.declared.role.Role.{Role as Who}
+use Rattle.ill_saved.specs.declared.role.Role.{Role}
 use Rattle.ill_saved.specs.declared.role.Role.TheVariants as who
 use Rattle.ill_saved.specs.declared.side.Side.{Side}
 use Rattle.ill_saved.specs.declared.side.Side.TheVariants as sides
@@ -91,17 +91,18 @@ unseen false is expected old new DeskFull seen = seen
 -- ---- the desk and the party after an event
 
 -- The desk of `role` is `q` in a world in which `q` has taken its place.
-pub desk_led : (role : Who) (w : DeskParties) (q : DeskParty) → party (with_party w role q) role ≡ q
+pub desk_led : (role : Role) (w : DeskParties) (q : DeskParty) → party (with_party w role q) role ≡ q
 desk_led who.Requester w q = refl
 desk_led who.Responder w q = refl
 
 -- The other desk stays as it was.
-pub other_stays : (role : Who) (w : DeskParties) (q : DeskParty) → party (with_party w role q) (other role) ≡ party w (other role)
+pub other_stays : (role : Role) (w : DeskParties) (q : DeskParty)
+    → party (with_party w role q) (other role) ≡ party w (other role)
 other_stays who.Requester w q = refl
 other_stays who.Responder w q = refl
 
 -- If the other party has sent `a` as message n, a delivery of n leads the live side on by `a`.
-delivered : (role : Who) (v : Parties) (n : ℕ) (a : Apdu) → sent_message (party v (other role)).sent n ≡ Some a
+delivered : (role : Role) (v : Parties) (n : ℕ) (a : Apdu) → sent_message (party v (other role)).sent n ≡ Some a
     → (party (happens v (events.Deliver role n)).1 role).live ≡ (takes (party v role).live a).1
 delivered who.Requester v n a there = ap (λ found. (receives v.requester found).1.live) there
 delivered who.Responder v n a there = ap (λ found. (receives v.responder found).1.live) there
@@ -130,10 +131,10 @@ fault_stays live a fault = go (is_own live.role a.body) (side_for_call live a.tx
 
 module _ (projects : EachProjects) (reaches : EachReaches) (stand : EachStands) (txn : Qualifiers) where
   -- The live side of `txn` at the desk of `role`.
-  abbrev pub side_at : Who → DeskParties → Side
+  abbrev pub side_at : Role → DeskParties → Side
   side_at role w = (party (project txn w) role).live
 
-  module _ (w : DeskParties) (stands : DesksInvariant w) (role : Who) (of : Qualifiers) (n : ℕ) (a : Apdu)
+  module _ (w : DeskParties) (stands : DesksInvariant w) (role : Role) (of : Qualifiers) (n : ℕ) (a : Apdu)
       (was : sent_message (sent_for of (party w (other role)).sent) n ≡ Some a) where
     -- The world after the delivery of message n.
     abbrev next : DeskParties
@@ -171,7 +172,7 @@ module _ (projects : EachProjects) (reaches : EachReaches) (stand : EachStands) 
             (subst (Reaches (is_ill_request a.body) _ (found_by txn_held of (party w role).live.held)) none
             (reaches w (desk_events.Deliver role of n) stands a was))
 
-        go : (to : Who) → sent_message (sent_for of (party w (other to)).sent) n ≡ Some a
+        go : (to : Role) → sent_message (sent_for of (party w (other to)).sent) n ≡ Some a
             → found_by txn_held txn (party w to).live.held ≡ None
             → (happens (project txn w) (events.Deliver to n)).1 ≡ project txn w
         go who.Requester sent nothing =

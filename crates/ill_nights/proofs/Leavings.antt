@@ -8,7 +8,7 @@ use Rattle.std.proofs.lemmas.List.Elements.{filter-append}
 use Rattle.ill_values.specs.TxnId.{Qualifiers}
 use Rattle.ill_values.specs.declared.apdu.Apdu.{Apdu}
 use Rattle.ill_core.specs.Issued.{is_same_txn, message}
-use Rattle.ill_saved.specs.declared.role.Role.{Role as Who}
+use Rattle.ill_saved.specs.declared.role.Role.{Role}
 use Rattle.ill_saved.specs.declared.role.Role.TheVariants as who
 use Rattle.ill_saved.specs.declared.side.Side.{Side}
 use Rattle.ill_saved.specs.declared.side.Side.TheVariants as sides
@@ -155,18 +155,18 @@ module _ (txn : Qualifiers) where
   responder_owns (sides.Requester x) sent stands = absurd stands
 
 -- The messages of each side that a desk shows are of its transaction.
-shown_owns : (w : DeskParties) (role : Who) → DesksInvariant w → (txn : Qualifiers)
+shown_owns : (w : DeskParties) (role : Role) → DesksInvariant w → (txn : Qualifiers)
     → Each (λ a. is_same_txn a.txn txn ≡ true) (issued_of (held_for txn (party w role).live).side)
 shown_owns w who.Requester stands txn = requester_owns txn _ _ (stands.each txn).requester.live
 shown_owns w who.Responder stands txn = responder_owns txn _ _ (stands.each txn).responder.live
 
 -- No desk holds a transaction twice.
-apart_at : (w : DeskParties) (role : Who) → DesksInvariant w → AreApart (map txn_held (party w role).live.held)
+apart_at : (w : DeskParties) (role : Role) → DesksInvariant w → AreApart (map txn_held (party w role).live.held)
 apart_at w who.Requester stands = stands.counts.0.0
 apart_at w who.Responder stands = stands.counts.2.0
 
 -- The messages of each side that a desk holds are of its transaction.
-each_owns : (w : DeskParties) (role : Who) → DesksInvariant w
+each_owns : (w : DeskParties) (role : Role) → DesksInvariant w
     → Each (λ (held : DeskEntry). Each (λ a. is_same_txn a.txn (txn_held held) ≡ true) (issued_of held.side))
     (party w role).live.held
 each_owns w role stands =
@@ -180,7 +180,7 @@ each_owns w role stands =
     live = (party w role).live
 
 -- If all messages of the side of `txn` are released, all of them leave, or none.
-released_leave : (txn : Qualifiers) (asking : List Apdu) (role : Who) (found : Option DeskEntry)
+released_leave : (txn : Qualifiers) (asking : List Apdu) (role : Role) (found : Option DeskEntry)
     → ((held : DeskEntry) → found ≡ Some held → txn ≡ txn_held held)
     → (found_or (idle_held role txn) found).released ≡ length (issued_of (found_or (idle_held role txn) found).side)
     → leaving_if txn asking found ≡ sent_by (is_asked asking txn) (found_or (idle_held role txn) found).side
@@ -197,7 +197,7 @@ released_leave txn asking role (Some held) is all =
     ∙ ap (λ t. sent_by (is_asked asking t) held.side) (sym (is held refl))
 
 -- Of a desk that stands, and that has released all messages of its side of `txn`, all of them leave in an outbox, or none.
-pub outbox_leaves : (w : DeskParties) (role : Who) → DesksInvariant w → (txn : Qualifiers) (asking : List Apdu)
+pub outbox_leaves : (w : DeskParties) (role : Role) → DesksInvariant w → (txn : Qualifiers) (asking : List Apdu)
     → (held_for txn (party w role).live).released ≡ length (issued_of (held_for txn (party w role).live).side)
     → messages_for txn (map apdu_of (leaving_desk asking (party w role).live.held))
     ≡ sent_by (is_asked asking txn) (held_for txn (party w role).live).side

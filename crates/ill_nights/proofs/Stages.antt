@@ -8,7 +8,7 @@ use Rattle.ill_core.specs.declared.responder.Deed.{Deed}
 use Rattle.ill_core.specs.declared.refusal.Refusal.TheVariants.{WrongRole}
 use Rattle.ill_saved.specs.declared.fault.DeskFault.{DeskFault}
 use Rattle.ill_saved.specs.declared.fault.DeskFault.TheVariants as faults
-use Rattle.ill_saved.specs.declared.role.Role.{Role as Who}
+use Rattle.ill_saved.specs.declared.role.Role.{Role}
 use Rattle.ill_saved.specs.declared.role.Role.TheVariants as who
 use Rattle.ill_saved.specs.declared.side.Side.{Side}
 use Rattle.ill_saved.specs.declared.side.Action.TheVariants as actions
@@ -50,14 +50,14 @@ use Rattle.ill_nights.proofs.Takings.{EachChanges, Led, mails_led}
 -- ---- one party after an event of its whole desk
 
 -- After a save the live side of a party has landed, and all its messages are released.
-save_lands : (role : Who) (v : Parties) → let new = party (happens v (events.Save role)).1 role in
+save_lands : (role : Role) (v : Parties) → let new = party (happens v (events.Save role)).1 role in
     (new.live ≡ (party v role).live) × (new.landed ≡ (party v role).live)
     × (new.released ≡ length (issued_of (party v role).live))
 save_lands who.Requester v = (refl, refl, refl)
 save_lands who.Responder v = (refl, refl, refl)
 
 -- After a restart the live side of a party is the one that has landed, and all its messages are released.
-restart_lands : (role : Who) (v : Parties) → let new = party (happens v (events.Restart role)).1 role in
+restart_lands : (role : Role) (v : Parties) → let new = party (happens v (events.Restart role)).1 role in
     (new.live ≡ (party v role).landed) × (new.landed ≡ (party v role).landed)
     × (new.released ≡ length (issued_of (party v role).landed))
 restart_lands who.Requester v = (refl, refl, refl)
@@ -75,7 +75,7 @@ requester_refuses live new txn deed today is done =
     refused false is result done = absurd cc
 
 module _ (projects : EachProjects) (reaches : EachReaches) (stand : EachStands) (changes : EachChanges) (txn : Qualifiers)
-    (role : Who) where
+    (role : Role) where
   -- Events at the desk of `role` lead from `w` to a world in which it is `desk`. The other desk is as before. The side of
   -- `txn` is `side`. It has landed, and all its messages are released.
   pub record Reached (w : DeskParties) (desk : HeldAndLanded DeskContents) (side : Side) : Type 0 where
@@ -189,7 +189,7 @@ module _ (projects : EachProjects) (reaches : EachReaches) (stand : EachStands) 
 module _ (projects : EachProjects) (reaches : EachReaches) (stand : EachStands) (changes : EachChanges) (txn : Qualifiers) where
   -- Deeds lead from the world `w` to the world `now`. The desk of `role` then has the sides of `end`, and the other desk
   -- is as before. If none was done, no side of `txn` has changed.
-  record Did (role : Who) (w : DeskParties) (old end : Doing DeskContents) : Type 0 where
+  record Did (role : Role) (w : DeskParties) (old end : Doing DeskContents) : Type 0 where
     now : DeskParties
     stands : DesksInvariant now
     here : party now role ≡ record (party w role) { live = end.live }
@@ -199,7 +199,7 @@ module _ (projects : EachProjects) (reaches : EachReaches) (stand : EachStands) 
     quiet : has_any end.done ≡ false → (project txn now ≡ project txn w) × (has_any old.done ≡ false)
 
   -- No deed leads nowhere.
-  none_did : (role : Who) (w : DeskParties) → DesksInvariant w → (old : Doing DeskContents) → (party w role).live ≡ old.live
+  none_did : (role : Role) (w : DeskParties) → DesksInvariant w → (old : Doing DeskContents) → (party w role).live ≡ old.live
       → Did role w old old
   unfolding after_deeds_of
   none_did role w stands old is = record {
@@ -213,7 +213,7 @@ module _ (projects : EachProjects) (reaches : EachReaches) (stand : EachStands) 
   }
 
   -- A deed and then further ones lead on by the deeds of both.
-  then_did : (role : Who) (w : DeskParties) (old between end : Doing DeskContents) (first : Did role w old between)
+  then_did : (role : Role) (w : DeskParties) (old between end : Doing DeskContents) (first : Did role w old between)
       → Did role first.now between end → Did role w old end
   then_did role w old between end first second = record {
     now = second.now;
@@ -244,7 +244,7 @@ module _ (projects : EachProjects) (reaches : EachReaches) (stand : EachStands) 
   some_done (first ∷ done) due none = search rules
 
   -- A deed that is done leads on by it, or changes nothing in `txn`.
-  done_did : (role : Who) (w : DeskParties) → DesksInvariant w → (old end : Doing DeskContents)
+  done_did : (role : Role) (w : DeskParties) → DesksInvariant w → (old end : Doing DeskContents)
       → (party w role).live ≡ old.live → (of : Qualifiers) (deed : Deed) (today : Date)
       → desk_acts old.live of (actions.Deed deed today) ≡ Ok end.live → (has_any end.done ≡ false → ⊥) → Did role w old end
   done_did who.Requester w stands old end is of deed today done some =
@@ -267,7 +267,7 @@ module _ (projects : EachProjects) (reaches : EachReaches) (stand : EachStands) 
       }
 
   -- An attempt at a deed leads on by it, or nowhere.
-  tried_did : (role : Who) (w : DeskParties) → DesksInvariant w → (old : Doing DeskContents) → (party w role).live ≡ old.live
+  tried_did : (role : Role) (w : DeskParties) → DesksInvariant w → (old : Doing DeskContents) → (party w role).live ≡ old.live
       → (of : Qualifiers) (deed : Deed) (today : Date) (due : _) (result : Result DeskContents DeskFault)
       → desk_acts old.live of (actions.Deed deed today) ≡ result → Did role w old (after_act due result old)
   tried_did role w stands old is of deed today due (Ok new) done =
@@ -275,7 +275,7 @@ module _ (projects : EachProjects) (reaches : EachReaches) (stand : EachStands) 
   tried_did role w stands old is of deed today due (Err fault) done = none_did role w stands old is
 
   -- Attempts at deeds lead on, one after another.
-  all_did : (role : Who) (w : DeskParties) → DesksInvariant w → (old : Doing DeskContents) → (party w role).live ≡ old.live
+  all_did : (role : Role) (w : DeskParties) → DesksInvariant w → (old : Doing DeskContents) → (party w role).live ≡ old.live
       → (today : Date) (dues : List _) → Did role w old (fold (after_deed many_sides today) old dues)
   all_did role w stands old is today [] = none_did role w stands old is
   all_did role w stands old is today (due ∷ dues) =
@@ -286,12 +286,12 @@ module _ (projects : EachProjects) (reaches : EachReaches) (stand : EachStands) 
       (all_did role first.now first.stands next (ap (λ (p : DeskParty). p.live) first.here) today dues)
 
   -- The side of `txn` after some deeds is reached.
-  pub record ReachedByDeeds (role : Who) (w : DeskParties) (desk : HeldAndLanded DeskContents) (side : Side) : Type 0 where
+  pub record ReachedByDeeds (role : Role) (w : DeskParties) (desk : HeldAndLanded DeskContents) (side : Side) : Type 0 where
     pub deeds : List (Deed × Date)
     pub reached : Reached projects reaches stand changes txn role w desk (after_deeds_of side deeds)
 
   -- The deeds of the day lead the side on, if they were done and saved.
-  pub deeds_reach : (role : Who) (w : DeskParties) (dates : Option (Date × Dates)) (old met : CommandState DeskContents)
+  pub deeds_reach : (role : Role) (w : DeskParties) (dates : Option (Date × Dates)) (old met : CommandState DeskContents)
       (done : Unit {0}) (side : Side) → Reached projects reaches stand changes txn role w old.desk side
       → PerformsDueDeeds dates old (Ok done) met → ReachedByDeeds role w met.desk side
   unfolding after_deeds_of

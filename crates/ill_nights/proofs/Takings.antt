@@ -11,7 +11,7 @@ use Rattle.ill_core.specs.declared.taking.Taking.TheVariants.{Taken, Repeat, Sta
 use Rattle.ill_core.specs.Issued.{is_same_txn}
 use Rattle.ill_saved.specs.declared.fault.DeskFault.{DeskFault}
 use Rattle.ill_saved.specs.declared.fault.DeskFault.TheVariants as faults
-use Rattle.ill_saved.specs.declared.role.Role.{Role as Who}
+use Rattle.ill_saved.specs.declared.role.Role.{Role}
 use Rattle.ill_saved.specs.declared.side.Side.{Side}
 use Rattle.ill_saved.specs.Ranges.{Each}
 use Rattle.ill_saved.specs.Side.{other}
@@ -74,7 +74,7 @@ nothing_taken (Conflict state) old new kept bytes some may none = (may, first_em
 module _ (projects : EachProjects) (reaches : EachReaches) (stand : EachStands) (changes : EachChanges) (txn : Qualifiers) where
   -- Mails lead from the world `w` to the world `now`. The desk of `role` then has the sides `live`, and the other desk is
   -- as before. The side of `txn` has taken `apdus`. If nothing was kept, no side of `txn` has changed.
-  pub record Led (role : Who) (w : DeskParties) (live : DeskContents) (apdus : List Apdu) (before kept : List ℕ) : Type 0 where
+  pub record Led (role : Role) (w : DeskParties) (live : DeskContents) (apdus : List Apdu) (before kept : List ℕ) : Type 0 where
     pub now : DeskParties
     pub stands : DesksInvariant now
     pub here : party now role ≡ record (party w role) { live = live }
@@ -82,7 +82,7 @@ module _ (projects : EachProjects) (reaches : EachReaches) (stand : EachStands) 
     pub side : side_at projects reaches stand txn role now ≡ takes_all (side_at projects reaches stand txn role w) apdus
     pub quiet : has_any kept ≡ false → (project txn now ≡ project txn w) × (has_any before ≡ false)
 
-  module _ (role : Who) where
+  module _ (role : Role) where
     -- The live side of `txn` at the desk of `role`.
     abbrev side : DeskParties → Side
     side w = side_at projects reaches stand txn role w

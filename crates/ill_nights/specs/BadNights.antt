@@ -8,7 +8,7 @@ use Rattle.ill_core.specs.Requester.{RequesterRecord}
 use Rattle.ill_core.specs.Responder.{ResponderRecord}
 use Rattle.ill_core.specs.State.{is_among}
 use Rattle.ill_saved.specs.declared.fault.RecordFault.{RecordFault}
-use Rattle.ill_saved.specs.declared.role.Role.{Role as Who}
+use Rattle.ill_saved.specs.declared.role.Role.{Role}
 use Rattle.ill_saved.specs.declared.side.Side.TheVariants as sides
 use Rattle.ill_saved.specs.Side.{issued_of}
 use Rattle.ill_saved.specs.Sides.{SidesOf}
@@ -54,7 +54,7 @@ pub data IsLeftUndone (txn : Qualifiers) (mails : List Mail) (verdicts : List Ve
 -- The files do not agree on the transaction. Each case gives one reason.
 pub data AreApartIn (txn : Qualifiers) (libraries : Libraries) : Type 0 where
   -- A file cannot be read.
-  unread : (who : Who) (fault : RecordFault) → records_at (party libraries who).file ≡ Err fault → AreApartIn txn libraries
+  unread : (who : Role) (fault : RecordFault) → records_at (party libraries who).file ≡ Err fault → AreApartIn txn libraries
   -- The states of the two sides do not face each other.
   apart : (requester responder : SidesOf) (x : RequesterRecord) (y : ResponderRecord)
       → records_at libraries.requester.file ≡ Ok requester → records_at libraries.responder.file ≡ Ok responder

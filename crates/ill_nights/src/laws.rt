@@ -3,7 +3,7 @@
 ghost use Rattle.std.specs.Prelude.{◌≡◌, ℕ, List, Ok};
 ghost use Rattle.ill_values.specs.TxnId.{Qualifiers};
 ghost use Rattle.ill_values.specs.declared.apdu.Apdu.{Apdu};
-ghost use Rattle.ill_saved.specs.declared.role.Role.{Role as Who};
+ghost use Rattle.ill_saved.specs.declared.role.Role.{Role};
 ghost use Rattle.ill_saved.specs.RecordsV2.{records_at};
 ghost use Rattle.ill_saved.specs.Side.{other};
 ghost use Rattle.ill_saved.specs.Sides.{SidesOf};
@@ -24,7 +24,7 @@ pub fn a_night_can_be_whole()
 /// After any history, a whole night of a library sends all messages of a loan, in order, or none. It sends none only if the
 /// loan is over, and a responder only if no message of it asks.
 pub fn a_night_sends_all_or_none()
-    ensures { (txn : Qualifiers) (who : Who) (later : List Libraries) (after : Library) →
+    ensures { (txn : Qualifiers) (who : Role) (later : List Libraries) (after : Library) →
         let now = libraries_after first_libraries later in
         (night : IsNight (party now (other who)).left (party now who) after) → IsHistory first_libraries later →
         LeftOf txn after night.asking night.command.leaving }
@@ -41,7 +41,7 @@ pub fn a_night_sends_all_or_none()
 /// After any history, a library that takes all its mail takes each message of a loan that came, in order. After that it does
 /// deeds alone.
 pub fn a_library_takes_what_comes()
-    ensures { (txn : Qualifiers) (who : Who) (later : List Libraries) (after : Library) →
+    ensures { (txn : Qualifiers) (who : Role) (later : List Libraries) (after : Library) →
         let now = libraries_after first_libraries later in
         (takes : TakesAll (party now (other who)).left (party now who) after) → IsHistory first_libraries later →
         TookOf txn (party now who) after (messages_of_all takes) }

@@ -6,7 +6,7 @@ use Rattle.std.specs.Prelude.{◌==◌, bytes_eq}
 use Rattle.std.specs.List.{list_all}
 use Rattle.std.proofs.lemmas.Bool.{and_from, eqb-true, eq-eqb}
 use Rattle.std.proofs.lemmas.Slice.Eq.{bytes_eq-Decides}
-use Rattle.ill_saved.specs.declared.role.Role.{Role as Who}
+use Rattle.ill_saved.specs.declared.role.Role.{Role}
 use Rattle.ill_saved.specs.declared.role.Role.TheVariants as who
 use Rattle.ill_saved.specs.declared.side.Side.{Side}
 use Rattle.ill_saved.specs.Side.{other}
@@ -96,7 +96,7 @@ apart_from another group apart = go (bytes_eq another group) refl
     go false same = refl
 
 -- A retirement leaves the desks of another group unchanged.
-group_same : (w : MarkedShelves) (role : Who) (group another : List ℕ) (marked over : Bool) → bytes_eq another group ≡ false
+group_same : (w : MarkedShelves) (role : Role) (group another : List ℕ) (marked over : Bool) → bytes_eq another group ≡ false
     → (retired_if w role group marked over).1.shelves another ≡ w.shelves another
 group_same w role group another true over apart = refl
 group_same w role group another false true apart =
@@ -104,7 +104,7 @@ group_same w role group another false true apart =
 group_same w role group another false false apart = refl
 
 -- A retirement leaves the marks of another group unchanged.
-group_marks : (w : MarkedShelves) (role : Who) (group another : List ℕ) (marked over : Bool) → bytes_eq another group ≡ false
+group_marks : (w : MarkedShelves) (role : Role) (group another : List ℕ) (marked over : Bool) → bytes_eq another group ≡ false
     → (retired_if w role group marked over).1.marks another ≡ w.marks another
 group_marks w role group another true over apart = refl
 group_marks w role group another false true apart =
@@ -112,18 +112,18 @@ group_marks w role group another false true apart =
 group_marks w role group another false false apart = refl
 
 -- A restart of one desk leaves the other one unchanged.
-other_desk : (role : Who) (desks : DeskParties)
+other_desk : (role : Role) (desks : DeskParties)
     → party (desks_happen desks (events.Restart role)).1 (other role) ≡ party desks (other role)
 other_desk who.Requester desks = refl
 other_desk who.Responder desks = refl
 
 -- A mark of one library leaves that of the other one unchanged.
-other_mark : (role : Who) (marks : TwoOf Bool) → party (with_party marks role true) (other role) ≡ party marks (other role)
+other_mark : (role : Role) (marks : TwoOf Bool) → party (with_party marks role true) (other role) ≡ party marks (other role)
 other_mark who.Requester marks = refl
 other_mark who.Responder marks = refl
 
 -- A retirement leaves the desk of the other library unchanged.
-library_same : (w : MarkedShelves) (role : Who) (group : List ℕ) (marked over : Bool)
+library_same : (w : MarkedShelves) (role : Role) (group : List ℕ) (marked over : Bool)
     → party ((retired_if w role group marked over).1.shelves group) (other role) ≡ party (w.shelves group) (other role)
 library_same w role group true over = refl
 library_same w role group false true =
@@ -133,7 +133,7 @@ library_same w role group false true =
 library_same w role group false false = refl
 
 -- A retirement leaves the mark of the other library unchanged.
-library_mark : (w : MarkedShelves) (role : Who) (group : List ℕ) (marked over : Bool)
+library_mark : (w : MarkedShelves) (role : Role) (group : List ℕ) (marked over : Bool)
     → has_mark (retired_if w role group marked over).1 (other role) group ≡ has_mark w (other role) group
 library_mark w role group true over = refl
 library_mark w role group false true =
@@ -142,31 +142,32 @@ library_mark w role group false true =
 library_mark w role group false false = refl
 
 -- A mark that is set is there.
-own_mark : (role : Who) (marks : TwoOf Bool) → party (with_party marks role true) role ≡ true
+own_mark : (role : Role) (marks : TwoOf Bool) → party (with_party marks role true) role ≡ true
 own_mark who.Requester marks = refl
 own_mark who.Responder marks = refl
 
 -- After its restart a desk is the landed one.
-own_desk : (role : Who) (desks : DeskParties)
+own_desk : (role : Role) (desks : DeskParties)
     → party (desks_happen desks (events.Restart role)).1 role ≡ desk_restarts (party desks role)
 own_desk who.Requester desks = refl
 own_desk who.Responder desks = refl
 
 -- If a retirement is done, the mark is there.
-mark_there : (w : MarkedShelves) (role : Who) (group : List ℕ) → has_mark (retired_if w role group false true).1 role group ≡ true
+mark_there : (w : MarkedShelves) (role : Role) (group : List ℕ)
+    → has_mark (retired_if w role group false true).1 role group ≡ true
 mark_there w role group =
     ap (λ b. party (if b then with_party (w.marks group) role true else w.marks group) role) (self group)
     ∙ own_mark role (w.marks group)
 
 -- If a retirement is done, the desk is the landed one.
-desk_there : (w : MarkedShelves) (role : Who) (group : List ℕ)
+desk_there : (w : MarkedShelves) (role : Role) (group : List ℕ)
     → party ((retired_if w role group false true).1.shelves group) role ≡ desk_restarts (party (w.shelves group) role)
 desk_there w role group =
     ap (λ b. party (if b then (desks_happen (w.shelves group) (events.Restart role)).1 else w.shelves group) role) (self group)
     ∙ own_desk role (w.shelves group)
 
 -- A retirement does as the mark and the loans say.
-retires_as : (w : MarkedShelves) (role : Who) (group : List ℕ) (marked over : Bool) → has_mark w role group ≡ marked
+retires_as : (w : MarkedShelves) (role : Role) (group : List ℕ) (marked over : Bool) → has_mark w role group ≡ marked
     → are_loans_over (party (w.shelves group) role) ≡ over
     → retiring_happens w (retire role group) ≡ retired_if w role group marked over
 retires_as w role group marked over is loans =

@@ -15,7 +15,7 @@ use Rattle.ill_core.specs.Responder.{ResponderRecord}
 use Rattle.ill_core.specs.ResponderActions as responder
 use Rattle.ill_saved.specs.declared.side.Side.{Side}
 use Rattle.ill_saved.specs.declared.side.Side.TheVariants as sides
-use Rattle.ill_saved.specs.declared.role.Role.{Role as Who}
+use Rattle.ill_saved.specs.declared.role.Role.{Role}
 use Rattle.ill_saved.specs.declared.role.Role.TheVariants as who
 use Rattle.ill_saved.specs.Side.{issued_of}
 use Rattle.ill_world.specs.World.{Parties, party}
@@ -70,7 +70,7 @@ responder_few txn (sides.Responder y) sent stands = stands.few
 responder_few txn (sides.Requester x) sent stands = absurd stands
 
 -- If a world satisfies the invariant, each side has issued at most 255 messages.
-pub each_few : (txn : Qualifiers) (w : Parties) (of : Who) → Invariant txn w → length (issued_of (party w of).live) ≤ 255
+pub each_few : (txn : Qualifiers) (w : Parties) (of : Role) → Invariant txn w → length (issued_of (party w of).live) ≤ 255
 each_few txn w who.Requester stands = requester_few txn w.requester.live w.responder.sent stands.requester.live
 each_few txn w who.Responder stands = responder_few txn w.responder.live w.requester.sent stands.responder.live
 

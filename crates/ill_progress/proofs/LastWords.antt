@@ -37,7 +37,7 @@ use Rattle.ill_saved.specs.declared.side.Side.{Side}
 use Rattle.ill_saved.specs.declared.side.Side.TheVariants as sides
 use Rattle.ill_saved.specs.declared.side.Action.{Action}
 use Rattle.ill_saved.specs.declared.side.Action.TheVariants as actions
-use Rattle.ill_saved.specs.declared.role.Role.{Role as Who}
+use Rattle.ill_saved.specs.declared.role.Role.{Role}
 use Rattle.ill_saved.specs.declared.role.Role.TheVariants as who
 use Rattle.ill_saved.specs.Side.{done_by, acts, takes, state_of}
 use Rattle.ill_words.specs.Sending.{is_nobodys, is_over}
@@ -180,7 +180,7 @@ abbrev pub ResponderTells : Parties → Type 0
 ResponderTells w = PartyInvariant SideTells w.responder w.requester.sent
 
 -- An event keeps `ResponderTells`.
-event_tells : RowsGrow → (w : Parties) (event : Event) (role : Who) → ResponderTells w
+event_tells : RowsGrow → (w : Parties) (event : Event) (role : Role) → ResponderTells w
     → ResponderTells (happens_at w role (λ p partner. happens_to p partner.sent event)).1
 event_tells grows w event who.Requester tells = record {
   saved = tells.saved;

@@ -9,7 +9,7 @@ use Rattle.std.proofs.lemmas.Slice.Eq.{bytes_eq-Decides}
 use Rattle.ill_values.specs.declared.apdu.Apdu.{Apdu}
 use Rattle.ill_values.specs.TxnId.{Qualifiers}
 use Rattle.ill_core.specs.Issued.{message, is_same_txn}
-use Rattle.ill_saved.specs.declared.role.Role.{Role as Who}
+use Rattle.ill_saved.specs.declared.role.Role.{Role}
 use Rattle.ill_saved.specs.declared.role.Role.TheVariants as who
 use Rattle.ill_saved.specs.Side.{issued_of}
 use Rattle.ill_saved.specs.Holdings.{DeskEntry}
@@ -36,7 +36,7 @@ after_if w e happens =
 
 -- Returns the outcome of a retirement and the shelves after it, if there is a mark or not, and if all loans are over or
 -- not.
-abbrev pub retired_if : MarkedShelves → Who → List ℕ → Bool → Bool → RetiringOutcome × MarkedShelves
+abbrev pub retired_if : MarkedShelves → Role → List ℕ → Bool → Bool → RetiringOutcome × MarkedShelves
 retired_if w role group marked over =
     if marked then (done, w)
     else if over
@@ -50,7 +50,7 @@ retired_if w role group marked over =
     else (not_now, w)
 
 -- A library without a mark may open its desk.
-opens : (w : MarkedShelves) (role : Who) (group : List ℕ) → has_mark w role group ≡ false
+opens : (w : MarkedShelves) (role : Role) (group : List ℕ) → has_mark w role group ≡ false
     → can_happen w (opens_desk role group) ≡ true
 opens w role group unmarked = ap (λ b. not b || false) unmarked
 
@@ -63,7 +63,7 @@ module _ (P : Shelves → Type 0) (w : MarkedShelves) (same : P w.shelves)
   shelf_keeps e false can = same
 
   -- A retirement keeps `P`.
-  retired_keeps : (role : Who) (group : List ℕ) (marked over : Bool) → has_mark w role group ≡ marked
+  retired_keeps : (role : Role) (group : List ℕ) (marked over : Bool) → has_mark w role group ≡ marked
       → P (retired_if w role group marked over).1.shelves
   retired_keeps role group true over is = same
   retired_keeps role group false true is = leads (opens_desk role group) (opens w role group is)
@@ -86,7 +86,7 @@ run_keeps P keeps w (event ∷ more) holds = run_keeps P keeps (retiring_happens
 -- ---- marks
 
 -- A mark stays when a mark is set.
-set_stays : (marks : TwoOf Bool) (at role : Who) → party marks role ≡ true → party (with_party marks at true) role ≡ true
+set_stays : (marks : TwoOf Bool) (at role : Role) → party marks role ≡ true → party (with_party marks at true) role ≡ true
 set_stays marks who.Requester who.Requester is = refl
 set_stays marks who.Requester who.Responder is = is
 set_stays marks who.Responder who.Requester is = is
@@ -98,7 +98,7 @@ marks_same w e true = refl
 marks_same w e false = refl
 
 -- A retirement keeps each mark.
-marks_kept : (w : MarkedShelves) (at : Who) (of : List ℕ) (marked over : Bool) (role : Who) (group : List ℕ)
+marks_kept : (w : MarkedShelves) (at : Role) (of : List ℕ) (marked over : Bool) (role : Role) (group : List ℕ)
     → has_mark w role group ≡ true → has_mark (retired_if w at of marked over).1 role group ≡ true
 marks_kept w at of true over role group is = is
 marks_kept w at of false false role group is = is
@@ -109,14 +109,14 @@ marks_kept w at of false true role group is = go (bytes_eq group of)
     go false = is
 
 -- A retiring event keeps each mark.
-mark_kept : (role : Who) (group : List ℕ) (w : MarkedShelves) (event : RetiringEvent) → has_mark w role group ≡ true
+mark_kept : (role : Role) (group : List ℕ) (w : MarkedShelves) (event : RetiringEvent) → has_mark w role group ≡ true
     → has_mark (retiring_happens w event).1 role group ≡ true
 mark_kept role group w (on_shelf e) is = ap (λ marks. party (marks group) role) (marks_same w e (can_happen w e)) ∙ is
 mark_kept role group w (retire at of) is =
     marks_kept w at of (has_mark w at of) (are_loans_over (party (w.shelves of) at)) role group is
 
 -- A mark stays after any events.
-pub mark_stays : (w : MarkedShelves) (all : List RetiringEvent) (role : Who) (group : List ℕ) → has_mark w role group ≡ true
+pub mark_stays : (w : MarkedShelves) (all : List RetiringEvent) (role : Role) (group : List ℕ) → has_mark w role group ≡ true
     → has_mark (retiring_run w all) role group ≡ true
 mark_stays w all role group is = run_keeps (λ v. has_mark v role group ≡ true) (mark_kept role group) w all is
 
@@ -143,7 +143,7 @@ kept_out true is can = absurd (true≢false (sym can))
 kept_out false is can = absurd (true≢false (sym is))
 
 -- An event that can happen leaves the sides of a marked desk unchanged.
-desk_same : (w : DeskParties) (marks : TwoOf Bool) (event : DeskEvent) (role : Who) → party marks role ≡ true
+desk_same : (w : DeskParties) (marks : TwoOf Bool) (event : DeskEvent) (role : Role) → party marks role ≡ true
     → not (party marks (who_of (plain event))) || is_last_word w event ≡ true
     → SameSides (party w role) (party (desks_happen w event).1 role)
 desk_same w marks (events.Wish txn wish) who.Requester is can = kept_out marks.requester is can
@@ -176,7 +176,7 @@ desk_same w marks (events.Restart who.Responder) who.Requester is can = (refl, r
 desk_same w marks (events.Restart who.Responder) who.Responder is can = kept_out marks.responder is can
 
 -- An event of shelves that can happen leaves the sides of a marked desk unchanged.
-shelf_same : (w : MarkedShelves) (e : ShelfEvent) (role : Who) (group : List ℕ) → has_mark w role group ≡ true
+shelf_same : (w : MarkedShelves) (e : ShelfEvent) (role : Role) (group : List ℕ) → has_mark w role group ≡ true
     → can_happen w e ≡ true → SameSides (party (w.shelves group) role) (party ((shelves_happen w.shelves e).1 group) role)
 shelf_same w e role group is can = go (bytes_eq group (home e)) refl
   where
@@ -190,14 +190,14 @@ shelf_same w e role group is can = go (bytes_eq group (home e)) refl
     go false same = (refl, refl)
 
 -- A retiring event leaves the sides of a marked desk unchanged.
-pub step_same : (role : Who) (group : List ℕ) (w : MarkedShelves) (event : RetiringEvent) → has_mark w role group ≡ true
+pub step_same : (role : Role) (group : List ℕ) (w : MarkedShelves) (event : RetiringEvent) → has_mark w role group ≡ true
     → SameSides (party (w.shelves group) role) (party ((retiring_happens w event).1.shelves group) role)
 step_same role group w event is =
     step_keeps (λ shelves. SameSides (party (w.shelves group) role) (party (shelves group) role)) w (refl, refl)
     (λ e can. shelf_same w e role group is can) event
 
 -- Any events leave the sides of a marked desk unchanged.
-pub sides_stay : (w : MarkedShelves) (all : List RetiringEvent) (role : Who) (group : List ℕ) → has_mark w role group ≡ true
+pub sides_stay : (w : MarkedShelves) (all : List RetiringEvent) (role : Role) (group : List ℕ) → has_mark w role group ≡ true
     → SameSides (party (w.shelves group) role) (party ((retiring_run w all).shelves group) role)
 sides_stay w all role group is =
     (run_keeps
@@ -397,7 +397,7 @@ run_shelves w (event ∷ more) =
 -- ---- a group that neither library has retired
 
 -- A group that is kept after an event was kept before it.
-unmarked_before : (w : MarkedShelves) (event : RetiringEvent) (role : Who) (group : List ℕ)
+unmarked_before : (w : MarkedShelves) (event : RetiringEvent) (role : Role) (group : List ℕ)
     → has_mark (retiring_happens w event).1 role group ≡ false → has_mark w role group ≡ false
 unmarked_before w event role group after = go (has_mark w role group) refl
   where
@@ -406,7 +406,7 @@ unmarked_before w event role group after = go (has_mark w role group) refl
     go false is = refl
 
 -- A group that is kept after further events is kept before them.
-kept_before : (w : MarkedShelves) (all : List RetiringEvent) (role : Who) (group : List ℕ)
+kept_before : (w : MarkedShelves) (all : List RetiringEvent) (role : Role) (group : List ℕ)
     → has_mark (retiring_run w all) role group ≡ false → has_mark w role group ≡ false
 kept_before w all role group after = go (has_mark w role group) refl
   where
@@ -415,7 +415,7 @@ kept_before w all role group after = go (has_mark w role group) refl
     go false is = refl
 
 -- If neither library has retired a group, an event of shelves can happen there.
-kept_can : (w : MarkedShelves) (e : ShelfEvent) (role : Who) → IsKeptByBoth w (home e)
+kept_can : (w : MarkedShelves) (e : ShelfEvent) (role : Role) → IsKeptByBoth w (home e)
     → not (has_mark w role (home e)) || is_last_word (w.shelves (home e)) e.event ≡ true
 kept_can w e who.Requester kept = ap (λ b. not b || is_last_word (w.shelves (home e)) e.event) kept.0
 kept_can w e who.Responder kept = ap (λ b. not b || is_last_word (w.shelves (home e)) e.event) kept.1
@@ -442,11 +442,11 @@ kept_leads w e group more kept = go (bytes_eq group (home e)) (can_happen w e) r
     go false false same cannot = refl
 
 -- A retirement leaves the desks of a group unchanged that is kept after it.
-kept_same : (w : MarkedShelves) (role : Who) (of group : List ℕ) → has_mark (retires w role of).1 role group ≡ false
+kept_same : (w : MarkedShelves) (role : Role) (of group : List ℕ) → has_mark (retires w role of).1 role group ≡ false
     → (retires w role of).1.shelves group ≡ w.shelves group
 kept_same w role of group = go (has_mark w role of) (are_loans_over (party (w.shelves of) role))
   where
-    set : (role : Who) (marks : TwoOf Bool) → party (with_party marks role true) role ≡ true
+    set : (role : Role) (marks : TwoOf Bool) → party (with_party marks role true) role ≡ true
     set who.Requester marks = refl
     set who.Responder marks = refl
 
@@ -478,6 +478,6 @@ kept_run w (retire role of ∷ more) group kept =
     ∙ ap (λ v. desks_run v (events_at group (events_named more)))
     (kept_same w role of group (unmarked next role kept))
   where
-    unmarked : (v : MarkedShelves) (role : Who) → IsKeptByBoth (retiring_run v more) group → has_mark v role group ≡ false
+    unmarked : (v : MarkedShelves) (role : Role) → IsKeptByBoth (retiring_run v more) group → has_mark v role group ≡ false
     unmarked v who.Requester kept = kept_before v more who.Requester group kept.0
     unmarked v who.Responder kept = kept_before v more who.Responder group kept.1

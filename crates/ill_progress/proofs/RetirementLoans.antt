@@ -6,7 +6,7 @@ use Rattle.std.specs.Prelude.{bytes_eq}
 use Rattle.std.specs.List.{list_all}
 use Rattle.std.proofs.lemmas.Bool.{and_parts, and_from, le-leb}
 use Rattle.ill_values.specs.TxnId.{Qualifiers}
-use Rattle.ill_saved.specs.declared.role.Role.{Role as Who}
+use Rattle.ill_saved.specs.declared.role.Role.{Role}
 use Rattle.ill_saved.specs.declared.role.Role.TheVariants as who
 use Rattle.ill_saved.specs.declared.side.Side.{Side}
 use Rattle.ill_saved.specs.Side.{issued_of}
@@ -47,7 +47,7 @@ module _ (test : DeskEntry → Bool) (passes : (side : Side) → is_over side �
       and_from _ _ (passes side parts.0) (whole_pass more parts.1)
 
   -- If a mark is new, the desk was opened, and all its entries pass the test.
-  opened_pass : (desks : DeskParties) (marks : TwoOf Bool) (at role : Who) → are_loans_over (party desks at) ≡ true
+  opened_pass : (desks : DeskParties) (marks : TwoOf Bool) (at role : Role) → are_loans_over (party desks at) ≡ true
       → party marks role ≡ false → party (with_party marks at true) role ≡ true
       → AllPass (party (desks_happen desks (events.Restart at)).1 role)
   opened_pass desks marks who.Requester who.Requester over unmarked after = whole_pass desks.requester.landed.sides over
@@ -56,7 +56,7 @@ module _ (test : DeskEntry → Bool) (passes : (side : Side) → is_over side �
   opened_pass desks marks who.Responder who.Responder over unmarked after = whole_pass desks.responder.landed.sides over
 
   -- If an event sets a mark, all entries of the desk pass the test after it.
-  new_mark : (w : MarkedShelves) (event : RetiringEvent) (role : Who) (group : List ℕ) → has_mark w role group ≡ false
+  new_mark : (w : MarkedShelves) (event : RetiringEvent) (role : Role) (group : List ℕ) → has_mark w role group ≡ false
       → has_mark (retiring_happens w event).1 role group ≡ true
       → AllPass (party ((retiring_happens w event).1.shelves group) role)
   new_mark w (on_shelf e) role group unmarked after =
@@ -80,7 +80,7 @@ module _ (test : DeskEntry → Bool) (passes : (side : Side) → is_over side �
 
   -- All entries of each marked desk pass the test.
   abbrev PassAtMarks : MarkedShelves → Type 0
-  PassAtMarks w = (role : Who) (group : List ℕ) → has_mark w role group ≡ true → AllPass (party (w.shelves group) role)
+  PassAtMarks w = (role : Role) (group : List ℕ) → has_mark w role group ≡ true → AllPass (party (w.shelves group) role)
 
   -- An event keeps `PassAtMarks`.
   pass_after : (w : MarkedShelves) (event : RetiringEvent) → PassAtMarks w → PassAtMarks (retiring_happens w event).1
@@ -97,7 +97,7 @@ module _ (test : DeskEntry → Bool) (passes : (side : Side) → is_over side �
   first_pass who.Responder group is = absurd (true≢false (sym is))
 
   -- An entry that a marked desk holds passes the test.
-  pub retired_passes : (all : List RetiringEvent) (role : Who) (group : List ℕ) (txn : Qualifiers) (held : DeskEntry)
+  pub retired_passes : (all : List RetiringEvent) (role : Role) (group : List ℕ) (txn : Qualifiers) (held : DeskEntry)
       → has_mark (retiring_run first_marked_shelves all) role group ≡ true
       → found_by txn_held txn (party ((retiring_run first_marked_shelves all).shelves group) role).live.held ≡ Some held
       → test held ≡ true
@@ -106,14 +106,14 @@ module _ (test : DeskEntry → Bool) (passes : (side : Side) → is_over side �
       (run_keeps PassAtMarks pass_after first_marked_shelves all first_pass role group is) found
 
 -- A loan that a marked desk holds is over.
-pub retired_is_over : (all : List RetiringEvent) (role : Who) (group : List ℕ) (txn : Qualifiers) (held : DeskEntry)
+pub retired_is_over : (all : List RetiringEvent) (role : Role) (group : List ℕ) (txn : Qualifiers) (held : DeskEntry)
     → has_mark (retiring_run first_marked_shelves all) role group ≡ true
     → found_by txn_held txn (party ((retiring_run first_marked_shelves all).shelves group) role).live.held ≡ Some held
     → is_over held.side ≡ true
 retired_is_over = retired_passes (λ held. is_over held.side) (λ side over. over)
 
 -- A marked desk has released all messages of a loan that it holds.
-pub retired_is_released : (all : List RetiringEvent) (role : Who) (group : List ℕ) (txn : Qualifiers) (held : DeskEntry)
+pub retired_is_released : (all : List RetiringEvent) (role : Role) (group : List ℕ) (txn : Qualifiers) (held : DeskEntry)
     → has_mark (retiring_run first_marked_shelves all) role group ≡ true
     → found_by txn_held txn (party ((retiring_run first_marked_shelves all).shelves group) role).live.held ≡ Some held
     → nat_le (length (issued_of held.side)) held.released ≡ true

@@ -5,7 +5,7 @@ use Rattle.ill_values.specs.Bodies.{is_final}
 use Rattle.ill_values.specs.declared.apdu.AnswerResult.{AnswerResult}
 use Rattle.ill_core.specs.declared.requester.Wish.TheVariants as wishes
 use Rattle.ill_core.specs.declared.responder.Deed.TheVariants as deeds
-use Rattle.ill_saved.specs.declared.role.Role.{Role as Who}
+use Rattle.ill_saved.specs.declared.role.Role.{Role}
 use Rattle.ill_world.specs.declared.event.Event.{Event}
 use Rattle.ill_world.specs.declared.event.Event.TheVariants.{Wish, Deed, Save, SaveFault, Send, Deliver, Noise, Restart}
 
@@ -35,9 +35,9 @@ pub data MisjudgesAct : Event → Bool → Type 0 where
   reminds : (today : Date) → MisjudgesAct (Deed deeds.Overdue today) true
   recalls : (today : Date) → MisjudgesAct (Deed deeds.Recall today) true
   -- The event is no action. But the answer is yes.
-  saves : (who : Who) → MisjudgesAct (Save who) true
-  fails : (who : Who) (landed : Bool) → MisjudgesAct (SaveFault who landed) true
-  sends : (who : Who) (n : ℕ) → MisjudgesAct (Send who n) true
-  delivers : (who : Who) (n : ℕ) → MisjudgesAct (Deliver who n) true
-  hears : (who : Who) (bytes : List ℕ) → MisjudgesAct (Noise who bytes) true
-  restarts : (who : Who) → MisjudgesAct (Restart who) true
+  saves : (who : Role) → MisjudgesAct (Save who) true
+  fails : (who : Role) (landed : Bool) → MisjudgesAct (SaveFault who landed) true
+  sends : (who : Role) (n : ℕ) → MisjudgesAct (Send who n) true
+  delivers : (who : Role) (n : ℕ) → MisjudgesAct (Deliver who n) true
+  hears : (who : Role) (bytes : List ℕ) → MisjudgesAct (Noise who bytes) true
+  restarts : (who : Role) → MisjudgesAct (Restart who) true

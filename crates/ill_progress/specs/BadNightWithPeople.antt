@@ -5,7 +5,7 @@ use Rattle.ill_core.specs.Issued.{message}
 use Rattle.ill_core.specs.Requester.{RequesterRecord}
 use Rattle.ill_core.specs.Responder.{ResponderRecord}
 use Rattle.ill_core.specs.ResponderDeliveries.{takes}
-use Rattle.ill_saved.specs.declared.role.Role.{Role as Who}
+use Rattle.ill_saved.specs.declared.role.Role.{Role}
 use Rattle.ill_world.specs.World.{Parties, party}
 
 -- A message that the requester has issued would change the responder's record.
@@ -14,4 +14,4 @@ pub data HasNotHeard (x : RequesterRecord) (y : ResponderRecord) : Type 0 where
 
 -- The live side of a party has not landed.
 pub data HasNotLanded (w : Parties) : Type 0 where
-  not_landed : (who : Who) → ((party w who).landed ≡ (party w who).live → ⊥) → HasNotLanded w
+  not_landed : (who : Role) → ((party w who).landed ≡ (party w who).live → ⊥) → HasNotLanded w

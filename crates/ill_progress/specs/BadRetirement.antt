@@ -2,7 +2,7 @@
 -- definitions of a retirement exclude them all.
 use Rattle.std.specs.Prelude.{◌≡◌, ◌⊎◌, ℕ, true, false, List, ◌∷◌, ◌++◌, length}
 use Rattle.ill_values.specs.TxnId.{Qualifiers}
-use Rattle.ill_saved.specs.declared.role.Role.{Role as Who}
+use Rattle.ill_saved.specs.declared.role.Role.{Role}
 use Rattle.ill_saved.specs.declared.role.Role.TheVariants.{Requester, Responder}
 use Rattle.ill_saved.specs.declared.side.Side.{Side}
 use Rattle.ill_saved.specs.Side.{issued_of, other}
@@ -23,7 +23,7 @@ IsSend (Send who txn n) = Unit {0}
 IsSend other = ⊥
 
 -- Returns the event of shelves that sends message n of `txn`, given with the group `said`.
-abbrev pub sends_on_shelf : List ℕ → Who → Qualifiers → ℕ → ShelfEvent
+abbrev pub sends_on_shelf : List ℕ → Role → Qualifiers → ℕ → ShelfEvent
 sends_on_shelf said who txn n = record { group = said; event = Send who txn n }
 
 -- Returns the number of the last message that the responder has issued in `txn`.
@@ -61,22 +61,22 @@ pub data IsMishandled (w : MarkedShelves) (outcome : RetiringOutcome) (new : Mar
   -- An event of shelves changes a mark.
   changes_mark : (e : ShelfEvent) → (new.marks ≡ w.marks → ⊥) → IsMishandled w outcome new (on_shelf e)
   -- A retirement changes another group, or the other library's desk, or its mark.
-  changes_group : (who : Who) (group another : List ℕ) → (another ≡ group → ⊥) →
+  changes_group : (who : Role) (group another : List ℕ) → (another ≡ group → ⊥) →
       (new.shelves another ≡ w.shelves another → ⊥) ⊎ (new.marks another ≡ w.marks another → ⊥) →
       IsMishandled w outcome new (retire who group)
-  changes_other : (who : Who) (group : List ℕ) →
+  changes_other : (who : Role) (group : List ℕ) →
       (party (new.shelves group) (other who) ≡ party (w.shelves group) (other who) → ⊥)
       ⊎ (has_mark new (other who) group ≡ has_mark w (other who) group → ⊥) → IsMishandled w outcome new (retire who group)
   -- A loan has landed that is not over. But the retirement is done, or changes something.
-  retires_open : (who : Who) (group : List ℕ) (side : Side) → has_mark w who group ≡ false →
+  retires_open : (who : Role) (group : List ℕ) (side : Side) → has_mark w who group ≡ false →
       Has (party (w.shelves group) who).landed.sides side → is_over side ≡ false →
       (outcome ≡ not_now → ⊥) ⊎ (new ≡ w → ⊥) → IsMishandled w outcome new (retire who group)
   -- All loans that have landed are over. But the group is not retired then, or the desk is not the landed one.
-  refuses_over : (who : Who) (group : List ℕ) → has_mark w who group ≡ false →
+  refuses_over : (who : Role) (group : List ℕ) → has_mark w who group ≡ false →
       ((side : Side) → Has (party (w.shelves group) who).landed.sides side → is_over side ≡ true) →
       (outcome ≡ done → ⊥) ⊎ (has_mark new who group ≡ false)
       ⊎ (party (new.shelves group) who ≡ desk_restarts (party (w.shelves group) who) → ⊥) →
       IsMishandled w outcome new (retire who group)
   -- A group is retired again, and this is refused, or changes something.
-  retires_again : (who : Who) (group : List ℕ) → has_mark w who group ≡ true →
+  retires_again : (who : Role) (group : List ℕ) → has_mark w who group ≡ true →
       (outcome ≡ done → ⊥) ⊎ (new ≡ w → ⊥) → IsMishandled w outcome new (retire who group)

@@ -4,7 +4,7 @@ use Rattle.std.specs.Prelude.{◌≡◌, ℕ, Bool, true, false, not, ◌||◌, 
 use Rattle.std.specs.Prelude.{take}
 use Rattle.std.specs.List.{list_all}
 use Rattle.ill_values.specs.TxnId.{Qualifiers}
-use Rattle.ill_saved.specs.declared.role.Role.{Role as Who}
+use Rattle.ill_saved.specs.declared.role.Role.{Role}
 use Rattle.ill_saved.specs.declared.role.Role.TheVariants.{Requester, Responder}
 use Rattle.ill_saved.specs.Side.{issued_of}
 use Rattle.ill_saved.specs.ManySides.{held_for}
@@ -34,11 +34,11 @@ abbrev pub first_marked_shelves : MarkedShelves
 first_marked_shelves = record { shelves = first_shelves; marks = λ group. record { requester = false; responder = false } }
 
 -- Returns true if library `who` has retired `group`.
-abbrev pub has_mark : MarkedShelves → Who → List ℕ → Bool
+abbrev pub has_mark : MarkedShelves → Role → List ℕ → Bool
 has_mark w who group = party (w.marks group) who
 
 -- Returns `marks`, and the mark of `who` at the group `at`.
-abbrev pub with_mark : Marks → Who → List ℕ → Marks
+abbrev pub with_mark : Marks → Role → List ℕ → Marks
 with_mark marks who at = λ group. if bytes_eq group at then with_party (marks group) who true else marks group
 
 -- ---- one event
@@ -46,7 +46,7 @@ with_mark marks who at = λ group. if bytes_eq group at then with_party (marks g
 -- An event is one of shelves, or library `who` retires a group.
 pub data RetiringEvent : Type 0 where
   on_shelf : ShelfEvent → RetiringEvent
-  retire : (who : Who) (group : List ℕ) → RetiringEvent
+  retire : (who : Role) (group : List ℕ) → RetiringEvent
 
 -- The outcome of a retiring event. An event of shelves has its outcome of desks, or no desk is there, only a mark. A
 -- retirement is done, or not now.
@@ -77,12 +77,12 @@ abbrev pub are_loans_over : DeskParty → Bool
 are_loans_over p = list_all is_over p.landed.sides
 
 -- Returns the event of shelves that opens the desk of `who` at `group`. As at a restart, it has what has landed.
-abbrev pub opens_desk : Who → List ℕ → ShelfEvent
+abbrev pub opens_desk : Role → List ℕ → ShelfEvent
 opens_desk who group = record { group = group; event = Restart who }
 
 -- Returns the outcome of the retirement of `group` by `who`, and the shelves after it. It sets a mark, if there is none
 -- yet. If a loan is not over, it changes nothing.
-abbrev pub retires : MarkedShelves → Who → List ℕ → RetiringOutcome × MarkedShelves
+abbrev pub retires : MarkedShelves → Role → List ℕ → RetiringOutcome × MarkedShelves
 retires w who group =
     if has_mark w who group then (done, w)
     else if are_loans_over (party (w.shelves group) who)

@@ -13,7 +13,7 @@ ghost use Rattle.ill_core.specs.RequesterActions as requester_actions;
 ghost use Rattle.ill_core.specs.Responder.{ResponderRecord, IsResponder};
 ghost use Rattle.ill_core.specs.ResponderActions as responder_actions;
 ghost use Rattle.ill_core.specs.Verbs.{requester_turn, responder_turn};
-ghost use Rattle.ill_saved.specs.declared.role.Role.{Role as Who};
+ghost use Rattle.ill_saved.specs.declared.role.Role.{Role};
 ghost use Rattle.ill_saved.specs.declared.side.Side.{Side};
 ghost use Rattle.ill_saved.specs.Side.{issued_of};
 ghost use Rattle.ill_words.specs.declared.outcome.Outcome.TheVariants.{Done};
@@ -29,7 +29,7 @@ ghost use Rattle.ill_progress.specs.Ends.{acts_left, acts_to_end, after_day, Can
 /// After any events each side has issued at most 255 messages, so both have issued at most 510. Each action that is
 /// done issues one.
 pub fn numbers_are_few()
-    ensures each { (txn : Qualifiers) (events : List Event) (who : Who) →
+    ensures each { (txn : Qualifiers) (events : List Event) (who : Role) →
         length (issued_of (party (run_of (first_world txn) events) who).live) ≤ 255 }
     ensures both { (txn : Qualifiers) (events : List Event) → let w = run_of (first_world txn) events in
         length (issued_of w.requester.live) + length (issued_of w.responder.live) ≤ 510 }

@@ -2,7 +2,7 @@
 
 ghost use Rattle.std.specs.Prelude.{◌≡◌, ◌++◌, ℕ, List, false, length, map, Some, true};
 ghost use Rattle.ill_values.specs.TxnId.{Qualifiers};
-ghost use Rattle.ill_saved.specs.declared.role.Role.{Role as Who};
+ghost use Rattle.ill_saved.specs.declared.role.Role.{Role};
 ghost use Rattle.ill_saved.specs.declared.role.Role.TheVariants.{Requester, Responder};
 ghost use Rattle.ill_saved.specs.Side.{issued_of};
 ghost use Rattle.ill_saved.specs.Holdings.{DeskEntry};
@@ -23,9 +23,9 @@ ghost use Rattle.ill_progress.specs.BadRetirement.{IsMishandled};
 /// sends nothing more. A responder's sends only last words: no other message joins what it has sent.
 #[tactic(auto, using(crate::proofs::Retirement::mark_stays, crate::proofs::Retirement::sides_stay, crate::proofs::Retirement::requester_stays, crate::proofs::Retirement::responder_stays_silent))]
 pub fn a_retired_desk_stays()
-    ensures mark { (w : MarkedShelves) (events : List RetiringEvent) (who : Who) (group : List ℕ) →
+    ensures mark { (w : MarkedShelves) (events : List RetiringEvent) (who : Role) (group : List ℕ) →
         has_mark w who group ≡ true → has_mark (retiring_run w events) who group ≡ true }
-    ensures sides { (w : MarkedShelves) (events : List RetiringEvent) (who : Who) (group : List ℕ) →
+    ensures sides { (w : MarkedShelves) (events : List RetiringEvent) (who : Role) (group : List ℕ) →
         has_mark w who group ≡ true → let old = party (w.shelves group) who in
         let new = party ((retiring_run w events).shelves group) who in
         (new.live ≡ old.live) × (new.landed ≡ old.landed) }
@@ -91,7 +91,7 @@ pub fn a_night_of_a_kept_group_is_enough()
 
 /// After any events each loan at a desk that is retired is over. If the requester's desk is, both sides are at rest.
 pub fn what_is_retired_is_over()
-    ensures over { (events : List RetiringEvent) (who : Who) (group : List ℕ) (txn : Qualifiers) (held : DeskEntry) →
+    ensures over { (events : List RetiringEvent) (who : Role) (group : List ℕ) (txn : Qualifiers) (held : DeskEntry) →
         let w = retiring_run first_marked_shelves events in has_mark w who group ≡ true →
         found_by txn_held txn (party (w.shelves group) who).live.held ≡ Some held → is_over held.side ≡ true }
     ensures rest { (events : List RetiringEvent) (group : List ℕ) (txn : Qualifiers) (held : DeskEntry) →

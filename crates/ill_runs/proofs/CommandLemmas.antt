@@ -9,7 +9,7 @@ use Rattle.ill_core.specs.declared.refusal.Refusal.TheVariants.{WrongRole}
 use Rattle.ill_saved.specs.declared.fault.DeskFault.{DeskFault}
 use Rattle.ill_saved.specs.declared.fault.DeskFault.TheVariants as faults
 use Rattle.ill_saved.specs.declared.store.StoreFault.TheVariants.{Failed}
-use Rattle.ill_saved.specs.declared.role.Role.{Role as Who}
+use Rattle.ill_saved.specs.declared.role.Role.{Role}
 use Rattle.ill_saved.specs.declared.role.Role.TheVariants as who
 use Rattle.ill_saved.specs.declared.side.Action.{Action}
 use Rattle.ill_saved.specs.declared.side.Action.TheVariants as actions
@@ -42,7 +42,7 @@ use Rattle.ill_runs.proofs.EventLemmas.{delivery_leads, store_of_end}
 
 -- ---- an event that is saved at once
 
-module _ (who : Who) (sent : List Sending) (p : DeskParty) where
+module _ (who : Role) (sent : List Sending) (p : DeskParty) where
   -- If an event leads to the sides `event.1`, what `Performs` says of it is a run.
   pub performed_is_run : (WantsMemory : Type 0) (event : Result DeskOutcome ToolFault × DeskContents)
       (old new : HeldAndLanded DeskContents) (result : Result DeskOutcome ToolFault) → IsReadAs old.landed p.landed
@@ -80,7 +80,7 @@ module _ (who : Who) (sent : List Sending) (p : DeskParty) where
 -- ---- actions
 
 -- If two roles are the same, they are equal.
-same_role : (a b : Who) → is_same_role a b ≡ true → a ≡ b
+same_role : (a b : Role) → is_same_role a b ≡ true → a ≡ b
 same_role who.Requester who.Requester is = refl
 same_role who.Responder who.Responder is = refl
 same_role who.Requester who.Responder is = absurd cc
@@ -99,7 +99,7 @@ acts_own live new txn action is =
     same_role live.role (role_for action)
     (chosen (is_same_role live.role (role_for action)) (acts_reached live action (side_for_call live txn (begins action))) new is)
 
-module _ (who : Who) (sent : List Sending) (p : DeskParty) (of : IsDeskOf who p) (txn : Qualifiers) where
+module _ (who : Role) (sent : List Sending) (p : DeskParty) (of : IsDeskOf who p) (txn : Qualifiers) where
   -- If a desk performs an action, that is an event. It leads to the sides after the action.
   done_leads : (action : Action) (new : DeskContents) → desk_acts p.live txn action ≡ Ok new
       → Leads who sent p (record p { live = new })
@@ -117,7 +117,7 @@ module _ (who : Who) (sent : List Sending) (p : DeskParty) (of : IsDeskOf who p)
   action_leads action (Err fault) is = none_leads who sent p
 
 -- The command `act` is a run.
-pub act_is_run : (who : Who) (sent : List Sending) (p : DeskParty) → IsDeskOf who p → (txn : Qualifiers)
+pub act_is_run : (who : Role) (sent : List Sending) (p : DeskParty) → IsDeskOf who p → (txn : Qualifiers)
     (action : Option Action) (old new : CommandState DeskContents) (result : Result Bool ToolFault) → IsDesk old.desk p
     → RunsAct many_sides txn action old result new → (q : DeskParty) × Leads who sent p q × IsReadAs new.desk.landed q.landed
 act_is_run who sent p of txn (Some action) old new result at is =
@@ -132,7 +132,7 @@ act_is_run who sent p of txn None old new result at is =
 
 -- ---- the messages of an input
 
-module _ (who : Who) (sent : List Sending) (is_kept : Bool) (told : Wording) where
+module _ (who : Role) (sent : List Sending) (is_kept : Bool) (told : Wording) where
   -- The desk of `progress` is the model's desk to which some events lead from `p`.
   record IsFrom (p : DeskParty) (progress : Progress DeskContents) : Type 0 where
     end : DeskParty
@@ -195,7 +195,7 @@ module _ (who : Who) (sent : List Sending) (is_kept : Bool) (told : Wording) whe
 
 -- ---- the mails of a night
 
-module _ (who : Who) (sent : List Sending) (p : DeskParty) where
+module _ (who : Role) (sent : List Sending) (p : DeskParty) where
   -- If a message leads to the sides `next.1`, the mail that holds it leads to the sides that it leaves.
   handing_leads : (name bytes : List ℕ) (a : Apdu) (next : Result DeskOutcome ToolFault × DeskContents)
       (old : Sorting DeskContents) → Leads who sent (record p { live = old.live }) (record p { live = next.1 })

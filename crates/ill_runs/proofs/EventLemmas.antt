@@ -3,7 +3,7 @@ use Rattle.std.proofs.Common.{◌≡◌, inl, inr, ℕ, if◌then◌else◌, Lis
 use Rattle.std.proofs.Common.{Ok, Err, refl, sym, ap, ◌∙◌, subst}
 use Rattle.ill_values.specs.declared.apdu.Apdu.{Apdu}
 use Rattle.ill_saved.specs.declared.fault.RecordFault.{RecordFault}
-use Rattle.ill_saved.specs.declared.role.Role.{Role as Who}
+use Rattle.ill_saved.specs.declared.role.Role.{Role}
 use Rattle.ill_saved.specs.Sides.{SidesOf}
 use Rattle.ill_saved.specs.Holdings.{IsReadAgain, map_ok}
 use Rattle.ill_saved.specs.ManySides.{DeskContents, many_sides, sides_held, whole_of, desk_takes}
@@ -23,12 +23,12 @@ use Rattle.ill_runs.specs.Mail.{WasSent}
 -- ---- events one after another
 
 -- No event leads from a desk to itself.
-pub none_leads : (who : Who) (sent : List Sending) (p : DeskParty) → Leads who sent p p
+pub none_leads : (who : Role) (sent : List Sending) (p : DeskParty) → Leads who sent p p
 unfolding desk_after HappenAt
 none_leads who sent p = record { events = []; here = tt; after = refl }
 
 -- One event at the desk of `who` leads to the desk after it.
-pub one_leads : (who : Who) (sent : List Sending) (p : DeskParty) (event : DeskEvent) → who_of (plain event) ≡ who
+pub one_leads : (who : Role) (sent : List Sending) (p : DeskParty) (event : DeskEvent) → who_of (plain event) ≡ who
     → Leads who sent p (desk_happens_to p sent event).1
 unfolding desk_after HappenAt
 one_leads who sent p event here = record { events = event ∷ []; here = (here, tt); after = refl }
@@ -41,14 +41,14 @@ after_join sent p [] more = refl
 after_join sent p (event ∷ events) more = after_join sent (desk_happens_to p sent event).1 events more
 
 -- If the events of both lists happen at a desk, those of their join do.
-here_join : (who : Who) (events more : List DeskEvent) → HappenAt who events → HappenAt who more
+here_join : (who : Role) (events more : List DeskEvent) → HappenAt who events → HappenAt who more
     → HappenAt who (events ++ more)
 unfolding HappenAt
 here_join who [] more here others = others
 here_join who (event ∷ events) more here others = (here.0, here_join who events more here.1 others)
 
 -- If events lead from `p` to `q`, and others from `q` to `r`, both together lead from `p` to `r`.
-pub then_leads : {who : Who} {sent : List Sending} {p q r : DeskParty} → Leads who sent p q → Leads who sent q r
+pub then_leads : {who : Role} {sent : List Sending} {p q r : DeskParty} → Leads who sent p q → Leads who sent q r
     → Leads who sent p r
 then_leads {who} {sent} {p} {q} {r} first second = record {
   events = first.events ++ second.events;
@@ -58,7 +58,7 @@ then_leads {who} {sent} {p} {q} {r} first second = record {
 }
 
 -- Events leave the roles of their desk.
-pub after_keeps_role : (role : Who) (sent : List Sending) (p : DeskParty) (events : List DeskEvent) → IsDeskOf role p
+pub after_keeps_role : (role : Role) (sent : List Sending) (p : DeskParty) (events : List DeskEvent) → IsDeskOf role p
     → IsDeskOf role (desk_after p sent events)
 unfolding desk_after
 after_keeps_role role sent p [] is = is
@@ -66,7 +66,7 @@ after_keeps_role role sent p (event ∷ events) is =
     after_keeps_role role sent (desk_happens_to p sent event).1 events (role_kept role p sent event is)
 
 -- If events lead from `p` to `q`, `q` has the roles of `p`.
-pub leads_keep_role : {who : Who} {sent : List Sending} {p q : DeskParty} → Leads who sent p q → (role : Who)
+pub leads_keep_role : {who : Role} {sent : List Sending} {p q : DeskParty} → Leads who sent p q → (role : Role)
     → IsDeskOf role p → IsDeskOf role q
 leads_keep_role {who} {sent} {p} {q} leads role is =
     subst (IsDeskOf role) leads.after (after_keeps_role role sent p leads.events is)
@@ -74,11 +74,11 @@ leads_keep_role {who} {sent} {p} {q} leads role is =
 -- ---- the events of a save
 
 -- A save is an event, which leads to the desk after it.
-pub save_leads : (who : Who) (sent : List Sending) (p : DeskParty) → Leads who sent p (desk_saves p)
+pub save_leads : (who : Role) (sent : List Sending) (p : DeskParty) → Leads who sent p (desk_saves p)
 save_leads who sent p = one_leads who sent p (Save who) refl
 
 -- A save that fails is an event. `landed` is true if its record has landed.
-pub fault_leads : (who : Who) (sent : List Sending) (p : DeskParty) (landed : Bool)
+pub fault_leads : (who : Role) (sent : List Sending) (p : DeskParty) (landed : Bool)
     → Leads who sent p (desk_fails_to_save p landed)
 fault_leads who sent p landed = one_leads who sent p (SaveFault who landed) refl
 
@@ -112,12 +112,12 @@ store_of_end (Ok answer) desk p ends = ends.landed
 store_of_end (Err fault) desk p ends = ends
 
 -- If the store is as before, and the command ended with a fault, it was a run without an event.
-pub fault_is_run : (X : Type 0) (who : Who) (sent : List Sending) (p : DeskParty) (fault : ToolFault)
+pub fault_is_run : (X : Type 0) (who : Role) (sent : List Sending) (p : DeskParty) (fault : ToolFault)
     (desk : HeldAndLanded DeskContents) → IsReadAs desk.landed p.landed → IsRun {X = X} who sent p (Err fault) desk
 fault_is_run X who sent p fault desk landed = (p, none_leads who sent p, landed)
 
 -- If sides `live` of a run were saved, or nothing was to be saved, the command ends at a desk of the model.
-pub saves_if : (who : Who) (sent : List Sending) (p : DeskParty) (old new : HeldAndLanded DeskContents) (live : DeskContents)
+pub saves_if : (who : Role) (sent : List Sending) (p : DeskParty) (old new : HeldAndLanded DeskContents) (live : DeskContents)
     (has_changed : Bool) → IsReadAs old.landed p.landed → Leads who sent p (record p { live = live })
     → new ≡ (if has_changed then saved many_sides (with_sides old live) else with_sides old live)
     → (has_changed ≡ true → IsReadAgain many_sides live)
@@ -135,7 +135,7 @@ saves_if who sent p old new live false landed leads same again = (
 )
 
 -- If the save of the sides `live` failed, the command ended at a desk of the model.
-pub fails_to_save : (who : Who) (sent : List Sending) (p : DeskParty) (old new : HeldAndLanded DeskContents)
+pub fails_to_save : (who : Role) (sent : List Sending) (p : DeskParty) (old new : HeldAndLanded DeskContents)
     (live : DeskContents) → IsReadAs old.landed p.landed → Leads who sent p (record p { live = live })
     → IsFaulted many_sides (with_sides old live) new
     → (q : DeskParty) × Leads who sent p q × IsDesk new q
@@ -156,7 +156,7 @@ fails_to_save who sent p old new live landed leads is = elim is [
 -- ---- a message that comes
 
 -- If the other desk has sent `a`, the delivery of `a` is an event. It leads to the sides that the desk has after it.
-pub delivery_leads : (who : Who) (sent : List Sending) (p : DeskParty) (a : Apdu) → WasSent sent a
+pub delivery_leads : (who : Role) (sent : List Sending) (p : DeskParty) (a : Apdu) → WasSent sent a
     → Leads who sent p (record p { live = (desk_takes p.live a).1 })
 delivery_leads who sent p a was =
     subst (λ found. Leads who sent p (desk_receives p found).1) was.2 (one_leads who sent p (Deliver who was.0 was.1) refl)

@@ -3,7 +3,7 @@ use Rattle.std.proofs.Common.{◌≡◌, ℕ, List, [], ◌∷◌, ◌++◌, Som
 use Rattle.ill_values.specs.TxnId.{Qualifiers}
 use Rattle.ill_values.specs.declared.apdu.Apdu.{Apdu}
 use Rattle.ill_core.specs.Issued.{message}
-use Rattle.ill_saved.specs.declared.role.Role.{Role as Who}
+use Rattle.ill_saved.specs.declared.role.Role.{Role}
 use Rattle.ill_saved.specs.declared.role.Role.TheVariants as who
 use Rattle.ill_saved.specs.Side.{issued_of, other}
 use Rattle.ill_saved.specs.Sides.{SidesOf, are_apart}
@@ -27,25 +27,25 @@ use Rattle.ill_runs.proofs.LibraryLemmas.{events_there, run_join, command_leads}
 -- ---- the first libraries
 
 -- A desk without a side may be saved.
-none_are_sides : (role : Who) → AreSides (record { role = role; sides = [] })
+none_are_sides : (role : Role) → AreSides (record { role = role; sides = [] })
 unfolding Each are_apart
 none_are_sides role = record { held = refl; each = tt; few = omega arith }
 
 -- A library whose desk was just begun is the first desk of the model.
-first_at : SidesReadAgain → (role : Who) → IsAt (first_library role) (first_desk role)
+first_at : SidesReadAgain → (role : Role) → IsAt (first_library role) (first_desk role)
 unfolding Each
 first_at again role = record { file = again (record { role = role; sides = [] }) (none_are_sides role); left = tt }
 
 -- ---- one after another
 
 -- Each of two libraries is a desk of the model, if both are.
-pub each_is_at : (role : Who) (libraries : Libraries) (w : DeskParties) → AreAt libraries w
+pub each_is_at : (role : Role) (libraries : Libraries) (w : DeskParties) → AreAt libraries w
     → IsAt (party libraries role) (party w role)
 each_is_at who.Requester libraries w at = at.requester
 each_is_at who.Responder libraries w at = at.responder
 
 -- Both libraries are desks of the model, if each is.
-both_are_at : (role : Who) (libraries : Libraries) (w : DeskParties) → IsAt (party libraries role) (party w role)
+both_are_at : (role : Role) (libraries : Libraries) (w : DeskParties) → IsAt (party libraries role) (party w role)
     → IsAt (party libraries (other role)) (party w (other role)) → AreAt libraries w
 both_are_at who.Requester libraries w here there = record { requester = here; responder = there }
 both_are_at who.Responder libraries w here there = record { requester = there; responder = here }
@@ -118,7 +118,7 @@ left_landed sent landed lands (a ∷ left) each =
     ((each.0.0, each.0.1, lands each.0.0 each.0.1 a each.0.2), left_landed sent landed lands left each.1)
 
 -- If two desks stand, the file of each library that is one of them has all that has left it.
-pub has_all_left : (libraries : Libraries) (w : DeskParties) → DesksInvariant w → AreAt libraries w → (role : Who)
+pub has_all_left : (libraries : Libraries) (w : DeskParties) → DesksInvariant w → AreAt libraries w → (role : Role)
     → HasAllThatLeft (party libraries role)
 has_all_left libraries w stands at who.Requester = (
   w.requester.landed,

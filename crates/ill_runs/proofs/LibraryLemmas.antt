@@ -8,7 +8,7 @@ use Rattle.ill_values.specs.TxnId.{Qualifiers}
 use Rattle.ill_values.specs.declared.apdu.Apdu.{Apdu}
 use Rattle.ill_core.specs.Issued.{message}
 use Rattle.ill_saved.specs.declared.fault.RecordFault.{RecordFault}
-use Rattle.ill_saved.specs.declared.role.Role.{Role as Who}
+use Rattle.ill_saved.specs.declared.role.Role.{Role}
 use Rattle.ill_saved.specs.declared.role.Role.TheVariants as who
 use Rattle.ill_saved.specs.declared.side.Side.{Side}
 use Rattle.ill_saved.specs.declared.side.Side.TheVariants as sides
@@ -45,11 +45,11 @@ use Rattle.ill_runs.proofs.Lists.{each_append, each_at, each_so}
 -- ---- events of one desk in a world
 
 -- The desks after an event at the desk of `role`.
-abbrev after_event : (w : DeskParties) → (role : Who) → DeskEvent → DeskParties
+abbrev after_event : (w : DeskParties) → (role : Role) → DeskEvent → DeskParties
 after_event w role event = (happens_at w role (λ p partner. desk_happens_to p partner.sent event)).1
 
 -- An event at the desk of `who` leads this desk on, and leaves the other.
-event_there : (who : Who) (w : DeskParties) (event : DeskEvent) → who_of (plain event) ≡ who
+event_there : (who : Role) (w : DeskParties) (event : DeskEvent) → who_of (plain event) ≡ who
     → (party (desks_happen w event).1 who ≡ (desk_happens_to (party w who) (party w (other who)).sent event).1)
     × (party (desks_happen w event).1 (other who) ≡ party w (other who))
 event_there who.Requester w event here =
@@ -58,7 +58,7 @@ event_there who.Responder w event here =
     (ap (λ role. (after_event w role event).responder) here, ap (λ role. (after_event w role event).requester) here)
 
 -- Events at the desk of `who` lead this desk on, and leave the other.
-pub events_there : (who : Who) (w : DeskParties) (events : List DeskEvent) → HappenAt who events
+pub events_there : (who : Role) (w : DeskParties) (events : List DeskEvent) → HappenAt who events
     → (party (desks_run w events) who ≡ desk_after (party w who) (party w (other who)).sent events)
     × (party (desks_run w events) (other who) ≡ party w (other who))
 unfolding run_by desk_after HappenAt
@@ -79,7 +79,7 @@ run_join w [] more = refl
 run_join w (event ∷ events) more = run_join (desks_happen w event).1 events more
 
 -- Both lists of events happen at one desk, if their join does.
-pub here_both : (who : Who) (events more : List DeskEvent) → HappenAt who events → HappenAt who more
+pub here_both : (who : Role) (events more : List DeskEvent) → HappenAt who events → HappenAt who more
     → HappenAt who (events ++ more)
 unfolding HappenAt
 here_both who [] more here others = others
@@ -88,12 +88,12 @@ here_both who (event ∷ events) more here others = (here.0, here_both who event
 -- ---- facts of two desks that stand
 
 -- Each desk has its role.
-role_of_desk : (who : Who) (w : DeskParties) → DesksInvariant w → IsDeskOf who (party w who)
+role_of_desk : (who : Role) (w : DeskParties) → DesksInvariant w → IsDeskOf who (party w who)
 role_of_desk who.Requester w stands = stands.requester
 role_of_desk who.Responder w stands = stands.responder
 
 -- No desk holds a transaction twice.
-apart_at : (who : Who) (w : DeskParties) → DesksInvariant w → AreApart (live_txns (party w who))
+apart_at : (who : Role) (w : DeskParties) → DesksInvariant w → AreApart (live_txns (party w who))
 apart_at who.Requester w stands = stands.counts.0.0
 apart_at who.Responder w stands = stands.counts.2.0
 
@@ -110,7 +110,7 @@ responder_few txn (sides.Responder y) sent stands = omega (arith, stands.few)
 responder_few txn (sides.Requester x) sent stands = absurd stands
 
 -- Each side has issued at most 255 messages, and its desk has a place for each in what it sent.
-few_at : (who : Who) (w : DeskParties) → DesksInvariant w → (txn : Qualifiers)
+few_at : (who : Role) (w : DeskParties) → DesksInvariant w → (txn : Qualifiers)
     → (length (issued_of (held_for txn (party w who).live).side) < 256) × (length (sent_for txn (party w who).sent) ≡ 255)
 few_at who.Requester w stands txn =
     let each = stands.each txn in (requester_few txn _ _ each.requester.live, each.requester.saved.places)
@@ -142,7 +142,7 @@ brought sent others were mails bring =
 module _ (stand : EachStands) (stay : (txn : Qualifiers) (w : DeskParties) (event : DeskEvent) → DesksInvariant w
     → KeepsSent (project txn w) (project txn (desks_happen w event).1)) where
   -- A message that was sent stays sent after an event.
-  still_sent : (who : Who) (w : DeskParties) (event : DeskEvent) (a : Apdu) → DesksInvariant w
+  still_sent : (who : Role) (w : DeskParties) (event : DeskEvent) (a : Apdu) → DesksInvariant w
       → WasSent (party w who).sent a → WasSent (party (desks_happen w event).1 who).sent a
   still_sent who.Requester w event a stands was =
       (was.0, was.1, stay was.0 w event stands who.Requester was.1 a was.2)
@@ -150,7 +150,7 @@ module _ (stand : EachStands) (stay : (txn : Qualifiers) (w : DeskParties) (even
       (was.0, was.1, stay was.0 w event stands who.Responder was.1 a was.2)
 
   -- A message that was sent stays sent after events.
-  sent_on : (who : Who) (w : DeskParties) (events : List DeskEvent) (a : Apdu) → DesksInvariant w
+  sent_on : (who : Role) (w : DeskParties) (events : List DeskEvent) (a : Apdu) → DesksInvariant w
       → WasSent (party w who).sent a → WasSent (party (desks_run w events) who).sent a
   unfolding run_by
   sent_on who w [] a stands was = was
@@ -171,7 +171,7 @@ module _ (stand : EachStands) (stay : (txn : Qualifiers) (w : DeskParties) (even
   sent_by p txn n a = record p { sent = with_sent_for txn p.sent n a }
 
   -- If message n of `txn` may be sent, a Send of it is an event, which leads to the desk that has sent it.
-  send_leads : (who : Who) (sent : List Sending) (p : DeskParty) (a : Apdu) → (may : IsReleased p.live a)
+  send_leads : (who : Role) (sent : List Sending) (p : DeskParty) (a : Apdu) → (may : IsReleased p.live a)
       → (desk_happens_to p sent (Send who may.0 may.1)).1 ≡ sent_by p may.0 may.1 a
   send_leads who sent p a (txn, n, held, found, there, free) =
       ap (λ entry. (desk_sends p txn n entry).1) found
@@ -198,7 +198,7 @@ module _ (stand : EachStands) (stay : (txn : Qualifiers) (w : DeskParties) (even
 
   -- Messages leave the desk of `who` by the events `events`. They lead from `w` to a desk with the same sides, which
   -- has sent them.
-  record HasSent (who : Who) (w : DeskParties) (left : List Apdu) : Type 0 where
+  record HasSent (who : Role) (w : DeskParties) (left : List Apdu) : Type 0 where
     events : List DeskEvent
     here : HappenAt who events
     live : (party (desks_run w events) who).live ≡ (party w who).live
@@ -206,7 +206,7 @@ module _ (stand : EachStands) (stay : (txn : Qualifiers) (w : DeskParties) (even
     sent : Each (WasSent (party (desks_run w events) who).sent) left
 
   -- Messages that may be sent are sent by events.
-  sends_all : (who : Who) (w : DeskParties) (left : List Apdu) → DesksInvariant w → Each (IsReleased (party w who).live) left
+  sends_all : (who : Role) (w : DeskParties) (left : List Apdu) → DesksInvariant w → Each (IsReleased (party w who).live) left
       → HasSent who w left
   unfolding Each run_by HappenAt
   sends_all who w [] stands may = record { events = []; here = tt; live = refl; landed = refl; sent = tt }
@@ -238,7 +238,7 @@ module _ (stand : EachStands) (stay : (txn : Qualifiers) (w : DeskParties) (even
   -- ---- one command
 
   -- A command that began from a library has led its desk to `q`, and `leaving` may leave `q`.
-  record HasRun (who : Who) (sent : List Sending) (p : DeskParty) (leaving : List Apdu) (content : Option (Option (List ℕ)))
+  record HasRun (who : Role) (sent : List Sending) (p : DeskParty) (leaving : List Apdu) (content : Option (Option (List ℕ)))
       : Type 0 where
     end : DeskParty
     leads : Leads who sent p end
@@ -262,7 +262,7 @@ module _ (stand : EachStands) (stay : (txn : Qualifiers) (w : DeskParties) (even
   leave_if_any p leaving (inl none) apart = none_leave p.live leaving none
   leave_if_any p leaving (inr is) apart = outbox_released p.live leaving apart is
 
-  module _ (who : Who) (sent : List Sending) (p : DeskParty) (of : IsDeskOf who p) (others : List Apdu)
+  module _ (who : Role) (sent : List Sending) (p : DeskParty) (of : IsDeskOf who p) (others : List Apdu)
       (were : Each (WasSent sent) others) (before after : Library) (at : IsAt before p) where
     -- A desk is restarted by an event, which is a run.
     restart_leads : Leads who sent p (desk_restarts p)
@@ -340,7 +340,7 @@ module _ (stand : EachStands) (stay : (txn : Qualifiers) (w : DeskParties) (even
         }
 
   -- A command that ran leads to the library after it.
-  ran_leads : (who : Who) (w : DeskParties) → DesksInvariant w → (before after : Library) → IsAt before (party w who)
+  ran_leads : (who : Role) (w : DeskParties) → DesksInvariant w → (before after : Library) → IsAt before (party w who)
       → (leaving : List Apdu) (content : Option (Option (List ℕ)))
       → content ≡ Some (Some after.file) → after.left ≡ before.left ++ leaving
       → HasRun who (party w (other who)).sent (party w who) leaving content → LeadsTo who w after
@@ -370,14 +370,14 @@ module _ (stand : EachStands) (stay : (txn : Qualifiers) (w : DeskParties) (even
       }
 
   -- A library that stays as it was is led there by no event.
-  stays_there : (who : Who) (w : DeskParties) (before after : Library) → IsAt before (party w who) → after ≡ before
+  stays_there : (who : Role) (w : DeskParties) (before after : Library) → IsAt before (party w who) → after ≡ before
       → LeadsTo who w after
   unfolding run_by HappenAt
   stays_there who w before after at same =
       record { events = []; here = tt; at = subst (λ library. IsAt library (party w who)) (sym same) at }
 
   -- A command of a library is events at its desk.
-  pub command_leads : (who : Who) (w : DeskParties) → DesksInvariant w → (others : List Apdu) (before after : Library)
+  pub command_leads : (who : Role) (w : DeskParties) → DesksInvariant w → (others : List Apdu) (before after : Library)
       → Each (WasSent (party w (other who)).sent) others → IsAt before (party w who) → Commands others before after
       → LeadsTo who w after
   command_leads who w stands others before after were at commands =

@@ -2,7 +2,7 @@
 use Rattle.std.proofs.Common.{◌≡◌, ◌⊎◌, inl, inr, ℕ, Bool, List, [], Option, Some, None, Result, Ok, Err, sym, subst}
 use Rattle.ill_values.specs.Day.{Date}
 use Rattle.ill_values.specs.declared.apdu.Apdu.{Apdu}
-use Rattle.ill_saved.specs.declared.role.Role.{Role as Who}
+use Rattle.ill_saved.specs.declared.role.Role.{Role}
 use Rattle.ill_saved.specs.ManySides.{DeskContents, many_sides, sides_held}
 use Rattle.ill_text.specs.declared.fault.ToolFault.{ToolFault}
 use Rattle.ill_desk.specs.Performing.{HeldAndLanded, CommandState}
@@ -19,7 +19,7 @@ use Rattle.ill_runs.specs.Mail.{WasSent, Bring, mails_taken, mails_of, IsOutbox,
 use Rattle.ill_runs.proofs.EventLemmas.{none_leads, then_leads, leads_keep_role, ends_as, store_of_end}
 use Rattle.ill_runs.proofs.CommandLemmas.{ended_is_run, mails_lead, deeds_lead}
 
-module _ (who : Who) (sent : List Sending) (p : DeskParty) (of : IsDeskOf who p) where
+module _ (who : Role) (sent : List Sending) (p : DeskParty) (of : IsDeskOf who p) where
   -- If the desk is as before, a command is a run without an event.
   same_is_run : {X : Type 0} (result : Result X ToolFault) (old new : HeldAndLanded DeskContents) → IsDesk old p → new ≡ old
       → IsRun who sent p result new
@@ -80,7 +80,7 @@ left_after_deeds (Ok done) desk q left ends leaves = inr (subst (λ live. IsOutb
 left_after_deeds (Err fault) desk q left ends leaves = inl leaves
 
 -- A night is a run, if the other desk has sent the message of each mail.
-pub night_is_run : (who : Who) (sent : List Sending) (dates : Option (Date × Dates)) (p : DeskParty) → IsDeskOf who p
+pub night_is_run : (who : Role) (sent : List Sending) (dates : Option (Date × Dates)) (p : DeskParty) → IsDeskOf who p
     → (old new : CommandState DeskContents) (result : Result Bool ToolFault) (left : List Apdu) → IsDesk old.desk p
     → (night : ExchangesAt dates old result new) → Bring (WasSent sent) (mails_of dates night) → Leaves dates night left
     → (q : DeskParty) × Leads who sent p q × IsReadAs new.desk.landed q.landed × LeaveIfAny q left

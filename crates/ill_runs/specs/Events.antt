@@ -1,7 +1,7 @@
 -- The events of the model of two desks that a command is. A desk of the program is seen by its sides and the content of
 -- its store.
 use Rattle.std.specs.Prelude.{◌≡◌, ℕ, List, [], ◌∷◌, Option, Some, Result, Ok, Err}
-use Rattle.ill_saved.specs.declared.role.Role.{Role as Who}
+use Rattle.ill_saved.specs.declared.role.Role.{Role}
 use Rattle.ill_saved.specs.Sides.{SidesOf}
 use Rattle.ill_saved.specs.RecordsV2.{records_at}
 use Rattle.ill_saved.specs.ManySides.{DeskContents}
@@ -19,12 +19,12 @@ desk_after p sent [] = p
 desk_after p sent (event ∷ events) = desk_after (desk_happens_to p sent event).1 sent events
 
 -- Each of `events` happens to the desk of the role `who`.
-unfoldable pub HappenAt : Who → List DeskEvent → Type 0
+unfoldable pub HappenAt : Role → List DeskEvent → Type 0
 HappenAt who [] = Unit {0}
 HappenAt who (event ∷ events) = (who_of (plain event) ≡ who) × HappenAt who events
 
 -- Some events at the desk of the role `who` lead from `p` to `q`. `sent` has the messages of the other desk.
-pub record Leads (who : Who) (sent : List Sending) (p q : DeskParty) : Type 0 where
+pub record Leads (who : Role) (sent : List Sending) (p q : DeskParty) : Type 0 where
   pub events : List DeskEvent
   pub here : HappenAt who events
   pub after : desk_after p sent events ≡ q
@@ -47,5 +47,5 @@ EndsAs (Ok answer) desk p = IsDesk desk p
 EndsAs (Err fault) desk p = IsReadAs desk.landed p.landed
 
 -- A command that began at the model's desk `p` is a run. Some events lead from `p` to the desk at which it ended.
-abbrev pub IsRun : {X : Type 0} → Who → List Sending → DeskParty → Result X ToolFault → HeldAndLanded DeskContents → Type 0
+abbrev pub IsRun : {X : Type 0} → Role → List Sending → DeskParty → Result X ToolFault → HeldAndLanded DeskContents → Type 0
 IsRun who sent p result desk = (q : DeskParty) × Leads who sent p q × EndsAs result desk q

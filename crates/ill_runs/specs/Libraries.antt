@@ -4,7 +4,7 @@ use Rattle.std.specs.Prelude.{◌≡◌, ◌⊎◌, ℕ, Bool, List, [], ◌∷�
 use Rattle.ill_values.specs.Day.{Date}
 use Rattle.ill_values.specs.TxnId.{Qualifiers}
 use Rattle.ill_values.specs.declared.apdu.Apdu.{Apdu}
-use Rattle.ill_saved.specs.declared.role.Role.{Role as Who}
+use Rattle.ill_saved.specs.declared.role.Role.{Role}
 use Rattle.ill_saved.specs.declared.role.Role.TheVariants.{Requester, Responder}
 use Rattle.ill_saved.specs.declared.side.Action.{Action}
 use Rattle.ill_core.specs.Issued.{message}
@@ -39,7 +39,7 @@ abbrev pub Libraries : Type 0
 Libraries = TwoOf Library
 
 -- Returns the library of the role `who` after `ill new`: its desk holds no side, and no message has left.
-abbrev pub first_library : Who → Library
+abbrev pub first_library : Role → Library
 first_library who = record { file = sides_spelling (record { role = who; sides = [] }); left = [] }
 
 -- Both libraries have just begun their desks.
@@ -106,7 +106,7 @@ Commands others before after =
 -- One of the two libraries performs a command. The other one stays as it is.
 abbrev pub Happens : Libraries → Libraries → Type 0
 Happens before after =
-    (who : Who) × Commands (party before (other who)).left (party before who) (party after who)
+    (who : Role) × Commands (party before (other who)).left (party before who) (party after who)
     × (party after (other who) ≡ party before (other who))
 
 -- Commands lead from `now` to the first of `later`, and from each of these to the next one.
@@ -137,7 +137,7 @@ abbrev pub IsRunAt : Libraries → Type 0
 IsRunAt libraries = (events : List DeskEvent) × AreAt libraries (desks_run first_desks events)
 
 -- Some events at the desk of `who` lead from the desks `w` to desks of which one is the library `after`.
-pub record LeadsTo (who : Who) (w : DeskParties) (after : Library) : Type 0 where
+pub record LeadsTo (who : Role) (w : DeskParties) (after : Library) : Type 0 where
   pub events : List DeskEvent
   pub here : HappenAt who events
   pub at : IsAt after (party (desks_run w events) who)

@@ -2,7 +2,7 @@
 
 ghost use Rattle.std.specs.Prelude.{◌≡◌, List, Ok};
 ghost use Rattle.ill_values.specs.declared.apdu.Apdu.{Apdu};
-ghost use Rattle.ill_saved.specs.declared.role.Role.{Role as Who};
+ghost use Rattle.ill_saved.specs.declared.role.Role.{Role};
 ghost use Rattle.ill_saved.specs.Side.{other};
 ghost use Rattle.ill_saved.specs.Ranges.{Each};
 ghost use Rattle.ill_saved.specs.RecordsV2.{records_at};
@@ -17,7 +17,7 @@ ghost use Rattle.ill_runs.specs.Libraries.{AreSafe, Commands, HasAllThatLeft, Is
 /// Each command of a library is some events at its desk in the model: a restart, what the command does, its saves, and a
 /// Send for each message that leaves. The messages that come were sent by the other desk.
 pub fn each_command_is_events()
-    ensures { (who : Who) (w : DeskParties) → DesksInvariant w → (others : List Apdu) (before after : Library) →
+    ensures { (who : Role) (w : DeskParties) → DesksInvariant w → (others : List Apdu) (before after : Library) →
         Each (WasSent (party w (other who)).sent) others → IsAt before (party w who) → Commands others before after →
         LeadsTo who w after }
 {
@@ -52,7 +52,7 @@ pub fn each_history_is_safe()
 /// After each history the file of either library can be read, and has each message that has left this library. So no
 /// library forgets a message that it has given out.
 pub fn what_has_left_is_in_the_file()
-    ensures { (later : List Libraries) → IsHistory first_libraries later → (who : Who) →
+    ensures { (later : List Libraries) → IsHistory first_libraries later → (who : Role) →
         HasAllThatLeft (party (libraries_after first_libraries later) who) }
 {
     each_history_is_a_run();

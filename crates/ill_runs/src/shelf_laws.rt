@@ -1,7 +1,7 @@
 //! The laws of histories of shelves: each desk that a command visits is a desk of a library of its own.
 
 ghost use Rattle.std.specs.Prelude.{◌≡◌, ℕ, List};
-ghost use Rattle.ill_saved.specs.declared.role.Role.{Role as Who};
+ghost use Rattle.ill_saved.specs.declared.role.Role.{Role};
 ghost use Rattle.ill_world.specs.World.{party};
 ghost use Rattle.ill_runs.specs.Libraries.{AreSafe, HasAllThatLeft, IsHistory, libraries_after};
 ghost use Rattle.ill_runs.specs.ShelfLibraries.{GroupVisit, IsShelfHistory, ShelfLibraries, first_shelf_libraries, shelves_after, visits_of};
@@ -23,7 +23,7 @@ pub fn each_group_has_its_history()
 pub fn each_shelf_history_is_safe()
     ensures safe { (group : List ℕ) (visits : List GroupVisit) → IsShelfHistory first_shelf_libraries visits →
         AreSafe (shelves_after first_shelf_libraries visits group) }
-    ensures left { (group : List ℕ) (visits : List GroupVisit) (who : Who) →
+    ensures left { (group : List ℕ) (visits : List GroupVisit) (who : Role) →
         IsShelfHistory first_shelf_libraries visits →
         HasAllThatLeft (party (shelves_after first_shelf_libraries visits group) who) }
 {

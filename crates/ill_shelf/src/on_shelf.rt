@@ -28,7 +28,6 @@ use ill_text::fault::{STORE_FAILED, ToolFault, graver};
 use ill_text::form::Form;
 use ill_text::output::write_whole;
 use ill_values::{Number, TxnId};
-use ill_words::Who;
 use std::alloc::Global;
 use std::fs::DirBuilder;
 use std::io::{ErrorKind, Write};
@@ -39,7 +38,7 @@ use std::{fs, io};
 pub fn new_shelf<T: LockFiles, W: Write, E: Write>(
     machine: &mut Machine<'_, T, W, E>,
     folder: &str,
-    role: Who,
+    role: Role,
 ) -> Result<bool, ToolFault>
     ensures { NewAtFile (W.contents machine.old.writer) (W.contents machine.new.writer) result }
 {
@@ -286,7 +285,7 @@ fn end_night<T: Files, W: Write, E: Write>(
     if let Some(folder) = night.copy
         && let Err(error) = copy_marks(machine.rt, machine.alloc, shelf, folder)
     {
-        return machine.blame(Err(error.into()), folder, NO_MARKS);
+        return machine.report_fault_at(Err(error.into()), folder, NO_MARKS);
     }
     let sent = match send_last_words(machine, shelf, night.outgoing) {
         Ok(sent) => sent,

@@ -16,7 +16,7 @@ use ill_files::machine::Machine;
 use ill_files::open::lock;
 use ill_files::paths::{CAME, MAIL, RETIRED, path_of};
 use ill_files::shelf::{Shelf, names_of_desks, refuse_retired};
-use ill_mail::blame::{NO_BOX, NO_RUN, NOT_READ};
+use ill_mail::fault_lines::{NO_BOX, NO_RUN, NOT_READ};
 use ill_mail::mail::{Mails, begin_run, claim_mails, new_run};
 use ill_mail::mail_box::{MailBox, give_back, open_box, remove_if_there};
 use ill_mail::reserved::is_within;
@@ -98,9 +98,9 @@ fn sort_under_lock<T: LockFiles, W: Write, E: Write>(
     let unsorted = shelf.unsorted(machine.alloc)?;
     let own = shelf.own_desk(machine.alloc)?;
     let mail_box = open_box(machine.rt, machine.alloc, unsorted.as_str(), own.as_str());
-    let mail_box = machine.blame(mail_box, unsorted.as_str(), NO_BOX)?;
+    let mail_box = machine.report_fault_at(mail_box, unsorted.as_str(), NO_BOX)?;
     let run = begin_run(machine.rt, machine.alloc, &mail_box);
-    let run = machine.blame(run, unsorted.as_str(), NO_RUN)?;
+    let run = machine.report_fault_at(run, unsorted.as_str(), NO_RUN)?;
     let sources = Sources {
         folder,
         copies,
@@ -108,7 +108,7 @@ fn sort_under_lock<T: LockFiles, W: Write, E: Write>(
         run: run.as_str(),
     };
     let found = claim_from_outside(machine.rt, machine.alloc, shelf, sources);
-    let found = machine.blame(found, folder, NOT_READ)?;
+    let found = machine.report_fault_at(found, folder, NOT_READ)?;
     Ok(sort_found(machine, shelf, sources, &found)?)
 }
 

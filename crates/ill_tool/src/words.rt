@@ -109,7 +109,7 @@ fn refuse<T: LockFiles, W: Write, E: Write>(
     ensures most { result ≤ 3 }
 {
     let done = flush(&mut machine.writer, Err(fault));
-    conclude(machine, words, done, None)
+    end_with_status(machine, words, done, None)
 }
 
 /// Performs the call that the words ask for, and returns the exit status.
@@ -124,12 +124,12 @@ fn answer_call<T: LockFiles, R: Read, W: Write, E: Write>(
 {
     let mut reader = Watched::new(machine.alloc, reader, is_asked(words));
     let done = perform(machine, call, &mut reader);
-    conclude(machine, words, done, reader.passed())
+    end_with_status(machine, words, done, reader.passed())
 }
 
 /// Writes the line of a fault, if there is one. The reason comes after it, if the words ask for that. It returns the
 /// exit status.
-fn conclude<T: LockFiles, W: Write, E: Write>(
+fn end_with_status<T: LockFiles, W: Write, E: Write>(
     machine: &mut Machine<'_, T, W, E>,
     words: &[&str],
     done: Result<bool, ToolFault>,

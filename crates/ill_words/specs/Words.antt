@@ -14,7 +14,7 @@ use Rattle.ill_core.specs.declared.requester.Wish.TheVariants.{Request, Cancel, 
 use Rattle.ill_core.specs.declared.responder.Deed.{Deed}
 use Rattle.ill_core.specs.declared.responder.Deed.TheVariants.{Answer, CancelReply, Ship, RenewAnswer, Overdue, Recall, CheckIn}
 use Rattle.ill_core.specs.declared.responder.Deed.TheVariants.{Expire}
-use Rattle.ill_saved.specs.declared.role.Role.{Role as Who}
+use Rattle.ill_saved.specs.declared.role.Role.{Role}
 use Rattle.ill_saved.specs.declared.role.Role.TheVariants.{Requester, Responder}
 
 infixl 10 ◌>>=◌
@@ -35,7 +35,7 @@ abbrev pub yes_of : List ℕ → Option Bool
 yes_of = named ((codes "yes", true) ∷ (codes "no", false) ∷ [])
 
 -- Returns the role that a word names.
-abbrev pub who_named : List ℕ → Option Who
+abbrev pub who_named : List ℕ → Option Role
 who_named = named ((codes "requester", Requester) ∷ (codes "responder", Responder) ∷ [])
 
 -- Returns true for `new` and false for `old`: the record that the store has after a failed save.

@@ -14,8 +14,6 @@ pub mod waiting;
 pub mod words;
 
 pub use bytes::Bytes;
-/// The role of the side to which an event happens.
-pub use ill_saved::Role as Who;
 pub use outcome::{DeskOutcome, Outcome};
 pub use sending::{is_over, wants_sending};
 pub use shown::{push_number, push_shown, push_side};

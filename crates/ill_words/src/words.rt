@@ -11,10 +11,10 @@ ghost use Rattle.std.specs.Int.{IsInRange};
 ghost use Rattle.std.specs.Char.{is_ascii_digit};
 ghost use Rattle.ill_words.specs.Words.{yes_of, who_named, landed_named, day_of, optional_day_of, is_numeral, decimal_value, due_of, days_after, number_of, bytes_of};
 
-use crate::Who;
 use crate::bytes::Bytes;
 pub use actions::{deed, wish};
 use hex::FromHexError;
+use ill_saved::Role;
 use ill_values::{Day, Number, OutOfMemory};
 use std::alloc::Global;
 
@@ -45,13 +45,13 @@ pub(crate) fn yes(word: &[u8]) -> Option<bool>
 }
 
 /// Returns the role that the word names, if it is `requester` or `responder`.
-pub fn who(word: &[u8]) -> Option<Who>
+pub fn who(word: &[u8]) -> Option<Role>
     ensures { result ≡ who_named word.now }
 {
     if is(word, "requester") {
-        Some(Who::Requester)
+        Some(Role::Requester)
     } else if is(word, "responder") {
-        Some(Who::Responder)
+        Some(Role::Responder)
     } else {
         None
     }

@@ -9,7 +9,7 @@ use Rattle.ill_core.specs.declared.state.State.{State}
 use Rattle.ill_core.specs.declared.state.State.TheVariants as states
 use Rattle.ill_values.specs.Bodies.{is_end, is_ill_request, is_returned}
 use Rattle.ill_core.specs.Issued.{is_same_txn}
-use Rattle.ill_saved.specs.declared.role.Role.{Role as Who}
+use Rattle.ill_saved.specs.declared.role.Role.{Role}
 use Rattle.ill_saved.specs.declared.role.Role.TheVariants as who
 use Rattle.ill_saved.specs.Side.{other}
 use Rattle.ill_saved.specs.Holdings.{DeskEntry}
@@ -79,7 +79,7 @@ unfolding events_for
 one_event txn w event = refl
 
 -- A save, a failed save and a restart of a desk are events of each transaction.
-pub whole_events : (txn : Qualifiers) (w : DeskParties) (role : Who) (landed : Bool)
+pub whole_events : (txn : Qualifiers) (w : DeskParties) (role : Role) (landed : Bool)
     → events_for txn w (events.Save role ∷ events.SaveFault role landed ∷ events.Restart role ∷ [])
     ≡ plain (events.Save role) ∷ plain (events.SaveFault role landed) ∷ plain (events.Restart role) ∷ []
 unfolding events_for
@@ -140,7 +140,7 @@ unreached_event txn w event (inl seen) = is_one txn w event false (ap (λ o. if_
 unreached_event txn w event (inr seen) = is_one txn w event false (ap (λ o. if_reached o (concerns txn event)) seen)
 
 -- Noise is no event of `txn`.
-pub noise_event : (txn : Qualifiers) (w : DeskParties) (role : Who) (bytes : List ℕ)
+pub noise_event : (txn : Qualifiers) (w : DeskParties) (role : Role) (bytes : List ℕ)
     → events_for txn w (events.Noise role bytes ∷ []) ≡ []
 noise_event txn w role bytes = is_one txn w (events.Noise role bytes) false refl
 

@@ -6,7 +6,7 @@ use Rattle.ill_core.specs.Requester.{RequesterRecord}
 use Rattle.ill_core.specs.Responder.{ResponderRecord}
 use Rattle.ill_saved.specs.declared.side.Side.{Side}
 use Rattle.ill_saved.specs.declared.side.Side.TheVariants as sides
-use Rattle.ill_saved.specs.declared.role.Role.{Role as Who}
+use Rattle.ill_saved.specs.declared.role.Role.{Role}
 use Rattle.ill_saved.specs.declared.role.Role.TheVariants as who
 use Rattle.ill_world.specs.declared.event.Event.{Event}
 use Rattle.ill_world.specs.World.{Parties, run_of, run_by}
@@ -68,13 +68,13 @@ none_misled events old new memory none (prefix, (more, is), shown) = none prefix
 -- ---- a round that is cut short
 
 -- A round that leaves out the last message leaves the two sides out of step.
-pub cut_leaves_apart : (who : Who) → AreInStep (run_of (last_unheard who) (cut_round who (last_unheard who))) → ⊥
+pub cut_leaves_apart : (who : Role) → AreInStep (run_of (last_unheard who) (cut_round who (last_unheard who))) → ⊥
 unfolding run_by sends_and_delivers
 cut_leaves_apart who.Requester step = true≢false (sym step.faced)
 cut_leaves_apart who.Responder step = true≢false (sym step.faced)
 
 -- A whole round brings these two sides in step.
-pub whole_brings_in_step : (who : Who) → AreInStep (run_of (last_unheard who) (round_of (last_unheard who)))
+pub whole_brings_in_step : (who : Role) → AreInStep (run_of (last_unheard who) (round_of (last_unheard who)))
 unfolding run_by sends_and_delivers
 whole_brings_in_step who.Requester =
     record { faced = refl; undeclined = refl; received = λ is. search rules; checked_in = refl; due = λ is. refl }
@@ -82,13 +82,13 @@ whole_brings_in_step who.Responder =
     record { faced = refl; undeclined = refl; received = λ is. search rules; checked_in = refl; due = λ is. refl }
 
 -- A round that leaves out the first message leaves the two sides out of step, though a later one arrives.
-pub late_leaves_apart : (who : Who) → AreInStep (run_of (two_unheard who) (late_round who (two_unheard who))) → ⊥
+pub late_leaves_apart : (who : Role) → AreInStep (run_of (two_unheard who) (late_round who (two_unheard who))) → ⊥
 unfolding run_by sends_and_delivers
 late_leaves_apart who.Requester step = true≢false (sym step.faced)
 late_leaves_apart who.Responder step = true≢false (sym step.faced)
 
 -- A whole round brings these two sides in step, too.
-pub whole_brings_both_in_step : (who : Who) → AreInStep (run_of (two_unheard who) (round_of (two_unheard who)))
+pub whole_brings_both_in_step : (who : Role) → AreInStep (run_of (two_unheard who) (round_of (two_unheard who)))
 unfolding run_by sends_and_delivers
 whole_brings_both_in_step who.Requester =
     record { faced = refl; undeclined = refl; received = λ is. search rules; checked_in = refl; due = λ is. refl }

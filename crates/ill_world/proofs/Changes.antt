@@ -14,7 +14,7 @@ use Rattle.ill_saved.specs.declared.side.Side.{Side}
 use Rattle.ill_saved.specs.declared.side.Side.TheVariants as sides
 use Rattle.ill_saved.specs.declared.side.Action.TheVariants as actions
 use Rattle.ill_saved.specs.Side.{acts, takes, other}
-use Rattle.ill_saved.specs.declared.role.Role.{Role as Who}
+use Rattle.ill_saved.specs.declared.role.Role.{Role}
 use Rattle.ill_saved.specs.declared.role.Role.TheVariants as who
 use Rattle.ill_world.specs.declared.event.Event.{Event}
 use Rattle.ill_world.specs.declared.event.Event.TheVariants as events
@@ -58,7 +58,7 @@ decides_changes p (Ok new) = tt
 decides_changes p (Err refusal) = refl
 
 -- A failed save changes at most the landed side.
-fails_changes : (p : Party) (partner_sent : List (Option Apdu)) (of : Who) (landed : Bool)
+fails_changes : (p : Party) (partner_sent : List (Option Apdu)) (of : Role) (landed : Bool)
     → OnlyLands p (happens_to p partner_sent (events.SaveFault of landed)).1
 fails_changes p partner_sent of true = record { live = refl; released = refl; sent = refl }
 fails_changes p partner_sent of false = same_lands p
@@ -101,17 +101,17 @@ party_changes rows p partner_sent (events.Restart of) = tt
 -- ---- the world
 
 -- If at most the landed side of one party has changed, `OnlyLandedChanges` holds of the world.
-landed_of_one : (w : Parties) (of : Who) (new : Party) → OnlyLands (party w of) new → OnlyLandedChanges w (with_party w of new)
+landed_of_one : (w : Parties) (of : Role) (new : Party) → OnlyLands (party w of) new → OnlyLandedChanges w (with_party w of new)
 landed_of_one w who.Requester new lands = (lands, same_lands w.responder)
 landed_of_one w who.Responder new lands = (same_lands w.requester, lands)
 
 -- If a party is replaced by itself, the world is unchanged.
-same_world : (w : Parties) (of : Who) (new : Party) → new ≡ party w of → with_party w of new ≡ w
+same_world : (w : Parties) (of : Role) (new : Party) → new ≡ party w of → with_party w of new ≡ w
 same_world w who.Requester new same = ap (with_party w who.Requester) same
 same_world w who.Responder new same = ap (with_party w who.Responder) same
 
 -- If an outcome allows the change of one party, it allows the change of the world.
-changes_of_one : (outcome : Outcome) (w : Parties) (of : Who) (new : Party)
+changes_of_one : (outcome : Outcome) (w : Parties) (of : Role) (new : Party)
     → MayChange OnlyLands outcome (party w of) new → MayChange OnlyLandedChanges outcome w (with_party w of new)
 changes_of_one Done w of new changes = tt
 changes_of_one Saved w of new changes = tt
@@ -138,7 +138,7 @@ world_changes rows w event =
 -- ---- sent messages
 
 -- If one party keeps its sent messages, and the other is unchanged, the world keeps all sent messages.
-sent_by_one : (w : Parties) (of : Who) (new : Party)
+sent_by_one : (w : Parties) (of : Role) (new : Party)
     → ((n : ℕ) (a : Apdu) → sent_message (party w of).sent n ≡ Some a → sent_message new.sent n ≡ Some a)
     → KeepsSent w (with_party w of new)
 sent_by_one w who.Requester new keeps who.Requester n a was = keeps n a was
@@ -147,7 +147,7 @@ sent_by_one w who.Responder new keeps who.Responder n a was = keeps n a was
 sent_by_one w who.Responder new keeps who.Requester n a was = was
 
 -- If a world satisfies the invariant, `SendsSaved` holds of both parties.
-pub saved_by : (txn : Qualifiers) (w : Parties) (of : Who) → Invariant txn w → SendsSaved (party w of)
+pub saved_by : (txn : Qualifiers) (w : Parties) (of : Role) → Invariant txn w → SendsSaved (party w of)
 saved_by txn w who.Requester stands = stands.requester.saved
 saved_by txn w who.Responder stands = stands.responder.saved
 

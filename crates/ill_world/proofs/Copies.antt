@@ -7,7 +7,7 @@ use Rattle.ill_saved.specs.declared.side.Side.{Side}
 use Rattle.ill_saved.specs.Side.{issued_of}
 use Rattle.ill_saved.specs.Sides.{SidesOf}
 use Rattle.ill_saved.specs.ManySides.{side_for}
-use Rattle.ill_saved.specs.declared.role.Role.{Role as Who}
+use Rattle.ill_saved.specs.declared.role.Role.{Role}
 use Rattle.ill_saved.specs.declared.role.Role.TheVariants as who
 use Rattle.ill_world.specs.declared.event.Event.{Event}
 use Rattle.ill_world.specs.declared.event.DeskEvent.{DeskEvent}
@@ -36,12 +36,12 @@ copy_stands K p copy partner_sent has holds stands = record {
 }
 
 -- The record that has landed last has each message that was sent.
-pub last_has_all : (txn : Qualifiers) (w : Parties) (of : Who) → Invariant txn w
+pub last_has_all : (txn : Qualifiers) (w : Parties) (of : Role) → Invariant txn w
     → HasAllSent (party w of).landed (party w of)
 last_has_all txn w of stands = (saved_by txn w of stands).landed
 
 -- A copy of a record that has landed before `more` may be put back after it, if it has every sent message.
-pub back_stands : (txn : Qualifiers) → After txn → (w : Parties) (more : List Event) (of : Who) → Invariant txn w
+pub back_stands : (txn : Qualifiers) → After txn → (w : Parties) (more : List Event) (of : Role) → Invariant txn w
     → HasAllSent (party w of).landed (party (run_of w more) of)
     → Invariant txn (puts_back of (party w of).landed (run_of w more))
 back_stands txn after w more who.Requester stands has =
@@ -72,7 +72,7 @@ back_stands txn after w more who.Responder stands has =
 -- ---- two desks
 
 -- Two desks show the copy that was put back, in each transaction.
-pub shows_copy : (txn : Qualifiers) (of : Who) (copy : SidesOf) (w : DeskParties)
+pub shows_copy : (txn : Qualifiers) (of : Role) (copy : SidesOf) (w : DeskParties)
     → project txn (desk_puts_back of copy w) ≡ puts_back of (side_for txn copy) (project txn w)
 shows_copy txn who.Requester copy w =
     ap (λ p. record (project txn w) { requester = p }) (restarts_seen (record w.requester { landed = copy }) txn)
@@ -80,18 +80,18 @@ shows_copy txn who.Responder copy w =
     ap (λ p. record (project txn w) { responder = p }) (restarts_seen (record w.responder { landed = copy }) txn)
 
 -- Returns the landed side of `txn` at desk `of`.
-abbrev pub landed_at : Qualifiers → DeskParties → Who → Side
+abbrev pub landed_at : Qualifiers → DeskParties → Role → Side
 landed_at txn w of = side_for txn (party w of).landed
 
 -- A desk shows its landed side.
-shows_landed : (txn : Qualifiers) (w : DeskParties) (of : Who) → (party (project txn w) of).landed ≡ landed_at txn w of
+shows_landed : (txn : Qualifiers) (w : DeskParties) (of : Role) → (party (project txn w) of).landed ≡ landed_at txn w of
 shows_landed txn w who.Requester = refl
 shows_landed txn w who.Responder = refl
 
 -- A copy of a desk that has landed before `more` may be put back after it. The invariant holds in each transaction in
 -- which it has every sent message.
 pub desk_back_stands : EachProjects → EachStands → (txn : Qualifiers) → After txn → (w : DeskParties) (more : List DeskEvent)
-    (of : Who)
+    (of : Role)
     → DesksInvariant w → HasAllSent (landed_at txn w of) (party (project txn (desks_run w more)) of)
     → Invariant txn (project txn (desk_puts_back of (party w of).landed (desks_run w more)))
 desk_back_stands projects stand txn after w more of stands has =

@@ -10,7 +10,7 @@ use Rattle.ill_values.specs.Bodies.{is_ill_request, is_returned, is_shipped}
 use Rattle.ill_core.specs.Issued.{message, has_message_with, is_none}
 use Rattle.ill_core.specs.Rules.{implies}
 use Rattle.ill_core.specs.ResponderEvidence as responder
-use Rattle.ill_saved.specs.declared.role.Role.{Role as Who}
+use Rattle.ill_saved.specs.declared.role.Role.{Role}
 use Rattle.ill_saved.specs.declared.role.Role.TheVariants as who
 use Rattle.ill_saved.specs.declared.side.Side.{Side}
 use Rattle.ill_saved.specs.declared.side.Side.TheVariants as sides
@@ -93,7 +93,7 @@ supplied txn (sides.Requester x) (sides.Requester y) responder_sent requester_se
 -- ---- a side that is held, and is reached
 
 -- An idle side has issued nothing.
-pub idle_issues : (role : Who) (txn : Qualifiers) → issued_of (idle_side role txn) ≡ []
+pub idle_issues : (role : Role) (txn : Qualifiers) → issued_of (idle_side role txn) ≡ []
 idle_issues who.Requester txn = refl
 idle_issues who.Responder txn = refl
 
@@ -128,7 +128,7 @@ module _ (projects : EachProjects) (reaches : EachReaches) (w : DeskParties) (st
     (n : ℕ)
     (a : Apdu) where
   -- If a message settles a side that has issued a message, it settles this side at its desk.
-  settles_there : (role : Who) (among : List State) → sent_message (sent_for txn (party w (other role)).sent) n ≡ Some a
+  settles_there : (role : Role) (among : List State) → sent_message (sent_for txn (party w (other role)).sent) n ≡ Some a
       → (issued_of (held_for txn (party w role).live).side ≡ [] → ⊥)
       → let after = happens (project txn w) (events.Deliver role n) in Settles among after.0 (party after.1 role).live
       → let after = desks_happen w (desk_events.Deliver role txn n) in

@@ -16,7 +16,7 @@ use Rattle.ill_values.specs.Bodies.{is_ill_request}
 use Rattle.ill_core.specs.Issued.{message, is_same_txn}
 use Rattle.ill_saved.specs.declared.fault.DeskFault.{DeskFault}
 use Rattle.ill_saved.specs.declared.fault.DeskFault.TheVariants as faults
-use Rattle.ill_saved.specs.declared.role.Role.{Role as Who}
+use Rattle.ill_saved.specs.declared.role.Role.{Role}
 use Rattle.ill_saved.specs.declared.role.Role.TheVariants as who
 use Rattle.ill_saved.specs.declared.side.Side.{Side}
 use Rattle.ill_saved.specs.declared.side.Action.{Action}
@@ -408,7 +408,7 @@ known_permitted w stands (desk_events.Deliver role of n) is =
 known_permitted w stands event is = tt
 
 -- After an event `DesksCount` holds of two desks.
-pub count_at : RowsGrow → (w : DeskParties) (event : DeskEvent) → DesksInvariant w → (role : Who)
+pub count_at : RowsGrow → (w : DeskParties) (event : DeskEvent) → DesksInvariant w → (role : Role)
     → who_of (plain event) ≡ role
     → DesksCount (happens_at w role (λ p partner. desk_happens_to p partner.sent event)).1
 count_at grows w event stands who.Requester is =
@@ -438,7 +438,7 @@ never_full true false None room reaches = room refl refl
 never_full false has_room None room reaches = search rules
 
 -- A delivery is not DeskFull, if a desk without room holds the transaction of each sent message.
-none_full : EachReaches → (w : DeskParties) → DesksInvariant w → (role : Who) (txn : Qualifiers) (n : ℕ)
+none_full : EachReaches → (w : DeskParties) → DesksInvariant w → (role : Role) (txn : Qualifiers) (n : ℕ)
     → ((a : Apdu) → sent_message (sent_for txn (party w (other role)).sent) n ≡ Some a
     → found_by txn_held txn (party w role).live.held ≡ None → nat_lt (length (party w role).live.held) 1000 ≡ false → ⊥)
     → (desks_happen w (desk_events.Deliver role txn n)).0 ≡ DeskFull → ⊥
@@ -494,7 +494,7 @@ responder_room w stands txn n a sent none full =
     omega (arith, few.1, more, ltb-false (length w.responder.live.held) 1000 full, length-map w.responder.live.held txn_held)
 
 -- If two desks satisfy `DesksInvariant`, no delivery is DeskFull.
-pub finds_room : EachReaches → (w : DeskParties) (role : Who) (txn : Qualifiers) (n : ℕ) → DesksInvariant w
+pub finds_room : EachReaches → (w : DeskParties) (role : Role) (txn : Qualifiers) (n : ℕ) → DesksInvariant w
     → (desks_happen w (desk_events.Deliver role txn n)).0 ≡ DeskFull → ⊥
 finds_room reaches w who.Requester txn n stands =
     none_full reaches w stands who.Requester txn n (λ a sent none full. none_sent w stands txn n a sent none)

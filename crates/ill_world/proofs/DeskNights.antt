@@ -6,7 +6,7 @@ use Rattle.std.proofs.lemmas.Bool.{or_parts, or_from}
 use Rattle.ill_values.specs.TxnId.{Qualifiers}
 use Rattle.ill_values.specs.declared.apdu.Apdu.{Apdu}
 use Rattle.ill_core.specs.Issued.{is_same_txn}
-use Rattle.ill_saved.specs.declared.role.Role.{Role as Who}
+use Rattle.ill_saved.specs.declared.role.Role.{Role}
 use Rattle.ill_saved.specs.declared.role.Role.TheVariants as who
 use Rattle.ill_saved.specs.declared.side.Side.{Side}
 use Rattle.ill_saved.specs.Side.{issued_of, txn_of, idle_side}
@@ -99,12 +99,12 @@ module _ (wants : Side → Bool) where
 -- ---- a night
 
 -- Returns the events by which all messages of `side` are sent and delivered.
-abbrev passes_of : Who → Side → List Event
+abbrev passes_of : Role → Side → List Event
 passes_of role side = sends_and_delivers role 1 (length (issued_of side))
 
 module _ (projects : EachProjects) (reaches : EachReaches) (after : EachStands) (txn : Qualifiers) where
   -- In `txn` the half of the selected sides is the half of its side, if `wants` holds of it.
-  half_if_alike : (wants : Side → Bool) (w : DeskParties) (role : Who) → DesksInvariant w
+  half_if_alike : (wants : Side → Bool) (w : DeskParties) (role : Role) → DesksInvariant w
       → project txn (desks_run w (desk_half_if wants role w))
       ≡ run_of (project txn w) (half_if (wants (party (project txn w) role).live) role (project txn w))
   unfolding run_by side_with sends_and_delivers

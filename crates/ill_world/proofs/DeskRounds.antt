@@ -15,7 +15,7 @@ use Rattle.ill_values.specs.Bodies.{is_ill_request, is_requesters}
 use Rattle.ill_core.specs.Issued.{message, is_same_txn, first_refusal}
 use Rattle.ill_core.specs.Responder.{ResponderRecord, responder_of}
 use Rattle.ill_core.specs.ResponderDeliveries.{take_message}
-use Rattle.ill_saved.specs.declared.role.Role.{Role as Who}
+use Rattle.ill_saved.specs.declared.role.Role.{Role}
 use Rattle.ill_saved.specs.declared.role.Role.TheVariants as who
 use Rattle.ill_saved.specs.declared.side.Side.{Side}
 use Rattle.ill_saved.specs.declared.side.Side.TheVariants as sides
@@ -90,12 +90,12 @@ unheld_issues txn live none = ap (λ o. issued_of (found_or (idle_held live.role
 -- ---- one event
 
 -- The projection has the party that the desk of `role` shows.
-pub shown : (txn : Qualifiers) (w : DeskParties) (role : Who) → party (project txn w) role ≡ party_for txn (party w role)
+pub shown : (txn : Qualifiers) (w : DeskParties) (role : Role) → party (project txn w) role ≡ party_for txn (party w role)
 shown txn w who.Requester = refl
 shown txn w who.Responder = refl
 
 -- If a party is replaced by itself, the world is unchanged.
-same_party : (v : Parties) (role : Who) → with_party v role (party v role) ≡ v
+same_party : (v : Parties) (role : Role) → with_party v role (party v role) ≡ v
 same_party v who.Requester = refl
 same_party v who.Responder = refl
 
@@ -152,7 +152,7 @@ module _ (projects : EachProjects) (reaches : EachReaches) (after : EachStands) 
       (project txn (desks_happen w event).1) (desks_happen w event).0 (projects txn w event stands) room stays
 
   -- `HappensAlike` holds of a Send in `txn`.
-  send_alike : (w : DeskParties) (role : Who) (n : ℕ) → DesksInvariant w → HappensAlike w (desk_events.Send role txn n)
+  send_alike : (w : DeskParties) (role : Role) (n : ℕ) → DesksInvariant w → HappensAlike w (desk_events.Send role txn n)
   send_alike w role n stands = alike w event (same_self txn) stands
       (λ full. begins_in_room has_room found (reached DeskFull full)) stays
     where
@@ -179,7 +179,7 @@ module _ (projects : EachProjects) (reaches : EachReaches) (after : EachStands) 
           ap (with_party v role) (idle_sends (party v role) n (nat_le n (party v role).released) nothing) ∙ same_party v role
 
   -- If a delivery does not reach its transaction, the side that is shown does not change.
-  idle_stays : (w : DeskParties) (role : Who) (n : ℕ) (a : Apdu) → DesksInvariant w
+  idle_stays : (w : DeskParties) (role : Role) (n : ℕ) (a : Apdu) → DesksInvariant w
       → sent_message (sent_for txn (party w (other role)).sent) n ≡ Some a
       → (desks_happen w (desk_events.Deliver role txn n)).0 ≡ NoSuchTransaction
       → (receives (party (project txn w) role) (Some a)).1 ≡ party (project txn w) role
@@ -194,7 +194,7 @@ module _ (projects : EachProjects) (reaches : EachReaches) (after : EachStands) 
       found : Option DeskEntry
       found = found_by txn_held txn (party w role).live.held
 
-      go : (to : Who) → sent_message (sent_for txn (party w (other to)).sent) n ≡ Some a
+      go : (to : Role) → sent_message (sent_for txn (party w (other to)).sent) n ≡ Some a
           → (found_by txn_held txn (party w to).live.held ≡ None) × (is_ill_request a.body ≡ false)
           → (receives (party (project txn w) to) (Some a)).1 ≡ party (project txn w) to
       go who.Requester sent missed = absurd (none_sent w stands txn n a sent missed.0)
@@ -206,7 +206,7 @@ module _ (projects : EachProjects) (reaches : EachReaches) (after : EachStands) 
           (ap (λ side. (takes side a).1) idle ∙ idle_takes txn a missed.1 ∙ sym idle)
 
   -- `HappensAlike` holds of a delivery in `txn`.
-  deliver_alike : (w : DeskParties) (role : Who) (n : ℕ) → DesksInvariant w → HappensAlike w (desk_events.Deliver role txn n)
+  deliver_alike : (w : DeskParties) (role : Role) (n : ℕ) → DesksInvariant w → HappensAlike w (desk_events.Deliver role txn n)
   deliver_alike w role n stands = alike w event (same_self txn) stands (λ full. finds_room reaches w role txn n stands full) stays
     where
       event : DeskEvent
@@ -229,7 +229,7 @@ module _ (projects : EachProjects) (reaches : EachReaches) (after : EachStands) 
   -- ---- the messages of a side
 
   -- To pass on messages of `txn` leads the projection on as two parties.
-  passes_alike : (w : DeskParties) (role : Who) (n count : ℕ) → DesksInvariant w
+  passes_alike : (w : DeskParties) (role : Role) (n count : ℕ) → DesksInvariant w
       → project txn (desks_run w (map (in_txn txn) (sends_and_delivers role n count)))
       ≡ run_of (project txn w) (sends_and_delivers role n count)
   unfolding sends_and_delivers run_by
@@ -245,7 +245,7 @@ module _ (projects : EachProjects) (reaches : EachReaches) (after : EachStands) 
       ∙ ap (λ v. (happens v (events.Deliver (other role) n)).1) (send_alike w role n stands))
 
   -- To pass on messages of another transaction leaves the projection unchanged.
-  others_stay : (of : Qualifiers) → is_same_txn txn of ≡ false → (w : DeskParties) (role : Who) (n count : ℕ) → DesksInvariant w
+  others_stay : (of : Qualifiers) → is_same_txn txn of ≡ false → (w : DeskParties) (role : Role) (n count : ℕ) → DesksInvariant w
       → project txn (desks_run w (map (in_txn of) (sends_and_delivers role n count))) ≡ project txn w
   unfolding sends_and_delivers run_by
   others_stay of apart w role n zero stands = refl
@@ -261,13 +261,13 @@ module _ (projects : EachProjects) (reaches : EachReaches) (after : EachStands) 
   -- ---- the messages of a desk
 
   -- The messages of sides are passed on by those of the first side, and then those of the others.
-  passes_both : (w : DeskParties) (role : Who) (side : Side) (more : List Side)
+  passes_both : (w : DeskParties) (role : Role) (side : Side) (more : List Side)
       → desks_run w (flat_map (passes_side role) (side ∷ more))
       ≡ desks_run (desks_run w (passes_side role side)) (flat_map (passes_side role) more)
   passes_both w role side more = run_both desks_happen w (passes_side role side) (flat_map (passes_side role) more)
 
   -- To pass on the messages of sides of other transactions leaves the projection unchanged.
-  sides_stay : (w : DeskParties) (role : Who) (all : List Side) → is_one_of txn (map txn_of all) ≡ false → DesksInvariant w
+  sides_stay : (w : DeskParties) (role : Role) (all : List Side) → is_one_of txn (map txn_of all) ≡ false → DesksInvariant w
       → project txn (desks_run w (flat_map (passes_side role) all)) ≡ project txn w
   unfolding run_by
   sides_stay w role [] none stands = refl
@@ -278,7 +278,7 @@ module _ (projects : EachProjects) (reaches : EachReaches) (after : EachStands) 
       ∙ others_stay (txn_of side) parts.0 w role 1 (length (issued_of side)) stands
 
   -- No two of the sides are of one transaction. To pass on their messages is, in `txn`, to pass on those of its side.
-  pub sides_alike : (w : DeskParties) (role : Who) (idle : Side) → issued_of idle ≡ [] → (all : List Side)
+  pub sides_alike : (w : DeskParties) (role : Role) (idle : Side) → issued_of idle ≡ [] → (all : List Side)
       → AreApart (map txn_of all) → DesksInvariant w
       → project txn (desks_run w (flat_map (passes_side role) all))
       ≡ run_of (project txn w) (sends_and_delivers role 1 (length (issued_of (found_or idle (found_by txn_of txn all)))))
@@ -318,7 +318,7 @@ module _ (projects : EachProjects) (reaches : EachReaches) (after : EachStands) 
   -- ---- a round
 
   -- No two sides that a desk holds are of one transaction.
-  pub held_apart : (w : DeskParties) (role : Who) → DesksInvariant w
+  pub held_apart : (w : DeskParties) (role : Role) → DesksInvariant w
       → AreApart (map txn_of (sides_held (party w role).live).sides)
   held_apart w who.Requester stands =
       let few = stands.counts.0 in
@@ -328,7 +328,7 @@ module _ (projects : EachProjects) (reaches : EachReaches) (after : EachStands) 
       subst AreApart (sym (map-map txn_of (λ (held : DeskEntry). held.side) w.responder.live.held)) known.0
 
   -- In `txn` the half of a round of a desk is the half of a round of its side.
-  half_alike : (w : DeskParties) (role : Who) → DesksInvariant w
+  half_alike : (w : DeskParties) (role : Role) → DesksInvariant w
       → project txn (desks_run w (desk_half_of role w)) ≡ run_of (project txn w) (half_of role (project txn w))
   unfolding run_by side_with
   half_alike w role stands = saved_alike

@@ -8,7 +8,7 @@ use Rattle.ill_core.specs.declared.refusal.Refusal.TheVariants.{WrongRole}
 use Rattle.ill_core.specs.Issued.{message}
 use Rattle.ill_saved.specs.declared.fault.DeskFault.{DeskFault}
 use Rattle.ill_saved.specs.declared.fault.DeskFault.TheVariants as faults
-use Rattle.ill_saved.specs.declared.role.Role.{Role as Who}
+use Rattle.ill_saved.specs.declared.role.Role.{Role}
 use Rattle.ill_saved.specs.declared.role.Role.TheVariants as who
 use Rattle.ill_saved.specs.declared.side.Side.{Side}
 use Rattle.ill_saved.specs.declared.side.Side.TheVariants as sides
@@ -54,7 +54,7 @@ seen_in f false expected old new outcome seen = ap f seen
 
 -- The outcome and the projection to `txn` are as expected after an event at the desk of `role`. Or the projection is
 -- unchanged.
-abbrev SeenAt : Qualifiers → DeskParties → Who → DeskEvent → Type 0
+abbrev SeenAt : Qualifiers → DeskParties → Role → DeskEvent → Type 0
 SeenAt txn w role event =
     let after = happens_at w role (λ p partner. desk_happens_to p partner.sent event) in
     IsSeenAs (if_reached after.0 (concerns txn event))
@@ -62,7 +62,7 @@ SeenAt txn w role event =
     (project txn after.1)
 
 -- If `PartySeen` holds at the desk of `role`, `SeenAt` holds of both desks. The other desk is unchanged.
-seen_at : (txn : Qualifiers) (w : DeskParties) (role : Who) (event : DeskEvent)
+seen_at : (txn : Qualifiers) (w : DeskParties) (role : Role) (event : DeskEvent)
     → PartySeen txn (party w role) (party w (other role)).sent event → SeenAt txn w role event
 seen_at txn w who.Requester event seen =
     let after = desk_happens_to w.requester w.responder.sent event in
@@ -104,7 +104,7 @@ responders_txn txn (sides.Responder y) partner_sent n a stands at =
 responders_txn txn (sides.Requester x) partner_sent n a stands at = absurd stands
 
 -- If `DesksInvariant` holds of two desks, `KeepsTo` holds of each.
-pub keeps_to : (w : DeskParties) (role : Who) → DesksInvariant w → KeepsTo role (party w role) (party w (other role)).sent
+pub keeps_to : (w : DeskParties) (role : Role) → DesksInvariant w → KeepsTo role (party w role) (party w (other role)).sent
 keeps_to w who.Requester stands = record {
   role_is = stands.requester.0;
   role_held = λ txn. requesters txn (held_for txn w.requester.live).side (sent_for txn w.responder.sent)
@@ -130,37 +130,38 @@ desk_projects grows rows txn w event stands =
 -- ---- a desk keeps its role
 
 -- A decision at a held side leaves the roles of a desk.
-acted_role : (role : Who) (p : DeskParty) (held : DeskEntry) (result : Result Side Refusal) → IsDeskOf role p
+acted_role : (role : Role) (p : DeskParty) (held : DeskEntry) (result : Result Side Refusal) → IsDeskOf role p
     → IsDeskOf role (desk_decides p (acted_at p.live held result)).1
 acted_role role p held (Ok new) is = is
 acted_role role p held (Err refusal) is = is
 
 -- A decision leaves the roles of a desk, if its side is reached or not.
-reached_role : (role : Who) (p : DeskParty) (action : Action) (found : Result DeskEntry DeskFault) → IsDeskOf role p
+reached_role : (role : Role) (p : DeskParty) (action : Action) (found : Result DeskEntry DeskFault) → IsDeskOf role p
     → IsDeskOf role (desk_decides p (acts_reached p.live action found)).1
 reached_role role p action (Ok held) is = acted_role role p held (acts held.side action) is
 reached_role role p action (Err fault) is = is
 
 -- A decision leaves the roles of a desk, if its role may act or not.
-decided_role : (role : Who) (p : DeskParty) (action : Action) (found : Result DeskEntry DeskFault) (may : Bool) → IsDeskOf role p
+decided_role : (role : Role) (p : DeskParty) (action : Action) (found : Result DeskEntry DeskFault) (may : Bool) → IsDeskOf role p
     → IsDeskOf role (desk_decides p (if may then acts_reached p.live action found else Err (faults.Core WrongRole))).1
 decided_role role p action found true is = reached_role role p action found is
 decided_role role p action found false is = is
 
 -- A message that a held side takes leaves the live role of a desk.
-took_role : (role : Who) (p : DeskParty) (held : DeskEntry) (answer : Result _ Refusal) (new : Side) → IsDeskOf role p
+took_role : (role : Role) (p : DeskParty) (held : DeskEntry) (answer : Result _ Refusal) (new : Side) → IsDeskOf role p
     → (took_at p.live held (answer, new)).1.role ≡ role
 took_role role p held (Ok _) new is = is.0
 took_role role p held (Err refusal) new is = is.0
 
 -- A message leaves the live role of a desk, if its side is reached or not.
-takes_role : (role : Who) (p : DeskParty) (a : Apdu) (found : Result DeskEntry DeskFault) → IsDeskOf role p
+takes_role : (role : Role) (p : DeskParty) (a : Apdu) (found : Result DeskEntry DeskFault) → IsDeskOf role p
     → (takes_reached p.live a found).1.role ≡ role
 takes_role role p a (Ok held) is = took_role role p held (takes held.side a).0 (takes held.side a).1 is
 takes_role role p a (Err fault) is = is.0
 
 -- A delivery leaves the roles of a desk.
-pub receives_role : (role : Who) (p : DeskParty) (found : Option Apdu) → IsDeskOf role p → IsDeskOf role (desk_receives p found).1
+pub receives_role : (role : Role) (p : DeskParty) (found : Option Apdu) → IsDeskOf role p
+    → IsDeskOf role (desk_receives p found).1
 receives_role role p None is = is
 receives_role role p (Some a) is = (go (is_own p.live.role a.body), is.1)
   where
@@ -170,20 +171,20 @@ receives_role role p (Some a) is = (go (is_own p.live.role a.body), is.1)
     go false = takes_role role p a (side_for_call p.live a.txn (is_ill_request a.body)) is
 
 -- A Send leaves the roles of a desk, if the sent message does.
-sends_role : (role : Who) (p : DeskParty) (after : Apdu → DeskParty) (issued : Option Apdu) (released : Bool)
+sends_role : (role : Role) (p : DeskParty) (after : Apdu → DeskParty) (issued : Option Apdu) (released : Bool)
     → IsDeskOf role p → ((a : Apdu) → IsDeskOf role (after a)) → IsDeskOf role (sends_by p after issued released).1
 sends_role role p after None released is sent = is
 sends_role role p after (Some a) false is sent = is
 sends_role role p after (Some a) true is sent = sent a
 
 -- A Send of message n in transaction `of` leaves the roles of a desk.
-send_role : (role : Who) (p : DeskParty) (of : Qualifiers) (n : ℕ) (found : Option DeskEntry) → IsDeskOf role p
+send_role : (role : Role) (p : DeskParty) (of : Qualifiers) (n : ℕ) (found : Option DeskEntry) → IsDeskOf role p
     → IsDeskOf role (desk_sends p of n found).1
 send_role role p of n None is = is
 send_role role p of n (Some held) is = sends_role role p _ _ _ is (λ a. is)
 
 -- Each event leaves the roles of its desk.
-pub role_kept : (role : Who) (p : DeskParty) (partner_sent : List Sending) (event : DeskEvent) → IsDeskOf role p
+pub role_kept : (role : Role) (p : DeskParty) (partner_sent : List Sending) (event : DeskEvent) → IsDeskOf role p
     → IsDeskOf role (desk_happens_to p partner_sent event).1
 role_kept role p partner_sent (events.Wish of wish) is =
     decided_role role p (actions.Wish wish) (side_for_call p.live of (begins (actions.Wish wish)))
@@ -200,7 +201,7 @@ role_kept role p partner_sent (events.Noise at bytes) is = is
 role_kept role p partner_sent (events.Restart at) is = (is.1, is.1)
 
 -- Each event leaves the roles of both desks.
-roles_kept : (w : DeskParties) (role : Who) (event : DeskEvent) → IsDeskOf who.Requester w.requester
+roles_kept : (w : DeskParties) (role : Role) (event : DeskEvent) → IsDeskOf who.Requester w.requester
     → IsDeskOf who.Responder w.responder
     → let after = (happens_at w role (λ p partner. desk_happens_to p partner.sent event)).1 in
     IsDeskOf who.Requester after.requester × IsDeskOf who.Responder after.responder

@@ -12,7 +12,7 @@ use Rattle.ill_values.specs.Bodies.{is_ill_request}
 use Rattle.ill_core.specs.Issued.{message, is_same_txn}
 use Rattle.ill_saved.specs.declared.fault.DeskFault.{DeskFault}
 use Rattle.ill_saved.specs.declared.fault.DeskFault.TheVariants as faults
-use Rattle.ill_saved.specs.declared.role.Role.{Role as Who}
+use Rattle.ill_saved.specs.declared.role.Role.{Role}
 use Rattle.ill_saved.specs.declared.role.Role.TheVariants as who
 use Rattle.ill_saved.specs.declared.side.Side.{Side}
 use Rattle.ill_saved.specs.declared.side.Side.TheVariants as sides
@@ -76,12 +76,12 @@ sent_after txn of all n a =
     ∙ sent_either (is_same_txn txn of) (record { txn = txn; sent = nothing_sent }) new (found_by txn_sent txn all)
 
 -- An idle entry is an idle side, all of whose messages are released.
-whole_idle : (role : Who) (txn : Qualifiers) → idle_held role txn ≡ whole (idle_side role txn)
+whole_idle : (role : Role) (txn : Qualifiers) → idle_held role txn ≡ whole (idle_side role txn)
 whole_idle who.Requester txn = refl
 whole_idle who.Responder txn = refl
 
 -- If a side is found, its entry is found. Else an idle entry is the entry of an idle side.
-whole_found : (role : Who) (txn : Qualifiers) (found : Option Side)
+whole_found : (role : Role) (txn : Qualifiers) (found : Option Side)
     → found_or (idle_held role txn) (option_map whole found) ≡ whole (found_or (idle_side role txn) found)
 whole_found role txn (Some side) = refl
 whole_found role txn None = whole_idle role txn
@@ -94,12 +94,12 @@ whole_for txn all =
     ∙ whole_found all.role txn (found_by txn_of txn all.sides)
 
 -- An idle side of `txn` has the transaction `txn`.
-pub idle_txn : (role : Who) (txn : Qualifiers) → txn_of (idle_side role txn) ≡ txn
+pub idle_txn : (role : Role) (txn : Qualifiers) → txn_of (idle_side role txn) ≡ txn
 idle_txn who.Requester txn = refl
 idle_txn who.Responder txn = refl
 
 -- The entry found for `txn`, or an idle entry of `txn`, has the transaction `txn`.
-found_txn : (role : Who) (txn : Qualifiers) (held : List DeskEntry) (found : Option DeskEntry)
+found_txn : (role : Role) (txn : Qualifiers) (held : List DeskEntry) (found : Option DeskEntry)
     → found_by txn_held txn held ≡ found → txn_held (found_or (idle_held role txn) found) ≡ txn
 found_txn role txn held (Some there) e = sym (found_is txn_held txn held there e)
 found_txn role txn held None e = idle_txn role txn
@@ -386,7 +386,7 @@ PartySeen txn p partner_sent event =
     (party_for txn p) after.0 (party_for txn after.1)
 
 -- The desk and all its sides are of `role`. Each message of `partner_sent` is of the transaction in which it was sent.
-pub record KeepsTo (role : Who) (p : DeskParty) (partner_sent : List Sending) : Type 0 where
+pub record KeepsTo (role : Role) (p : DeskParty) (partner_sent : List Sending) : Type 0 where
   pub role_is : p.live.role ≡ role
   pub role_held : (txn : Qualifiers) → role_of (held_for txn p.live).side ≡ role
   pub txn_of_sent : (txn : Qualifiers) (n : ℕ) (a : Apdu) → sent_message (sent_for txn partner_sent) n ≡ Some a → txn ≡ a.txn
@@ -402,9 +402,9 @@ own_refused (sides.Responder y) a is own =
     rw (same, own) refl
 
 -- `PartySeen` holds of a delivery at a desk that satisfies `KeepsTo`.
-delivers_seen : RowsGrow → RefusalsChangeNothing → (role : Who) (p : DeskParty) (partner_sent : List Sending)
+delivers_seen : RowsGrow → RefusalsChangeNothing → (role : Role) (p : DeskParty) (partner_sent : List Sending)
     → KeepsTo role p partner_sent
-    → (to : Who) (of : Qualifiers) (n : ℕ) (found : Option Apdu) → sent_message (sent_for of partner_sent) n ≡ found
+    → (to : Role) (of : Qualifiers) (n : ℕ) (found : Option Apdu) → sent_message (sent_for of partner_sent) n ≡ found
     → (txn : Qualifiers)
     → Seen (received p partner_sent n) of p txn (desk_receives p found)
 delivers_seen grows rows role p partner_sent keeps to of n None e txn =
@@ -418,12 +418,12 @@ delivers_seen grows rows role p partner_sent keeps to of n (Some a) e txn =
     (ap (λ r. is_own r a.body) (keeps.role_held a.txn ∙ sym keeps.role_is) ∙ own)) txn)
 
 -- A role is `is_same_role` as itself.
-same_role : (role : Who) → is_same_role role role ≡ true
+same_role : (role : Role) → is_same_role role role ≡ true
 same_role who.Requester = refl
 same_role who.Responder = refl
 
 -- A desk of `role` may act in this role.
-pub may_act : (p : DeskParty) (role : Who) → p.live.role ≡ role → is_same_role p.live.role role ≡ true
+pub may_act : (p : DeskParty) (role : Role) → p.live.role ≡ role → is_same_role p.live.role role ≡ true
 may_act p role is = ap (λ r. is_same_role r role) is ∙ same_role role
 
 -- `PartySeen` holds of each event at a desk that satisfies `KeepsTo`.

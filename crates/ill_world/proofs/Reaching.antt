@@ -8,7 +8,7 @@ use Rattle.ill_core.specs.declared.refusal.Refusal.TheVariants.{WrongRole}
 use Rattle.ill_values.specs.Bodies.{is_ill_request}
 use Rattle.ill_saved.specs.declared.fault.DeskFault.{DeskFault}
 use Rattle.ill_saved.specs.declared.fault.DeskFault.TheVariants as faults
-use Rattle.ill_saved.specs.declared.role.Role.{Role as Who}
+use Rattle.ill_saved.specs.declared.role.Role.{Role}
 use Rattle.ill_saved.specs.declared.role.Role.TheVariants as who
 use Rattle.ill_saved.specs.declared.side.Side.{Side}
 use Rattle.ill_saved.specs.declared.side.Action.{Action}
@@ -84,7 +84,7 @@ takes_reaches p a others =
     (nat_lt (length p.live.held) most_sides) (idle_held p.live.role a.txn) (found_by txn_held a.txn p.live.held))
 
 -- A message that the other desk has sent is of a type that this role does not issue.
-sent_by_other : (w : DeskParties) (role : Who) → DesksInvariant w → (txn : Qualifiers) (n : ℕ) (a : Apdu)
+sent_by_other : (w : DeskParties) (role : Role) → DesksInvariant w → (txn : Qualifiers) (n : ℕ) (a : Apdu)
     → sent_message (sent_for txn (party w (other role)).sent) n ≡ Some a → is_own role a.body ≡ false
 sent_by_other w who.Requester stands txn n a sent =
     let responder = (stands.each txn).responder in responders_own txn _ _ n a responder.landed (responder.saved.landed n a sent)
@@ -93,7 +93,7 @@ sent_by_other w who.Responder stands txn n a sent =
     ap not (requesters_own txn _ _ n a requester.landed (requester.saved.landed n a sent))
 
 -- A delivery of a sent message reaches the side that is held, or one that it begins.
-delivers_reaches : (w : DeskParties) (role : Who) → DesksInvariant w
+delivers_reaches : (w : DeskParties) (role : Role) → DesksInvariant w
     → (txn : Qualifiers) (n : ℕ) (a : Apdu) (found : Option Apdu) → found ≡ Some a
     → sent_message (sent_for txn (party w (other role)).sent) n ≡ Some a
     → ReachesAt (is_ill_request a.body) (party w role) txn (desk_receives (party w role) found).0

@@ -10,7 +10,7 @@ use Rattle.ill_values.specs.declared.apdu.Apdu.{Apdu}
 use Rattle.ill_core.specs.Issued.{message}
 use Rattle.ill_saved.specs.declared.side.Side.{Side}
 use Rattle.ill_saved.specs.Side.{issued_of, takes, other, IsPrefix}
-use Rattle.ill_saved.specs.declared.role.Role.{Role as Who}
+use Rattle.ill_saved.specs.declared.role.Role.{Role}
 use Rattle.ill_saved.specs.declared.role.Role.TheVariants as who
 use Rattle.ill_world.specs.declared.event.Event.{Event}
 use Rattle.ill_world.specs.declared.event.Event.TheVariants as events
@@ -52,7 +52,7 @@ taken_is q a (Some b) is = let same : b ≡ a = search rules in ap (λ c. record
 taken_is q a None is = search rules
 
 -- Returns the world after the party `of` sends `a` as message n, and the other party takes it.
-abbrev passed : Parties → Who → ℕ → Apdu → Parties
+abbrev passed : Parties → Role → ℕ → Apdu → Parties
 passed w who.Requester n a = record {
   requester = record w.requester { sent = with_sent w.requester.sent n a };
   responder = record w.responder { live = (takes w.responder.live a).1 };
@@ -63,7 +63,7 @@ passed w who.Responder n a = record {
 }
 
 -- If the party `of` may send `a` as message n, its Send and its Deliver lead to `passed`.
-passes : (of : Who) (w : Parties) (n : ℕ) (a : Apdu) → message (issued_of (party w of).live) n ≡ Some a
+passes : (of : Role) (w : Parties) (n : ℕ) (a : Apdu) → message (issued_of (party w of).live) n ≡ Some a
     → nat_le n (party w of).released ≡ true → sent_message (with_sent (party w of).sent n a) n ≡ Some a
     → (happens (happens w (events.Send of n)).1 (events.Deliver (other of) n)).1 ≡ passed w of n a
 passes who.Requester w n a at free there =
@@ -91,12 +91,12 @@ record MaySend (p : Party) (apdus : List Apdu) : Type 0 where
   places : length p.sent ≡ 255
 
 -- The live side of the party `of` is unchanged. The live side of the other party has taken all `apdus`.
-pub record HasPassed (of : Who) (old new : Parties) (apdus : List Apdu) : Type 0 where
+pub record HasPassed (of : Role) (old new : Parties) (apdus : List Apdu) : Type 0 where
   pub live : (party new of).live ≡ (party old of).live
   pub taken : (party new (other of)).live ≡ takes_all (party old (other of)).live apdus
 
 -- After message n was passed, the party may still send all of `apdus`.
-may_still : (of : Who) (w : Parties) (n : ℕ) (a : Apdu) (apdus : List Apdu) → MaySend (party w of) apdus
+may_still : (of : Role) (w : Parties) (n : ℕ) (a : Apdu) (apdus : List Apdu) → MaySend (party w of) apdus
     → MaySend (party (passed w of n a) of) apdus
 may_still who.Requester w n a apdus may =
     record { issued = may.issued; released = may.released; few = may.few; places = places_kept w.requester.sent n a ∙ may.places }
@@ -104,14 +104,14 @@ may_still who.Responder w n a apdus may =
     record { issued = may.issued; released = may.released; few = may.few; places = places_kept w.responder.sent n a ∙ may.places }
 
 -- If `a` was passed, and then `apdus`, then `a ∷ apdus` were passed.
-passed_on : (of : Who) (w new : Parties) (n : ℕ) (a : Apdu) (apdus : List Apdu)
+passed_on : (of : Role) (w new : Parties) (n : ℕ) (a : Apdu) (apdus : List Apdu)
     → HasPassed of (passed w of n a) new apdus → HasPassed of w new (a ∷ apdus)
 unfolding takes_all
 passed_on who.Requester w new n a apdus has = record { live = has.live; taken = has.taken }
 passed_on who.Responder w new n a apdus has = record { live = has.live; taken = has.taken }
 
 -- If a party may send `prefix ++ rest`, `sends_and_delivers` passes `rest` from the end of `prefix` on.
-pass_all : (of : Who) (w : Parties) (n : ℕ) (prefix rest : List Apdu) → n ≡ length prefix + 1
+pass_all : (of : Role) (w : Parties) (n : ℕ) (prefix rest : List Apdu) → n ≡ length prefix + 1
     → MaySend (party w of) (prefix ++ rest) → HasPassed of w (run_of w (sends_and_delivers of n (length rest))) rest
 unfolding sends_and_delivers run_by takes_all
 pass_all of w n prefix [] is may = record { live = refl; taken = refl }
@@ -140,7 +140,7 @@ may_after : (p : Party) → length (issued_of p.live) ≤ 255 → length p.sent 
 may_after p few places = record { issued = refl; released = omega arith; few = few; places = places }
 
 -- In a half of a round the other party takes all messages of the party `of`.
-pub half_passes : (of : Who) (w : Parties) → length (issued_of (party w of).live) ≤ 255
+pub half_passes : (of : Role) (w : Parties) → length (issued_of (party w of).live) ≤ 255
     → length (party w of).sent ≡ 255 → HasPassed of w (run_of w (half_of of w)) (issued_of (party w of).live)
 unfolding run_by
 half_passes who.Requester w few places =
@@ -178,7 +178,7 @@ round_passes w few places few_more places_more =
 -- ---- the events of a half, as a list that grows
 
 -- After the two events of message n are added, the events of one message fewer are left.
-pub passes_grow : (of partner : Who) (n number size left : ℕ) (before sent delivered all : List Event)
+pub passes_grow : (of partner : Role) (n number size left : ℕ) (before sent delivered all : List Event)
     → partner ≡ other of → number ≡ n → size ≡ suc left → sent ≡ before ++ events.Send of number ∷ []
     → delivered ≡ sent ++ events.Deliver partner number ∷ [] → before ++ sends_and_delivers of n size ≡ all
     → delivered ++ sends_and_delivers of (n + 1) left ≡ all
@@ -195,7 +195,7 @@ passes_grow of partner n number size left before sent delivered all is_other is_
     ap (λ l. l ++ rest) two ∙ append_assoc before (events.Send of n ∷ events.Deliver (other of) n ∷ []) rest ∙ whole
 
 -- For a count of 0 there are no events to add.
-pub passes_none : (before : List Event) (of : Who) (n count : ℕ) → count ≡ 0 → before ≡ before ++ sends_and_delivers of n count
+pub passes_none : (before : List Event) (of : Role) (n count : ℕ) → count ≡ 0 → before ≡ before ++ sends_and_delivers of n count
 unfolding sends_and_delivers
 passes_none before of n zero none = sym (append-nil before)
 passes_none before of n (suc count) none = absurd (omega (arith, none))

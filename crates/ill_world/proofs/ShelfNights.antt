@@ -6,7 +6,7 @@ use Rattle.std.proofs.lemmas.Bool.{or_parts}
 use Rattle.std.proofs.lemmas.Slice.Eq.{bytes_eq-Decides}
 use Rattle.ill_values.specs.TxnId.{Qualifiers}
 use Rattle.ill_core.specs.Issued.{is_same_txn}
-use Rattle.ill_saved.specs.declared.role.Role.{Role as Who}
+use Rattle.ill_saved.specs.declared.role.Role.{Role}
 use Rattle.ill_saved.specs.declared.role.Role.TheVariants as who
 use Rattle.ill_saved.specs.declared.side.Side.{Side}
 use Rattle.ill_saved.specs.Side.{issued_of, txn_of}
@@ -75,7 +75,7 @@ module _ (group : List ℕ) where
   AllOf (side ∷ more) = ((txn_of side).group ≡ group) × AllOf more
 
   -- The events that pass on the messages of sides of the group have their home there.
-  passes_at : (role : Who) (all : List Side) → AllOf all → AllAt (flat_map (passes_side role) all)
+  passes_at : (role : Role) (all : List Side) → AllOf all → AllAt (flat_map (passes_side role) all)
   passes_at role [] of = tt
   passes_at role (side ∷ more) of =
       both_at (passes_side role side) (flat_map (passes_side role) more)
@@ -117,7 +117,7 @@ module _ (group : List ℕ) where
   LackOthers w = (txn : Qualifiers) → (txn.group ≡ group → ⊥) → BothLack txn w
 
   -- If `LackOthers` holds of two desks, all events of a half of a night have their home at the group.
-  half_at : (wants : Side → Bool) (role : Who) (w : DeskParties) → LackOthers w → AllAt (desk_half_if wants role w)
+  half_at : (wants : Side → Bool) (role : Role) (w : DeskParties) → LackOthers w → AllAt (desk_half_if wants role w)
   half_at wants who.Requester w lack =
       let all = (sides_held w.requester.live).sides in (
         refl,

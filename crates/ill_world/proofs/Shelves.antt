@@ -6,7 +6,7 @@ use Rattle.std.proofs.lemmas.Slice.Eq.{bytes_eq-Decides}
 use Rattle.ill_values.specs.TxnId.{Qualifiers}
 use Rattle.ill_values.specs.declared.apdu.Apdu.{Apdu}
 use Rattle.ill_core.specs.Issued.{is_same_txn}
-use Rattle.ill_saved.specs.declared.role.Role.{Role as Who}
+use Rattle.ill_saved.specs.declared.role.Role.{Role}
 use Rattle.ill_saved.specs.declared.role.Role.TheVariants as who
 use Rattle.ill_saved.specs.Holdings.{DeskEntry}
 use Rattle.ill_saved.specs.ManySides.{found_by, txn_held}
@@ -121,7 +121,7 @@ permits_other txn partner_sent event txn_of_sent names = tt
 
 -- If both desks lack `txn`, they lack it after an event that names another transaction.
 lack_at : RowsGrow → (txn : Qualifiers) (w : DeskParties) (event : DeskEvent) → DesksInvariant w → NamesOther txn event
-    → BothLack txn w → (role : Who)
+    → BothLack txn w → (role : Role)
     → BothLack txn (happens_at w role (λ p partner. desk_happens_to p partner.sent event)).1
 lack_at grows txn w event stands names lack who.Requester =
     let new = (desk_happens_to w.requester w.responder.sent event).1 in (
@@ -194,14 +194,14 @@ none_held txn p lacks = go (found_by txn_held txn p.live.held) (has_found txn_he
     go None is = refl
 
 -- If both desks lack `txn`, neither holds a side of it.
-neither_holds : (txn : Qualifiers) (w : DeskParties) (role : Who) → BothLack txn w
+neither_holds : (txn : Qualifiers) (w : DeskParties) (role : Role) → BothLack txn w
     → found_by txn_held txn (party w role).live.held ≡ None
 neither_holds txn w who.Requester lack = none_held txn w.requester lack.0
 neither_holds txn w who.Responder lack = none_held txn w.responder lack.1
 
 -- The desks of a group hold no transaction of another group.
 pub none_elsewhere : RowsGrow → EachStands → DesksInvariant first_desks
-    → (txn : Qualifiers) (group : List ℕ) (all : List ShelfEvent) (role : Who) → (txn.group ≡ group → ⊥)
+    → (txn : Qualifiers) (group : List ℕ) (all : List ShelfEvent) (role : Role) → (txn.group ≡ group → ⊥)
     → found_by txn_held txn (party (shelves_run first_shelves all group) role).live.held ≡ None
 none_elsewhere grows after first txn group all role apart =
     neither_holds txn (shelves_run first_shelves all group) role

@@ -30,7 +30,7 @@ use Rattle.ill_saved.specs.declared.side.Action.{Action}
 use Rattle.ill_saved.specs.declared.side.Action.TheVariants as actions
 use Rattle.ill_saved.specs.Side.{done_by, acts, takes, issued_of, other}
 use Rattle.ill_world.specs.World.{Parties, first_party, first_world, with_party, party, who_of, happens, happens_to, sent_message}
-use Rattle.ill_saved.specs.declared.role.Role.{Role as Who}
+use Rattle.ill_saved.specs.declared.role.Role.{Role}
 use Rattle.ill_saved.specs.declared.role.Role.TheVariants as who
 use Rattle.ill_world.specs.declared.event.Event.{Event}
 use Rattle.ill_world.specs.Invariant.{WasSent, RequesterInvariant, ResponderInvariant, RequesterSideInvariant}
@@ -304,7 +304,7 @@ world_first txn = record {
 }
 
 -- If an event happens to the party `of`, and the other party stays, the invariant is kept.
-world_kept : TransitionsKeepDue → (txn : Qualifiers) (w : Parties) (of : Who) (event : Event) → RowsGrow
+world_kept : TransitionsKeepDue → (txn : Qualifiers) (w : Parties) (of : Role) (event : Event) → RowsGrow
     → Keeps (RequesterSideInvariant txn) → Keeps (ResponderSideInvariant txn) → Invariant txn w
     → Invariant txn (with_party w of (happens_to (party w of) (party w (other of)).sent event).1)
 world_kept rows txn w who.Requester event grows requester_kept responder_kept stands = record {

@@ -2,7 +2,7 @@
 use Rattle.std.proofs.Common.{◌≡◌, inl, inr, Result, Ok, Err, refl, sym, ap, ◌∙◌, subst}
 use Rattle.ill_values.specs.TxnId.{Qualifiers}
 use Rattle.ill_saved.specs.declared.side.Side.{Side}
-use Rattle.ill_saved.specs.declared.role.Role.{Role as Who}
+use Rattle.ill_saved.specs.declared.role.Role.{Role}
 use Rattle.ill_saved.specs.declared.role.Role.TheVariants as who
 use Rattle.ill_world.specs.declared.event.Event.{Event}
 use Rattle.ill_world.specs.declared.event.Event.TheVariants as events
@@ -15,7 +15,7 @@ use Rattle.ill_world.specs.Invariant.{Invariant}
 use Rattle.ill_world.specs.Agreement.{KeepsDates}
 
 -- The first party of an idle side of `txn` is a party of the first world.
-first_side : (role : Who) (txn t : Qualifiers) (side : Side) (p : Party) → t ≡ txn → side ≡ idle_side role t
+first_side : (role : Role) (txn t : Qualifiers) (side : Side) (p : Party) → t ≡ txn → side ≡ idle_side role t
     → p ≡ first_party side → p ≡ party (first_world txn) role
 first_side who.Requester txn t side p copied idle new = new ∙ ap first_party (idle ∙ ap (idle_side who.Requester) copied)
 first_side who.Responder txn t side p copied idle new = new ∙ ap first_party (idle ∙ ap (idle_side who.Responder) copied)
@@ -32,12 +32,13 @@ first_is txn t u x y p q copied again idle_x idle_y new_x new_y =
 -- ---- one event of the world, as an event of a party
 
 -- If a member of a pair is replaced by itself, the pair is unchanged.
-stays_whole : {P : Type 0} (w : TwoOf P) (of : Who) → with_party w of (party w of) ≡ w
+stays_whole : {P : Type 0} (w : TwoOf P) (of : Role) → with_party w of (party w of) ≡ w
 stays_whole w who.Requester = refl
 stays_whole w who.Responder = refl
 
 -- If a call gives the expected outcome and party, it gives the expected outcome and world.
-pub both_give : {M O P : Type 0} (happening : P → P → O × P) (w : TwoOf P) (at of : Who) (result : Result O M) (new : P) → at ≡ of
+pub both_give : {M O P : Type 0} (happening : P → P → O × P) (w : TwoOf P) (at of : Role) (result : Result O M) (new : P)
+    → at ≡ of
     → GivesOutcome (happening (party w of) (party w (other of))) (party w of) result new
     → GivesOutcome (happens_at w at happening) w result (with_party w of new)
 both_give {O = O} {P = P} happening w at of (Ok outcome) new is gives =
@@ -45,7 +46,7 @@ both_give {O = O} {P = P} happening w at of (Ok outcome) new is gives =
 both_give happening w at of (Err memory) new is same = ap (with_party w of) same ∙ stays_whole w of
 
 -- If a call gives the outcome of an event and its party, it gives the outcome and the world.
-pub world_gives : {M : Type 0} → (w : Parties) (event : Event) (of : Who) (result : Result Outcome M) (new : Party)
+pub world_gives : {M : Type 0} → (w : Parties) (event : Event) (of : Role) (result : Result Outcome M) (new : Party)
     → who_of event ≡ of
     → GivesOutcome (happens_to (party w of) (party w (other of)).sent event) (party w of) result new
     → GivesOutcome (happens w event) w result (with_party w of new)

@@ -6,7 +6,7 @@ use Rattle.ill_core.specs.declared.state.State.{State}
 use Rattle.ill_core.specs.declared.refusal.Refusal.{Refusal}
 use Rattle.ill_core.specs.declared.refusal.Refusal.TheVariants.{WrongRole, OutOfMemory}
 use Rattle.ill_core.specs.declared.taking.Taking.TheVariants.{Repeat, Stale, Conflict}
-use Rattle.ill_saved.specs.declared.role.Role.{Role as Who}
+use Rattle.ill_saved.specs.declared.role.Role.{Role}
 use Rattle.ill_words.specs.declared.outcome.Outcome.{Outcome}
 use Rattle.ill_words.specs.declared.outcome.Outcome.TheVariants.{Faulted, Answered, Refused, NoSuchMessage, NotSaved, NotSent}
 use Rattle.ill_words.specs.declared.outcome.Outcome.TheVariants.{Garbled, Forged}
@@ -34,11 +34,11 @@ pub data ChangesMore (old new : Party) : Type 0 where
 -- more than a landed side has changed.
 pub data ChangesTooMuch (old new : Parties) : Outcome → Type 0 where
   by_nothing : (outcome : Outcome) → DoesNothing outcome → (new ≡ old → ⊥) → ChangesTooMuch old new outcome
-  by_a_fault : (who : Who) → ChangesMore (party old who) (party new who) → ChangesTooMuch old new Faulted
+  by_a_fault : (who : Role) → ChangesMore (party old who) (party new who) → ChangesTooMuch old new Faulted
 
 -- A message that `who` had sent is not in its `sent` under its number.
 pub data LosesSent (old new : Parties) : Type 0 where
-  lost : (who : Who) (n : ℕ) (a : Apdu) → sent_message (party old who).sent n ≡ Some a →
+  lost : (who : Role) (n : ℕ) (a : Apdu) → sent_message (party old who).sent n ≡ Some a →
       (sent_message (party new who).sent n ≡ Some a → ⊥) → LosesSent old new
 
 -- The outcome is a refusal that no event may have.

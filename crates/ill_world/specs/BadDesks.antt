@@ -13,7 +13,7 @@ use Rattle.ill_values.specs.Bodies.{is_final, is_ill_request}
 use Rattle.ill_core.specs.declared.requester.Wish.{Wish as RequesterWish}
 use Rattle.ill_core.specs.declared.responder.Deed.{Deed as ResponderDeed}
 use Rattle.ill_core.specs.Requester.{later}
-use Rattle.ill_saved.specs.declared.role.Role.{Role as Who}
+use Rattle.ill_saved.specs.declared.role.Role.{Role}
 use Rattle.ill_saved.specs.declared.role.Role.TheVariants.{Requester, Responder}
 use Rattle.ill_saved.specs.declared.side.Action.TheVariants as actions
 use Rattle.ill_saved.specs.declared.side.Side.{Side}
@@ -60,8 +60,8 @@ desk_of w event = party w (who_of (plain event))
 pub data MayBegin (w : DeskParties) (txn : Qualifiers) (may : Bool) : DeskEvent → Type 0 where
   by_wish : (wish : RequesterWish) → begins (actions.Wish wish) ≡ may → MayBegin w txn may (Wish txn wish)
   by_deed : (deed : ResponderDeed) (today : Date) → may ≡ false → MayBegin w txn may (Deed txn deed today)
-  by_sending : (who : Who) (n : ℕ) → may ≡ false → MayBegin w txn may (Send who txn n)
-  by_delivery : (who : Who) (n : ℕ) (a : Apdu) → sent_message (sent_for txn (party w (other who)).sent) n ≡ Some a →
+  by_sending : (who : Role) (n : ℕ) → may ≡ false → MayBegin w txn may (Send who txn n)
+  by_delivery : (who : Role) (n : ℕ) (a : Apdu) → sent_message (sent_for txn (party w (other who)).sent) n ≡ Some a →
       is_ill_request a.body ≡ may → MayBegin w txn may (Deliver who txn n)
 
 -- The event has the wrong outcome where no side is held. Each case gives one reason.

@@ -10,7 +10,7 @@ use Rattle.ill_core.specs.Requester.{RequesterRecord}
 use Rattle.ill_core.specs.Responder.{ResponderRecord}
 use Rattle.ill_saved.specs.declared.side.Side.TheVariants as sides
 use Rattle.ill_saved.specs.Side.{issued_of}
-use Rattle.ill_saved.specs.declared.role.Role.{Role as Who}
+use Rattle.ill_saved.specs.declared.role.Role.{Role}
 use Rattle.ill_saved.specs.declared.role.Role.TheVariants.{Requester, Responder}
 use Rattle.ill_world.specs.declared.event.Event.{Event}
 use Rattle.ill_world.specs.declared.event.Event.TheVariants.{Wish, Deed, Save, Send, Deliver}
@@ -29,20 +29,20 @@ pub data IsAmiss (P : RequesterRecord → ResponderRecord → Type 0) (w : Parti
 -- ---- a round that is cut short
 
 -- Returns the half of a round of `who` without its last message.
-abbrev pub cut_half : Who → Parties → List Event
+abbrev pub cut_half : Role → Parties → List Event
 cut_half who w = Save who ∷ sends_and_delivers who 1 (length (issued_of (party w who).live) - 1)
 
 -- Returns a round without the last message of the given party.
-abbrev pub cut_round : Who → Parties → List Event
+abbrev pub cut_round : Role → Parties → List Event
 cut_round Requester w = cut_half Requester w ++ half_of Responder (run_of w (cut_half Requester w))
 cut_round Responder w = half_of Requester w ++ cut_half Responder (run_of w (half_of Requester w))
 
 -- Returns the half of a round of `who` without its first message.
-abbrev pub late_half : Who → Parties → List Event
+abbrev pub late_half : Role → Parties → List Event
 late_half who w = Save who ∷ sends_and_delivers who 2 (length (issued_of (party w who).live) - 1)
 
 -- Returns a round without the first message of the given party.
-abbrev pub late_round : Who → Parties → List Event
+abbrev pub late_round : Role → Parties → List Event
 late_round Requester w = late_half Requester w ++ half_of Responder (run_of w (late_half Requester w))
 late_round Responder w = half_of Requester w ++ late_half Responder (run_of w (half_of Requester w))
 
@@ -69,20 +69,20 @@ abbrev pub refusal : List Event
 refusal = arrival ++ Deed (deeds.Answer Unfilled) first_day ∷ []
 
 -- Returns events that end with an issued message of `who`. It has not reached the other party.
-abbrev pub until_unheard : Who → List Event
+abbrev pub until_unheard : Role → List Event
 until_unheard Requester = request
 until_unheard Responder = request ++ refusal
 
 -- Returns the world after these events, in which the last message of `who` has not reached the other party.
-abbrev pub last_unheard : Who → Parties
+abbrev pub last_unheard : Role → Parties
 last_unheard who = run_of (first_world named_loan) (until_unheard who)
 
 -- Returns events that end with two issued messages of `who`. The requester asks, and then cancels. The responder ships,
 -- and then recalls the item. Neither message has reached the other party.
-abbrev pub until_two_unheard : Who → List Event
+abbrev pub until_two_unheard : Role → List Event
 until_two_unheard Requester = request ++ Wish wishes.Cancel ∷ []
 until_two_unheard Responder = request ++ arrival ++ Deed (deeds.Ship first_day) first_day ∷ Deed deeds.Recall first_day ∷ []
 
 -- Returns the world after these events, in which two messages of `who` have not reached the other party.
-abbrev pub two_unheard : Who → Parties
+abbrev pub two_unheard : Role → Parties
 two_unheard who = run_of (first_world named_loan) (until_two_unheard who)

@@ -4,7 +4,7 @@ use Rattle.ill_values.specs.declared.apdu.Apdu.{Apdu}
 use Rattle.ill_core.specs.declared.refusal.Refusal.{Refusal}
 use Rattle.ill_core.specs.declared.refusal.Refusal.TheVariants.{WrongRole, OutOfMemory}
 use Rattle.ill_core.specs.declared.taking.Taking.TheVariants.{Taken}
-use Rattle.ill_saved.specs.declared.role.Role.{Role as Who}
+use Rattle.ill_saved.specs.declared.role.Role.{Role}
 use Rattle.ill_words.specs.declared.outcome.Outcome.{Outcome}
 use Rattle.ill_words.specs.declared.outcome.Outcome.TheVariants.{Done, Saved, Faulted, Sent, Answered, Refused, Restarted}
 use Rattle.ill_world.specs.World.{Party, Parties, party, sent_message}
@@ -32,7 +32,7 @@ MayChange Landed other old new = new ≡ old
 -- Each message that either party had sent is still in its `sent`, under its number.
 abbrev pub KeepsSent : Parties → Parties → Type 0
 KeepsSent old new =
-    (who : Who) (n : ℕ) (a : Apdu) → sent_message (party old who).sent n ≡ Some a →
+    (who : Role) (n : ℕ) (a : Apdu) → sent_message (party old who).sent n ≡ Some a →
     sent_message (party new who).sent n ≡ Some a
 
 -- Returns true if a refusal can be an outcome. Only WrongRole and OutOfMemory cannot.

@@ -8,7 +8,7 @@ use Rattle.ill_core.specs.Issued.{message}
 use Rattle.ill_saved.specs.declared.side.Side.{Side}
 use Rattle.ill_saved.specs.Side.{issued_of}
 use Rattle.ill_saved.specs.Sides.{SidesOf}
-use Rattle.ill_saved.specs.declared.role.Role.{Role as Who}
+use Rattle.ill_saved.specs.declared.role.Role.{Role}
 use Rattle.ill_saved.specs.declared.role.Role.TheVariants.{Requester, Responder}
 use Rattle.ill_world.specs.declared.event.Event.{Event}
 use Rattle.ill_world.specs.declared.event.Event.TheVariants.{Deed, Save, Send, Deliver}
@@ -17,11 +17,11 @@ use Rattle.ill_world.specs.Desks.{DeskParties, desk_restarts}
 use Rattle.ill_world.specs.BadRounds.{named_loan, request, arrival, first_day}
 
 -- Returns `w` after `copy` was put back at `who`. The copy is its landed side, with which it restarts.
-abbrev pub puts_back : Who → Side → Parties → Parties
+abbrev pub puts_back : Role → Side → Parties → Parties
 puts_back who copy w = with_party w who (restarts (record (party w who) { landed = copy }))
 
 -- Returns two desks after `copy` was put back at desk `who`.
-abbrev pub desk_puts_back : Who → SidesOf → DeskParties → DeskParties
+abbrev pub desk_puts_back : Role → SidesOf → DeskParties → DeskParties
 desk_puts_back who copy w = with_party w who (desk_restarts (record (party w who) { landed = copy }))
 
 -- The copy has each message that `p` has sent, under its number.

@@ -3,7 +3,7 @@ use Rattle.std.specs.Prelude.{Bool, false, List, ◌++◌, filter}
 use Rattle.ill_saved.specs.declared.side.Side.{Side}
 use Rattle.ill_saved.specs.Side.{txn_of}
 use Rattle.ill_saved.specs.ManySides.{held_for, sides_held}
-use Rattle.ill_saved.specs.declared.role.Role.{Role as Who}
+use Rattle.ill_saved.specs.declared.role.Role.{Role}
 use Rattle.ill_saved.specs.declared.role.Role.TheVariants.{Requester, Responder}
 use Rattle.ill_world.specs.declared.event.DeskEvent.{DeskEvent}
 use Rattle.ill_world.specs.World.{party}
@@ -13,7 +13,7 @@ use Rattle.ill_words.specs.Sending.{wants_sending}
 use Rattle.ill_world.specs.Night.{asks}
 
 -- Returns the save of desk `who`, and then events that pass on all messages of those sides that `wants` selects.
-abbrev pub desk_half_if : (Side → Bool) → Who → DeskParties → List DeskEvent
+abbrev pub desk_half_if : (Side → Bool) → Role → DeskParties → List DeskEvent
 desk_half_if wants who w = saves_and_passes who (filter wants (sides_held (party w who).live).sides)
 
 -- Returns true if the requester's desk asks in the transaction of `side`.

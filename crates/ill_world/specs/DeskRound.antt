@@ -3,7 +3,7 @@ use Rattle.std.specs.Prelude.{List, ◌∷◌, ◌++◌, length, map, flat_map}
 use Rattle.ill_saved.specs.declared.side.Side.{Side}
 use Rattle.ill_saved.specs.Side.{issued_of, txn_of}
 use Rattle.ill_saved.specs.ManySides.{sides_held}
-use Rattle.ill_saved.specs.declared.role.Role.{Role as Who}
+use Rattle.ill_saved.specs.declared.role.Role.{Role}
 use Rattle.ill_saved.specs.declared.role.Role.TheVariants.{Requester, Responder}
 use Rattle.ill_world.specs.declared.event.DeskEvent.{DeskEvent}
 use Rattle.ill_world.specs.declared.event.DeskEvent.TheVariants.{Save}
@@ -13,15 +13,15 @@ use Rattle.ill_world.specs.DeskScript.{in_txn}
 use Rattle.ill_world.specs.Round.{sends_and_delivers}
 
 -- Returns a Send and a Deliver for each message of `side`, in its transaction.
-abbrev pub passes_side : Who → Side → List DeskEvent
+abbrev pub passes_side : Role → Side → List DeskEvent
 passes_side who side = map (in_txn (txn_of side)) (sends_and_delivers who 1 (length (issued_of side)))
 
 -- Returns the save of desk `who`, and then events that pass on the messages of `sides`, side after side.
-abbrev pub saves_and_passes : Who → List Side → List DeskEvent
+abbrev pub saves_and_passes : Role → List Side → List DeskEvent
 saves_and_passes who sides = Save who ∷ flat_map (passes_side who) sides
 
 -- Returns the save of desk `who`, and then events that pass on all messages of all sides that it holds.
-abbrev pub desk_half_of : Who → DeskParties → List DeskEvent
+abbrev pub desk_half_of : Role → DeskParties → List DeskEvent
 desk_half_of who w = saves_and_passes who (sides_held (party w who).live).sides
 
 -- Returns the half of the requester's desk, and then that of the responder's.

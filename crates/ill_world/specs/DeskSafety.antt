@@ -5,7 +5,7 @@ use Rattle.ill_values.specs.declared.apdu.Apdu.{Apdu}
 use Rattle.ill_core.specs.declared.state.State.{State}
 use Rattle.ill_core.specs.declared.state.State.TheVariants as states
 use Rattle.ill_values.specs.Bodies.{is_end, is_returned}
-use Rattle.ill_saved.specs.declared.role.Role.{Role as Who}
+use Rattle.ill_saved.specs.declared.role.Role.{Role}
 use Rattle.ill_saved.specs.declared.role.Role.TheVariants.{Requester, Responder}
 use Rattle.ill_saved.specs.declared.side.Side.{Side}
 use Rattle.ill_saved.specs.ManySides.{held_for}
@@ -23,7 +23,7 @@ use Rattle.ill_world.specs.Invariant.{Invariant}
 -- ---- why
 
 -- The desk has this role, and so have its landed sides.
-abbrev pub IsDeskOf : Who → DeskParty → Type 0
+abbrev pub IsDeskOf : Role → DeskParty → Type 0
 IsDeskOf role p = (p.live.role ≡ role) × (p.landed.role ≡ role)
 
 -- Each desk has its role, and `DesksCount` holds. The projection to each transaction satisfies the invariant.

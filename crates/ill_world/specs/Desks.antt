@@ -11,7 +11,7 @@ use Rattle.ill_core.specs.Issued.{message, is_same_txn}
 use Rattle.ill_saved.specs.declared.fault.DeskFault.{DeskFault}
 use Rattle.ill_saved.specs.declared.fault.DeskFault.TheVariants as faults
 use Rattle.ill_saved.specs.declared.side.Action.TheVariants as actions
-use Rattle.ill_saved.specs.declared.role.Role.{Role as Who}
+use Rattle.ill_saved.specs.declared.role.Role.{Role}
 use Rattle.ill_saved.specs.declared.role.Role.TheVariants.{Requester, Responder}
 use Rattle.ill_saved.specs.Side.{issued_of}
 use Rattle.ill_saved.specs.Sides.{SidesOf}
@@ -48,7 +48,7 @@ abbrev pub DeskParties : Type 0
 DeskParties = TwoOf DeskParty
 
 -- Returns a desk in `role` that holds nothing, and has landed and sent nothing.
-abbrev pub first_desk : Who → DeskParty
+abbrev pub first_desk : Role → DeskParty
 first_desk role = record {
   live = record { role = role; held = [] };
   landed = record { role = role; sides = [] };

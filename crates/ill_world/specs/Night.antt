@@ -8,7 +8,7 @@ use Rattle.ill_core.specs.Responder.{ResponderRecord}
 use Rattle.ill_saved.specs.declared.side.Side.{Side}
 use Rattle.ill_saved.specs.declared.side.Side.TheVariants as sides
 use Rattle.ill_saved.specs.Side.{issued_of}
-use Rattle.ill_saved.specs.declared.role.Role.{Role as Who}
+use Rattle.ill_saved.specs.declared.role.Role.{Role}
 use Rattle.ill_saved.specs.declared.role.Role.TheVariants.{Requester, Responder}
 use Rattle.ill_world.specs.declared.event.Event.{Event}
 use Rattle.ill_world.specs.declared.event.Event.TheVariants.{Save}
@@ -26,7 +26,7 @@ asks requester = wants_sending false requester && not (is_none (issued_of reques
 -- ---- the events of a night
 
 -- Returns the half of a round of `who` if the Bool is true. Else it returns the save of `who` alone.
-abbrev pub half_if : Bool → Who → Parties → List Event
+abbrev pub half_if : Bool → Role → Parties → List Event
 half_if true who w = half_of who w
 half_if false who w = Save who ∷ []
 

@@ -10,7 +10,7 @@ use Rattle.ill_core.specs.Requester.{RequesterRecord, is_declined, is_received_b
 use Rattle.ill_core.specs.Responder.{ResponderRecord, due_of, later}
 use Rattle.ill_saved.specs.declared.side.Side.{Side}
 use Rattle.ill_saved.specs.Side.{issued_of, other, IsPrefix}
-use Rattle.ill_saved.specs.declared.role.Role.{Role as Who}
+use Rattle.ill_saved.specs.declared.role.Role.{Role}
 use Rattle.ill_saved.specs.declared.role.Role.TheVariants.{Requester, Responder}
 use Rattle.ill_world.specs.declared.event.Event.{Event}
 use Rattle.ill_world.specs.declared.event.Event.TheVariants.{Save, Send, Deliver}
@@ -20,13 +20,13 @@ use Rattle.ill_world.specs.Agreement.{Facing}
 -- ---- the events of a round
 
 -- Returns a Send and a Deliver for each of `count` messages of `who`, from `number` on, one after another.
-unfoldable pub sends_and_delivers : Who → ℕ → ℕ → List Event
+unfoldable pub sends_and_delivers : Role → ℕ → ℕ → List Event
 sends_and_delivers who number zero = []
 sends_and_delivers who number (suc count) =
     Send who number ∷ Deliver (other who) number ∷ sends_and_delivers who (number + 1) count
 
 -- Returns the events of a half of a round: `who` saves, and all its messages are sent and delivered.
-abbrev pub half_of : Who → Parties → List Event
+abbrev pub half_of : Role → Parties → List Event
 half_of who w = Save who ∷ sends_and_delivers who 1 (length (issued_of (party w who).live))
 
 -- Returns the requester's half of a round, and then the responder's.

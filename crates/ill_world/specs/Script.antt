@@ -2,7 +2,7 @@
 use Rattle.std.specs.Prelude.{ℕ, Bool, false, not, ◌==◌, if◌then◌else◌, List, [], ◌∷◌, length, bytes_eq, codes, Option, Some}
 use Rattle.std.specs.Prelude.{None, option_map}
 use Rattle.std.specs.List.{slice_split, filter}
-use Rattle.ill_saved.specs.declared.role.Role.{Role as Who}
+use Rattle.ill_saved.specs.declared.role.Role.{Role}
 use Rattle.ill_world.specs.declared.event.Event.{Event}
 use Rattle.ill_world.specs.declared.event.Event.TheVariants.{Wish, Deed, Save, SaveFault, Send, Deliver, Noise, Restart}
 use Rattle.ill_world.specs.declared.script.ScriptLine.{ScriptLine}
@@ -22,11 +22,11 @@ deed_event (today ∷ words) = do
   Some (Deed deed day)
 
 -- Returns the event of a verb and the side `who`, without further words.
-abbrev pub bare_event : List ℕ → Who → Option Event
+abbrev pub bare_event : List ℕ → Role → Option Event
 bare_event verb who = named ((codes "save", Save who) ∷ (codes "restart", Restart who) ∷ []) verb
 
 -- Returns the event of a verb, the side `who` and one more word.
-abbrev pub event_with : List ℕ → List ℕ → Who → Option Event
+abbrev pub event_with : List ℕ → List ℕ → Role → Option Event
 event_with verb word who =
     if bytes_eq verb (codes "save-fault") then option_map (SaveFault who) (landed_named word)
     else if bytes_eq verb (codes "send") then option_map (Send who) (number_of word)

@@ -15,7 +15,7 @@ use Rattle.ill_core.specs.Issued.{message, is_same_txn}
 use Rattle.ill_saved.specs.declared.side.Side.{Side}
 use Rattle.ill_saved.specs.declared.side.Action.TheVariants as actions
 use Rattle.ill_saved.specs.Side.{issued_of, txn_of, idle_side, other, acts, takes}
-use Rattle.ill_saved.specs.declared.role.Role.{Role as Who}
+use Rattle.ill_saved.specs.declared.role.Role.{Role}
 use Rattle.ill_saved.specs.declared.role.Role.TheVariants.{Requester, Responder}
 use Rattle.ill_world.specs.declared.event.Event.{Event}
 use Rattle.ill_world.specs.declared.event.Event.TheVariants.{Wish, Deed, Save, SaveFault, Send, Deliver, Noise, Restart}
@@ -58,12 +58,12 @@ first_world txn = record {
 }
 
 -- Returns the member of `w` that has the given role.
-abbrev pub party : {P : Type 0} → TwoOf P → Who → P
+abbrev pub party : {P : Type 0} → TwoOf P → Role → P
 party w Requester = w.requester
 party w Responder = w.responder
 
 -- Returns `w` with `p` in the given role.
-abbrev pub with_party : {P : Type 0} → TwoOf P → Who → P → TwoOf P
+abbrev pub with_party : {P : Type 0} → TwoOf P → Role → P → TwoOf P
 with_party w Requester p = record w { requester = p }
 with_party w Responder p = record w { responder = p }
 
@@ -141,7 +141,7 @@ happens_to p sent (Noise who bytes) = (hears p (apdu_at bytes), p)
 happens_to p sent (Restart who) = (Restarted, restarts p)
 
 -- Returns the role of the party to which an event happens.
-abbrev pub who_of : Event → Who
+abbrev pub who_of : Event → Role
 who_of (Wish wish) = Requester
 who_of (Deed deed today) = Responder
 who_of (Save who) = who
@@ -153,7 +153,7 @@ who_of (Restart who) = who
 
 -- Returns the outcome of `happening` at the member with role `who`, and the world after it. `happening` takes the other
 -- member too, which stays unchanged.
-abbrev pub happens_at : {P O : Type 0} → TwoOf P → Who → (P → P → O × P) → O × TwoOf P
+abbrev pub happens_at : {P O : Type 0} → TwoOf P → Role → (P → P → O × P) → O × TwoOf P
 happens_at w who happening =
     let after = happening (party w who) (party w (other who)) in
     (after.0, with_party w who after.1)

@@ -3,7 +3,7 @@
 ghost use Rattle.std.specs.Prelude.{◌≡◌, ◌++◌, ℕ, Bool, List, [], ◌∷◌, Option, Some, None, Result, Err};
 ghost use Rattle.ill_values.specs.TxnId.{Qualifiers};
 ghost use Rattle.ill_saved.specs.Side.{IsPrefix};
-ghost use Rattle.ill_saved.specs.declared.role.Role.{Role as Who};
+ghost use Rattle.ill_saved.specs.declared.role.Role.{Role};
 ghost use Rattle.ill_saved.specs.declared.role.Role.TheVariants.{Requester};
 ghost use Rattle.ill_saved.specs.ManySides.{found_by, txn_held, side_for};
 ghost use Rattle.ill_saved.specs.Sides.{SidesOf};
@@ -157,7 +157,7 @@ pub fn transactions_have_their_events()
     ensures order { (txn : Qualifiers) (w : DeskParties) (before after : List DeskEvent) →
         events_for txn w (before ++ after)
         ≡ events_for txn w before ++ events_for txn (desks_run w before) after }
-    ensures whole { (txn : Qualifiers) (w : DeskParties) (who : Who) (landed : Bool) →
+    ensures whole { (txn : Qualifiers) (w : DeskParties) (who : Role) (landed : Bool) →
         events_for txn w (Save who ∷ SaveFault who landed ∷ Restart who ∷ [])
         ≡ events.Save who ∷ events.SaveFault who landed ∷ events.Restart who ∷ [] }
     ensures named { (txn : Qualifiers) (w : DeskParties) (event : DeskEvent) (outcome : Outcome) →
@@ -167,7 +167,7 @@ pub fn transactions_have_their_events()
         Names another event → (txn ≡ another → ⊥) → events_for txn w (event ∷ []) ≡ [] }
     ensures unreached { (txn : Qualifiers) (w : DeskParties) (event : DeskEvent) →
         IsNotReached (desks_happen w event).0 → events_for txn w (event ∷ []) ≡ [] }
-    ensures noise { (txn : Qualifiers) (w : DeskParties) (who : Who) (bytes : List ℕ) →
+    ensures noise { (txn : Qualifiers) (w : DeskParties) (who : Role) (bytes : List ℕ) →
         events_for txn w (Noise who bytes ∷ []) ≡ [] }
 {}
 
@@ -188,9 +188,9 @@ pub fn no_bad_desk_event_passes()
 /// Two desks show a copy that is put back as a copy in each transaction. If two desks satisfy `DesksInvariant`, a copy of
 /// what has landed may be put back later. Each transaction is safe then in which it has every message that was sent.
 pub fn a_copy_of_a_desk_may_be_put_back()
-    ensures each { (txn : Qualifiers) (w : DeskParties) (who : Who) (copy : SidesOf) →
+    ensures each { (txn : Qualifiers) (w : DeskParties) (who : Role) (copy : SidesOf) →
         project txn (desk_puts_back who copy w) ≡ puts_back who (side_for txn copy) (project txn w) }
-    ensures safe { (txn : Qualifiers) (w : DeskParties) (more : List DeskEvent) (who : Who) → DesksInvariant w →
+    ensures safe { (txn : Qualifiers) (w : DeskParties) (more : List DeskEvent) (who : Role) → DesksInvariant w →
         let copy = (party w who).landed in let now = desks_run w more in
         HasAllSent (side_for txn copy) (party (project txn now) who) →
         Safe (project txn (desk_puts_back who copy now)) }
@@ -230,9 +230,9 @@ pub fn no_bad_desk_trace_is_written()
 /// If two desks satisfy `DesksInvariant`, the delivery of a message is never `DeskFull`, and so in no run. A delivery
 /// to the requester's desk is `NotSent` in each transaction that it does not hold.
 pub fn deliveries_find_room()
-    ensures room { (w : DeskParties) (who : Who) (txn : Qualifiers) (n : ℕ) → DesksInvariant w →
+    ensures room { (w : DeskParties) (who : Role) (txn : Qualifiers) (n : ℕ) → DesksInvariant w →
         (desks_happen w (Deliver who txn n)).0 ≡ DeskFull → ⊥ }
-    ensures run { (events : List DeskEvent) (who : Who) (txn : Qualifiers) (n : ℕ) →
+    ensures run { (events : List DeskEvent) (who : Role) (txn : Qualifiers) (n : ℕ) →
         (desks_happen (desks_run first_desks events) (Deliver who txn n)).0 ≡ DeskFull → ⊥ }
     ensures unheld { (w : DeskParties) (txn : Qualifiers) (n : ℕ) → DesksInvariant w →
         found_by txn_held txn w.requester.live.held ≡ None →

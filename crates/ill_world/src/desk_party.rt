@@ -14,9 +14,9 @@ ghost use Rattle.ill_world.specs.DeskRefinement.{desk_party_of, CanBeSeen, Fault
 use crate::desk_sent::DeskSent;
 use crate::message::Message;
 use ill_der::{DerFault, decode};
-use ill_saved::{Action, Desk, DeskFault, MemoryStore, NextCall, Shown, Sides, StoreFault};
+use ill_saved::{Action, Desk, DeskFault, MemoryStore, NextCall, Role, Shown, Sides, StoreFault};
 use ill_values::{Number, OutOfMemory, TxnId};
-use ill_words::{DeskOutcome, Outcome, Who};
+use ill_words::{DeskOutcome, Outcome};
 use std::alloc::Global;
 use std::marker::Model;
 
@@ -37,7 +37,7 @@ impl Model for DeskParty {
 
 impl DeskParty {
     /// Returns a desk of this role that holds nothing. Nothing has landed, and nothing was sent.
-    pub fn new(alloc: Global, role: Who) -> Result<DeskParty, OutOfMemory>
+    pub fn new(alloc: Global, role: Role) -> Result<DeskParty, OutOfMemory>
         ensures { IfOk result (λ party. party ≡ desks.first_desk role) }
     {
         match Desk::create(alloc, MemoryStore::new(alloc), role) {

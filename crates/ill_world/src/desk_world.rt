@@ -18,9 +18,9 @@ use crate::desk_party::{DeskParty, heard};
 use crate::event::DeskEvent;
 use crate::trace::push_line;
 use crate::world::{copy, sends_and_delivers};
-use ill_saved::{Action, Side, Sides};
+use ill_saved::{Action, Role, Side, Sides};
 use ill_values::{OutOfMemory, TxnId};
-use ill_words::{DeskOutcome, Outcome, Who};
+use ill_words::{DeskOutcome, Outcome};
 use std::alloc::Global;
 use std::marker::Model;
 
@@ -46,8 +46,8 @@ impl DeskWorld {
     {
         desk_laws::desks_stand();
         Ok(DeskWorld {
-            requester: DeskParty::new(alloc, Who::Requester)?,
-            responder: DeskParty::new(alloc, Who::Responder)?,
+            requester: DeskParty::new(alloc, Role::Requester)?,
+            responder: DeskParty::new(alloc, Role::Responder)?,
         })
     }
 
@@ -83,12 +83,12 @@ impl DeskWorld {
     {
         let _ = &self.requester; // makes the invariant of these desks known
         desk_laws::one_desk_round_is_enough();
-        self.pass_on(alloc, Who::Requester)?;
-        self.pass_on(alloc, Who::Responder)
+        self.pass_on(alloc, Role::Requester)?;
+        self.pass_on(alloc, Role::Responder)
     }
 
     /// Performs half of a round. It saves the desk `who`, and sends and delivers all messages of its sides, in order.
-    fn pass_on(&mut self, alloc: Global, who: Who) -> Result<(), OutOfMemory>
+    fn pass_on(&mut self, alloc: Global, who: Role) -> Result<(), OutOfMemory>
         ensures { Performs model.desks_run (desk_half_of who self.old) self.old result self.new }
     {
         let events = half_of_desk_round(alloc, who, self.sides(who))?;
@@ -120,23 +120,23 @@ impl DeskWorld {
     }
 
     /// Returns the sides that the desk `who` holds in memory.
-    fn sides(&self, who: Who) -> &Sides
+    fn sides(&self, who: Role) -> &Sides
         ensures { result.now ≡ sides_held (party self.now who).live }
     {
         match who {
-            Who::Requester => self.requester(),
-            Who::Responder => self.responder(),
+            Role::Requester => self.requester(),
+            Role::Responder => self.responder(),
         }
     }
 
     /// Returns the count of the released messages of `txn` at a desk. The messages with numbers up to it may be sent.
     /// If the side is not held, no message is released.
-    pub fn released(&self, who: Who, txn: &TxnId) -> u8
+    pub fn released(&self, who: Role, txn: &TxnId) -> u8
         ensures { result ≡ (held_for txn.now (party self.now who).live).released }
     {
         match who {
-            Who::Requester => self.requester.released(txn),
-            Who::Responder => self.responder.released(txn),
+            Role::Requester => self.requester.released(txn),
+            Role::Responder => self.responder.released(txn),
         }
     }
 
@@ -178,7 +178,11 @@ pub fn run_desks(alloc: Global, events: &[DeskEvent]) -> Result<DeskWorld, OutOf
 }
 
 /// Returns the events of half of a round. The desk `who` is saved, and all messages of `sides` are sent and delivered.
-fn half_of_desk_round(alloc: Global, who: Who, sides: &Sides) -> Result<Vec<DeskEvent>, OutOfMemory>
+fn half_of_desk_round(
+    alloc: Global,
+    who: Role,
+    sides: &Sides,
+) -> Result<Vec<DeskEvent>, OutOfMemory>
     ensures { IfOk result (λ events. events.items ≡ saves_and_passes who sides.now.sides) }
 {
     let mut events = Vec::new(alloc);
@@ -196,7 +200,7 @@ fn half_of_desk_round(alloc: Global, who: Who, sides: &Sides) -> Result<Vec<Desk
 fn push_passes(
     events: &mut Vec<DeskEvent>,
     alloc: Global,
-    who: Who,
+    who: Role,
     side: &Side,
 ) -> Result<(), OutOfMemory>
     ensures { OnOk result (events.new.items ≡ events.old.items ++ passes_side who side.now) }
@@ -221,8 +225,8 @@ fn happen(
         (record { requester = requester.new; responder = responder.new }) }
 {
     match event.who() {
-        Who::Requester => perform(requester, responder, alloc, event),
-        Who::Responder => perform(responder, requester, alloc, event),
+        Role::Requester => perform(requester, responder, alloc, event),
+        Role::Responder => perform(responder, requester, alloc, event),
     }
 }
 

@@ -6,8 +6,9 @@ ghost use Rattle.ill_world.specs.Desks.{plain};
 ghost use Rattle.ill_world.specs.DeskScript.{in_txn};
 
 use ill_core::{Deed, Wish};
+use ill_saved::Role;
 use ill_values::{Day, Number, OutOfMemory, TxnId};
-use ill_words::{Bytes, Who};
+use ill_words::Bytes;
 use std::alloc::Global;
 
 /// An event may happen to one of the two sides.
@@ -18,32 +19,32 @@ pub enum Event {
     /// The responder's library does this deed, on this day.
     Deed(Deed, Day),
     /// The side is saved.
-    Save(Who),
+    Save(Role),
     /// The save of a side fails.
     SaveFault {
         /// The side whose save fails.
-        who: Who,
+        who: Role,
         /// True if the new record has landed nevertheless.
         landed: bool,
     },
     /// The side sends its message with this number.
-    Send(Who, Number),
+    Send(Role, Number),
     /// This side takes the message of the other side with this number.
-    Deliver(Who, Number),
+    Deliver(Role, Number),
     /// This side gets bytes that the other side has not sent.
-    Noise(Who, Bytes),
+    Noise(Role, Bytes),
     /// The side in memory is replaced by the one that has landed.
-    Restart(Who),
+    Restart(Role),
 }
 
 impl Event {
     /// Returns the role of the side to which the event happens.
-    pub fn who(&self) -> Who
+    pub fn who(&self) -> Role
         ensures { result ≡ who_of self.now }
     {
         match self {
-            Event::Wish(_) => Who::Requester,
-            Event::Deed(_, _) => Who::Responder,
+            Event::Wish(_) => Role::Requester,
+            Event::Deed(_, _) => Role::Responder,
             Event::Save(who)
             | Event::SaveFault { who, .. }
             | Event::Send(who, _)
@@ -79,32 +80,32 @@ pub enum DeskEvent {
     /// The responder's library does this deed, in this transaction and on this day.
     Deed(TxnId, Deed, Day),
     /// The desk is saved.
-    Save(Who),
+    Save(Role),
     /// The save of a desk fails.
     SaveFault {
         /// The desk whose save fails.
-        who: Who,
+        who: Role,
         /// True if the new record has landed nevertheless.
         landed: bool,
     },
     /// The desk sends its message with this number, in this transaction.
-    Send(Who, TxnId, Number),
+    Send(Role, TxnId, Number),
     /// This desk takes the message of the other desk with this number, in this transaction.
-    Deliver(Who, TxnId, Number),
+    Deliver(Role, TxnId, Number),
     /// This desk gets bytes that the other desk has not sent.
-    Noise(Who, Bytes),
+    Noise(Role, Bytes),
     /// The sides in memory are replaced by those that have landed.
-    Restart(Who),
+    Restart(Role),
 }
 
 impl DeskEvent {
     /// Returns the role of the desk to which the event happens.
-    pub fn who(&self) -> Who
+    pub fn who(&self) -> Role
         ensures { result ≡ who_of (plain self.now) }
     {
         match self {
-            DeskEvent::Wish(_, _) => Who::Requester,
-            DeskEvent::Deed(_, _, _) => Who::Responder,
+            DeskEvent::Wish(_, _) => Role::Requester,
+            DeskEvent::Deed(_, _, _) => Role::Responder,
             DeskEvent::Save(who)
             | DeskEvent::SaveFault { who, .. }
             | DeskEvent::Send(who, _, _)

@@ -19,7 +19,7 @@ ghost use Rattle.ill_core.specs.ResponderActions as responder_actions;
 ghost use Rattle.ill_core.specs.ResponderDeliveries as responder_deliveries;
 ghost use Rattle.ill_core.specs.Verbs.{requester_turn, responder_turn, requester_verbs, responder_verbs};
 ghost use Rattle.ill_saved.specs.Side.{IsPrefix, issued_of};
-ghost use Rattle.ill_saved.specs.declared.role.Role.{Role as Who};
+ghost use Rattle.ill_saved.specs.declared.role.Role.{Role};
 ghost use Rattle.ill_saved.specs.declared.role.Role.TheVariants.{Requester, Responder};
 ghost use Rattle.ill_saved.specs.declared.side.Side.{Side};
 ghost use Rattle.ill_world.specs.declared.event.Event.{Event};
@@ -183,9 +183,9 @@ pub fn one_round_is_enough()
 /// a world in which it does not. A whole round brings both sides in step there.
 #[tactic(auto, using(crate::proofs::BadRounds::cut_leaves_apart, crate::proofs::BadRounds::whole_brings_in_step))]
 pub fn no_round_may_be_cut_short()
-    ensures cut { (who : Who) →
+    ensures cut { (who : Role) →
         AreInStep (run_of (last_unheard who) (cut_round who (last_unheard who))) → ⊥ }
-    ensures whole { (who : Who) →
+    ensures whole { (who : Role) →
         AreInStep (run_of (last_unheard who) (round_of (last_unheard who))) }
 {}
 
@@ -193,9 +193,9 @@ pub fn no_round_may_be_cut_short()
 /// leads to a world in which it does not, though a later message arrives. A whole round brings both sides in step there.
 #[tactic(auto, using(crate::proofs::BadRounds::late_leaves_apart, crate::proofs::BadRounds::whole_brings_both_in_step))]
 pub fn no_round_may_begin_late()
-    ensures late { (who : Who) →
+    ensures late { (who : Role) →
         AreInStep (run_of (two_unheard who) (late_round who (two_unheard who))) → ⊥ }
-    ensures whole { (who : Who) →
+    ensures whole { (who : Role) →
         AreInStep (run_of (two_unheard who) (round_of (two_unheard who))) }
 {}
 
@@ -397,17 +397,17 @@ pub fn no_bad_change_is_allowed()
 
 /// If a world satisfies the invariant, the record that has landed last has every message that was sent.
 pub fn what_landed_last_has_all_that_was_sent()
-    ensures { (txn : Qualifiers) (w : Parties) (who : Who) → Invariant txn w →
+    ensures { (txn : Qualifiers) (w : Parties) (who : Role) → Invariant txn w →
         HasAllSent (party w who).landed (party w who) }
 {}
 
 /// A copy of a record that has landed may be put back later, if it has every message that was sent. The invariant holds
 /// then, and so the world is safe after any further events.
 pub fn a_copy_with_all_that_was_sent_may_be_put_back()
-    ensures stands { (txn : Qualifiers) (w : Parties) (more : List Event) (who : Who) → Invariant txn w →
+    ensures stands { (txn : Qualifiers) (w : Parties) (more : List Event) (who : Role) → Invariant txn w →
         HasAllSent (party w who).landed (party (run_of w more) who) →
         Invariant txn (puts_back who (party w who).landed (run_of w more)) }
-    ensures run { (txn : Qualifiers) (events more further : List Event) (who : Who) →
+    ensures run { (txn : Qualifiers) (events more further : List Event) (who : Role) →
         let copied = run_of (first_world txn) events in let now = run_of copied more in
         HasAllSent (party copied who).landed (party now who) →
         IsSafeRun (puts_back who (party copied who).landed now) further }

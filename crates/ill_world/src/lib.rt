@@ -27,8 +27,10 @@ pub use desk_simulation::simulate_desks;
 pub use desk_world::{DeskWorld, run_desks};
 pub use event::{DeskEvent, Event};
 pub use fault::SimFault;
+/// The role of the side to which an event happens. `Who` is another name of it.
+pub use ill_saved::{Role, Role as Who};
 pub use ill_words::{
-    Bytes, DeskOutcome, Outcome, Who, is_over, push_shown, push_side, wants_sending, words,
+    Bytes, DeskOutcome, Outcome, is_over, push_shown, push_side, wants_sending, words,
 };
 pub use simulation::simulate;
 pub use world::{World, run};

@@ -2,7 +2,7 @@
 
 ghost use Rattle.std.specs.Prelude.{◌≡◌, ◌++◌, ℕ, List, [], ◌∷◌, None};
 ghost use Rattle.ill_values.specs.TxnId.{Qualifiers};
-ghost use Rattle.ill_saved.specs.declared.role.Role.{Role as Who};
+ghost use Rattle.ill_saved.specs.declared.role.Role.{Role};
 ghost use Rattle.ill_saved.specs.ManySides.{found_by, txn_held};
 ghost use Rattle.ill_world.specs.World.{party, first_world};
 ghost use Rattle.ill_world.specs.Desks.{first_desks, desks_happen, desks_run, project};
@@ -73,7 +73,7 @@ pub fn shelf_runs_have_each_world()
 /// sent message.
 #[tactic(auto, using(crate::proofs::Shelves::none_elsewhere, crate::proofs::Shelves::idle_elsewhere))]
 pub fn no_transaction_has_two_homes()
-    ensures held { (txn : Qualifiers) (group : List ℕ) (events : List ShelfEvent) (who : Who) →
+    ensures held { (txn : Qualifiers) (group : List ℕ) (events : List ShelfEvent) (who : Role) →
         (txn.group ≡ group → ⊥) →
         found_by txn_held txn (party (shelves_run first_shelves events group) who).live.held ≡ None }
     ensures shown { (txn : Qualifiers) (group : List ℕ) (events : List ShelfEvent) → (txn.group ≡ group → ⊥) →

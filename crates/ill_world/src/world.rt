@@ -17,9 +17,9 @@ use crate::laws;
 use crate::party::Party;
 use crate::trace::push_line;
 use ill_core::{Requester, Responder, Wish};
-use ill_saved::{Action, Side};
+use ill_saved::{Action, Role, Side};
 use ill_values::{Number, OutOfMemory, TxnId};
-use ill_words::{Outcome, Who};
+use ill_words::Outcome;
 use std::alloc::Global;
 use std::marker::Model;
 
@@ -47,8 +47,8 @@ impl World {
         ensures { IfOk result (λ world. world ≡ model.first_world txn.now) }
     {
         laws::world_stands();
-        let requester = Side::idle(alloc, Who::Requester, txn.copy(alloc)?);
-        let responder = Side::idle(alloc, Who::Responder, txn.copy(alloc)?);
+        let requester = Side::idle(alloc, Role::Requester, txn.copy(alloc)?);
+        let responder = Side::idle(alloc, Role::Responder, txn.copy(alloc)?);
         Ok(World {
             requester: Party::new(alloc, requester)?,
             responder: Party::new(alloc, responder)?,
@@ -70,8 +70,8 @@ impl World {
         laws::due_dates_stay();
         laws::one_arrival_is_enough();
         match event.who() {
-            Who::Requester => perform(&mut self.requester, &self.responder, alloc, event),
-            Who::Responder => perform(&mut self.responder, &self.requester, alloc, event),
+            Role::Requester => perform(&mut self.requester, &self.responder, alloc, event),
+            Role::Responder => perform(&mut self.responder, &self.requester, alloc, event),
         }
     }
 
@@ -85,17 +85,17 @@ impl World {
     {
         let _ = &self.requester; // makes the invariant of this world known
         laws::one_round_is_enough();
-        self.pass_on(alloc, Who::Requester)?;
-        self.pass_on(alloc, Who::Responder)
+        self.pass_on(alloc, Role::Requester)?;
+        self.pass_on(alloc, Role::Responder)
     }
 
     /// Performs half of a round. It saves the side `who`, and sends and delivers all its messages in order.
-    fn pass_on(&mut self, alloc: Global, who: Who) -> Result<(), OutOfMemory>
+    fn pass_on(&mut self, alloc: Global, who: Role) -> Result<(), OutOfMemory>
         ensures { Performs model.run_of (half_of who self.old) self.old result self.new }
     {
         let count = match who {
-            Who::Requester => self.requester().issued_count(),
-            Who::Responder => self.responder().issued_count(),
+            Role::Requester => self.requester().issued_count(),
+            Role::Responder => self.responder().issued_count(),
         };
         self.perform_all(alloc, &half_of_round(alloc, who, count)?)
     }
@@ -145,12 +145,12 @@ impl World {
     }
 
     /// Returns the count of a side's released messages. The messages with numbers up to it may be sent.
-    pub fn released(&self, who: Who) -> u8
+    pub fn released(&self, who: Role) -> u8
         ensures { result ≡ (model.party self.now who).released }
     {
         match who {
-            Who::Requester => self.requester.released(),
-            Who::Responder => self.responder.released(),
+            Role::Requester => self.requester.released(),
+            Role::Responder => self.responder.released(),
         }
     }
 }
@@ -178,7 +178,7 @@ pub fn run(alloc: Global, txn: &TxnId, events: &[Event]) -> Result<World, OutOfM
 
 /// Returns the events of half of a round. The side `who` is saved, and each of its `count` messages is sent and
 /// delivered.
-fn half_of_round(alloc: Global, who: Who, count: u8) -> Result<Vec<Event>, OutOfMemory>
+fn half_of_round(alloc: Global, who: Role, count: u8) -> Result<Vec<Event>, OutOfMemory>
     ensures { IfOk result (λ events. events.items ≡ Save who ∷ sends_and_delivers who 1 count) }
 {
     let mut events = Vec::new(alloc);
@@ -190,7 +190,7 @@ fn half_of_round(alloc: Global, who: Who, count: u8) -> Result<Vec<Event>, OutOf
 /// Returns the events by which the first `count` messages of a side are sent and delivered, one after another.
 pub(crate) fn sends_and_delivers(
     alloc: Global,
-    who: Who,
+    who: Role,
     count: u8,
 ) -> Result<Vec<Event>, OutOfMemory>
     ensures { IfOk result (λ events. events.items ≡ sends_and_delivers who 1 count) }

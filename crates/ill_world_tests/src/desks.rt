@@ -3,10 +3,10 @@
 use crate::list::EventList;
 use crate::tries::{self, Tried};
 use ill_core::{Deed, Wish};
-use ill_saved::{Side, Sides};
+use ill_saved::{Role, Side, Sides};
 use ill_test_kit::{Page, marks};
 use ill_values::{Day, Item, Number, OutOfMemory, TxnId};
-use ill_world::{Bytes, DeskEvent, DeskOutcome, DeskWorld, Who, push_side, run_desks};
+use ill_world::{Bytes, DeskEvent, DeskOutcome, DeskWorld, push_side, run_desks};
 use std::alloc::Global;
 
 /// The transaction of the first loan.
@@ -55,7 +55,7 @@ fn desk_events(alloc: Global, name: &str) -> Option<Events> {
     match name {
         "two-loans" => two_loans(&mut events, alloc),
         "two-losses" => two_losses(&mut events, alloc),
-        "noise" => events.push(noise(alloc, Who::Responder)),
+        "noise" => events.push(noise(alloc, Role::Responder)),
         "kinds" => kinds(&mut events, alloc),
         _ => return None,
     }
@@ -66,13 +66,13 @@ fn desk_events(alloc: Global, name: &str) -> Option<Events> {
 fn two_loans(events: &mut Events, alloc: Global) {
     events.push(request(alloc, FIRST, b"Maps"));
     events.push(request(alloc, SECOND, b"Atlas"));
-    events.push(Some(DeskEvent::Save(Who::Requester)));
-    events.push(sent(alloc, Who::Requester, SECOND));
+    events.push(Some(DeskEvent::Save(Role::Requester)));
+    events.push(sent(alloc, Role::Requester, SECOND));
     events.push(delivered(alloc, SECOND));
-    events.push(sent(alloc, Who::Requester, FIRST));
+    events.push(sent(alloc, Role::Requester, FIRST));
     events.push(delivered(alloc, FIRST));
     events.push(ship(alloc, FIRST));
-    events.push(Some(DeskEvent::Restart(Who::Responder)));
+    events.push(Some(DeskEvent::Restart(Role::Responder)));
     events.push(delivered(alloc, FIRST));
     events.push(recall(alloc, SECOND));
     events.push(delivered(alloc, SECOND));
@@ -82,37 +82,37 @@ fn two_loans(events: &mut Events, alloc: Global) {
 fn two_losses(events: &mut Events, alloc: Global) {
     events.push(request(alloc, FIRST, b"Maps"));
     events.push(request(alloc, SECOND, b"Atlas"));
-    events.push(Some(DeskEvent::Save(Who::Requester)));
-    events.push(sent(alloc, Who::Requester, FIRST));
-    events.push(sent(alloc, Who::Requester, SECOND));
+    events.push(Some(DeskEvent::Save(Role::Requester)));
+    events.push(sent(alloc, Role::Requester, FIRST));
+    events.push(sent(alloc, Role::Requester, SECOND));
     events.push(delivered(alloc, SECOND));
     events.push(ship(alloc, SECOND));
-    events.push(Some(DeskEvent::Save(Who::Responder)));
-    events.push(sent(alloc, Who::Responder, SECOND));
+    events.push(Some(DeskEvent::Save(Role::Responder)));
+    events.push(sent(alloc, Role::Responder, SECOND));
 }
 
 /// Adds a Shipped and a Cancel that cross, before either is sent. Then adds events of each kind at each desk.
 fn kinds(events: &mut Events, alloc: Global) {
     events.push(request(alloc, FIRST, b"Maps"));
-    events.push(Some(DeskEvent::Save(Who::Requester)));
-    events.push(sent(alloc, Who::Requester, FIRST));
+    events.push(Some(DeskEvent::Save(Role::Requester)));
+    events.push(sent(alloc, Role::Requester, FIRST));
     events.push(delivered(alloc, FIRST));
     events.push(ship(alloc, FIRST));
-    events.push(Some(DeskEvent::Save(Who::Responder)));
+    events.push(Some(DeskEvent::Save(Role::Responder)));
     events.push(cancel(alloc));
-    events.push(sent(alloc, Who::Requester, FIRST));
-    push_faults(events, alloc, Who::Requester);
+    events.push(sent(alloc, Role::Requester, FIRST));
+    push_faults(events, alloc, Role::Requester);
     events.push(request(alloc, SECOND, b"Atlas"));
-    push_restart(events, Who::Requester);
-    events.push(sent(alloc, Who::Responder, FIRST));
+    push_restart(events, Role::Requester);
+    events.push(sent(alloc, Role::Responder, FIRST));
     events.push(delivered(alloc, FIRST));
-    push_faults(events, alloc, Who::Responder);
+    push_faults(events, alloc, Role::Responder);
     events.push(recall(alloc, FIRST));
-    push_restart(events, Who::Responder);
+    push_restart(events, Role::Responder);
 }
 
 /// Adds noise, and saves that fail.
-fn push_faults(events: &mut Events, alloc: Global, who: Who) {
+fn push_faults(events: &mut Events, alloc: Global, who: Role) {
     events.push(noise(alloc, who));
     for landed in [false, true] {
         events.push(Some(DeskEvent::SaveFault { who, landed }));
@@ -120,7 +120,7 @@ fn push_faults(events: &mut Events, alloc: Global, who: Who) {
 }
 
 /// Adds a save, and a restart.
-fn push_restart(events: &mut Events, who: Who) {
+fn push_restart(events: &mut Events, who: Role) {
     events.push(Some(DeskEvent::Save(who)));
     events.push(Some(DeskEvent::Restart(who)));
 }
@@ -138,7 +138,7 @@ fn request(alloc: Global, transaction: &[u8], item: &[u8]) -> Option<DeskEvent> 
 }
 
 /// Returns the event that a side sends its message 1.
-fn sent(alloc: Global, who: Who, transaction: &[u8]) -> Option<DeskEvent> {
+fn sent(alloc: Global, who: Role, transaction: &[u8]) -> Option<DeskEvent> {
     let one = Number::new(1)?;
     Some(DeskEvent::Send(who, id(alloc, transaction)?, one))
 }
@@ -146,7 +146,7 @@ fn sent(alloc: Global, who: Who, transaction: &[u8]) -> Option<DeskEvent> {
 /// Returns the event that message 1 of the requester reaches the responder.
 fn delivered(alloc: Global, transaction: &[u8]) -> Option<DeskEvent> {
     let one = Number::new(1)?;
-    Some(DeskEvent::Deliver(Who::Responder, id(alloc, transaction)?, one))
+    Some(DeskEvent::Deliver(Role::Responder, id(alloc, transaction)?, one))
 }
 
 /// Returns the deed Ship, due on 15 March.
@@ -172,7 +172,7 @@ fn deed(alloc: Global, transaction: &[u8], deed: Deed) -> Option<DeskEvent> {
 }
 
 /// Returns the event that a forged Cancel reaches a side.
-fn noise(alloc: Global, who: Who) -> Option<DeskEvent> {
+fn noise(alloc: Global, who: Role) -> Option<DeskEvent> {
     let bytes = Bytes::new(Vec::from_slice(alloc, OTHER_CANCEL).ok()?);
     Some(DeskEvent::Noise(who, bytes))
 }
@@ -262,9 +262,9 @@ fn named(event: &DeskEvent) -> Option<&TxnId> {
 /// Prints the state of both sides of a transaction.
 fn print_sides(alloc: Global, page: &mut Page, world: &DeskWorld, txn: &TxnId) -> Option<()> {
     page.text(" requester ");
-    print_side(alloc, page, world, Who::Requester, txn)?;
+    print_side(alloc, page, world, Role::Requester, txn)?;
     page.text(" responder ");
-    print_side(alloc, page, world, Who::Responder, txn)?;
+    print_side(alloc, page, world, Role::Responder, txn)?;
     page.text("\n");
     Some(())
 }
@@ -274,7 +274,7 @@ fn print_side(
     alloc: Global,
     page: &mut Page,
     world: &DeskWorld,
-    who: Who,
+    who: Role,
     txn: &TxnId,
 ) -> Option<()> {
     marks::begin_quiet(alloc);
@@ -292,9 +292,9 @@ fn print_side(
 }
 
 /// Returns the side of a transaction at the desk of `who`, if there is one.
-fn held<'a>(world: &'a DeskWorld, who: Who, txn: &TxnId) -> Option<&'a Side> {
+fn held<'a>(world: &'a DeskWorld, who: Role, txn: &TxnId) -> Option<&'a Side> {
     match who {
-        Who::Requester => world.requester().get(txn),
-        Who::Responder => world.responder().get(txn),
+        Role::Requester => world.requester().get(txn),
+        Role::Responder => world.responder().get(txn),
     }
 }

@@ -2,8 +2,9 @@
 
 use crate::list::EventList;
 use ill_core::{Deed, Wish};
+use ill_saved::Role;
 use ill_values::{AnswerResult, Day, Item, Number};
-use ill_world::{Bytes, Event, Who};
+use ill_world::{Bytes, Event};
 use std::alloc::Global;
 
 /// A Cancel of the transaction of the tests.
@@ -38,34 +39,34 @@ pub fn events(alloc: Global, name: &str) -> Option<Events> {
 fn crossing(events: &mut Events, alloc: Global) {
     push_requested(events, alloc);
     events.push(ship());
-    push_sent(events, Who::Responder, 1);
+    push_sent(events, Role::Responder, 1);
     events.push(Some(Event::Wish(Wish::Cancel)));
-    push_sent(events, Who::Requester, 2);
-    events.push(delivered(Who::Requester, 1));
-    events.push(delivered(Who::Responder, 2));
+    push_sent(events, Role::Requester, 2);
+    events.push(delivered(Role::Requester, 1));
+    events.push(delivered(Role::Responder, 2));
 }
 
 /// Adds a Cancel that is refused, and another that is accepted.
 fn cancelled(events: &mut Events, alloc: Global) {
     push_requested(events, alloc);
     events.push(Some(Event::Wish(Wish::Cancel)));
-    push_delivered(events, Who::Requester, 2);
+    push_delivered(events, Role::Requester, 2);
     events.push(deed(Deed::CancelReply { yes: false }));
-    push_delivered(events, Who::Responder, 1);
+    push_delivered(events, Role::Responder, 1);
     events.push(Some(Event::Wish(Wish::Cancel)));
-    push_delivered(events, Who::Requester, 3);
+    push_delivered(events, Role::Requester, 3);
     events.push(deed(Deed::CancelReply { yes: true }));
-    push_delivered(events, Who::Responder, 2);
+    push_delivered(events, Role::Responder, 2);
 }
 
 /// Adds conditions that are declined.
 fn declined(events: &mut Events, alloc: Global) {
     push_requested(events, alloc);
     events.push(deed(Deed::Answer(AnswerResult::Conditional)));
-    push_delivered(events, Who::Responder, 1);
+    push_delivered(events, Role::Responder, 1);
     events.push(Some(Event::Wish(Wish::Reply { yes: false })));
-    push_delivered(events, Who::Requester, 2);
-    push_delivered(events, Who::Responder, 2);
+    push_delivered(events, Role::Requester, 2);
+    push_delivered(events, Role::Responder, 2);
 }
 
 /// Adds 256 promises to supply, one more than there are numbers.
@@ -80,23 +81,23 @@ fn promised(events: &mut Events, alloc: Global) {
 fn refused(events: &mut Events, alloc: Global) {
     events.push(Some(Event::Wish(Wish::Cancel)));
     events.push(deed(Deed::Expire));
-    events.push(sent(Who::Responder, 1));
-    events.push(delivered(Who::Responder, 1));
-    events.push(noise(alloc, Who::Requester, b""));
-    events.push(noise(alloc, Who::Requester, CANCEL));
-    events.push(noise(alloc, Who::Responder, OTHER_CANCEL));
-    events.push(Some(save_fault(Who::Requester, true)));
-    events.push(Some(save_fault(Who::Responder, false)));
-    events.push(Some(Event::Restart(Who::Responder)));
+    events.push(sent(Role::Responder, 1));
+    events.push(delivered(Role::Responder, 1));
+    events.push(noise(alloc, Role::Requester, b""));
+    events.push(noise(alloc, Role::Requester, CANCEL));
+    events.push(noise(alloc, Role::Responder, OTHER_CANCEL));
+    events.push(Some(save_fault(Role::Requester, true)));
+    events.push(Some(save_fault(Role::Responder, false)));
+    events.push(Some(Event::Restart(Role::Responder)));
 }
 
 /// Adds a Renew and an Overdue that cross, before either is saved.
 fn renewing(events: &mut Events, alloc: Global) {
     push_requested(events, alloc);
     events.push(ship());
-    push_delivered(events, Who::Responder, 1);
+    push_delivered(events, Role::Responder, 1);
     events.push(Some(Event::Wish(Wish::Receive)));
-    push_sent(events, Who::Requester, 2);
+    push_sent(events, Role::Requester, 2);
     events.push(Some(Event::Wish(Wish::Renew { wished: None })));
     events.push(overdue());
 }
@@ -104,19 +105,19 @@ fn renewing(events: &mut Events, alloc: Global) {
 /// Adds a Renew and an Overdue that cross, and then events of each kind at each side.
 fn kinds(events: &mut Events, alloc: Global) {
     renewing(events, alloc);
-    push_unchanging(events, alloc, Who::Requester, 3);
-    push_faults(events, Who::Requester);
+    push_unchanging(events, alloc, Role::Requester, 3);
+    push_faults(events, Role::Requester);
     events.push(Some(Event::Wish(Wish::Return)));
-    push_restart(events, Who::Requester);
-    push_unchanging(events, alloc, Who::Responder, 2);
-    events.push(delivered(Who::Responder, 2));
-    push_faults(events, Who::Responder);
+    push_restart(events, Role::Requester);
+    push_unchanging(events, alloc, Role::Responder, 2);
+    events.push(delivered(Role::Responder, 2));
+    push_faults(events, Role::Responder);
     events.push(deed(Deed::Recall));
-    push_restart(events, Who::Responder);
+    push_restart(events, Role::Responder);
 }
 
 /// Adds events that change nothing. The message with the number `unsaved` must not be saved yet.
-fn push_unchanging(events: &mut Events, alloc: Global, who: Who, unsaved: u8) {
+fn push_unchanging(events: &mut Events, alloc: Global, who: Role, unsaved: u8) {
     events.push(sent(who, unsaved));
     events.push(delivered(who, 3));
     events.push(noise(alloc, who, OTHER_CANCEL));
@@ -126,14 +127,14 @@ fn push_unchanging(events: &mut Events, alloc: Global, who: Who, unsaved: u8) {
 }
 
 /// Adds saves that fail.
-fn push_faults(events: &mut Events, who: Who) {
+fn push_faults(events: &mut Events, who: Role) {
     for landed in [false, true] {
         events.push(Some(save_fault(who, landed)));
     }
 }
 
 /// Adds a save, and a restart.
-fn push_restart(events: &mut Events, who: Who) {
+fn push_restart(events: &mut Events, who: Role) {
     events.push(Some(Event::Save(who)));
     events.push(Some(Event::Restart(who)));
 }
@@ -141,17 +142,17 @@ fn push_restart(events: &mut Events, who: Who) {
 /// Adds a request that reaches the responder.
 fn push_requested(events: &mut Events, alloc: Global) {
     events.push(request(alloc));
-    push_delivered(events, Who::Requester, 1);
+    push_delivered(events, Role::Requester, 1);
 }
 
 /// Adds the save of a side, the sending of a message, and its delivery.
-fn push_delivered(events: &mut Events, who: Who, number: u8) {
+fn push_delivered(events: &mut Events, who: Role, number: u8) {
     push_sent(events, who, number);
     events.push(delivered(who.other(), number));
 }
 
 /// Adds the save of a side, and the sending of a message.
-fn push_sent(events: &mut Events, who: Who, number: u8) {
+fn push_sent(events: &mut Events, who: Role, number: u8) {
     events.push(Some(Event::Save(who)));
     events.push(sent(who, number));
 }
@@ -179,22 +180,22 @@ fn deed(deed: Deed) -> Option<Event> {
 }
 
 /// Returns the event that a side sends this message.
-fn sent(who: Who, number: u8) -> Option<Event> {
+fn sent(who: Role, number: u8) -> Option<Event> {
     Some(Event::Send(who, Number::new(number)?))
 }
 
 /// Returns the event that this message of the other side reaches `who`.
-fn delivered(who: Who, number: u8) -> Option<Event> {
+fn delivered(who: Role, number: u8) -> Option<Event> {
     Some(Event::Deliver(who, Number::new(number)?))
 }
 
 /// Returns the event that `bytes` reach a side as noise.
-fn noise(alloc: Global, who: Who, bytes: &[u8]) -> Option<Event> {
+fn noise(alloc: Global, who: Role, bytes: &[u8]) -> Option<Event> {
     let bytes = Bytes::new(Vec::from_slice(alloc, bytes).ok()?);
     Some(Event::Noise(who, bytes))
 }
 
 /// Returns the event of a save that fails. If `landed`, the record lands in spite of the failure.
-fn save_fault(who: Who, landed: bool) -> Event {
+fn save_fault(who: Role, landed: bool) -> Event {
     Event::SaveFault { who, landed }
 }

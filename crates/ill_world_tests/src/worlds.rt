@@ -6,10 +6,11 @@ use crate::performing::txn;
 use crate::tries::{self, Tried};
 use ill_core::State;
 use ill_der::encode;
+use ill_saved::Role;
 use ill_test_kit::Page;
 use ill_test_kit::marks::{self, TRIES};
 use ill_values::{Apdu, Day, OutOfMemory, TxnId};
-use ill_world::{Event, Outcome, Who, World, run};
+use ill_world::{Event, Outcome, World, run};
 use std::alloc::Global;
 
 impl Tried for World {
@@ -179,7 +180,7 @@ fn seen_requester(world: &World) -> Seen<'_> {
         name: "requester",
         state: side.state(),
         due: side.due(),
-        released: world.released(Who::Requester),
+        released: world.released(Role::Requester),
         issued: side.all_issued(),
     }
 }
@@ -191,7 +192,7 @@ fn seen_responder(world: &World) -> Seen<'_> {
         name: "responder",
         state: side.state(),
         due: side.due(),
-        released: world.released(Who::Responder),
+        released: world.released(Role::Responder),
         issued: side.all_issued(),
     }
 }

@@ -4,8 +4,8 @@ ghost use Rattle.std.specs.Prelude.{◌≡◌, map, IfOk};
 ghost use Rattle.ill_world.specs.Script.{event_of, deed_event, side_event, bare_event, event_with};
 
 use crate::event::Event;
+use ill_saved::Role;
 use ill_values::OutOfMemory;
-use ill_words::Who;
 use ill_words::words::{bytes, day, deed, is, landed, number, who, wish};
 use std::alloc::Global;
 
@@ -57,7 +57,7 @@ fn side_event(alloc: Global, verb: &[u8], words: &[&[u8]]) -> Result<Option<Even
     }
 }
 
-fn bare_event(verb: &[u8], who: Who) -> Option<Event>
+fn bare_event(verb: &[u8], who: Role) -> Option<Event>
     ensures { result ≡ bare_event verb.now who }
 {
     if is(verb, "save") {
@@ -73,7 +73,7 @@ fn event_with_word(
     alloc: Global,
     verb: &[u8],
     word: &[u8],
-    who: Who,
+    who: Role,
 ) -> Result<Option<Event>, OutOfMemory>
     ensures { IfOk result (λ event. event ≡ event_with verb.now word.now who) }
 {

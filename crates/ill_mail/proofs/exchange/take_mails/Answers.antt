@@ -6,7 +6,7 @@ use Rattle.ill_desk.specs.Performing.{command_state, view_of}
 use Rattle.ill_night.specs.Inbox.{RunsInbox}
 use Rattle.ill_mail.proofs.exchange.take_mails.Goals as goal
 
--- Proves the contract of `take_mails` if the run ends well. `run_desk_inbox` makes the run, and `conclude` settles the
+-- Proves the contract of `take_mails` if the run ends well. `run_desk_inbox` makes the run, and `settle_run` settles the
 -- files. All else writes nothing.
 pub returns-in-Ok : goal.returns-in-Ok
 returns-in-Ok g c =
@@ -17,7 +17,7 @@ returns-in-Ok g c =
     let new = view c.run_desk_inbox-run.new.desk in
     let quiet = ap (λ writer. g.W.Write.contents writer)
     (c.in_ok-found.ensures.silent ∙ c.in_ok-came.ensures.silent ∙ c.in_ok-mail_box.ensures.silent) in
-    let ended = ap (λ writer. g.W.Write.contents writer) c.conclude.ensures.silent in
+    let ended = ap (λ writer. g.W.Write.contents writer) c.settle_run.ensures.silent in
     let before = g.W.Write.contents c.args.machine.now.writer in
     let told = g.W.Write.contents c.run_desk_inbox-run.new.writer in
     let runs = subst (λ (start : Option (List ℕ)).
@@ -28,8 +28,8 @@ returns-in-Ok g c =
     runs in
     let of_mails = subst (λ (mails : List Mail).
     RunsInbox many_sides mails found.waiting (command_state desk before) ran
-    (command_state new (g.W.Write.contents c.conclude.new.machine.writer))) c.deref.ensures.value all in
-    inr (found.mails.items, found.waiting, ran, of_mails, c.conclude.ensures.settles)
+    (command_state new (g.W.Write.contents c.settle_run.new.machine.writer))) c.deref.ensures.value all in
+    inr (found.mails.items, found.waiting, ran, of_mails, c.settle_run.ensures.settles)
 
 -- Proves the contract of `take_mails` if the run fails. The fault of `run_desk_inbox` is returned.
 pub returns : goal.returns

@@ -20,7 +20,7 @@ const NOT_SENT: &str = " is not written, so nothing more is sent";
 pub(crate) const NO_FOLDER: &str = " is no folder";
 
 /// Returns `sent`. If a mail could not be put into its folder, a line with its path goes to the errors.
-pub(crate) fn blame_mail<T: Files, W: Write, E: Write>(
+pub(crate) fn report_fault_of_mail<T: Files, W: Write, E: Write>(
     machine: &mut Machine<'_, T, W, E>,
     sent: Result<usize, ToolFault>,
     out: &MailFolder<'_, T>,
@@ -29,7 +29,7 @@ pub(crate) fn blame_mail<T: Files, W: Write, E: Write>(
     ensures silent { machine.new.writer ≡ machine.old.writer }
 {
     match out.failed() {
-        Ok(Some(path)) => machine.blame(sent, path.as_str(), NOT_SENT),
+        Ok(Some(path)) => machine.report_fault_at(sent, path.as_str(), NOT_SENT),
         _ => sent,
     }
 }

@@ -61,6 +61,7 @@ _ill_parts() {
     new) parts=(file role) options='--explain --help' ;;
     act) parts=(file loan loan words) options='--today --explain --help' ;;
     list) parts=(files) options='--open --mine --today --ahead --due-before --state --actions --json --explain --help' ;;
+    news) parts=(files) options='--last --json --explain --help' ;;
     loan) parts=(file loan loan) options='--picture --json --explain --help' ;;
     slip) parts=(file loan loan) options='--explain --help' ;;
     status) parts=(file) options='--json --explain --help' ;;
@@ -92,18 +93,18 @@ _ill_parts() {
 }
 
 # Sets `arguments` to those that stand between the command and the cursor, options left out, and `wanted` to
-# the kind of what may come next: `any` (an option too), `argument` (no option any more), `day`, `days`, `state` or
+# the kind of what may come next: `any` (an option too), `argument` (no option any more), `day`, `count`, `state` or
 # `file` (the value of an option).
 _ill_read() {
   local at word
   for ((at = 2; at < COMP_CWORD; at++)); do
     word=${COMP_WORDS[at]}
     case $wanted-$word in
-      day-= | days-= | state-= | file-=) ;;     # bash takes --today=DAY for three words
-      day-* | days-* | state-* | file-*) wanted=any ;;
+      day-= | count-= | state-= | file-=) ;;     # bash takes --today=DAY for three words
+      day-* | count-* | state-* | file-*) wanted=any ;;
       any---) wanted=argument ;;
       any---today | any---due-before) wanted=day ;;
-      any---ahead) wanted=days ;;
+      any---ahead | any---last) wanted=count ;;
       any---state) wanted=state ;;
       any---copy | any---beat) wanted=file ;;
       any--*) ;;
@@ -143,8 +144,8 @@ _ill() {
     state) offered='IDLE PENDING IN-PROCESS CONDITIONAL CANCEL-PENDING CANCELLED NOT-SUPPLIED SHIPPED RECEIVED
       RENEW/PENDING OVERDUE RENEW/OVERDUE NOT-RECEIVED/OVERDUE RECALL RETURNED CHECKED-IN' ;;
     role) offered='requester responder' ;;
-    command) offered='new act list loan slip status report take send inbox outbox exchange verify show check simulate
-      simulate-desks shelf help' ;;
+    command) offered='new act list news loan slip status report take send inbox outbox exchange verify show check
+      simulate simulate-desks shelf help' ;;
     shelf-command) offered='new act loan slip status take send inbox outbox exchange retire help' ;;
     words) offered=$(_ill_words "${arguments[0]}") ;;
     loan)

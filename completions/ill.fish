@@ -20,21 +20,21 @@ end
 
 # The kind of what may come next, a line, the command, a line, and the arguments that stand between the command and the
 # cursor, options left out, a line each. The kind is `any` (an option too), `argument` (no option any more), `day`,
-# `days`, `state` or `file` (the value of an option).
+# `count`, `state` or `file` (the value of an option).
 function __ill_read
     set -l words (__ill_typed)
     set -l wanted any
     set -l arguments
     for word in $words[3..-1]
         switch $wanted-$word
-            case 'day-*' 'days-*' 'state-*' 'file-*'
+            case 'day-*' 'count-*' 'state-*' 'file-*'
                 set wanted any
             case any---
                 set wanted argument
             case any---today any---due-before
                 set wanted day
-            case any---ahead
-                set wanted days
+            case any---ahead any---last
+                set wanted count
             case any---state
                 set wanted state
             case any---copy any---beat
@@ -53,14 +53,14 @@ end
 # __ill_at COUNT COMMAND..: whether an argument of one of these commands comes next, after COUNT others.
 function __ill_at
     set -l read (__ill_read)
-    not contains -- $read[1] day days state file; and test (count $read[3..-1]) = $argv[1]
+    not contains -- $read[1] day count state file; and test (count $read[3..-1]) = $argv[1]
     and contains -- "$read[2]" $argv[2..-1]
 end
 
 # __ill_any COMMAND..: whether an argument of one of these commands comes next, after any number.
 function __ill_any
     set -l read (__ill_read)
-    not contains -- $read[1] day days state file
+    not contains -- $read[1] day count state file
     and contains -- "$read[2]" $argv
 end
 
@@ -114,6 +114,7 @@ complete -c ill -f
 complete -c ill -n "__ill_at 0 ''" -a new -d 'Begin a desk of one role, in a file'
 complete -c ill -n "__ill_at 0 ''" -a act -d 'Perform one action in a loan, and save it'
 complete -c ill -n "__ill_at 0 ''" -a list -d 'List the loans of desks by the work of the day'
+complete -c ill -n "__ill_at 0 ''" -a news -d 'Tell what came to desks, in the order in which it came'
 complete -c ill -n "__ill_at 0 ''" -a loan -d 'Show all of one loan: request, messages, what may be done'
 complete -c ill -n "__ill_at 0 ''" -a slip -d 'Write a slip of one loan, to print and to lay in its item'
 complete -c ill -n "__ill_at 0 ''" -a status -d 'Show how each loan in a file stands'
@@ -130,7 +131,7 @@ complete -c ill -n "__ill_at 0 ''" -a simulate -d 'Perform a script of both side
 complete -c ill -n "__ill_at 0 ''" -a simulate-desks -d 'Perform a script of two desks, from standard input'
 complete -c ill -n "__ill_at 0 ''" -a shelf -d 'Keep a folder of desks, one for each group of loans'
 complete -c ill -n "__ill_at 0 ''" -a help -d 'Print the help of a command'
-complete -c ill -n '__ill_at 0 help' -a 'new act list loan slip status report take send inbox outbox exchange verify show check simulate simulate-desks shelf help'
+complete -c ill -n '__ill_at 0 help' -a 'new act list news loan slip status report take send inbox outbox exchange verify show check simulate simulate-desks shelf help'
 complete -c ill -n '__ill_at 0 shelf' -a new -d 'Begin a shelf of one role, in a folder'
 complete -c ill -n '__ill_at 0 shelf' -a act -d 'Perform one action in a loan, at the desk of its group'
 complete -c ill -n '__ill_at 0 shelf' -a loan -d 'Show all of one loan: request, messages, what may be done'
@@ -145,7 +146,7 @@ complete -c ill -n '__ill_at 0 shelf' -a retire -d 'Replace a desk whose loans a
 complete -c ill -n '__ill_at 0 shelf' -a help -d 'Print the help of a command'
 complete -c ill -n '__ill_at 0 shelf-help' -a 'new act loan slip status take send inbox outbox exchange retire help'
 complete -c ill -n '__ill_at 0 new act loan slip status take send inbox outbox exchange verify' -F
-complete -c ill -n '__ill_any list report' -F
+complete -c ill -n '__ill_any list news report' -F
 complete -c ill -n '__ill_at 0 shelf-new shelf-act shelf-loan shelf-slip shelf-status shelf-take shelf-send shelf-inbox shelf-outbox shelf-exchange shelf-retire' -x -a '(__fish_complete_directories)'
 complete -c ill -n '__ill_at 1 inbox outbox exchange shelf-inbox shelf-outbox shelf-exchange' -x -a '(__fish_complete_directories)'
 complete -c ill -n '__ill_at 2 exchange shelf-exchange' -x -a '(__fish_complete_directories)'
@@ -153,18 +154,19 @@ complete -c ill -n '__ill_at 1 new shelf-new' -a 'requester responder'
 complete -c ill -n '__ill_at 1 act loan slip send shelf-act shelf-loan shelf-slip shelf-send shelf-retire' -a '(__ill_loans)'
 complete -c ill -n '__ill_at 2 act loan slip send shelf-act shelf-loan shelf-slip shelf-send' -a '(__ill_loans)'
 complete -c ill -n '__ill_at 3 act shelf-act' -a '(__ill_words)'
-complete -c ill -n "__ill_option any '' new act list loan slip status report take send inbox outbox exchange verify show check simulate simulate-desks shelf shelf-new shelf-act shelf-loan shelf-slip shelf-status shelf-take shelf-send shelf-inbox shelf-outbox shelf-exchange shelf-retire" -l explain -d 'Say more of what is wrong'
-complete -c ill -n "__ill_option any '' new act list loan slip status report take send inbox outbox exchange verify show check simulate simulate-desks shelf shelf-new shelf-act shelf-loan shelf-slip shelf-status shelf-take shelf-send shelf-inbox shelf-outbox shelf-exchange shelf-retire" -s h -l help -d 'Print help'
+complete -c ill -n "__ill_option any '' new act list news loan slip status report take send inbox outbox exchange verify show check simulate simulate-desks shelf shelf-new shelf-act shelf-loan shelf-slip shelf-status shelf-take shelf-send shelf-inbox shelf-outbox shelf-exchange shelf-retire" -l explain -d 'Say more of what is wrong'
+complete -c ill -n "__ill_option any '' new act list news loan slip status report take send inbox outbox exchange verify show check simulate simulate-desks shelf shelf-new shelf-act shelf-loan shelf-slip shelf-status shelf-take shelf-send shelf-inbox shelf-outbox shelf-exchange shelf-retire" -s h -l help -d 'Print help'
 complete -c ill -n "__ill_option any ''" -s V -l version -d 'Print the version'
 complete -c ill -n '__ill_option day act shelf-act' -l today -x -d 'The day of the action, as 20250301; a responder needs it'
 complete -c ill -n '__ill_option any list' -l open -d 'Leave out the loans that are over'
 complete -c ill -n '__ill_option any list' -l mine -d 'List only the loans that want a hand'
 complete -c ill -n '__ill_option day list' -l today -x -d 'The day of the work, as 20250301'
-complete -c ill -n '__ill_option days list' -l ahead -x -d 'Days within which a due date is soon, or 7'
+complete -c ill -n '__ill_option count list' -l ahead -x -d 'Days within which a due date is soon, or 7'
 complete -c ill -n '__ill_option day list' -l due-before -x -d 'List only the loans that are due before this day'
 complete -c ill -n '__ill_option state list' -l state -x -a 'IDLE PENDING IN-PROCESS CONDITIONAL CANCEL-PENDING CANCELLED NOT-SUPPLIED SHIPPED RECEIVED RENEW/PENDING OVERDUE RENEW/OVERDUE NOT-RECEIVED/OVERDUE RECALL RETURNED CHECKED-IN' -d 'List only the loans in this state, as SHIPPED'
 complete -c ill -n '__ill_option any list' -l actions -d 'Show the actions that are possible in each loan'
-complete -c ill -n '__ill_option any list loan status show shelf-loan shelf-status' -l json -d 'Write objects of JSON, one on a line'
+complete -c ill -n '__ill_option any list news loan status show shelf-loan shelf-status' -l json -d 'Write objects of JSON, one on a line'
+complete -c ill -n '__ill_option count news' -l last -x -d 'Tell only the last N messages, 1 to 255'
 complete -c ill -n '__ill_option any loan shelf-loan' -l picture -d 'Draw the messages of the loan, for Mermaid'
 complete -c ill -n '__ill_option day report' -l today -x -d 'The day of the report, as 20250301'
 complete -c ill -n '__ill_option any take shelf-take' -l long -d 'Tell which message each was, and what it said'

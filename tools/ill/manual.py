@@ -294,10 +294,12 @@ class Offers:
         self.all_offer([f"list {flag}" for flag in (
             "--open", "--mine", "--actions", "--today 20250301", "--ahead 3", "--due-before=20250301", "--state SHIPPED",
             "--state=RENEW/PENDING", "one", "one -- two")], *self.files)
-        self.all_offer(("list --today", "list one --ahead", "list one --due-before", "exchange one --today"))
+        self.all_offer([f"news {flag}" for flag in ("--last 7", "--last=7", "one", "one --last 7 two")], *self.files)
+        self.all_offer(("list --today", "list one --ahead", "list one --due-before", "exchange one --today",
+                        "news one --last"))
         self.all_offer(("report --today 20250301", "report --today=20250301", "report one",
                         "report one --today 20250301 two"), *self.files)
-        for command in ("list", "report"):
+        for command in ("list", "news", "report"):
             self.offers(f"ill {command} fol", "folder")
         self.offers("ill report --today ")
         states = [match[1] for match in found(r'^ *State::.* => "(.*)",$', text_of(STATES).splitlines())]

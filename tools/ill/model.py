@@ -43,11 +43,12 @@ class Side:
         self.role, self.txn, self.state, self.issued, self.due = role, txn, "IDLE", [], None
         self.held = self.accepted = self.cancelled = self.renewed = self.request = None
         self.checked_in = self.received = False
+        self.came = []  # the messages that were taken, in their order
 
     def twin(self):
         """The same side once more; messages are never changed."""
         other = copy.copy(self)
-        other.issued = list(self.issued)
+        other.issued, other.came = list(self.issued), list(self.came)
         return other
 
     def asked(self):
@@ -176,7 +177,9 @@ class Side:
 
     def take(self, apdu):
         """Takes a message, and says what came of it."""
-        return (self.hear if self.role == REQUESTER else self.heed)(apdu)
+        outcome = (self.hear if self.role == REQUESTER else self.heed)(apdu)
+        self.came += [apdu] if outcome == "taken" else []
+        return outcome
 
     def to(self, state, **parts):
         """The record goes on to a state, with these parts."""

@@ -199,6 +199,14 @@ def row_lines(rows, has_actions):
     return lines
 
 
+def news_lines(rows):
+    """The lines of the messages that came to a desk, and of their counts."""
+    cells = [[row["group"], row["transaction"], str(row["number"]).ljust(3), row["words"]] for row in rows]
+    widths = [max(map(len, texts)) for texts in zip(*cells)]
+    return [*("  " + "".join(f"{text:<{width}}  " for text, width in zip(texts, widths)) + shown(or_dash(row["item"]))
+              for row, texts in zip(rows, cells)), f"messages {len(rows)}, shown {len(rows)}"]
+
+
 def each(lines_of):
     """The lines of some objects, one after another."""
     return lambda objects: [line for value in objects for line in lines_of(value)]
@@ -293,6 +301,8 @@ def compare_desks():
     run(["new", "folder/a\n\x1b\u202e:", "responder"])
     compare("list", ["list", "there", "folder", "here", "--actions", "--today", "20250310"], list_lines(True))
     keep("here", txns)
+    compare("news", ["news", "here"], news_lines)
+    compare("news", ["news", "there"], news_lines)
     for desk in "here", "there":
         compare("status", ["status", desk], each(status_lines))
         for txn in txns if desk == "here" else txns[:len(TITLES)] + txns[len(TITLES) + 1:]:
@@ -314,6 +324,13 @@ def compare_words():
         sources = re.findall(r'=> "([\w/-]+)"', read(f"{TOP}/crates/ill_core/src/{name}.rt").decode())
         if sorted(sources) != sorted(words):
             faults.append(f"docs/ill.schema.json: the words of {name} are {words}, and those of the sources {sources}")
+    news = re.findall(r'"([^"]+)"', read(f"{TOP}/crates/ill_show/src/news_words.rt").decode().partition("#[cfg")[0])
+    fixed, dated = SCHEMA["$defs"]["words"]["anyOf"]
+    told = [word for word in news if not word.endswith(" ") and word != "renewal refused"]
+    if sorted(told) != sorted(fixed["enum"]):
+        faults.append(f"docs/ill.schema.json: the words of news are not those of the sources, {told}")
+    if sorted(word[:-1] for word in news if word.endswith(" ")) != sorted(dated["pattern"][2:].partition(")")[0].split("|")):
+        faults.append(f"docs/ill.schema.json: the words of news with a day are not those of the sources, {news}")
     works = re.findall(r'=> "([^"]+)"', read(f"{TOP}/crates/ill_work/src/work.rt").decode())
     if works != SCHEMA["$defs"]["work"]["enum"]:
         faults.append(f"docs/ill.schema.json: the words of work are not those of the sources, {works}")

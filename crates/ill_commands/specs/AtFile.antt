@@ -26,6 +26,7 @@ use Rattle.ill_slip.specs.Slip.{RunsSlip}
 use Rattle.ill_show.specs.Verify.{VerifiesLoaded}
 use Rattle.ill_show.specs.declared.wanted.Wanted.{Wanted}
 use Rattle.ill_show.specs.Listing.{between, listed_desk}
+use Rattle.ill_show.specs.News.{WritesNews, news_text}
 use Rattle.ill_show.specs.Report.{Part, gravest_part, report_page}
 use Rattle.ill_text.specs.declared.form.Form.{Form}
 use Rattle.ill_show.specs.Objects.{status_of_desk}
@@ -92,6 +93,26 @@ ListsPaths form wanted before after result =
     ((result ≡ Err OutOfMemory) × (after ≡ before))
     ⊎ ((files : List (List ℕ)) × (are_texts : Bool) × (answer : Result Bool ToolFault)
     × ListsDesks form wanted files before after answer × (result ≡ graver answer (names_answer are_texts)))
+
+-- What came to a desk was told in a visit, as `news_text` does. Or a file could not be opened, and nothing was written.
+abbrev pub TellsDesk : Form → Option ℕ → (is_headed is_first : Bool) → Stop → Type 0
+TellsDesk form last is_headed is_first stop =
+    FailsToOpen stop.before stop.after stop.answer
+    ⊎ ((sides : List Side) × (came : List ℕ)
+    × GoesWell (WritesNews (news_text form is_headed is_first last stop.path sides) came stop.before stop.after) stop.answer)
+
+-- What came to the desks in `files` was told, one after another. `answer` is the gravest of their answers.
+abbrev pub TellsDesks : Form → Option ℕ → List (List ℕ) → Option (List ℕ) → Option (List ℕ) → Result Bool ToolFault → Type 0
+TellsDesks form last files before after answer =
+    VisitsEach (TellsDesk form last (are_several files)) files before after answer
+
+-- What came to the desks at the paths was told. The result is the gravest of their answers and of that about the names in
+-- the folders. Or memory ran out before the first desk.
+abbrev pub TellsPaths : Form → Option ℕ → Option (List ℕ) → Option (List ℕ) → Result Bool ToolFault → Type 0
+TellsPaths form last before after result =
+    ((result ≡ Err OutOfMemory) × (after ≡ before))
+    ⊎ ((files : List (List ℕ)) × (are_texts : Bool) × (answer : Result Bool ToolFault)
+    × TellsDesks form last files before after answer × (result ≡ graver answer (names_answer are_texts)))
 
 -- The transaction `txn` at a desk was shown or drawn, with the messages that came. Or a file could not be
 -- opened.

@@ -74,6 +74,7 @@ fn tell_argument(
         | Argument::NightDay => tell_day(text, word),
         Argument::InState => tell_state(alloc, text, word),
         Argument::Number => tell_number(text, word),
+        Argument::Last => tell_last(text, word),
         _ => Ok(()),
     }
 }
@@ -155,4 +156,13 @@ fn tell_number(text: &mut String, word: &str) -> Result<(), OutOfMemory> {
     }
     let shown = Shown::of(word);
     writeln!(text, "  {shown} is no number of a message: it is 1 to 255.")
+}
+
+/// Appends a line about the number of messages that are shown, if it is none.
+fn tell_last(text: &mut String, word: &str) -> Result<(), OutOfMemory> {
+    if number(word.as_bytes()).is_some() {
+        return Ok(());
+    }
+    let shown = Shown::of(word);
+    writeln!(text, "  {shown} is no count of messages: it is 1 to 255.")
 }

@@ -8,4 +8,5 @@ pub mod Found
 pub mod Names
 pub mod Sides
 pub mod LineLemmas
+pub mod NewsLines
 pub mod BadLines

@@ -86,7 +86,7 @@ lines_flat text lines [] are = record { whole = refl; each = tt }
 lines_flat text lines (x ∷ xs) are = lines_append (text x) (flat_map text xs) (lines x) _ (are x) (lines_flat text lines xs are)
 
 -- The texts of values, each of which is one line, are a line for each.
-lines_each : {X : Type 0} (fields : X → List Field) (xs : List X)
+pub lines_each : {X : Type 0} (fields : X → List Field) (xs : List X)
     → Each (λ x. IsObjectLine (object_line (fields x)) (fields x)) xs
     → AreObjectLines (flat_map (λ x. object_line (fields x)) xs) (map fields xs)
 unfolding Each

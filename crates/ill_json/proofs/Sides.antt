@@ -22,7 +22,7 @@ use Rattle.ill_core.specs.ResponderActions.{expiry_of}
 use Rattle.ill_core.specs.Verbs.{verb_name}
 use Rattle.ill_saved.specs.declared.side.Side.{Side}
 use Rattle.ill_saved.specs.declared.side.Side.TheVariants as sides
-use Rattle.ill_saved.specs.Ranges.{Each, IsInRange}
+use Rattle.ill_saved.specs.Ranges.{Each, IsInRange, IsSide}
 use Rattle.ill_saved.specs.Side.{role_of, issued_of, txn_of, state_of, due_date_of}
 use Rattle.ill_saved.specs.SideVerbs.{turn_of}
 use Rattle.ill_saved.specs.Sides.{most_sides}
@@ -35,7 +35,8 @@ use Rattle.ill_show.specs.Objects.{counts_fields, file_fields, leaves_fields, lo
 use Rattle.ill_show.specs.Objects.{names_of}
 use Rattle.ill_show.specs.Objects.{came_fields, row_fields, status_fields, taken_fields, turn_fields}
 use Rattle.ill_show.specs.Status.{mark, marks_of}
-use Rattle.ill_json.specs.Lines.{fields_of_counts, fields_of_loan, fields_of_message, fields_of_row}
+use Rattle.ill_show.specs.News.{item_of, told_fields}
+use Rattle.ill_json.specs.Lines.{fields_of_counts, fields_of_loan, fields_of_message, fields_of_news, fields_of_row}
 use Rattle.ill_json.proofs.Labels.{labels, are_apart, apart_before}
 use Rattle.ill_json.proofs.Names.{type_printable, result_printable, state_printable, turn_printable, verb_printable}
 use Rattle.ill_json.proofs.Names.{work_printable}
@@ -368,6 +369,38 @@ row_reads today work side is = (
               (field_reads 2 _ _ refl (item_value 2 side is), tt),
             ),
           ),
+        ),
+      ),
+    ),
+  ),
+)
+
+-- The labels of the line of a message that came differ.
+pub news_apart : (file : Option (List ℕ)) (sides : List Side) (a : Apdu)
+    → are_apart (labels (fields_of_news file sides a)) ≡ true
+news_apart None sides a = refl
+news_apart (Some path) sides a = refl
+
+-- The item of a loan that may be missing has a value.
+item_of_value : (most : ℕ) (side : Option Side) → IfSome side IsSide → HasValue most (optional quoted (item_of side))
+item_of_value most None is = optional_value most quoted None tt
+item_of_value most (Some side) is = item_value most side is.1
+
+-- The fields of a message that came are read.
+pub told_reads : (side : Option Side) (words : List ℕ) (a : Apdu) → IfSome side IsSide → IsUtf8 words → IsApdu a
+    → Each (FieldReads 2) (told_fields side words a)
+unfolding Each
+told_reads side words a found utf8 is = (
+  field_reads 2 _ _ refl (name_value 2 _ refl),
+  (
+    field_reads 2 _ _ refl (text_value 2 a.txn.group (qualifier_utf8 a.txn.group is.txn.group)),
+    (
+      field_reads 2 _ _ refl (text_value 2 a.txn.transaction (qualifier_utf8 a.txn.transaction is.txn.transaction)),
+      (
+        field_reads 2 _ _ refl (message_number 2 a.number is.number),
+        (
+          field_reads 2 _ _ refl (text_value 2 words utf8),
+          (field_reads 2 _ _ refl (item_of_value 2 side found), tt),
         ),
       ),
     ),

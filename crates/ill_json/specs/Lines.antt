@@ -13,6 +13,7 @@ use Rattle.ill_show.specs.declared.wanted.Wanted.{Wanted}
 use Rattle.ill_work.specs.declared.work.Work.{Work}
 use Rattle.ill_work.specs.Work.{all_work}
 use Rattle.ill_show.specs.List.{has_work, listed_of, counts_of}
+use Rattle.ill_show.specs.News.{news_fields}
 use Rattle.ill_show.specs.Objects.{names_of, row_fields, counts_fields, file_fields, status_fields, loan_fields, came_fields}
 use Rattle.ill_show.specs.Objects.{leaves_fields}
 
@@ -39,6 +40,12 @@ fields_in_order file wanted sides =
 -- Returns the fields in each line of `list`. Loans with one kind of work are in the order of their deadlines.
 abbrev pub fields_of_list : Option (List ℕ) → Wanted → List Side → List (List Field)
 fields_of_list file wanted sides = fields_in_order file wanted (most_urgent_first sides)
+
+-- ---- `news`
+
+-- Returns the fields in the line of a message that came.
+abbrev pub fields_of_news : Option (List ℕ) → List Side → Apdu → List Field
+fields_of_news file sides a = news_fields sides a ++ file_fields file
 
 -- ---- `status` and `loan`
 

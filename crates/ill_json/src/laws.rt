@@ -20,9 +20,10 @@ ghost use Rattle.ill_show.specs.declared.loan.LoanForm.TheVariants.{Object};
 ghost use Rattle.ill_show.specs.declared.wanted.Wanted.{Wanted};
 ghost use Rattle.ill_show.specs.Listing.{between, file_told, listed_desk};
 ghost use Rattle.ill_show.specs.Loan.{loan_text};
+ghost use Rattle.ill_show.specs.News.{last_of, news_of, news_text};
 ghost use Rattle.ill_show.specs.Objects.{message_object, status_of_desk};
 ghost use Rattle.ill_json.specs.BadLines.{AreBadLines, IsBadLine, broken_texts};
-ghost use Rattle.ill_json.specs.Lines.{IsEntry, fields_of_list, fields_of_loan, fields_of_message, fields_of_status};
+ghost use Rattle.ill_json.specs.Lines.{IsEntry, fields_of_list, fields_of_loan, fields_of_message, fields_of_news, fields_of_status};
 ghost use Rattle.ill_json.specs.Objects.{AreObjectLines, IsObject, IsObjectLine, items_of, strings};
 
 /// Each line of `list` is an object of JSON with the fields of a loan. The last line of a desk has the counts. The path
@@ -32,6 +33,14 @@ pub fn list_is_json()
         IsUtf8 path → AreSides held →
         AreObjectLines (between forms.Json is_first ++ listed_desk forms.Json is_headed wanted path held.sides)
         (fields_of_list (file_told is_headed path) wanted held.sides) }
+{}
+
+/// Each line of `news` is an object of JSON with the fields of a message that came. The path of the desk is UTF-8.
+pub fn news_is_json()
+    ensures { (is_first is_headed : Bool) (last : Option ℕ) (path : List ℕ) (held : SidesOf) (came : List Apdu) →
+        IsUtf8 path → AreSides held → Each IsApdu came →
+        AreObjectLines (news_text forms.Json is_headed is_first last path held.sides came)
+        (map (fields_of_news (file_told is_headed path) held.sides) (last_of last (news_of held.sides came))) }
 {}
 
 /// Each line of `status` is an object of JSON with the fields of a side.

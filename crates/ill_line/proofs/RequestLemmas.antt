@@ -21,9 +21,9 @@ use Rattle.ill_line.specs.declared.request.Refusal.{Refusal}
 use Rattle.ill_line.specs.declared.request.Refusal.TheVariants.{Usage, Fault}
 use Rattle.ill_line.specs.declared.command_line.Argument.{Argument}
 use Rattle.ill_line.specs.CommandLine.{id_of, is_option}
-use Rattle.ill_line.specs.declared.command_line.Argument.TheVariants.{Ahead, DueBefore, InState}
+use Rattle.ill_line.specs.declared.command_line.Argument.TheVariants.{Ahead, DueBefore, InState, Last}
 use Rattle.ill_line.specs.Asked.{Asked, Act, IsRefusal, text_of, texts_of, day_in, day_said, state_in, state_said}
-use Rattle.ill_line.specs.Asked.{ReadsValue, ahead_in, days_said, day_or_days, due_in, due_said}
+use Rattle.ill_line.specs.Asked.{ReadsValue, ahead_in, days_said, day_or_days, due_in, due_said, last_in, number_said}
 use Rattle.ill_line.specs.Asked.{end_with_dashes, has_option, said_free, unless_option}
 use Rattle.ill_core.specs.State.{state_named}
 use Rattle.ill_core.specs.declared.state.State.{State}
@@ -64,6 +64,14 @@ pub ahead_read : (m : ArgMatches) (id word bytes : List ℕ) (read : Option ℕ)
     → read ≡ number_of bytes → ahead_in (rows_of (found_of m)) ≡ read
 ahead_read m id word bytes read named is same reads =
     ap days_said (text_said m id Ahead (Some word) named is) ∙ sym (reads ∙ ap number_of same)
+
+-- `last_in` returns the number that is read from the text `word` of its argument.
+pub last_read : (m : ArgMatches) (id word bytes : List ℕ) (read : Option ℕ) → id ≡ id_of Last
+    → Some word ≡ first_value (found_of m) id → bytes ≡ word
+    → read ≡ number_of bytes → last_in (rows_of (found_of m)) ≡ option_map Some read
+last_read m id word bytes read named is same reads =
+    ap number_said (text_said m id Last (Some word) named is)
+    ∙ ap (λ (read : Option ℕ). option_map Some read) (sym (reads ∙ ap number_of same))
 
 -- `due_in` returns the day that is read from the text `word` of its argument.
 pub due_read : (m : ArgMatches) (id word bytes : List ℕ) (today : Option Date) (read : Option Date) → id ≡ id_of DueBefore

@@ -37,7 +37,7 @@ use Rattle.ill_line.specs.declared.command_line.Argument.TheVariants.{NewFile, F
 use Rattle.ill_line.specs.declared.command_line.Argument.TheVariants.{Words, Number, Long, Keep, Picture, Open, Mine, Json, Paths}
 use Rattle.ill_line.specs.declared.command_line.Argument.TheVariants.{OnDay, DueBefore, InState, ReportDay, OutFolder, Stream, In}
 use Rattle.ill_line.specs.declared.command_line.Argument.TheVariants.{Out, NightDay, Overdue, Expire, Copy, Beat, NewGroup, Ahead}
-use Rattle.ill_line.specs.declared.command_line.Argument.TheVariants.{Actions}
+use Rattle.ill_line.specs.declared.command_line.Argument.TheVariants.{Actions, Last}
 use Rattle.ill_line.specs.CommandLine.{name_read, id_of, is_option}
 use Rattle.ill_files.specs.Paths.{is_beside}
 use Rattle.ill_core.specs.State.{state_named}
@@ -103,6 +103,16 @@ state_said (Some word) = option_map Some (state_named word)
 -- Returns the state of the option `--state`, as `state_said` does.
 abbrev pub state_in : Found → Option (Option State)
 state_in found = state_said (text_of InState found)
+
+-- Returns the number that an optional word spells, from 1 to 255. It is Some None without a word, and None if the word is
+-- no number.
+abbrev pub number_said : Option (List ℕ) → Option (Option ℕ)
+number_said None = Some None
+number_said (Some word) = option_map Some (number_of word)
+
+-- Returns the number of the option `--last`, as `number_said` does.
+abbrev pub last_in : Found → Option (Option ℕ)
+last_in found = number_said (text_of Last found)
 
 -- Returns the number of a message in the arguments, if it is one.
 abbrev pub number_of_message : Found → Option ℕ
@@ -217,6 +227,7 @@ pub data Asked : Type 0 where
   Exchange : (file incoming outgoing : List ℕ) → (dates : Option (Date × Dates)) → (copy beat : Option (List ℕ)) → Asked
   Send : (file : List ℕ) → (txn : Qualifiers) → (number : ℕ) → Asked
   Listing : (paths : List (List ℕ)) → (wanted : Wanted) → (form : Form) → Asked
+  News : (paths : List (List ℕ)) → (last : Option ℕ) → (form : Form) → Asked
   Status : (file : List ℕ) → (form : Form) → Asked
   Loan : (file : List ℕ) → (txn : Qualifiers) → (form : LoanForm) → Asked
   Slip : (file : List ℕ) → (txn : Qualifiers) → Asked
@@ -241,6 +252,7 @@ asked (requests.Exchange file night) =
     (option_map (λ text. text.now) night.beat)
 asked (requests.Send file txn number) = Send file.now txn number
 asked (requests.List paths wanted form) = Listing (map (λ path. path.now) paths.items) wanted form
+asked (requests.News paths last form) = News (map (λ path. path.now) paths.items) last form
 asked (requests.Status file form) = Status file.now form
 asked (requests.Loan file txn form) = Loan file.now txn form
 asked (requests.Slip file txn) = Slip file.now txn
@@ -304,6 +316,10 @@ asked_of names.List found = do
   paths ← texts_of Paths found
   wanted ← wanted_of found
   Some (Listing paths wanted (form_of found))
+asked_of names.News found = do
+  paths ← texts_of Paths found
+  last ← last_in found
+  Some (News paths last (form_of found))
 asked_of names.Status found = do
   file ← text_of File found
   Some (Status file (form_of found))

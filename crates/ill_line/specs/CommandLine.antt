@@ -3,7 +3,7 @@ use Rattle.std.specs.Prelude.{ℕ, Bool, List, [], ◌∷◌, codes, Option, fin
 use Rattle.std.specs.List.{before_first, list_any}
 use Rattle.ill_line.specs.declared.command_line.Name.{Name}
 use Rattle.ill_line.specs.declared.command_line.Name.TheVariants.{New, Act, Take, Inbox, Outbox, Exchange, Send, Status, Loan}
-use Rattle.ill_line.specs.declared.command_line.Name.TheVariants.{Slip, Report, Retire, Verify, Show, Check, Simulate}
+use Rattle.ill_line.specs.declared.command_line.Name.TheVariants.{Slip, Report, Retire, Verify, Show, Check, Simulate, News}
 use Rattle.ill_line.specs.declared.command_line.Name.TheVariants.{SimulateDesks}
 use Rattle.ill_line.specs.declared.command_line.Name.TheVariants as names
 use Rattle.ill_line.specs.declared.command_line.Argument.{Argument}
@@ -11,7 +11,7 @@ use Rattle.ill_line.specs.declared.command_line.Argument.TheVariants.{NewFile, F
 use Rattle.ill_line.specs.declared.command_line.Argument.TheVariants.{Words, Number, Long, Keep, Picture, Open, Mine, Json, Paths}
 use Rattle.ill_line.specs.declared.command_line.Argument.TheVariants.{OnDay, DueBefore, InState, ReportDay, OutFolder, Stream, In}
 use Rattle.ill_line.specs.declared.command_line.Argument.TheVariants.{Out, NightDay, Overdue, Expire, Copy, Beat, NewGroup, Ahead}
-use Rattle.ill_line.specs.declared.command_line.Argument.TheVariants.{Actions}
+use Rattle.ill_line.specs.declared.command_line.Argument.TheVariants.{Actions, Last}
 
 -- Returns the word of a command on the command line.
 abbrev pub word_of : Name → List ℕ
@@ -23,6 +23,7 @@ word_of Outbox = codes "outbox"
 word_of Exchange = codes "exchange"
 word_of Send = codes "send"
 word_of names.List = codes "list"
+word_of News = codes "news"
 word_of Status = codes "status"
 word_of Loan = codes "loan"
 word_of Slip = codes "slip"
@@ -37,7 +38,7 @@ word_of SimulateDesks = codes "simulate-desks"
 -- Returns the command that has the word `word`.
 abbrev pub name_read : List ℕ → Option Name
 name_read word = find (λ name. bytes_eq (word_of name) word)
-    (New ∷ Act ∷ names.List ∷ Loan ∷ Slip ∷ Status ∷ Report ∷ Take ∷ Send ∷ Inbox ∷ Outbox ∷ Exchange ∷ Verify ∷ Show
+    (New ∷ Act ∷ names.List ∷ News ∷ Loan ∷ Slip ∷ Status ∷ Report ∷ Take ∷ Send ∷ Inbox ∷ Outbox ∷ Exchange ∷ Verify ∷ Show
     ∷ Check ∷ Simulate ∷ SimulateDesks ∷ Retire ∷ [])
 
 -- Returns the name that `clap` has for an argument.
@@ -74,14 +75,15 @@ id_of Beat = codes "beat"
 id_of NewGroup = codes "new-group"
 id_of Ahead = codes "ahead"
 id_of Actions = codes "actions"
+id_of Last = codes "last"
 
 -- All options of the program.
 abbrev pub options : List (List ℕ)
 options =
     codes "--today" ∷ codes "--ahead" ∷ codes "--due-before" ∷ codes "--state" ∷ codes "--copy" ∷ codes "--beat"
     ∷ codes "--stream" ∷ codes "--overdue" ∷ codes "--expire" ∷ codes "--long" ∷ codes "--keep" ∷ codes "--picture"
-    ∷ codes "--open" ∷ codes "--mine" ∷ codes "--actions" ∷ codes "--json" ∷ codes "--new-group" ∷ codes "--explain"
-    ∷ codes "--help" ∷ codes "--version" ∷ codes "-h" ∷ codes "-V" ∷ []
+    ∷ codes "--open" ∷ codes "--mine" ∷ codes "--actions" ∷ codes "--json" ∷ codes "--new-group" ∷ codes "--last"
+    ∷ codes "--explain" ∷ codes "--help" ∷ codes "--version" ∷ codes "-h" ∷ codes "-V" ∷ []
 
 -- Returns `word` before its first `=`, which is the byte 61.
 abbrev pub name_in : List ℕ → List ℕ

@@ -19,6 +19,7 @@ pub enum Name {
     Exchange,
     Send,
     List,
+    News,
     Status,
     Loan,
     Slip,
@@ -36,10 +37,11 @@ pub const SHELF: &str = "shelf";
 
 /// All commands, in the order of the help. First come the commands for staff, then the commands for the exchange with
 /// other libraries. The last are for looking inside, and one is for shelves alone. `clap` has these and no others.
-const NAMES: [Name; 18] = [
+const NAMES: [Name; 19] = [
     Name::New,
     Name::Act,
     Name::List,
+    Name::News,
     Name::Loan,
     Name::Slip,
     Name::Status,
@@ -86,6 +88,7 @@ impl Name {
             Name::Exchange => "exchange",
             Name::Send => "send",
             Name::List => "list",
+            Name::News => "news",
             Name::Status => "status",
             Name::Loan => "loan",
             Name::Slip => "slip",
@@ -110,6 +113,7 @@ impl Name {
             Name::Exchange => "Take the mails of a folder, and send into another",
             Name::Send => "Write the bytes of one message of a loan",
             Name::List => "List the loans of desks by the work of the day",
+            Name::News => "Tell what came to desks, in the order in which it came",
             Name::Status => "Show how each loan in a file stands",
             Name::Loan => "Show all of one loan: request, messages, what may be done",
             Name::Slip => "Write a slip of one loan, to print and to lay in its item",
@@ -134,6 +138,7 @@ impl Name {
             Name::Exchange => help::EXCHANGE,
             Name::Send => help::SEND,
             Name::List => help::LIST,
+            Name::News => help::NEWS,
             Name::Status => help::STATUS,
             Name::Loan => help::LOAN,
             Name::Slip => help::SLIP,
@@ -158,6 +163,7 @@ impl Name {
             Name::Exchange => help::EXCHANGE_EXAMPLE,
             Name::Send => help::SEND_EXAMPLE,
             Name::List => help::LIST_EXAMPLE,
+            Name::News => help::NEWS_EXAMPLE,
             Name::Status => help::STATUS_EXAMPLE,
             Name::Loan => help::LOAN_EXAMPLE,
             Name::Slip => help::SLIP_EXAMPLE,
@@ -224,6 +230,7 @@ impl Name {
                 Argument::Actions,
                 Argument::Json,
             ],
+            Name::News => &[Argument::Paths, Argument::Last, Argument::Json],
             Name::Simulate => &[Argument::Group, Argument::Transaction],
             Name::Show => &[Argument::Json],
             Name::Check | Name::SimulateDesks => &[],
@@ -336,6 +343,8 @@ pub enum Argument {
     InState,
     /// The day of a report.
     ReportDay,
+    /// The number of messages that are shown.
+    Last,
     /// Set if a shelf may begin a desk for the group of a loan.
     NewGroup,
 }
@@ -373,6 +382,7 @@ impl Argument {
             Argument::DueBefore => "due-before",
             Argument::InState => "state",
             Argument::NewGroup => "new-group",
+            Argument::Last => "last",
         }
     }
 
@@ -409,6 +419,7 @@ impl Argument {
             Argument::DueBefore => "List only the loans that are due before this day",
             Argument::InState => "List only the loans in this state, as SHIPPED",
             Argument::ReportDay => "The day of the report, as 20250301",
+            Argument::Last => "Tell only the last N messages, 1 to 255",
             Argument::NewGroup => "Begin the group of the loan, if the shelf has none",
         }
     }
@@ -427,6 +438,7 @@ impl Argument {
             Argument::Ahead => valued(arg, "ahead", "DAYS"),
             Argument::DueBefore => valued(arg, "due-before", "DAY"),
             Argument::InState => valued(arg, "state", "STATE"),
+            Argument::Last => valued(arg, "last", "N"),
             Argument::ReportDay => valued(arg, "today", "DAY").required(true),
             Argument::Paths => arg.required(true).action(ArgAction::Append).num_args(1..),
             Argument::Words => arg
@@ -476,7 +488,7 @@ fn valued<'a>(arg: Arg<'a>, name: &'a str, value: &'a str) -> Arg<'a> {
 }
 
 /// All options of the program, also those that `clap` adds.
-const OPTIONS: [&str; 22] = [
+const OPTIONS: [&str; 23] = [
     "--today",
     "--ahead",
     "--due-before",
@@ -494,6 +506,7 @@ const OPTIONS: [&str; 22] = [
     "--actions",
     "--json",
     "--new-group",
+    "--last",
     "--explain",
     "--help",
     "--version",

@@ -4,19 +4,20 @@ pub const VERSION: &str = "0.2.0";
 
 pub const ILL: &str = "\
 The commands stand in groups:
-  for staff                  new, act, list, loan, slip, status, report
+  for staff                  new, act, list, news, loan, slip, status, report
   for the exchange           take, send, inbox, outbox, exchange
   for more than 1,000 loans  shelf, which has commands of its own
   to look inside             verify, show, check, simulate, simulate-desks
 
 A desk is the loans of one library in one role, and it is kept in a file. `new`
 begins it, and `act` does what the library decides in a loan. `list` lists the
-loans, those first that wait for the library. `loan` tells all of one, `status`
-tells how each of them stands, and `report` writes a page of the loans for a
-browser. `take` takes what comes from other libraries, and `send` gives a
-message to carry there. `inbox` and `outbox` do so with folders of mails, and
-`exchange` does all that a night asks for. `verify` tells whether a file is
-well. `show`, `check`, `simulate` and `simulate-desks` keep nothing.
+loans, those first that wait for the library. `news` tells what came. `loan`
+tells all of one, `status` tells how each of them stands, and `report` writes a
+page of the loans for a browser. `take` takes what comes from other libraries,
+and `send` gives a message to carry there. `inbox` and `outbox` do so with
+folders of mails, and `exchange` does all that a night asks for. `verify` tells
+whether a file is well. `show`, `check`, `simulate` and `simulate-desks` keep
+nothing.
 
 A loan is named by its GROUP and TRANSACTION. How messages are carried, by mail
 or by hand, is left to the libraries. `ill COMMAND --help` tells more of a
@@ -30,8 +31,8 @@ rest on them.
 Several commands may be started at once on one file. Those that may change it,
 `new`, `act`, `take`, `inbox`, `outbox` and `exchange`, wait for each other: ten
 seconds, and then they end with `store failed`. A `take` holds the file until
-its input ends. `list`, `loan`, `slip`, `status`, `report`, `send` and `verify`
-wait for nobody.
+its input ends. `list`, `news`, `loan`, `slip`, `status`, `report`, `send` and
+`verify` wait for nobody.
 
 The start of a loan, with the requester's desk in the file `here` and the
 responder's in the file `there`:
@@ -209,10 +210,11 @@ A character on which a terminal or an editor may act is shown by its number, as
 \\u{202e}.
 
 With --keep each message that is taken is kept as it came, in FILE.came, before
-that it was taken is saved. `ill show < FILE.came` shows all of them, and `ill
-loan` those of a loan. Nothing is decided by that file: it may be put away. If a
-message cannot be kept, it is `store failed`, and the message is not saved. Then
-or after a crash it may be kept twice.
+that it was taken is saved. `ill news` tells all of them in words, `ill show <
+FILE.came` shows them, and `ill loan` those of a loan. Nothing is decided by
+that file: it may be put away. If a message cannot be kept, it is `store
+failed`, and the message is not saved. Then or after a crash it may be kept
+twice.
 
 Only what is taken changes the desk, and it is saved in FILE before its line is
 written. To take a message twice does no harm.
@@ -531,6 +533,90 @@ pub const LIST_EXAMPLE: &str = "Example:
   answer, or ship (1):
     IN-PROCESS  -         G1  T1  answer,ship  Maps
   loans 1, open 1, to do 1, room for 999";
+
+pub const NEWS: &str = "\
+Tell what came to desks, in the order in which it came, a line for each message.
+
+The messages are those that `take` with --keep, `inbox` and `exchange` have kept
+in FILE.came. One is told only if the record of its loan shows that it was
+taken, and only once. Nothing is decided by that file: it may be put away, and
+then there is no news. The columns of a line:
+  group                  the group qualifier of the loan
+  transaction            the transaction qualifier of the loan
+  number                 the number of the message, of the other library
+  words                  what the message says
+  title                  the item that is asked for, or `-`
+
+The words of what a requester hears:
+  only on conditions               ILL-Answer conditional
+  will supply                      ILL-Answer will-supply
+  hold placed                      ILL-Answer hold-placed
+  no: try again later              ILL-Answer retry
+  no: unfilled                     ILL-Answer unfilled
+  no: other libraries may have it  ILL-Answer locations-provided
+  no: an estimate of the cost      ILL-Answer estimate
+  no: the request has expired      Expired
+  cancel agreed                    Cancel-Reply yes
+  cancel refused                   Cancel-Reply no
+  shipped, due DAY                 Shipped
+  overdue, was due DAY             Overdue
+  renewed, due DAY                 Renew-Answer yes
+  renewal refused, still due DAY   Renew-Answer no; DAY is that of the record
+  recalled: send it back           Recall
+  the partner has it back          Checked-In
+
+The words of what a responder hears:
+  asked for                        ILL-Request
+  asked for, until DAY             ILL-Request with an expiry day
+  conditions accepted              Conditional-Reply yes
+  conditions declined              Conditional-Reply no
+  asks to cancel                   Cancel
+  the partner has received it      Received
+  asks to renew                    Renew
+  asks to renew, until DAY         Renew with a wished day
+  on its way back                  Returned
+
+A character of a title on which a terminal or an editor may act is shown by its
+number, as \\u{202e}. So is a space of a group or transaction at an edge, or
+after another one. With --last only the last N messages are told, 1 to 255. The
+last line counts the messages, and those of them that are shown.
+
+PATH is the file of a desk, or a folder of desks, as `ill list --help` tells. If
+there are several desks, a line `PATH:` stands before each, and an empty line
+before each but the first. A desk that cannot be read is told on standard error,
+and the others are told. So is a name in a folder that is no UTF-8, which counts
+as `store failed`.
+
+With --json each message is an object of JSON on a line, in the same order:
+`kind`, which is news, `group`, `transaction`, `number`, `words` and `item`. If
+there are several desks, each object has its PATH in `file`. No line has counts.
+
+FILE and FILE.came have at most 67,108,864 bytes each and are not changed.
+Standard input is not read. The exit status is 0 if the messages are told, 1
+with `no-record`, 2 for wrong arguments or a bad record, and 3 with `store
+failed`, `store too-large`, `write` or `memory`. Of several desks it is that of
+the first that fails.";
+
+pub const NEWS_EXAMPLE: &str = "Example:
+  $ ill new here requester
+  done
+  $ ill act here G1 T1 request 20250331 Maps
+  done PENDING - 1/1
+  $ ill send here G1 T1 1 > message
+  $ ill new there responder
+  done
+  $ ill take there --keep < message
+  taken IN-PROCESS - 0/0
+  $ ill news there
+    G1  T1  1    asked for, until 2025-03-31  Maps
+  messages 1, shown 1
+  $ ill act there G1 T1 --today 20250301 ship +14
+  done SHIPPED 20250315 1/1
+  $ ill send there G1 T1 1 | ill take here --keep
+  taken SHIPPED 20250315 1/1
+  $ ill news here
+    G1  T1  1    shipped, due 2025-03-15  Maps
+  messages 1, shown 1";
 
 pub const STATUS: &str = "\
 Show how each loan in a file stands.

@@ -8,7 +8,7 @@ ghost use Rattle.ill_line.specs.CommandLine.{is_option};
 ghost use Rattle.ill_line.specs.declared.request.Refusal.TheVariants.{Usage, Fault};
 ghost use Rattle.ill_text.specs.declared.fault.ToolFault.TheVariants.{OutOfMemory};
 ghost use Rattle.ill_line.specs.declared.command_line.Name.TheVariants as names;
-ghost use Rattle.ill_line.specs.Asked.{GivesId, ReadsValue, IsRefusal, asked_by, asked_in, asked_of, text_of, texts_of, role_of, loan_of, group_of, new_file_of, day_in, state_in, number_of_message, dates_of, outlet_of, is_set, which_of, form_of, wanted_of, wanted_on, ahead_in, due_in, day_or_days, days_on, report_day_of, asked, desk_at_stake, end_with_dashes, has_option, said_free, unless_option};
+ghost use Rattle.ill_line.specs.Asked.{GivesId, ReadsValue, IsRefusal, asked_by, asked_in, asked_of, text_of, texts_of, role_of, loan_of, group_of, new_file_of, day_in, last_in, state_in, number_of_message, dates_of, outlet_of, is_set, which_of, form_of, wanted_of, wanted_on, ahead_in, due_in, day_or_days, days_on, report_day_of, asked, desk_at_stake, end_with_dashes, has_option, said_free, unless_option};
 
 use crate::command_line::{Argument, Name, SHELF, command, is_option};
 use clap::error::ErrorKind;
@@ -111,6 +111,15 @@ pub enum Request<'a> {
         /// The loans that are listed.
         wanted: Wanted,
         /// The form of the list.
+        form: Form,
+    },
+    /// Tell what came to desks: `ill news`.
+    News {
+        /// The paths of the desks, or of folders of them.
+        paths: Vec<&'a str>,
+        /// The number of messages that are shown, if it is given.
+        last: Option<Number>,
+        /// The form of the messages that are shown.
         form: Form,
     },
     /// Show the sides in a file: `ill status`.
@@ -317,6 +326,7 @@ fn requested<'a>(
         Name::Exchange => exchange_request(alloc, matches),
         Name::Send => send_request(alloc, matches),
         Name::List => list_request(alloc, matches),
+        Name::News => news_request(alloc, matches),
         Name::Status => status_request(alloc, matches),
         Name::Loan => loan_request(alloc, matches),
         Name::Slip => slip_request(alloc, matches),
@@ -491,6 +501,22 @@ fn list_request<'a>(alloc: Global, matches: &ArgMatches<'a>) -> Result<Request<'
     })
 }
 
+/// Returns the request of `ill news`.
+fn news_request<'a>(alloc: Global, matches: &ArgMatches<'a>) -> Result<Request<'a>, Refusal>
+    ensures { ReadsValue asked (asked_of names.News (rows_of (found_of matches.now))) result }
+{
+    let paths = texts(alloc, matches, Argument::Paths)?;
+    let last = match last(matches) {
+        Ok(last) => last,
+        Err(refusal) => return Err(refusal),
+    };
+    Ok(Request::News {
+        paths,
+        last,
+        form: form(matches),
+    })
+}
+
 /// Returns the request of `ill status`.
 fn status_request<'a>(alloc: Global, matches: &ArgMatches<'a>) -> Result<Request<'a>, Refusal>
     ensures { ReadsValue asked (asked_of names.Status (rows_of (found_of matches.now))) result }
@@ -634,6 +660,19 @@ fn ahead(matches: &ArgMatches<'_>) -> Result<u32, Refusal>
             None => Err(Refusal::Fault(ToolFault::Arguments)),
         },
         None => Ok(SOON),
+    }
+}
+
+/// Returns the number of the option `--last`, if it is given.
+fn last(matches: &ArgMatches<'_>) -> Result<Option<Number>, Refusal>
+    ensures { ReadsValue (λ last. last) (last_in (rows_of (found_of matches.now))) result }
+{
+    match matches.get_str(Argument::Last.id()) {
+        Some(word) => match number(word.as_bytes()) {
+            Some(last) => Ok(Some(last)),
+            None => Err(Refusal::Fault(ToolFault::Arguments)),
+        },
+        None => Ok(None),
     }
 }
 

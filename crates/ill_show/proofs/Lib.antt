@@ -1,4 +1,5 @@
 pub mod ListLemmas
 pub mod LoanLemmas
+pub mod NewsLemmas
 pub mod ReportLemmas
 pub mod StatusLemmas

@@ -1,8 +1,11 @@
+pub mod Heard
 pub mod Kept
 pub mod List
 pub mod Listing
 pub mod Loan
 pub mod LoanLines
+pub mod News
+pub mod NewsWords
 pub mod Numbers
 pub mod Objects
 pub mod Picture

@@ -3,13 +3,17 @@
 #![tactic(auto)]
 
 mod counts;
+mod heard;
 mod kept;
+pub mod laws;
 pub mod list;
 mod list_objects;
 pub mod listed;
 pub mod loan;
 mod loan_lines;
 mod marks;
+pub mod news;
+mod news_words;
 pub mod numbers;
 mod objects;
 mod picture;

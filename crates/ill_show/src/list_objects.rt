@@ -115,7 +115,7 @@ fn push_listed_fields<'a>(
 
 /// Appends the path of a desk, if it is given.
 #[tactic(auto, unfolding(ill_text::specs::Json::joined))]
-fn push_file(text: &mut Vec<u8>, file: Option<&str>) -> Result<(), OutOfMemory>
+pub(crate) fn push_file(text: &mut Vec<u8>, file: Option<&str>) -> Result<(), OutOfMemory>
     ensures { OnOk result (text.new.items ≡ text.old.items
         ++ joined member (codes ",") (file_fields (option_map (λ path. path.now) file.entry))) }
 {

@@ -162,7 +162,7 @@ pub(crate) fn push_title(lines: &mut Vec<u8>, side: &Side) -> Result<(), OutOfMe
 }
 
 /// Returns the qualifier `text` for a column. No two spaces stand side by side in it, since two spaces end a column.
-fn column(alloc: Global, text: &[u8]) -> Result<Vec<u8>, OutOfMemory>
+pub(crate) fn column(alloc: Global, text: &[u8]) -> Result<Vec<u8>, OutOfMemory>
     ensures { IfOk result (λ shown. shown.items ≡ column text.now) }
 {
     let mut shown = Vec::new(alloc);
@@ -195,7 +195,7 @@ fn push_column_byte(shown: &mut Vec<u8>, is_edge: bool, byte: u8) -> Result<(), 
 }
 
 /// Appends `text`, spaces up to `width`, and two further ones.
-fn push_cell(lines: &mut Vec<u8>, width: usize, text: &[u8]) -> Result<(), OutOfMemory>
+pub(crate) fn push_cell(lines: &mut Vec<u8>, width: usize, text: &[u8]) -> Result<(), OutOfMemory>
     ensures { OnOk result (lines.new.items ≡ lines.old.items ++ cell width text.now) }
 {
     push_padded(lines, width, text)?;

@@ -15,7 +15,7 @@ use Rattle.ill_line.specs.declared.request.Refusal.{Refusal}
 use Rattle.ill_line.specs.declared.request.Refusal.TheVariants.{Usage, Fault}
 use Rattle.ill_tool.specs.ExitStatus.{IsFlushed, TellsKind, exit_status, status_of}
 use Rattle.ill_commands.specs.AtFile.{NewAtFile, ActsAtFile, TakesAtFile, SendsAtFile, ShowsFile, ListsPaths, LoanAtFile}
-use Rattle.ill_commands.specs.AtFile.{SlipAtFile}
+use Rattle.ill_commands.specs.AtFile.{SlipAtFile, TellsPaths}
 use Rattle.ill_files.specs.Opening.{GoesWell}
 use Rattle.ill_commands.specs.AtFile.{VerifiesFile, ReportsPaths}
 use Rattle.ill_mail.specs.Nights.{InboxAtFile, OutboxAtFile, ExchangesAtFile}
@@ -44,6 +44,8 @@ Runs (asks.Send file txn number) left rest before after result =
     (rest ≡ left) × SendsAtFile txn number before after result
 Runs (asks.Listing paths wanted form) left rest before after result =
     (rest ≡ left) × ListsPaths form wanted before after result
+Runs (asks.News paths last form) left rest before after result =
+    (rest ≡ left) × TellsPaths form last before after result
 Runs (asks.Status file form) left rest before after result = (rest ≡ left) × ShowsFile form before after result
 Runs (asks.Loan file txn form) left rest before after result =
     (rest ≡ left) × LoanAtFile form txn before after result

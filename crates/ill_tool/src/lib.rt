@@ -22,6 +22,7 @@ pub use ill_saved::DeskFault;
 pub use ill_show::list::run_desk_list;
 pub use ill_show::listed::Listed;
 pub use ill_show::loan::{LoanForm, LoanView, run_desk_loan};
+pub use ill_show::news::run_desk_news;
 pub use ill_show::status::{run_desk_status, run_desk_status_as, run_status};
 pub use ill_show::verify::run_desk_verify;
 pub use ill_show::wanted::{Wanted, Which};

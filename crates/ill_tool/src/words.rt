@@ -13,6 +13,7 @@ use clap::error::ErrorKind;
 use ill_commands::commands::{
     ActionView, act, list, loan, new, report, send, slip, status, take, verify,
 };
+use ill_commands::telling::news;
 use ill_explain::{Passed, Watched, explain, is_asked};
 use ill_files::machine::Machine;
 use ill_files::open::all_well;
@@ -283,6 +284,7 @@ fn run<T: LockFiles, R: Read, W: Write, E: Write>(
             wanted,
             form,
         } => list(machine, paths, wanted, *form),
+        Request::News { paths, last, form } => news(machine, paths, *last, *form),
         Request::Status { file, form } => status(machine, file, *form),
         Request::Loan { file, txn, form } => loan(machine, file, &LoanView { txn, form: *form }),
         Request::Slip { file, txn } => slip(machine, file, txn),

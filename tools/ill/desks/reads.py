@@ -7,6 +7,7 @@ same courses must have the same bytes. Of each desk the program writes
 
 - `list` and its objects with each combination of its options, in the order, with the columns and counts of the model;
 - `loan`, its picture and its object, and `slip`, of each loan or, on the large desks, of some;
+- `news` and its objects of what came, which is written beside the desk once, twice and torn, with `--last` too;
 - `status`, its objects, `report` and `verify`;
 
 and all but the slowest once more to a full device, to a closed output and to a pipe that is read byte by byte.
@@ -27,13 +28,14 @@ import subprocess
 import tempfile
 
 from ill import harness
-from ill.der import ASKED
+from ill.der import ASKED, shipped, spelled
 from ill.harness import CLOSED, FULL, read, write
 from ill.model import REQUESTER, RESPONDER, ROLES, FORMS, Fault, Side
 from ill.morning import AHEAD, Loan, Morning, work_with, works
 from ill.records import desk_record
 from ill.screen import ACTING, shown
 from ill.slips import Slip
+from ill.tidings import came_bytes, column, iso, news_lines, news_objects
 
 REPORT = harness.Report()
 
@@ -60,11 +62,6 @@ NO_NAME = "ill: shelf/no\\xffdesk\\x1b: no UTF-8"
 
 
 # ---- what the commands write
-
-def iso(day):
-    """Returns a day as ISO 8601 has it."""
-    return day and f"{day[:4]}-{day[4:6]}-{day[6:]}"
-
 
 def yes_no(is_yes):
     """Returns the word for it."""
@@ -144,11 +141,6 @@ def picture_lines(side):
         way = "requester->>responder" if apdu["apdu"] in ASKED else "responder->>requester"
         lines.append(f"  {way}: " + drawn("\n".join([f"{apdu['number']} {apdu['apdu']}", *field_lines(apdu)])))
     return lines
-
-
-def column(text):
-    """Returns a qualifier for a column. A space at an edge, or after another one, is written by its number."""
-    return re.sub("^ |(?<= ) | $", r"\\u{20}", text)
 
 
 def padded(text, width):
@@ -438,6 +430,22 @@ def check_loans(judge, path, sides):
                    slip_parts(side))
 
 
+def check_news(judge, path, sides):
+    """Compares `news` of what came to a desk. Its file has each message once, then twice, then with what no record shows:
+    messages of other loans, some of its own role, and a part of one. Without the file there is no news."""
+    came = came_bytes(sides)
+    none = shipped(b"no loan") + b"".join(spelled(side.txn, side.issued[0]) for side in sides[:9] if side.issued)
+    for kept in [came] if is_longest(sides) else [came, came * 2, none + came + none + shipped(b"torn")[:-1]]:
+        write(f"{path}.came", kept)
+        for last in (None, 1, 7, 255):
+            words = ["news", path, *(["--last", str(last)] if last else [])]
+            judge.lines(words, news_lines(sides, last))
+            judge.objects([*words, "--json"], news_objects(sides, last))
+    os.remove(f"{path}.came")
+    judge.lines(["news", path], ["messages 0, shown 0"])
+    judge.objects(["news", path, "--json"], [])
+
+
 def check_rest(judge, path, role, sides):
     """Compares `status`, `report` and `verify`."""
     judge.lines(["status", path], [line for side in sides for line in status_lines(side)])
@@ -454,7 +462,7 @@ def check_rest(judge, path, role, sides):
 
 def reading(path, sides):
     """Returns the commands that read a desk."""
-    commands = [["list", path], ["list", path, "--mine", "--today", TODAY], ["list", path, "--json"], ["status", path],
+    commands = [["list", path], ["news", path], ["list", path, "--mine", "--today", TODAY], ["list", path, "--json"], ["status", path],
                 ["status", path, "--json"], ["report", path, "--today", TODAY], ["verify", path]]
     for side in sides[:1]:
         commands += [["slip", path, *side.txn]]
@@ -555,7 +563,7 @@ def play(judge, course, folder):
     for who, step in course:
         if isinstance(step, int):
             message = judge.run(["send", desks["s" if who == "r" else "r"], "G1", "T1", str(step)]).output
-            judge.text(["take", desks[who]], message)
+            judge.text(["take", "--keep", desks[who]], message)
         else:
             day = ["--today", day_of(step)] if who == "s" else []
             judge.text(["act", desks[who], "G1", "T1", *day, *step.split(" ")])
@@ -572,6 +580,7 @@ def check_kind(judge, role, course, side):
         verbs = [] if verbs == ["-"] else verbs
         judge.same(f"the verbs of {kind_of(side)}", verbs, side.possible())
         judge.same(f"the record of {kind_of(side)}", read(desk), desk_record(role, [side]))
+        judge.lines(["news", desk], news_lines([side]))
         for today in ([], ["--today", "20250301"], ["--today", LATE]):
             mine = judge.text(["list", desk, "--mine", "--actions", *today]).split("\n")[:-2]
             wanted = work_with(side, *today[1:])
@@ -650,6 +659,7 @@ def check_folder(judge, desks):
         blocks.append([f"shelf/{name}:", *list_lines(sides, "--mine", TODAY)])
     wanted = [line for place, block in enumerate(blocks) for line in ([""] if place else []) + block]
     judge.lines(["list", "shelf", "--mine", "--today", TODAY], wanted)
+    check_news_of_folder(judge, [name for name in sorted(os.listdir("shelf")) if name in desks], desks)
     words = ["list", "shelf", "--mine", "--today", TODAY]
     write("shelf/no desk", b"no desk")
     write(b"shelf/no\xffdesk\x1b", b"no desk")
@@ -673,6 +683,19 @@ def check_folder(judge, desks):
     judge.same("a shelf", told, wanted)
 
 
+def check_news_of_folder(judge, names, desks):
+    """Compares `news` of a folder of desks, to the first of which nothing came."""
+    sides = {name: desks[name][1] if place else [] for place, name in enumerate(names)}
+    for name in names[1:]:
+        write(f"shelf/{name}.came", came_bytes(sides[name]))
+    lines = [line for name in names for line in ["", f"shelf/{name}:", *news_lines(sides[name], 7)]]
+    judge.lines(["news", "shelf", "--last", "7"], lines[1:])
+    judge.objects(["news", "shelf", "--last", "7", "--json"],
+                  [it for name in names for it in news_objects(sides[name], 7, f"shelf/{name}")])
+    for name in names[1:]:
+        os.remove(f"shelf/{name}.came")
+
+
 def check_desks(judge):
     """All commands over the ten desks."""
     sets = {"empty": {REQUESTER: [], RESPONDER: []}, "kinds": both(kinds()), "titles": both(titled()),
@@ -682,6 +705,7 @@ def check_desks(judge):
         write(name, desk_record(role, sides))
         check_list(judge, name, sides)
         check_loans(judge, name, sides)
+        check_news(judge, name, sides)
         check_rest(judge, name, role, sides)
         if len(sides) < 900 or is_longest(sides):
             check_streams(judge, name, sides)

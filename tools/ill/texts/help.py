@@ -25,7 +25,7 @@ WORLD, WORDS, TEXT, SHOW, SLIP, DESK, NIGHT, FILES, COMMANDS, MAIL, SHELF = (
 FILE_KINDS = {"File", "NewFile", "Paths", "Folder"}
 FLAGS = {"Long", "Keep", "Picture", "Open", "Mine", "Actions", "Json"}
 # The sources of the commands on a file: what locks it is told by their bodies.
-FILED = (f"{COMMANDS}/commands.rt", f"{MAIL}/exchange.rt")
+FILED = (f"{COMMANDS}/commands.rt", f"{COMMANDS}/telling.rt", f"{MAIL}/exchange.rt")
 FIGURES = ("one two three four five six seven eight nine ten eleven twelve thirteen fourteen fifteen sixteen "
            "seventeen eighteen nineteen twenty").split()
 NUMBER = r"(?<![\w.])(?:\d+(?:,\d{3})*|" + "|".join(FIGURES) + r")(?![\w])"
@@ -47,7 +47,8 @@ wait for each other: {wait} seconds; held FILE for {wait} seconds
 days, such as {day}; The day of the action, as {day}; The day of the report, as {day}; The day of the run, as {day}
 want the day: `--today {day}`; DAY is {day_digits} digits, as {day}; The day of the work, as {day}
 at most DAYS days away: {first} to {last}, or {ahead} without this option; a due date is soon, or {ahead}
-N days after that day, {first} to {last}
+N days after that day, {first} to {last}; the last N messages, {first} to {last}
+only the last N messages are told, {first} to {last}; no count of messages: it is {first} to {last}
 days {first_day} to {last_day}
 N one to {days_digits} digits
 one to {number_digits} digits, with a value from {first} to {last}; The number of the message, {first} to {last}
@@ -84,7 +85,7 @@ CAUSES = {
     "the desk is saved": "ok", "all mails are done": "ok", "one was put aside or in conflict": "refused",
     "the action is done": "ok", "each was taken, a repeat or stale": "ok", "the message is written": "ok",
     "the loans are listed": "ok", "the loans are shown": "ok", "the loan is shown": "ok", "the slip is written": "ok",
-    "the page is written": "ok",
+    "the page is written": "ok", "the messages are told": "ok",
     "it is a desk": "ok", "all messages are there": "ok", "nothing wants a person": "ok",
     "all of them are shown": "ok", "they are counted": "ok", "the whole script was performed": "ok",
     "it is refused": "refused", "one was anything else": "refused", "something does": "refused",
@@ -553,7 +554,8 @@ def compare_words(named_texts, words, arguments):
     messages = set(named("ApduType", read("crates/ill_values/src/apdu_type.rt")).values())
     verbs_known = {form.split()[0] for forms in actions().values() for form in forms}
     files = re.findall(r"^  \$ ill new (\w+)", read(HELP), re.M)
-    objects = "".join(map(read, (f"{TEXT}/apdu_object.rt", f"{SHOW}/objects.rt", f"{SHOW}/list_objects.rt")))
+    objects = "".join(map(read, (f"{TEXT}/apdu_object.rt", f"{SHOW}/objects.rt", f"{SHOW}/list_objects.rt",
+                                 f"{SHOW}/news.rt")))
     labels = set(re.findall(r'(?:\(|\(text, )"([\w-]+)"(?:, |\)\?;)', objects))
     counted = set(re.findall(r"(\w+) \{\1\}", read(f"{NIGHT}/tally.rt")))
     staying = {f"NAME {word} REASON" for word in re.findall(r'b" (\w+) "', read(f"{NIGHT}/verdict.rt"))}

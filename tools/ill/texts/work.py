@@ -26,10 +26,10 @@ DAYS = {"the expiry date is past": "on.has_expired", "the due date is past": "on
 FACTS = sorted({fact for fact, _ in MARKS.values()}) + list(DAYS.values())
 
 
-def tables():
-    """Yields the tables of the section: the first cell of the head, and the cells of each line, with its place."""
+def tables(heading=HEADING):
+    """Yields the tables of a section: the first cell of the head, and the cells of each line, with its place."""
     rows = []
-    for number, line in itertools.chain(section(HEADING), [(0, "")]):
+    for number, line in itertools.chain(section(heading), [(0, "")]):
         if line.startswith("|"):
             rows.append((f"{PAGE}:{number}", [cell.strip() for cell in line[1:].rstrip().removesuffix("|").split("|")]))
         elif rows:

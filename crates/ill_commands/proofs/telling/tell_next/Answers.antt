@@ -1,0 +1,13 @@
+-- Answers the contract of `tell_next` (`src/telling.rt`).
+use Rattle.std.proofs.Common.{◌≡◌, [], Err, inr, ap, ◌∙◌}
+use Rattle.std.proofs.KnownBytes.{Appends-nil}
+use Rattle.ill_text.specs.declared.fault.ToolFault.TheVariants.{Write}
+use Rattle.ill_commands.proofs.TellingLemmas.{nothing_in}
+use Rattle.ill_commands.proofs.telling.tell_next.Goals as goal
+
+-- Proves the contract of `tell_next` if the writer has failed before. A prefix of no bytes was written.
+pub returns-in-Err-Write : goal.returns-in-Err-Write
+returns-in-Err-Write g c =
+    let failed : c.in-Err-Write.field-0 ≡ Write = rw c.in-Err-Write.is at c.in-Err-Write.field-0-is in
+    let silent = Appends-nil (g.W.Write.contents c.args.machine.now.writer) in
+    inr ([], [], (Err Write, ([], nothing_in, (0, silent)), c.in-Err-Write.is ∙ ap Err failed))

@@ -1,92 +1,37 @@
 -- Proves that a delivery leads the side of each transaction on by the message, if it is of this transaction.
-use Rattle.std.proofs.Common.{rules, ◌≡◌, ℕ, Bool, true, false, cond, [], ◌∷◌, Option, Some, None}
-use Rattle.std.proofs.Common.{Result, Ok, Err, if◌then◌else◌, refl, sym, ap, ◌∙◌, subst, true≢false}
+use Rattle.std.proofs.Common.{◌≡◌, ℕ, Bool, true, false, cond, [], ◌∷◌, Some, None, Result, Ok, Err, if◌then◌else◌}
+use Rattle.std.proofs.Common.{refl, sym, ap, ◌∙◌, subst}
 use Rattle.ill_values.specs.TxnId.{Qualifiers}
 use Rattle.ill_values.specs.Bodies.{is_ill_request}
 use Rattle.ill_values.specs.declared.apdu.Apdu.{Apdu}
-use Rattle.ill_values.specs.Body.{Body}
-use Rattle.ill_values.specs.declared.apdu.BodyWith.TheVariants as types
 use Rattle.ill_core.specs.declared.refusal.Refusal.{Refusal}
 use Rattle.ill_core.specs.declared.refusal.Refusal.TheVariants.{WrongRole}
-use Rattle.ill_core.specs.declared.state.State.TheVariants as states
 use Rattle.ill_core.specs.declared.taking.Taking.{Taking}
 use Rattle.ill_core.specs.Issued.{is_same_txn}
-use Rattle.ill_core.specs.Responder.{ResponderRecord, responder_of}
-use Rattle.ill_core.specs.ResponderNotices.{has_heard}
 use Rattle.ill_saved.specs.declared.fault.DeskFault.{DeskFault}
 use Rattle.ill_saved.specs.declared.fault.DeskFault.TheVariants as faults
 use Rattle.ill_saved.specs.declared.role.Role.{Role}
 use Rattle.ill_saved.specs.declared.role.Role.TheVariants as who
 use Rattle.ill_saved.specs.declared.side.Side.{Side}
-use Rattle.ill_saved.specs.declared.side.Side.TheVariants as sides
 use Rattle.ill_saved.specs.Side.{idle_side, other, takes}
 use Rattle.ill_saved.specs.Holdings.{DeskEntry}
 use Rattle.ill_saved.specs.ManySides.{DeskContents, contents_after_message, desk_takes, found_by, found_or, held_for, idle_held}
 use Rattle.ill_saved.specs.ManySides.{is_own, side_for_call, takes_reached, txn_held}
 use Rattle.ill_saved.proofs.Finding.{same_is}
-use Rattle.ill_words.specs.declared.outcome.Outcome.{Outcome}
-use Rattle.ill_words.specs.declared.outcome.DeskOutcome.{DeskOutcome}
-use Rattle.ill_words.specs.declared.outcome.DeskOutcome.TheVariants.{Plain, NoSuchTransaction, DeskFull}
+use Rattle.ill_words.specs.declared.outcome.DeskOutcome.TheVariants.{NoSuchTransaction}
 use Rattle.ill_world.specs.declared.event.Event.TheVariants as events
 use Rattle.ill_world.specs.declared.event.DeskEvent.TheVariants as desk_events
 use Rattle.ill_world.specs.World.{Party, Parties, party, with_party, sent_message, receives, happens}
 use Rattle.ill_world.specs.Desks.{DeskParty, DeskParties, sent_for, desk_receives, taking_seen, desks_happen}
-use Rattle.ill_world.specs.Desks.{project, if_reached, IsSeenAs}
+use Rattle.ill_world.specs.Desks.{project}
 use Rattle.ill_world.specs.DeskChanges.{Reaches}
 use Rattle.ill_world.specs.DeskSafety.{DesksInvariant}
 use Rattle.ill_world.proofs.Desks.{EachProjects, EachStands, keeps_to}
 use Rattle.ill_world.proofs.DeskArrivals.{EachReaches}
 use Rattle.ill_world.proofs.DeskCounts.{none_sent, finds_room}
-use Rattle.ill_world.proofs.DeskRounds.{shown}
+use Rattle.ill_world.proofs.DeskRounds.{idle_takes, not_reached, seen_alike, seen_elsewhere, shown}
 use Rattle.ill_world.proofs.Rounds.{takes_all}
-use Rattle.ill_progress.proofs.HeardMessages.{heard_leaves}
 use Rattle.ill_nights.specs.Messages.{messages_for}
-
--- ---- an idle side
-
--- Returns a responder that has issued and taken nothing.
-abbrev idle_responder : Qualifiers → ResponderRecord
-idle_responder txn = responder_of txn states.Idle None None None false None []
-
--- An idle responder has heard each message but an ILL-Request.
-idle_heard : (txn : Qualifiers) (number : ℕ) (body : Body) → is_ill_request body ≡ false
-    → has_heard (idle_responder txn) number body ≡ true
-idle_heard txn number (types.IllRequest expiry item) is = absurd (true≢false is)
-idle_heard txn number (types.ConditionalReply answers true) is = refl
-idle_heard txn number (types.ConditionalReply answers false) is = refl
-idle_heard txn number body is = refl
-
--- An idle responder's side takes no message but an ILL-Request.
-idle_takes : (txn : Qualifiers) (a : Apdu) → is_ill_request a.body ≡ false
-    → (takes (idle_side who.Responder txn) a).1 ≡ idle_side who.Responder txn
-idle_takes txn a is = ap sides.Responder (heard_leaves (idle_responder txn) a (idle_heard txn a.number a.body is))
-
--- If the outcome is NoSuchTransaction, the transaction is not held, and the event may not begin it.
-missed : (may_begin has_room : Bool) (found : Option DeskEntry) → Reaches may_begin has_room found NoSuchTransaction
-    → (found ≡ None) × (may_begin ≡ false)
-missed may_begin has_room (Some held) reaches = absurd reaches
-missed true true None reaches = absurd reaches
-missed true false None reaches = search rules
-missed false has_room None reaches = (refl, refl)
-
--- ---- what is seen of an event
-
--- An event of the transaction is seen in it, if one that reaches no side would change nothing.
-seen_there : (own : Bool) → own ≡ true → (expected : Outcome × Parties) (old new : Parties) (outcome : DeskOutcome)
-    → IsSeenAs (if_reached outcome own) expected old outcome new
-    → (outcome ≡ DeskFull → ⊥) → (outcome ≡ NoSuchTransaction → expected.1 ≡ old) → new ≡ expected.1
-seen_there true is expected old new (Plain outcome) seen room stays = seen.1
-seen_there true is expected old new NoSuchTransaction seen room stays = seen ∙ sym (stays refl)
-seen_there true is expected old new DeskFull seen room stays = absurd (room refl)
-seen_there false is expected old new outcome seen room stays = absurd (true≢false (sym is))
-
--- An event of another transaction changes nothing in this one.
-unseen : (own : Bool) → own ≡ false → (expected : Outcome × Parties) (old new : Parties) (outcome : DeskOutcome)
-    → IsSeenAs (if_reached outcome own) expected old outcome new → new ≡ old
-unseen true is expected old new outcome seen = absurd (true≢false is)
-unseen false is expected old new (Plain outcome) seen = seen
-unseen false is expected old new NoSuchTransaction seen = seen
-unseen false is expected old new DeskFull seen = seen
 
 -- ---- the desk and the party after an event
 
@@ -168,7 +113,7 @@ module _ (projects : EachProjects) (reaches : EachReaches) (stand : EachStands) 
         is = same_is txn of same
 
         unheld : (found_by txn_held of (party w role).live.held ≡ None) × (is_ill_request a.body ≡ false)
-        unheld = missed (is_ill_request a.body) _ (found_by txn_held of (party w role).live.held)
+        unheld = not_reached (is_ill_request a.body) _ (found_by txn_held of (party w role).live.held)
             (subst (Reaches (is_ill_request a.body) _ (found_by txn_held of (party w role).live.held)) none
             (reaches w (desk_events.Deliver role of n) stands a was))
 
@@ -201,13 +146,14 @@ module _ (projects : EachProjects) (reaches : EachReaches) (stand : EachStands) 
             ap (λ (p : Party). sent_message p.sent n) (shown txn w (other role))
             ∙ ap (λ t. sent_message (sent_for t (party w (other role)).sent) n) (same_is txn of own) ∙ was in
             ap (λ (v : Parties). (party v role).live)
-            (seen_there (is_same_txn txn of) own (happens (project txn w) (events.Deliver role n)) (project txn w)
+            (seen_alike (is_same_txn txn of) own (happens (project txn w) (events.Deliver role n)) (project txn w)
             (project txn next) (desks_happen w (desk_events.Deliver role of n)).0
             (projects txn w (desk_events.Deliver role of n) stands)
             (λ full. finds_room reaches w role of n stands full) (missed_stays own))
             ∙ delivered role (project txn w) n a there
         go false e =
             ap (λ (v : Parties). (party v role).live)
-            (unseen (is_same_txn txn of) (ap (is_same_txn txn) sent_in ∙ e) (happens (project txn w) (events.Deliver role n))
+            (seen_elsewhere (is_same_txn txn of) (ap (is_same_txn txn) sent_in ∙ e)
+            (happens (project txn w) (events.Deliver role n))
             (project txn w) (project txn next) (desks_happen w (desk_events.Deliver role of n)).0
             (projects txn w (desk_events.Deliver role of n) stands))

@@ -30,6 +30,7 @@ use Rattle.ill_night.specs.Outbox.{Issue, asked_by, is_asked, leaving_desk}
 use Rattle.ill_mail.specs.Nights.{Night, ExchangesAt, PerformsDueDeeds, SendsAll, SendsAsked, SettlesRun, TakesMails, night_asks}
 use Rattle.ill_world.specs.declared.event.Event.{Event}
 use Rattle.ill_world.specs.declared.event.Event.TheVariants as events
+use Rattle.ill_world.specs.declared.event.DeskEvent.{DeskEvent}
 use Rattle.ill_world.specs.declared.event.DeskEvent.TheVariants.{Restart}
 use Rattle.ill_world.specs.World.{Party, Parties, party, happens, run_of}
 use Rattle.ill_world.specs.Desks.{DeskParty, DeskParties, desks_happen, desks_run, project}
@@ -45,7 +46,7 @@ use Rattle.ill_world.proofs.OneRound.{requester_taking}
 use Rattle.ill_world.proofs.Rounds.{takes_all}
 use Rattle.ill_progress.specs.NightWithPeople.{is_by_responder, asked_and_worked, worked_night_of}
 use Rattle.ill_runs.specs.Events.{IsReadAs}
-use Rattle.ill_runs.specs.Libraries.{AreAt, Commands, IsAt, LeadsTo, Libraries, Library}
+use Rattle.ill_runs.specs.Libraries.{AreAt, Commands, IsAt, IsHistory, LeadsTo, Libraries, Library, libraries_after}
 use Rattle.ill_runs.specs.Mail.{Bring, IsOneOf, WasSent, mails_of, mails_taken}
 use Rattle.ill_runs.proofs.BadLibraries.{read_once}
 use Rattle.ill_runs.proofs.LibraryLemmas.{brought, events_there}
@@ -312,7 +313,9 @@ module _ (projects : EachProjects) (reaches : EachReaches) (stand : EachStands) 
       → AreInStepOrAtRest (run_of w (worked_night_of people w)))
       (leads : (role : Role) (w : DeskParties) → DesksInvariant w → (others : List Apdu) (before after : Library)
       → Each (WasSent (party w (other role)).sent) others → IsAt before (party w role) → Commands others before after
-      → LeadsTo role w after) where
+      → LeadsTo role w after)
+      (follows : (w : DeskParties) (now : Libraries) (later : List Libraries) → DesksInvariant w → AreAt now w
+      → IsHistory now later → (events : List DeskEvent) × AreAt (libraries_after now later) (desks_run w events)) where
     -- If both desks restart, the sides of a night from there are in step or at rest.
     restarted_step : (w : DeskParties) → DesksInvariant w → (deeds : List (Deed × Date))
         → let x = side_for txn w.requester.landed in
@@ -345,68 +348,81 @@ module _ (projects : EachProjects) (reaches : EachReaches) (stand : EachStands) 
         let leads_one = leads who.Requester w stands before.responder.left before.requester asked at.responder.left
         at.requester (inr (inr (inr (inr (inl good.asks.command))))) in
         let one : DeskParties = desks_run w leads_one.events in
-        let stands_one : DesksInvariant one = desks_stand_on stand w leads_one.events stands in
         let first = night_sent who.Requester w stands before.responder.left at.responder.left before.requester asked
         at.requester good.asks in
         let responder_at : IsAt before.responder one.responder =
         subst (IsAt before.responder) (sym (events_there who.Requester w leads_one.events leads_one.here).1) at.responder in
-        let leads_two = leads who.Responder one stands_one asked.left before.responder after.responder leads_one.at.left
-        responder_at (inr (inr (inr (inr (inl good.answers.command))))) in
-        let two : DeskParties = desks_run one leads_two.events in
-        let stands_two : DesksInvariant two = desks_stand_on stand one leads_two.events stands_one in
-        let second = night_sent who.Responder one stands_one asked.left leads_one.at.left before.responder after.responder
-        responder_at good.answers in
-        let still : two.requester ≡ one.requester =
-        (events_there who.Responder one leads_two.events leads_two.here).1 in
-        let third = all_took who.Requester two stands_two after.responder.left leads_two.at.left asked after.requester
-        (subst (IsAt asked) (sym still) leads_one.at) good.takes in
-        ends one stands_one two still first second third (leads_one.at.file)
+        let stands_one : DesksInvariant one = desks_stand_on stand w leads_one.events stands in
+        let work = follows one (record { requester = asked; responder = before.responder }) good.people.people stands_one
+        (record { requester = leads_one.at; responder = responder_at }) good.people.work in
+        let two : DeskParties = desks_run one work.0 in
+        answered two (desks_stand_on stand one work.0 stands_one)
+        (subst (λ (libraries : Libraries). AreAt libraries two) good.people.met_then work.1) first
       where
-        Ends : Side → Side → Type 0
-        Ends x y = InStepOrAtRest x y
-
-        ends : (one : DeskParties) → DesksInvariant one → (two : DeskParties) → two.requester ≡ one.requester
+        answered : (two : DeskParties) → DesksInvariant two → AreAt good.met two
             → Sent who.Requester w.requester good.asked (mails_of good.asks.command.runs.0 good.asks.command.runs.2)
             (verdicts_of good.asks.command.runs.0 good.asks.command.runs.2) good.asks.command.leaving good.asks.asking
-            → Sent who.Responder one.responder after.responder
-            (mails_of good.answers.command.runs.0 good.answers.command.runs.2)
-            (verdicts_of good.answers.command.runs.0 good.answers.command.runs.2) good.answers.command.leaving
-            good.answers.asking
-            → Took two.requester after.requester (messages_of_all good.takes)
-            → records_at good.asked.file ≡ Ok one.requester.landed → AreInStepIn txn after
-        ends one stands_one two still first second third file =
-            let x : Side = side_for txn one.requester.landed in
-            let y : Side = side_for txn one.responder.landed in
-            let is_requester : RequesterSideInvariant txn x (project txn one).responder.sent =
-            (stands_one.each txn).requester.landed in
-            let first_held : side_for txn first.took.held ≡ x =
-            ap (side_for txn) (read_once (records_at good.asked.file) first.took.held one.requester.landed first.took.file
-            file) in
-            let there : messages_for txn (messages_came good.answers) ≡ sent_by false x =
-            good.there ∙ first.left_all ∙ ap (sent_by (is_asked good.asks.asking txn)) first_held
-            ∙ sends_alike txn x (project txn one).responder.sent (is_asked good.asks.asking txn) is_requester in
-            let answers : Side = after_deeds_of (takes_all y (sent_by false x)) second.took.deeds in
-            let answers_is : side_for txn second.took.held ≡ answers =
-            second.took.side ∙ ap (λ apdus. after_deeds_of (takes_all y apdus) second.took.deeds) there in
-            let right : is_over answers ≡ true → not (is_asked good.answers.asking txn) ≡ is_none (sent_by false x) =
-            λ over. second.right refl good.done.0 good.done.1 (ap is_over answers_is ∙ over) ∙ ap is_none there in
-            let back : messages_for txn (messages_of_all good.takes) ≡ sent_by (asks x) answers =
-            good.back ∙ second.left_all ∙ ap (sent_by (is_asked good.answers.asking txn)) answers_is
-            ∙ asked_alike x answers (is_asked good.answers.asking txn) right in
-            let taken : side_for txn third.held ≡ takes_all x (sent_by (asks x) answers) =
-            third.side
-            ∙ ap (λ (p : DeskParty). after_deeds_of (takes_all (side_for txn p.landed)
-            (messages_for txn (messages_of_all good.takes))) third.deeds) still
-            ∙ taken_undone txn x (project txn one).responder.sent (messages_for txn (messages_of_all good.takes)) third.deeds
-            is_requester
-            ∙ ap (takes_all x) back in
-            let step : InStepOrAtRest (takes_all x (sent_by (asks x) answers)) answers =
-            restarted_step one stands_one second.took.deeds
-            (subst CanAnswer answers_is (can second.took.held second.took.file)) in (
-              third.held,
-              second.took.held,
-              third.file,
-              second.took.file,
-              subst (λ s. Ends s (side_for txn second.took.held)) (sym taken) (subst (Ends (takes_all x
-                  (sent_by (asks x) answers))) (sym answers_is) step),
-            )
+            → AreInStepIn txn after
+        answered two stands_two met_at first =
+            let met : Libraries = good.met in
+            let leads_three = leads who.Responder two stands_two met.requester.left met.responder after.responder
+            met_at.requester.left met_at.responder (inr (inr (inr (inr (inl good.answers.command))))) in
+            let three : DeskParties = desks_run two leads_three.events in
+            let stands_three : DesksInvariant three = desks_stand_on stand two leads_three.events stands_two in
+            let second = night_sent who.Responder two stands_two met.requester.left met_at.requester.left met.responder
+            after.responder met_at.responder good.answers in
+            let still : three.requester ≡ two.requester =
+            (events_there who.Responder two leads_three.events leads_three.here).1 in
+            let third = all_took who.Requester three stands_three after.responder.left leads_three.at.left met.requester
+            after.requester (subst (IsAt met.requester) (sym still) met_at.requester) good.takes in
+            ends two stands_two three still first second third
+            (ap (λ (library : Library). records_at library.file) (sym good.people.requester) ∙ met_at.requester.file)
+          where
+            Ends : Side → Side → Type 0
+            Ends x y = InStepOrAtRest x y
+
+            ends : (one : DeskParties) → DesksInvariant one → (two : DeskParties) → two.requester ≡ one.requester
+                → Sent who.Requester w.requester good.asked (mails_of good.asks.command.runs.0 good.asks.command.runs.2)
+                (verdicts_of good.asks.command.runs.0 good.asks.command.runs.2) good.asks.command.leaving good.asks.asking
+                → Sent who.Responder one.responder after.responder
+                (mails_of good.answers.command.runs.0 good.answers.command.runs.2)
+                (verdicts_of good.answers.command.runs.0 good.answers.command.runs.2) good.answers.command.leaving
+                good.answers.asking
+                → Took two.requester after.requester (messages_of_all good.takes)
+                → records_at good.asked.file ≡ Ok one.requester.landed → AreInStepIn txn after
+            ends one stands_one two still first second third file =
+                let x : Side = side_for txn one.requester.landed in
+                let y : Side = side_for txn one.responder.landed in
+                let is_requester : RequesterSideInvariant txn x (project txn one).responder.sent =
+                (stands_one.each txn).requester.landed in
+                let first_held : side_for txn first.took.held ≡ x =
+                ap (side_for txn) (read_once (records_at good.asked.file) first.took.held one.requester.landed first.took.file
+                file) in
+                let there : messages_for txn (messages_came good.answers) ≡ sent_by false x =
+                good.there ∙ first.left_all ∙ ap (sent_by (is_asked good.asks.asking txn)) first_held
+                ∙ sends_alike txn x (project txn one).responder.sent (is_asked good.asks.asking txn) is_requester in
+                let answers : Side = after_deeds_of (takes_all y (sent_by false x)) second.took.deeds in
+                let answers_is : side_for txn second.took.held ≡ answers =
+                second.took.side ∙ ap (λ apdus. after_deeds_of (takes_all y apdus) second.took.deeds) there in
+                let right : is_over answers ≡ true → not (is_asked good.answers.asking txn) ≡ is_none (sent_by false x) =
+                λ over. second.right refl good.done.0 good.done.1 (ap is_over answers_is ∙ over) ∙ ap is_none there in
+                let back : messages_for txn (messages_of_all good.takes) ≡ sent_by (asks x) answers =
+                good.back ∙ second.left_all ∙ ap (sent_by (is_asked good.answers.asking txn)) answers_is
+                ∙ asked_alike x answers (is_asked good.answers.asking txn) right in
+                let taken : side_for txn third.held ≡ takes_all x (sent_by (asks x) answers) =
+                third.side
+                ∙ ap (λ (p : DeskParty). after_deeds_of (takes_all (side_for txn p.landed)
+                (messages_for txn (messages_of_all good.takes))) third.deeds) still
+                ∙ taken_undone txn x (project txn one).responder.sent (messages_for txn (messages_of_all good.takes)) third.deeds
+                is_requester
+                ∙ ap (takes_all x) back in
+                let step : InStepOrAtRest (takes_all x (sent_by (asks x) answers)) answers =
+                restarted_step one stands_one second.took.deeds
+                (subst CanAnswer answers_is (can second.took.held second.took.file)) in (
+                  third.held,
+                  second.took.held,
+                  third.file,
+                  second.took.file,
+                  subst (λ s. Ends s (side_for txn second.took.held)) (sym taken) (subst (Ends (takes_all x
+                      (sent_by (asks x) answers))) (sym answers_is) step),
+                )

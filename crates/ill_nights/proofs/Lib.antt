@@ -7,3 +7,4 @@ pub mod SideNights
 pub mod Stages
 pub mod Takings
 pub mod WholeNights
+pub mod Work

@@ -21,7 +21,7 @@ use Rattle.ill_night.specs.Outbox.{Issue, is_asked, leaving_desk}
 use Rattle.ill_mail.specs.Nights.{Night, ExchangesAt, SendsAll, SendsAsked, night_asks}
 use Rattle.ill_world.specs.Round.{CanAnswer}
 use Rattle.ill_runs.specs.Mail.{mails_of, mails_taken, message_of}
-use Rattle.ill_runs.specs.Libraries.{Exchanges, IsCommand, Libraries, Library, TakesMail}
+use Rattle.ill_runs.specs.Libraries.{Exchanges, IsCommand, IsHistory, Libraries, Library, TakesMail, libraries_after}
 use Rattle.ill_nights.specs.Messages.{InStepOrAtRest, after_deeds_of, after_messages, messages_for, sent_by}
 
 -- ---- what leaves in a night
@@ -139,14 +139,24 @@ abbrev pub messages_of_all : {others : List Apdu} → {before after : Library} �
 messages_of_all (by_inbox inbox) = messages_of (mails_taken inbox.command.runs.1)
 messages_of_all (by_night night) = messages_came night
 
+-- People work at the responder's library: any commands lead from the libraries `asked` to `met`. The requester's library
+-- is then as it was.
+pub record AreAtWork (asked met : Libraries) : Type 0 where
+  pub people : List Libraries
+  pub work : IsHistory asked people
+  pub met_then : libraries_after asked people ≡ met
+  pub requester : met.requester ≡ asked.requester
+
 -- A good night of the transaction `txn` leads from the libraries `before` to `after`. The requester's library sends its
--- messages. The responder's takes them, is done with each, and sends its own. The requester's takes these. No mail of
--- `txn` is lost.
+-- messages, and then people may work at the responder's. The responder's takes the messages, is done with each, and sends
+-- its own. The requester's takes these. No mail of `txn` is lost.
 pub record IsGoodNight (txn : Qualifiers) (before after : Libraries) : Type 0 where
   pub asked : Library
+  pub met : Libraries
   pub asks : IsNight before.responder.left before.requester asked
-  pub answers : IsNight asked.left before.responder after.responder
-  pub takes : TakesAll after.responder.left asked after.requester
+  pub people : AreAtWork (record { requester = asked; responder = before.responder }) met
+  pub answers : IsNight met.requester.left met.responder after.responder
+  pub takes : TakesAll after.responder.left met.requester after.requester
   pub there : IsCarried txn asks.command.leaving (messages_came answers)
   pub back : IsCarried txn answers.command.leaving (messages_of_all takes)
   pub done : HasDone txn answers

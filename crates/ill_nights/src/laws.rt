@@ -10,10 +10,10 @@ ghost use Rattle.ill_saved.specs.Sides.{SidesOf};
 ghost use Rattle.ill_night.specs.declared.verdict.Mail.{Mail};
 ghost use Rattle.ill_night.specs.declared.verdict.Verdict.{Verdict};
 ghost use Rattle.ill_world.specs.World.{party};
-ghost use Rattle.ill_runs.specs.Libraries.{IsHistory, Libraries, Library, first_libraries, libraries_after};
+ghost use Rattle.ill_runs.specs.Libraries.{Commands, IsHistory, Libraries, Library, first_libraries, libraries_after};
 ghost use Rattle.ill_runs.specs.ShelfLibraries.{GroupVisit, IsShelfHistory, first_shelf_libraries, shelves_after};
 ghost use Rattle.ill_nights.specs.BadNights.{AreApartIn, HoldsBack, IsLeftUndone, IsLost};
-ghost use Rattle.ill_nights.specs.Nights.{AreDone, AreInStepIn, CanAnswerIn, IsCarried, IsGoodNight, IsNight, LeftOf, TakesAll, TookOf, messages_of_all};
+ghost use Rattle.ill_nights.specs.Nights.{AreAtWork, AreDone, AreInStepIn, CanAnswerIn, IsCarried, IsGoodNight, IsNight, LeftOf, TakesAll, TookOf, messages_of_all};
 
 /// From each library whose file can be read a whole night leads on, in which no mail comes.
 pub fn a_night_can_be_whole()
@@ -55,8 +55,18 @@ pub fn a_library_takes_what_comes()
     ill_der::laws::read_again();
 }
 
+/// People at the responder's library may do nothing in a good night. They may perform each command of the program, and
+/// then any further one.
+pub fn each_command_of_the_responder_is_work()
+    ensures none { (libraries : Libraries) → AreAtWork libraries libraries }
+    ensures further { (asked met : Libraries) (after : Library) → AreAtWork asked met →
+        Commands met.requester.left met.responder after →
+        AreAtWork asked (record { requester = met.requester; responder = after }) }
+{}
+
 /// After any history of two libraries, a good night of a transaction brings its sides in step or to rest, in the files of
-/// both. The responder must have ended the request, or have a number left to answer a Conditional-Reply no.
+/// both. People may work at the responder's library before its run. The responder must have ended the request, or have a
+/// number left to answer a Conditional-Reply no.
 pub fn a_good_night_is_enough()
     ensures { (txn : Qualifiers) (later : List Libraries) (after : Libraries) → IsHistory first_libraries later →
         IsGoodNight txn (libraries_after first_libraries later) after → CanAnswerIn txn after.responder →
@@ -64,6 +74,7 @@ pub fn a_good_night_is_enough()
 {
     ill_runs::laws::each_command_is_events();
     ill_runs::laws::each_history_is_a_run();
+    ill_runs::laws::each_history_leads_on();
     ill_progress::night_laws::a_night_with_people_is_enough();
     ill_world::laws::world_stands();
     ill_world::desk_laws::desks_stand();

@@ -68,7 +68,7 @@ module _ (stand : EachStands) (stay : (txn : Qualifiers) (w : DeskParties) (even
       (leads.events, both_are_at role after (desks_run w leads.events) leads.at still)
 
   -- A history leads from the desks of its first libraries to those of its last ones.
-  history_leads : (w : DeskParties) (now : Libraries) (later : List Libraries) → DesksInvariant w → AreAt now w
+  pub history_leads : (w : DeskParties) (now : Libraries) (later : List Libraries) → DesksInvariant w → AreAt now w
       → IsHistory now later → (events : List DeskEvent) × AreAt (libraries_after now later) (desks_run w events)
   unfolding run_by IsHistory libraries_after
   history_leads w now [] stands at is = ([], at)

@@ -8,11 +8,12 @@ ghost use Rattle.ill_saved.specs.Ranges.{Each};
 ghost use Rattle.ill_saved.specs.RecordsV2.{records_at};
 ghost use Rattle.ill_saved.specs.Sides.{SidesOf};
 ghost use Rattle.ill_world.specs.World.{party};
-ghost use Rattle.ill_world.specs.Desks.{DeskParties, DeskParty};
+ghost use Rattle.ill_world.specs.declared.event.DeskEvent.{DeskEvent};
+ghost use Rattle.ill_world.specs.Desks.{DeskParties, DeskParty, desks_run};
 ghost use Rattle.ill_world.specs.DeskSafety.{DesksInvariant};
 ghost use Rattle.ill_runs.specs.BadLibraries.{AreUnsafe, HasForgotten};
 ghost use Rattle.ill_runs.specs.Mail.{IsOneOf, WasSent};
-ghost use Rattle.ill_runs.specs.Libraries.{AreSafe, Commands, HasAllThatLeft, IsAt, IsHistory, IsRunAt, LeadsTo, Libraries, Library, first_libraries, libraries_after};
+ghost use Rattle.ill_runs.specs.Libraries.{AreAt, AreSafe, Commands, HasAllThatLeft, IsAt, IsHistory, IsRunAt, LeadsTo, Libraries, Library, first_libraries, libraries_after};
 
 /// Each command of a library is some events at its desk in the model: a restart, what the command does, its saves, and a
 /// Send for each message that leaves. The messages that come were sent by the other desk.
@@ -20,6 +21,16 @@ pub fn each_command_is_events()
     ensures { (who : Role) (w : DeskParties) → DesksInvariant w → (others : List Apdu) (before after : Library) →
         Each (WasSent (party w (other who)).sent) others → IsAt before (party w who) → Commands others before after →
         LeadsTo who w after }
+{
+    ill_world::desk_laws::desks_stand();
+    ill_world::desk_laws::sent_stays_sent_at_desks();
+}
+
+/// A history leads on. If its first libraries are two desks of the model, some events lead from these desks to desks that
+/// are its last libraries.
+pub fn each_history_leads_on()
+    ensures { (w : DeskParties) (now : Libraries) (later : List Libraries) → DesksInvariant w → AreAt now w →
+        IsHistory now later → (events : List DeskEvent) × AreAt (libraries_after now later) (desks_run w events) }
 {
     ill_world::desk_laws::desks_stand();
     ill_world::desk_laws::sent_stays_sent_at_desks();

@@ -59,7 +59,7 @@ _ill_parts() {
     '') parts=(command) options='--explain --help --version' ;;
     help) parts=(command) options='' ;;
     new) parts=(file role) options='--explain --help' ;;
-    act) parts=(file loan loan words) options='--today --explain --help' ;;
+    act) parts=(file loan loan words) options='--today --seen --dry-run --explain --help' ;;
     list) parts=(files) options='--open --mine --today --ahead --due-before --state --actions --json --explain --help' ;;
     news) parts=(files) options='--last --json --explain --help' ;;
     loan) parts=(file loan loan) options='--picture --json --explain --help' ;;
@@ -79,7 +79,7 @@ _ill_parts() {
     shelf-) parts=(shelf-command) options='--explain --help' ;;
     shelf-help) parts=(shelf-command) options='' ;;
     shelf-new) parts=(folder role) options='--explain --help' ;;
-    shelf-act) parts=(folder loan loan words) options='--today --new-group --explain --help' ;;
+    shelf-act) parts=(folder loan loan words) options='--today --seen --dry-run --new-group --explain --help' ;;
     shelf-loan) parts=(folder loan loan) options='--picture --json --explain --help' ;;
     shelf-slip) parts=(folder loan loan) options='--explain --help' ;;
     shelf-status) parts=(folder) options='--json --explain --help' ;;
@@ -104,6 +104,7 @@ _ill_read() {
       day-* | count-* | state-* | file-*) wanted=any ;;
       any---) wanted=argument ;;
       any---today | any---due-before) wanted=day ;;
+      any---seen) wanted=text ;;
       any---ahead | any---last) wanted=count ;;
       any---state) wanted=state ;;
       any---copy | any---beat) wanted=file ;;

@@ -33,6 +33,8 @@ function __ill_read
                 set wanted argument
             case any---today any---due-before
                 set wanted day
+            case any---seen
+                set wanted text
             case any---ahead any---last
                 set wanted count
             case any---state
@@ -158,6 +160,8 @@ complete -c ill -n "__ill_option any '' new act list news loan slip status repor
 complete -c ill -n "__ill_option any '' new act list news loan slip status report take send inbox outbox exchange verify show check simulate simulate-desks shelf shelf-new shelf-act shelf-loan shelf-slip shelf-status shelf-take shelf-send shelf-inbox shelf-outbox shelf-exchange shelf-retire" -s h -l help -d 'Print help'
 complete -c ill -n "__ill_option any ''" -s V -l version -d 'Print the version'
 complete -c ill -n '__ill_option day act shelf-act' -l today -x -d 'The day of the action, as 20250301; a responder needs it'
+complete -c ill -n '__ill_option text act shelf-act' -l seen -x -d 'Act only if this is what was shown of the loan'
+complete -c ill -n '__ill_option any act shelf-act' -l dry-run -d 'Tell what would come, and save nothing'
 complete -c ill -n '__ill_option any list' -l open -d 'Leave out the loans that are over'
 complete -c ill -n '__ill_option any list' -l mine -d 'List only the loans that want a hand'
 complete -c ill -n '__ill_option day list' -l today -x -d 'The day of the work, as 20250301'

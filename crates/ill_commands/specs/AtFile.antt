@@ -13,9 +13,8 @@ use Rattle.ill_files.specs.Opening.{GoesWell, FailsToOpen, names_answer}
 use Rattle.ill_desk.specs.Performing.{HeldAndLanded, command_state, with_input}
 use Rattle.ill_text.specs.Fault.{IsOpenFault}
 use Rattle.ill_text.specs.Output.{WritesText}
-use Rattle.ill_desk.specs.Actions.{action_named}
 use Rattle.ill_desk.specs.New.{RunsNew}
-use Rattle.ill_desk.specs.Act.{RunsAct}
+use Rattle.ill_desk.specs.ActAs.{Asking, RunsActAs}
 use Rattle.ill_desk.specs.Telling.{wording}
 use Rattle.ill_desk.specs.Take.{RunsTaking}
 use Rattle.ill_desk.specs.declared.take.TakeForm.{TakeForm}
@@ -37,15 +36,12 @@ abbrev pub NewAtFile : Option (List ℕ) → Option (List ℕ) → Result Bool T
 NewAtFile before after result =
     FailsToOpen before after result ⊎ GoesWell (RunsNew (codes "done\n") before after) result
 
--- The action of `words` was performed in `txn` at a desk, on the day `today`. Or its file could not be
--- opened.
-abbrev pub ActsAtFile : Qualifiers → Option Date → List (List ℕ) → Option (List ℕ) → Option (List ℕ) →
-    Result Bool ToolFault → Type 0
-ActsAtFile txn today words before after result =
+-- The action for which a person asks was performed at a desk, or tried. Or its file could not be opened.
+abbrev pub ActsAtFile : Asking → Option (List ℕ) → Option (List ℕ) → Result Bool ToolFault → Type 0
+ActsAtFile asked before after result =
     FailsToOpen before after result
     ⊎ ((old : HeldAndLanded DeskContents) × (new : HeldAndLanded DeskContents)
-    × RunsAct many_sides txn (action_named old.live.role today words) (command_state old before) result
-    (command_state new after))
+    × RunsActAs asked (command_state old before) result (command_state new after))
 
 -- The APDUs of the input were taken at a desk, in this form. Or its file could not be opened.
 abbrev pub TakesAtFile : TakeForm → Option (List ℕ) → Option (List ℕ) → Option (List ℕ) → Option (List ℕ) →

@@ -4,10 +4,11 @@
 ghost use Rattle.std.specs.Prelude.{◌≡◌, map, string_bytes, IfErr, IfOk};
 ghost use Rattle.ill_show.specs.Report.{AddsPart, AddsParts};
 ghost use Rattle.ill_commands.specs.AtFile.{ActsAtFile, ListsDesk, ListsDesks, ListsPaths, LoanAtFile, NewAtFile, ReportsPaths, SendsAtFile, ShowsFile, SlipAtFile, TakesAtFile, VerifiesFile, after_writing};
+ghost use Rattle.ill_desk.specs.ActAs.{asking_of};
 ghost use Rattle.ill_files.specs.Opening.{all_well};
 ghost use Rattle.ill_text.specs.Fault.{IsOpenFault};
 
-use ill_desk::act::run_desk_act;
+use ill_desk::act_as::{ActionView, run_desk_act_as};
 use ill_desk::new::run_desk_new;
 use ill_desk::send::run_desk_send;
 use ill_desk::take::{TakeForm, run_desk_take_as};
@@ -52,31 +53,19 @@ pub fn new<T: LockFiles, W: Write, E: Write>(
     end(begun)
 }
 
-/// An action that is asked for in a transaction.
-#[derive(Clone, Copy)]
-pub struct ActionView<'a> {
-    /// The transaction.
-    pub txn: &'a TxnId,
-    /// The day of the action, if it is given.
-    pub today: Option<Day>,
-    /// The words of the action.
-    pub words: &'a [&'a str],
-}
-
-/// `ill act`: performs the action of `view`.
+/// `ill act`: performs the action of `view`, or tries it.
 pub fn act<T: LockFiles, W: Write, E: Write>(
     machine: &mut Machine<'_, T, W, E>,
     file: &str,
     view: &ActionView<'_>,
 ) -> Result<bool, ToolFault>
-    ensures { ActsAtFile view.now.txn.now view.now.today (map (λ word. word.now) view.now.words.now)
-        (W.contents machine.old.writer) (W.contents machine.new.writer) result }
+    ensures { ActsAtFile (asking_of view.now) (W.contents machine.old.writer) (W.contents machine.new.writer) result }
 {
     let locked = open_locked(machine.rt, machine.alloc, file)?;
     act_at(machine, file, locked, view)
 }
 
-/// Performs the action of `view` at `locked`, the desk in `file`, and then lets the desk and its lock go. Writes a line to
+/// Performs or tries the action of `view` at `locked`, the desk in `file`, and then lets the desk and its lock go. Writes a line to
 /// the errors if the loan has few numbers left.
 pub fn act_at<T: LockFiles, W: Write, E: Write>(
     machine: &mut Machine<'_, T, W, E>,
@@ -84,17 +73,9 @@ pub fn act_at<T: LockFiles, W: Write, E: Write>(
     mut locked: LockedDesk<'_, T>,
     view: &ActionView<'_>,
 ) -> Result<bool, ToolFault>
-    ensures { ActsAtFile view.now.txn.now view.now.today (map (λ word. word.now) view.now.words.now)
-        (W.contents machine.old.writer) (W.contents machine.new.writer) result }
+    ensures { ActsAtFile (asking_of view.now) (W.contents machine.old.writer) (W.contents machine.new.writer) result }
 {
-    let acted = run_desk_act(
-        machine.alloc,
-        &mut locked.desk,
-        view.txn,
-        view.today,
-        view.words,
-        &mut machine.writer,
-    );
+    let acted = run_desk_act_as(machine.alloc, &mut locked.desk, view, &mut machine.writer);
     if acted.is_ok() {
         tell_numbers_of(
             machine.alloc,

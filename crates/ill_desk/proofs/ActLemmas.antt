@@ -1,12 +1,15 @@
 -- Derives the effect of the command `act` from the results of its calls.
-use Rattle.std.proofs.Common.{◌≡◌, inl, inr, [], Option, Some, None, Err, refl, sym, subst}
+use Rattle.std.proofs.Common.{◌≡◌, inl, inr, Bool, true, false, [], Option, Some, None, Err, refl, sym, subst}
 use Rattle.std.proofs.KnownBytes.{Appends-nil}
 use Rattle.ill_saved.specs.declared.side.Action.{Action}
 use Rattle.ill_text.specs.declared.fault.ToolFault.{ToolFault}
 use Rattle.ill_text.specs.declared.fault.ToolFault.TheVariants.{Arguments, OutOfMemory}
 use Rattle.ill_saved.specs.Holdings.{Effects}
+use Rattle.ill_saved.specs.ManySides.{DeskContents, many_sides}
 use Rattle.ill_desk.specs.Performing.{CommandState}
 use Rattle.ill_desk.specs.Act.{NamesNone, RunsAct}
+use Rattle.ill_desk.specs.ActAs.{Asking, IfSo, RunsActAs, RunsTrial, action_asked, is_as_seen}
+use Rattle.ill_desk.specs.Telling.{shown_at}
 
 module _ {L K : Type 0} (effects : Effects L K) (key : K) where
   -- `act` may return `OutOfMemory` if it writes and changes nothing, whatever action `named` is.
@@ -28,3 +31,39 @@ module _ {L K : Type 0} (effects : Effects L K) (key : K) where
         subst (λ (f : ToolFault). RunsAct effects key named now (Err f) now) (sym none.0) (none_named named now none.1)
     | inr memory ↦ subst (λ (f : ToolFault). RunsAct effects key named now (Err f) now) (sym memory) (words_unread named now)
   ]
+
+  -- A trial may return `OutOfMemory` if it writes and changes nothing, whatever action `named` is.
+  trial_unread : (named : Option Action) (now : CommandState L) → RunsTrial effects key named now (Err OutOfMemory) now
+  trial_unread None now = words_unread None now
+  trial_unread (Some action) now =
+      (Err OutOfMemory, [], (refl, inr (refl, refl)), Appends-nil now.written, (refl, refl))
+
+  -- If the words name no action, a trial may return the fault `Arguments` when it writes and changes nothing.
+  none_tried : (named : Option Action) (now : CommandState L) → named ≡ None → RunsTrial effects key named now (Err Arguments) now
+  none_tried named now none =
+      subst (λ (n : Option Action). RunsTrial effects key n now (Err Arguments) now) (sym none)
+      (inl refl, refl, Appends-nil now.written)
+
+  -- If the words have no action because of `fault`, a trial may return it when it writes and changes nothing.
+  pub not_tried : (named : Option Action) (now : CommandState L) (fault : ToolFault) → NamesNone named fault
+      → RunsTrial effects key named now (Err fault) now
+  not_tried named now fault is = elim is [
+    | inl none ↦
+        subst (λ (f : ToolFault). RunsTrial effects key named now (Err f) now) (sym none.0) (none_tried named now none.1)
+    | inr memory ↦ subst (λ (f : ToolFault). RunsTrial effects key named now (Err f) now) (sym memory) (trial_unread named now)
+  ]
+
+-- Three statements that hold give the one that two truth values choose.
+each_holds : {Tried Done Told : Type 0} (was_seen is_trial : Bool) → Tried → Done → Told
+    → IfSo was_seen (IfSo is_trial Tried Done) Told
+each_holds true true tried done told = tried
+each_holds true false tried done told = done
+each_holds false is_trial tried done told = told
+
+-- An action for which a person asks may return `OutOfMemory` if it writes and changes nothing.
+pub unseen : (asked : Asking) (now : CommandState DeskContents) → RunsActAs asked now (Err OutOfMemory) now
+unseen asked now =
+    let action = action_asked asked now.desk.live in
+    each_holds (is_as_seen asked.seen (shown_at many_sides asked.txn now.desk.live)) asked.is_trial
+    (trial_unread many_sides asked.txn action now) (words_unread many_sides asked.txn action now)
+    (refl, (Err OutOfMemory, Appends-nil now.written, refl))

@@ -1,4 +1,5 @@
 pub mod Act
+pub mod ActAs
 pub mod Actions
 pub mod New
 pub mod Performing

@@ -67,7 +67,12 @@ pub fn run_desk_act<S: Store, W: Write>(
 }
 
 /// Returns the action that `words` name at a side of `role`, or the fault `Arguments` if they name none.
-fn named(alloc: Global, role: Role, today: Option<Day>, words: &[&str]) -> Result<Action, ToolFault>
+pub(crate) fn named(
+    alloc: Global,
+    role: Role,
+    today: Option<Day>,
+    words: &[&str],
+) -> Result<Action, ToolFault>
     ensures action { IfOk result (λ action. action_named role today (map (λ word. word.now) words.now) ≡ Some action) }
     ensures fault { IfErr result (λ fault. NamesNone (action_named role today (map (λ word. word.now) words.now)) fault) }
 {

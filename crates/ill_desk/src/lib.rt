@@ -3,7 +3,9 @@
 #![tactic(auto)]
 
 pub mod act;
+pub mod act_as;
 mod action;
+pub mod laws;
 pub mod new;
 pub mod send;
 pub mod side_line;

@@ -173,10 +173,10 @@ options_met words action first met is ends =
 -- A request that `unless_option` returns is the request that it was given.
 let_through : (words : List (List ℕ)) (asked : Asked) → is_none (unless_option words asked) ≡ false
     → unless_option words asked ≡ Some asked
-let_through words (Act file txn today is_new_group action) is = go (has_option words action) is
+let_through words (Act file asking is_new_group) is = go (has_option words asking.words) is
   where
-    go : (has : Bool) → is_none (if has then None else Some (Act file txn today is_new_group action)) ≡ false
-        → (if has then None else Some (Act file txn today is_new_group action)) ≡ Some (Act file txn today is_new_group action)
+    go : (has : Bool) → is_none (if has then None else Some (Act file asking is_new_group)) ≡ false
+        → (if has then None else Some (Act file asking is_new_group)) ≡ Some (Act file asking is_new_group)
     go true is = absurd (true≢false is)
     go false is = refl
 let_through words other is = refl

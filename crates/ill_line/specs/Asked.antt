@@ -15,6 +15,7 @@ use Rattle.ill_words.specs.Words.{◌>>=◌, who_named, day_of, number_of}
 use Rattle.ill_values.specs.declared.fault.TextFault.{TextFault}
 use Rattle.ill_text.specs.declared.fault.ToolFault.{ToolFault}
 use Rattle.ill_text.specs.declared.fault.ToolFault.TheVariants.{Arguments, OutOfMemory}
+use Rattle.ill_desk.specs.ActAs.{Asking}
 use Rattle.ill_desk.specs.declared.take.TakeForm.{TakeForm}
 use Rattle.ill_show.specs.Loan.{loan_form}
 use Rattle.ill_show.specs.declared.loan.LoanForm.{LoanForm}
@@ -37,6 +38,7 @@ use Rattle.ill_line.specs.declared.command_line.Argument.TheVariants.{NewFile, F
 use Rattle.ill_line.specs.declared.command_line.Argument.TheVariants.{Words, Number, Long, Keep, Picture, Open, Mine, Json, Paths}
 use Rattle.ill_line.specs.declared.command_line.Argument.TheVariants.{OnDay, DueBefore, InState, ReportDay, OutFolder, Stream, In}
 use Rattle.ill_line.specs.declared.command_line.Argument.TheVariants.{Out, NightDay, Overdue, Expire, Copy, Beat, NewGroup, Ahead}
+use Rattle.ill_line.specs.declared.command_line.Argument.TheVariants.{DryRun, Seen}
 use Rattle.ill_line.specs.declared.command_line.Argument.TheVariants.{Actions, Last}
 use Rattle.ill_line.specs.CommandLine.{name_read, id_of, is_option}
 use Rattle.ill_files.specs.Paths.{is_beside}
@@ -219,8 +221,7 @@ pub data Asked : Type 0 where
   Simulate : (group transaction : List ℕ) → Asked
   SimulateDesks : Asked
   New : (file : List ℕ) → (role : Role) → Asked
-  Act : (file : List ℕ) → (txn : Qualifiers) → (today : Option Date) → (is_new_group : Bool) → (words : List (List ℕ))
-      → Asked
+  Act : (file : List ℕ) → (asking : Asking) → (is_new_group : Bool) → Asked
   Take : (file : List ℕ) → (form : TakeForm) → Asked
   Inbox : (file folder : List ℕ) → Asked
   Outbox : (file : List ℕ) → (folder : Option (List ℕ)) → Asked
@@ -242,8 +243,14 @@ asked requests.Check = Check
 asked (requests.Simulate group transaction) = Simulate group.now transaction.now
 asked requests.SimulateDesks = SimulateDesks
 asked (requests.New file role) = New file.now role
-asked (requests.Act file txn today is_new_group words) =
-    Act file.now txn today is_new_group (map (λ word. word.now) words.items)
+asked (requests.Act file txn today seen is_trial is_new_group words) =
+    Act file.now (record {
+      txn = txn;
+      today = today;
+      words = map (λ word. word.now) words.items;
+      seen = option_map (λ text. text.now) seen;
+      is_trial = is_trial;
+    }) is_new_group
 asked (requests.Take file form) = Take file.now form
 asked (requests.Inbox file folder) = Inbox file.now folder.now
 asked (requests.Outbox file folder) = Outbox file.now (option_map (λ text. text.now) folder)
@@ -263,7 +270,7 @@ asked (requests.Verify file) = Verify file.now
 -- Returns the file of the desk that a request may change, or from which it sends.
 abbrev pub desk_at_stake : Asked → Option (List ℕ)
 desk_at_stake (New file role) = Some file
-desk_at_stake (Act file txn today is_new_group words) = Some file
+desk_at_stake (Act file asking is_new_group) = Some file
 desk_at_stake (Take file form) = Some file
 desk_at_stake (Inbox file folder) = Some file
 desk_at_stake (Outbox file folder) = Some file
@@ -289,7 +296,13 @@ asked_of names.Act found = do
   today ← day_in Today found
   txn ← loan_of found
   words ← texts_of Words found
-  Some (Act file txn today (is_set NewGroup found) words)
+  Some (Act file (record {
+    txn = txn;
+    today = today;
+    words = words;
+    seen = text_of Seen found;
+    is_trial = is_set DryRun found;
+  }) (is_set NewGroup found))
 asked_of names.Take found = do
   file ← text_of File found
   Some (Take file (record { is_long = is_set Long found; is_kept = is_set Keep found }))
@@ -371,8 +384,8 @@ has_option words action =
 
 -- Returns the request of the command line `words`, unless an option is among the words of its action.
 abbrev pub unless_option : (words : List (List ℕ)) → Asked → Option Asked
-unless_option words (Act file txn today is_new_group action) =
-    if has_option words action then None else Some (Act file txn today is_new_group action)
+unless_option words (Act file asking is_new_group) =
+    if has_option words asking.words then None else Some (Act file asking is_new_group)
 unless_option words other = Some other
 
 -- Returns the request `said`, if there is one, unless an option is among the words of its action.

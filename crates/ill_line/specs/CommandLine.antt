@@ -11,6 +11,7 @@ use Rattle.ill_line.specs.declared.command_line.Argument.TheVariants.{NewFile, F
 use Rattle.ill_line.specs.declared.command_line.Argument.TheVariants.{Words, Number, Long, Keep, Picture, Open, Mine, Json, Paths}
 use Rattle.ill_line.specs.declared.command_line.Argument.TheVariants.{OnDay, DueBefore, InState, ReportDay, OutFolder, Stream, In}
 use Rattle.ill_line.specs.declared.command_line.Argument.TheVariants.{Out, NightDay, Overdue, Expire, Copy, Beat, NewGroup, Ahead}
+use Rattle.ill_line.specs.declared.command_line.Argument.TheVariants.{DryRun, Seen}
 use Rattle.ill_line.specs.declared.command_line.Argument.TheVariants.{Actions, Last}
 
 -- Returns the word of a command on the command line.
@@ -73,6 +74,8 @@ id_of Expire = codes "expire"
 id_of Copy = codes "copy"
 id_of Beat = codes "beat"
 id_of NewGroup = codes "new-group"
+id_of Seen = codes "seen"
+id_of DryRun = codes "dry-run"
 id_of Ahead = codes "ahead"
 id_of Actions = codes "actions"
 id_of Last = codes "last"
@@ -80,7 +83,8 @@ id_of Last = codes "last"
 -- All options of the program.
 abbrev pub options : List (List ℕ)
 options =
-    codes "--today" ∷ codes "--ahead" ∷ codes "--due-before" ∷ codes "--state" ∷ codes "--copy" ∷ codes "--beat"
+    codes "--today" ∷ codes "--seen" ∷ codes "--dry-run" ∷ codes "--ahead" ∷ codes "--due-before" ∷ codes "--state"
+    ∷ codes "--copy" ∷ codes "--beat"
     ∷ codes "--stream" ∷ codes "--overdue" ∷ codes "--expire" ∷ codes "--long" ∷ codes "--keep" ∷ codes "--picture"
     ∷ codes "--open" ∷ codes "--mine" ∷ codes "--actions" ∷ codes "--json" ∷ codes "--new-group" ∷ codes "--last"
     ∷ codes "--explain" ∷ codes "--help" ∷ codes "--version" ∷ codes "-h" ∷ codes "-V" ∷ []

@@ -186,6 +186,8 @@ impl Name {
                 Argument::Group,
                 Argument::Transaction,
                 Argument::Today,
+                Argument::Seen,
+                Argument::DryRun,
                 Argument::Words,
             ],
             Name::Take => &[Argument::File, Argument::Long, Argument::Keep],
@@ -313,6 +315,10 @@ pub enum Argument {
     Transaction,
     /// The day of an action.
     Today,
+    /// What was shown of the loan before an action.
+    Seen,
+    /// Set if an action is only tried.
+    DryRun,
     /// The words of an action.
     Words,
     /// The number of a message.
@@ -368,6 +374,8 @@ impl Argument {
             Argument::Group => "GROUP",
             Argument::Transaction => "TRANSACTION",
             Argument::Today | Argument::OnDay | Argument::ReportDay | Argument::NightDay => "today",
+            Argument::Seen => "seen",
+            Argument::DryRun => "dry-run",
             Argument::Words => "WORDS",
             Argument::Number => "NUMBER",
             Argument::Long => "long",
@@ -404,6 +412,8 @@ impl Argument {
             Argument::Group => "The group qualifier of the loan",
             Argument::Transaction => "The transaction qualifier of the loan",
             Argument::Today => "The day of the action, as 20250301; a responder needs it",
+            Argument::Seen => "Act only if this is what was shown of the loan",
+            Argument::DryRun => "Tell what would come, and save nothing",
             Argument::Words => "The words of the action",
             Argument::Number => "The number of the message, 1 to 255",
             Argument::Long => "Tell which message each was, and what it said",
@@ -429,6 +439,8 @@ impl Argument {
         let arg = Arg::new(alloc, self.id()).help(self.help());
         match self {
             Argument::Today | Argument::OnDay | Argument::NightDay => valued(arg, "today", "DAY"),
+            Argument::Seen => valued(arg, "seen", "TEXT"),
+            Argument::DryRun => arg.long("dry-run").action(ArgAction::SetTrue),
             Argument::Copy => arg.long("copy").value_name("FILE"),
             Argument::Beat => arg.long("beat").value_name("FILE"),
             Argument::OutFolder => arg,
@@ -488,8 +500,10 @@ fn valued<'a>(arg: Arg<'a>, name: &'a str, value: &'a str) -> Arg<'a> {
 }
 
 /// All options of the program, also those that `clap` adds.
-const OPTIONS: [&str; 23] = [
+const OPTIONS: [&str; 25] = [
     "--today",
+    "--seen",
+    "--dry-run",
     "--ahead",
     "--due-before",
     "--state",

@@ -137,6 +137,11 @@ A responder's action needs --today; a requester's has no use for it. Options
 stand before the words. Among them an option of any command is `arguments`; if
 `--` stands right before the words, it is one of them, as of a title.
 
+With --seen the action is done only on a loan that is shown as its value, which
+is what stands after the OUTCOME of an earlier command. Else nothing is done,
+and the OUTCOME is `changed`. With --dry-run the line is that of the action, and
+nothing is saved.
+
 One action issues one message; `take` may issue one too, as `ill take --help`
 tells. The messages of each loan are numbered 1, 2, 3, up to 255. If at most 10
 numbers are left after an action, a line on standard error says how many.

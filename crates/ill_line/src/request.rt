@@ -62,6 +62,10 @@ pub enum Request<'a> {
         txn: TxnId,
         /// The day of the action, if it is given.
         today: Option<Day>,
+        /// The text that the loan was shown with, if the action is to be done on that alone.
+        seen: Option<&'a str>,
+        /// Set if the action is only tried.
+        is_trial: bool,
         /// Set if a shelf may begin a desk for the group of the transaction.
         is_new_group: bool,
         /// The words of the action.
@@ -372,12 +376,16 @@ fn act_request<'a>(alloc: Global, matches: &ArgMatches<'a>) -> Result<Request<'a
     let file = text(alloc, matches, Argument::File)?;
     let today = day(matches, Argument::Today)?;
     let txn = loan(alloc, matches)?;
+    let seen = said(matches, Argument::Seen);
+    let is_trial = is_set(matches, Argument::DryRun);
     let is_new_group = is_set(matches, Argument::NewGroup);
     let words = texts(alloc, matches, Argument::Words)?;
     Ok(Request::Act {
         file,
         txn,
         today,
+        seen,
+        is_trial,
         is_new_group,
         words,
     })

@@ -1,7 +1,8 @@
 //! The commands on a shelf. In a transaction each does at the desk of its group as the command for one desk does.
 
-ghost use Rattle.std.specs.Prelude.{◌≡◌, true, map, is_some, IfErr};
+ghost use Rattle.std.specs.Prelude.{◌≡◌, true, is_some, IfErr};
 ghost use Rattle.ill_commands.specs.AtFile.{ActsAtFile, LoanAtFile, NewAtFile, SendsAtFile, ShowsFile, SlipAtFile};
+ghost use Rattle.ill_desk.specs.ActAs.{asking_of};
 ghost use Rattle.ill_mail.specs.Nights.{ExchangesAtFile, InboxAtFile, OutboxAtFile};
 ghost use Rattle.ill_shelf.specs.Shelf.{IsFurther, RetiresAtFile, VisitsShelf, is_lines, retired_line, told_with};
 ghost use Rattle.ill_text.specs.Fault.{IsOpenFault};
@@ -9,7 +10,8 @@ ghost use Rattle.ill_text.specs.Fault.{IsOpenFault};
 use crate::last_words::{load_mark, send_last_words};
 use crate::sorting::sort_mails;
 use crate::visit::{Visit, visit_all};
-use ill_commands::commands::{ActionView, act_at, loan, new, send, slip};
+use ill_commands::commands::{act_at, loan, new, send, slip};
+use ill_desk::act_as::ActionView;
 use ill_files::durable::error_of_store;
 use ill_files::home::refuse_lost;
 use ill_files::machine::Machine;
@@ -68,8 +70,7 @@ pub fn act_on_shelf<T: LockFiles, W: Write, E: Write>(
     view: &ActionView<'_>,
     is_new_group: bool,
 ) -> Result<bool, ToolFault>
-    ensures { ActsAtFile view.now.txn.now view.now.today (map (λ word. word.now) view.now.words.now)
-        (W.contents machine.old.writer) (W.contents machine.new.writer) result }
+    ensures { ActsAtFile (asking_of view.now) (W.contents machine.old.writer) (W.contents machine.new.writer) result }
 {
     let shelf = Shelf::open(machine.rt, machine.alloc, folder)?;
     let file = shelf.desk_of(machine.alloc, view.txn.group())?;

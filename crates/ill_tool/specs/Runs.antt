@@ -32,8 +32,8 @@ Runs (asks.Simulate group transaction) left rest before after result =
     GoesWell (Performs (txn_id_of group transaction) left rest before after) result
 Runs asks.SimulateDesks left rest before after result = GoesWell (PerformsDesks left rest before after) result
 Runs (asks.New file role) left rest before after result = (rest ≡ left) × NewAtFile before after result
-Runs (asks.Act file txn today is_new_group words) left rest before after result =
-    (rest ≡ left) × ActsAtFile txn today words before after result
+Runs (asks.Act file asking is_new_group) left rest before after result =
+    (rest ≡ left) × ActsAtFile asking before after result
 Runs (asks.Take file form) left rest before after result = TakesAtFile form left rest before after result
 Runs (asks.Inbox file folder) left rest before after result = (rest ≡ left) × InboxAtFile before after result
 Runs (asks.Outbox file folder) left rest before after result =
@@ -66,8 +66,8 @@ RunsGuarded asked left rest before after result =
 abbrev pub RunsShelf : Asked → Option (List ℕ) → Option (List ℕ) → Option (List ℕ) → Option (List ℕ) →
     Result Bool ToolFault → Type 0
 RunsShelf (asks.New folder role) left rest before after result = (rest ≡ left) × NewAtFile before after result
-RunsShelf (asks.Act folder txn today is_new_group words) left rest before after result =
-    (rest ≡ left) × ActsAtFile txn today words before after result
+RunsShelf (asks.Act folder asking is_new_group) left rest before after result =
+    (rest ≡ left) × ActsAtFile asking before after result
 RunsShelf (asks.Take folder form) left rest before after result = TakesAtShelf form left rest before after result
 RunsShelf (asks.Send folder txn number) left rest before after result =
     (rest ≡ left) × SendsAtFile txn number before after result

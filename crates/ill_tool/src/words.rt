@@ -10,10 +10,9 @@ ghost use Rattle.ill_tool.specs.ExitStatus.{IsFlushed, TellsKind, desk_status, e
 use crate::simulate::{run_simulate, run_simulate_desks};
 use clap::Error;
 use clap::error::ErrorKind;
-use ill_commands::commands::{
-    ActionView, act, list, loan, new, report, send, slip, status, take, verify,
-};
+use ill_commands::commands::{act, list, loan, new, report, send, slip, status, take, verify};
 use ill_commands::telling::news;
+use ill_desk::act_as::ActionView;
 use ill_explain::{Passed, Watched, explain, is_asked};
 use ill_files::machine::Machine;
 use ill_files::open::all_well;
@@ -263,6 +262,8 @@ fn run<T: LockFiles, R: Read, W: Write, E: Write>(
             file,
             txn,
             today,
+            seen,
+            is_trial,
             words,
             ..
         } => act(
@@ -272,6 +273,8 @@ fn run<T: LockFiles, R: Read, W: Write, E: Write>(
                 txn,
                 today: *today,
                 words,
+                seen: *seen,
+                is_trial: *is_trial,
             },
         ),
         Request::Take { file, form } => take(machine, file, *form, reader),
@@ -317,6 +320,8 @@ fn run_on_shelf<T: LockFiles, R: Read, W: Write, E: Write>(
             file,
             txn,
             today,
+            seen,
+            is_trial,
             is_new_group,
             words,
         } => act_on_shelf(
@@ -326,6 +331,8 @@ fn run_on_shelf<T: LockFiles, R: Read, W: Write, E: Write>(
                 txn,
                 today: *today,
                 words,
+                seen: *seen,
+                is_trial: *is_trial,
             },
             *is_new_group,
         ),

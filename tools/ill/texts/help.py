@@ -561,6 +561,7 @@ def compare_words(named_texts, words, arguments):
     staying = {f"NAME {word} REASON" for word in re.findall(r'b" (\w+) "', read(f"{NIGHT}/verdict.rt"))}
     sent = {f"{word} N" for word in re.findall(r'"(\w+) \{\w+\}\\n"', read(f"{MAIL}/sending.rt"))}
     told = {text for text, _ in told_faults()}
+    told |= set(re.findall(r'b"(changed) "', read("crates/ill_desk/src/act_as.rt")))
     known = words | labels | counted | staying | sent | verbs_known | set(arguments) | told | set(files) | {
         "done", "none", "-", "--", "--today", "--explain", "--help", "ill --help", "#", "+N", "ill: ",
         "ill COMMAND --help", "act --new-group", "_", "%", "PATH:"}

@@ -28,7 +28,8 @@ OTHERS = {"error:", "ill help", "ill --version", ".unsorted.mail"}
 # The kinds of arguments that the completions know, by their variants, and those of the values of options.
 KINDS = {"File": "file", "NewFile": "file", "Paths": "files", "Folder": "folder", "OutFolder": "folder", "In": "folder",
          "Out": "folder", "Role": "role", "Group": "loan", "Transaction": "loan", "Words": "words", "Number": "none"}
-VALUES = {"DAY": "day", "DAYS": "count", "N": "count", "STATE": "state", "FILE": "file", "FOLDER": "file"}
+VALUES = {"DAY": "day", "DAYS": "count", "N": "count", "TEXT": "text", "STATE": "state", "FILE": "file",
+          "FOLDER": "file"}
 
 # An argument has the label that stands for it; an option has its name, the label of its value, and perhaps a letter.
 Part = collections.namedtuple("Part", "kind label option about required many last letter", defaults=("",) * 6)
@@ -510,7 +511,7 @@ def of_fish():
             of = [row.word for row in known if row.kinds[at:at + 1] == [kind]]
             if of:
                 lines.append(rule(f"__ill_{'any' if kind == 'files' else f'at {at}'} {' '.join(of)}", offer))
-    values = {"day": " -x", "count": " -x", "state": f" -x -a '{' '.join(states())}'", "file": " -r -F", "": ""}
+    values = {"day": " -x", "count": " -x", "text": " -x", "state": f" -x -a '{' '.join(states())}'", "file": " -r -F", "": ""}
     of_options = {}
     for row in known:
         for option in row.options:

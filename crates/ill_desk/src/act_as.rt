@@ -1,0 +1,198 @@
+//! The command `act` of a person who says what was seen of the loan, or who asks what would come.
+
+ghost use Rattle.std.specs.Prelude.{◌≡◌, map, option_map, Some, IfOk};
+ghost use Rattle.ill_saved.specs.ManySides.{many_sides};
+ghost use Rattle.ill_text.specs.Fault.{CountsToolFailure};
+ghost use Rattle.ill_desk.specs.Actions.{action_named};
+ghost use Rattle.ill_desk.specs.Performing.{command_state, view_of};
+ghost use Rattle.ill_desk.specs.Telling.{shown_at, WritesOutcome};
+ghost use Rattle.ill_desk.specs.ActAs.{asking_of, changed_line, is_as_seen, not_done, RunsActAs, RunsOrTries, RunsTrial, TriesAction, WritesChange, tried_shown, trial_line};
+
+use crate::act::{named, run_desk_act};
+use crate::side_line::report;
+use ill_core::Taking;
+use ill_saved::{Action, Desk, Shown, Store};
+use ill_text::fault::{ToolFault, refused};
+use ill_text::output::write_whole;
+use ill_values::{Day, OutOfMemory, TxnId};
+use ill_words::{DeskOutcome, Outcome, push_shown};
+use std::alloc::Global;
+use std::io::Write;
+
+/// An action that a person asks for.
+#[derive(Clone, Copy)]
+pub struct ActionView<'a> {
+    /// The transaction.
+    pub txn: &'a TxnId,
+    /// The day of the action, if it is given.
+    pub today: Option<Day>,
+    /// The words of the action.
+    pub words: &'a [&'a str],
+    /// The text that the loan was shown with, as `SHIPPED 20250315 2/2`, if the action is to be done on that alone.
+    pub seen: Option<&'a str>,
+    /// Set if the action is only tried.
+    pub is_trial: bool,
+}
+
+/// Performs the action of `view`, as `run_desk_act` does. If `view` says what was seen, and the loan is shown otherwise
+/// now, nothing is done. Then a line with `changed` and what is shown is written, and the answer is false.
+///
+/// If the action is only tried, its line is written as if it was done and saved, and nothing is saved. Let the desk go
+/// then: its sides in memory are those after the action.
+pub fn run_desk_act_as<S: Store, W: Write>(
+    alloc: Global,
+    desk: &mut Desk<S>,
+    view: &ActionView<'_>,
+    writer: &mut W,
+) -> Result<bool, ToolFault>
+    ensures runs { RunsActAs (asking_of view.now)
+        (command_state (view_of S.state desk.old) (W.contents writer.old)) result
+        (command_state (view_of S.state desk.new) (W.contents writer.new)) }
+    ensures counted { CountsToolFailure result (S.state desk.old.store).failures (S.state desk.new.store).failures }
+{
+    match is_as_seen(alloc, view.seen, desk.shown(view.txn)) {
+        Ok(true) => act_or_try(alloc, desk, view, writer),
+        Ok(false) => tell_change(alloc, desk.shown(view.txn), writer),
+        Err(_) => Err(ToolFault::OutOfMemory),
+    }
+}
+
+/// Performs the action of `view`, or tries it. The loan was seen as it is.
+fn act_or_try<S: Store, W: Write>(
+    alloc: Global,
+    desk: &mut Desk<S>,
+    view: &ActionView<'_>,
+    writer: &mut W,
+) -> Result<bool, ToolFault>
+    ensures runs { RunsOrTries (asking_of view.now)
+        (command_state (view_of S.state desk.old) (W.contents writer.old)) result
+        (command_state (view_of S.state desk.new) (W.contents writer.new)) }
+    ensures counted { CountsToolFailure result (S.state desk.old.store).failures (S.state desk.new.store).failures }
+{
+    if view.is_trial {
+        try_words(alloc, desk, view, writer)
+    } else {
+        run_desk_act(alloc, desk, view.txn, view.today, view.words, writer)
+    }
+}
+
+/// Returns true if a side that is shown as `now` was seen so, or if nothing is said of what was seen.
+fn is_as_seen(alloc: Global, seen: Option<&str>, now: Shown) -> Result<bool, OutOfMemory>
+    ensures { IfOk result (λ is. is ≡ is_as_seen (option_map (λ text. text.now) seen.entry) now) }
+{
+    match seen {
+        None => Ok(true),
+        Some(seen) => {
+            let mut text = Vec::new(alloc);
+            push_shown(&mut text, now)?;
+            Ok(seen.as_bytes() == text.as_slice())
+        }
+    }
+}
+
+/// Writes the line of a side that was not seen as it is now, and returns false.
+fn tell_change<W: Write>(alloc: Global, now: Shown, writer: &mut W) -> Result<bool, ToolFault>
+    ensures { WritesChange now (W.contents writer.old) (W.contents writer.new) result }
+{
+    match changed_text(alloc, now) {
+        Ok(line) => told(write_whole(writer, &line)),
+        Err(_) => Err(ToolFault::OutOfMemory),
+    }
+}
+
+/// Returns the line of a side that was not seen as it is now.
+fn changed_text(alloc: Global, now: Shown) -> Result<Vec<u8>, OutOfMemory>
+    ensures { IfOk result (λ line. line.items ≡ changed_line now) }
+{
+    let mut line = Vec::new(alloc);
+    line.extend_from_slice(b"changed ")?;
+    push_shown(&mut line, now)?;
+    line.push(b'\n')?;
+    Ok(line)
+}
+
+/// Returns the answer after a line that tells a change: false, or the fault of the writing.
+fn told(written: Result<(), ToolFault>) -> Result<bool, ToolFault>
+    ensures { result ≡ not_done written }
+{
+    match written {
+        Ok(()) => Ok(false),
+        Err(fault) => Err(fault),
+    }
+}
+
+/// Tries the action of `view`, and writes its line.
+fn try_words<S: Store, W: Write>(
+    alloc: Global,
+    desk: &mut Desk<S>,
+    view: &ActionView<'_>,
+    writer: &mut W,
+) -> Result<bool, ToolFault>
+    ensures runs { RunsTrial many_sides view.now.txn.now
+        (action_named desk.old.live.role view.now.today (map (λ word. word.now) view.now.words.now))
+        (command_state (view_of S.state desk.old) (W.contents writer.old)) result
+        (command_state (view_of S.state desk.new) (W.contents writer.new)) }
+    ensures store { desk.new.store ≡ desk.old.store }
+{
+    match named(alloc, desk.role(), view.today, view.words) {
+        Ok(action) => try_action(alloc, desk, view.txn, &action, writer),
+        Err(fault) => Err(fault),
+    }
+}
+
+/// Tries `action` in the transaction `txn`, and writes its line.
+fn try_action<S: Store, W: Write>(
+    alloc: Global,
+    desk: &mut Desk<S>,
+    txn: &TxnId,
+    action: &Action,
+    writer: &mut W,
+) -> Result<bool, ToolFault>
+    ensures runs { RunsTrial many_sides txn.now (Some action.now)
+        (command_state (view_of S.state desk.old) (W.contents writer.old)) result
+        (command_state (view_of S.state desk.new) (W.contents writer.new)) }
+    ensures store { desk.new.store ≡ desk.old.store }
+{
+    match act_unsaved(alloc, desk, txn, action) {
+        Ok(outcome) => report_trial(alloc, writer, outcome, desk.shown(txn)),
+        Err(fault) => Err(fault),
+    }
+}
+
+/// Performs `action` in memory alone.
+fn act_unsaved<S: Store>(
+    alloc: Global,
+    desk: &mut Desk<S>,
+    txn: &TxnId,
+    action: &Action,
+) -> Result<DeskOutcome, ToolFault>
+    ensures tries { TriesAction many_sides txn.now (view_of S.state desk.old) action.now result (view_of S.state desk.new) }
+    ensures store { desk.new.store ≡ desk.old.store }
+{
+    match desk.act_on(alloc, txn, action) {
+        Ok(()) => Ok(DeskOutcome::Plain(Outcome::Done)),
+        Err(fault) => refused(fault),
+    }
+}
+
+/// Writes the line of an action that was tried. `now` is shown of its side.
+fn report_trial<W: Write>(
+    alloc: Global,
+    writer: &mut W,
+    outcome: DeskOutcome,
+    now: Shown,
+) -> Result<bool, ToolFault>
+    ensures { WritesOutcome trial_line (W.contents writer.old) (W.contents writer.new) outcome now result }
+{
+    report(alloc, writer, outcome, tried_shown(outcome, now))
+}
+
+/// Returns what the line of an action shows that was tried. If it was done, all messages count as released.
+fn tried_shown(outcome: DeskOutcome, now: Shown) -> Shown
+    ensures { result ≡ tried_shown outcome now }
+{
+    match outcome {
+        DeskOutcome::Plain(Outcome::Done | Outcome::Answered(Taking::Taken)) => now.once_saved(),
+        _ => now,
+    }
+}

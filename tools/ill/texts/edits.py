@@ -1,0 +1,50 @@
+"""Compares the wrong bodies in strength/ with the sources that they change, and tries none.
+
+Each old text of an edit must stand once in what the edit changes. That is the body of a function, or else a source, and
+then the edit must name the functions that are to be refused. So a source that changes takes its wrong bodies along.
+"""
+import os
+
+from ill.repository import full, libraries, read
+from ill.strength import contracts
+from ill.strength.edits import BadEdit, changed
+
+
+def edits_of(crate):
+    """Returns the edits of a crate, also those of the gate and its controls."""
+    folders = [folder for is_gate in (True, False) for folder in contracts.folders_of(crate, is_gate)]
+    functions = contracts.functions_of(full("crates", crate))
+    return contracts.edits_of(dict.fromkeys(folders), crate, functions)
+
+
+def text_of(edit, pair, crate):
+    """Returns the text in which the old text of a pair has to stand once."""
+    path = full("crates", crate, pair.file)
+    if not os.path.exists(path):
+        raise BadEdit(f"there is no {pair.file}")
+    it = edit.body_of
+    return read(path)[it.start:it.end] if it and it.file == pair.file else read(path)
+
+
+def fault_of(edit, crate):
+    """Returns what is wrong with an edit, or nothing."""
+    texts = {}
+    try:
+        for pair in edit.pairs:
+            text = texts.get(pair.file) or text_of(edit, pair, crate)
+            texts[pair.file] = changed(text, pair)
+    except BadEdit as bad:
+        return str(bad)
+    return None if edit.refuses else "it changes no body, and names no function that must be refused"
+
+
+def compare():
+    """Returns the faults that were found, and how much was compared."""
+    faults, count = [], 0
+    for crate in libraries():
+        for edit in edits_of(crate):
+            count += 1
+            fault = fault_of(edit, crate)
+            if fault:
+                faults.append(f"strength: {crate}/{edit.name}: {fault}")
+    return faults, f"the {count} wrong bodies that the prover must refuse fit the sources that they change"

@@ -20,7 +20,7 @@ idle_whole : (role : Role) (txn : Qualifiers) → once_saved (shown_in (idle_hel
 idle_whole roles.Requester txn = refl
 idle_whole roles.Responder txn = refl
 
--- What is shown of an entry once it is saved, or of an idle side.
+-- An entry that was found, or else an idle side, is shown with all messages released once it is saved.
 shown_whole : (role : Role) (txn : Qualifiers) (found : Option DeskEntry)
     → once_saved (shown_in (found_or (idle_held role txn) found))
     ≡ shown_in (found_or (idle_held role txn) (option_map whole_entry found))

@@ -1,4 +1,4 @@
--- Answers the contract of `list` (`src/file.rt`).
+-- Answers the contract of `list` (`src/commands.rt`).
 use Rattle.std.proofs.Common.{map, inr, ap, ◌∙◌}
 use Rattle.std.specs.Prelude.{string_bytes, ◌==◌, length}
 use Rattle.ill_text.specs.Visits.{graver}

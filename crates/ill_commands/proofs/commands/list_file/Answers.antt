@@ -1,4 +1,4 @@
--- Answers the contract of `list_file` (`src/file.rt`).
+-- Answers the contract of `list_file` (`src/commands.rt`).
 use Rattle.std.proofs.Common.{inr}
 use Rattle.ill_saved.specs.ManySides.{sides_held}
 use Rattle.ill_commands.proofs.commands.list_file.Goals as goal

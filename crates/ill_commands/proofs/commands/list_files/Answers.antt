@@ -1,4 +1,4 @@
--- Answers the contract of `list_files` (`src/file.rt`).
+-- Answers the contract of `list_files` (`src/commands.rt`).
 use Rattle.std.proofs.Common.{◌≡◌, ◌+◌, ◌<◌, ℕ, Bool, List, map, take, get_or, ap, sym, subst, ◌∙◌}
 use Rattle.std.specs.Prelude.{◌==◌, string_bytes, nat_lt}
 use Rattle.std.proofs.lemmas.List.{length-map, get_or-map}

@@ -1,4 +1,4 @@
--- States the loop invariant of `list_files` (`src/file.rt`).
+-- States the loop invariant of `list_files` (`src/commands.rt`).
 use Rattle.std.proofs.Common.{map, take}
 use Rattle.std.specs.Prelude.{string_bytes}
 use Rattle.ill_commands.specs.AtFile.{ListsDesk, are_several}

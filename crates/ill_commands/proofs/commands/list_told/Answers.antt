@@ -1,4 +1,4 @@
--- Answers the contract of `list_told` (`src/file.rt`).
+-- Answers the contract of `list_told` (`src/commands.rt`).
 use Rattle.std.proofs.Common.{◌≡◌, [], Err, inr, ap, ◌∙◌}
 use Rattle.std.proofs.KnownBytes.{Appends-nil}
 use Rattle.ill_text.specs.declared.fault.ToolFault.TheVariants.{Write}

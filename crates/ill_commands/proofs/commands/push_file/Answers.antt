@@ -1,4 +1,4 @@
--- Answers the contract of `push_file` (`src/file.rt`).
+-- Answers the contract of `push_file` (`src/commands.rt`).
 use Rattle.std.proofs.Common.{Ok, Err, refl}
 use Rattle.ill_commands.proofs.commands.push_file.Goals as goal
 

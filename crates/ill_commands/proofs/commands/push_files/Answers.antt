@@ -1,4 +1,4 @@
--- Answers the contract of `push_files` (`src/file.rt`).
+-- Answers the contract of `push_files` (`src/commands.rt`).
 use Rattle.std.proofs.Common.{◌≡◌, ◌+◌, ◌<◌, ℕ, List, map, take, get_or, ap, sym, subst, refl, ◌∙◌}
 use Rattle.std.specs.Prelude.{IfErr, string_bytes}
 use Rattle.std.proofs.lemmas.List.{length-map, get_or-map}

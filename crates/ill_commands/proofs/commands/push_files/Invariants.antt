@@ -1,4 +1,4 @@
--- States the loop invariant of `push_files` (`src/file.rt`).
+-- States the loop invariant of `push_files` (`src/commands.rt`).
 use Rattle.std.proofs.Common.{◌≡◌, map, take}
 use Rattle.std.specs.Prelude.{IfErr, string_bytes}
 use Rattle.ill_show.specs.Report.{AddsParts}

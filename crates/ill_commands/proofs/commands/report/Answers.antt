@@ -1,4 +1,4 @@
--- Answers the contract of `report` (`src/file.rt`).
+-- Answers the contract of `report` (`src/commands.rt`).
 use Rattle.std.proofs.Common.{ℕ, List, ◌++◌, map, ap, subst, inr, ◌∙◌}
 use Rattle.std.specs.Prelude.{IfErr, Option, string_bytes, ◌==◌, length}
 use Rattle.ill_commands.specs.AtFile.{after_writing}

@@ -1,5 +1,4 @@
-"""What came to a desk, in the words that docs/PROTOCOL.md (8) has for it, as `ill news` writes it. The sources have no part in
-it.
+"""What came to a desk, as `ill news` writes it, in the words of its help. The sources have no part in it.
 
 A side of the model tells which messages it has taken. So nothing here asks a record whether it shows a message.
 """
@@ -10,14 +9,13 @@ from ill.der import spelled
 from ill.screen import shown
 from ill.texts import news
 
-# The words of the table for the date of a message.
-DATES = {"ILL-Request": "expiry date d", "Shipped": "due d", "Overdue": "date d", "Renew": "wished date d",
-         "Renew-Answer": "due d"}
+# What the help says after a type whose date may be missing.
+DATED = {"ILL-Request": " with an expiry day", "Renew": " with a wished day"}
 
 
 @functools.cache
 def table():
-    """The words of each line of the table."""
+    """Returns what came, with its words, by the lists of the help."""
     return dict(news.table())
 
 
@@ -36,11 +34,10 @@ def words_of(side, apdu):
     answer = {None: "", True: " yes", False: " no"}[apdu.get("reply")]
     name, date = apdu["apdu"] + (f" {apdu['result']}" if "result" in apdu else answer), apdu.get("date")
     if name == "Renew-Answer no":
-        date = side.due
-        name += ", in a record " + ("with due date d" if date else "without a due date")
+        name, date = name + news.OF_RECORD, side.due
     elif date:
-        name += f", {DATES[apdu['apdu']]}"
-    return re.sub(r"\bd$", iso(date), table()[name]) if date else table()[name]
+        name += DATED.get(name, "")
+    return table()[name].replace("DAY", iso(date) or "")
 
 
 def came_bytes(sides):

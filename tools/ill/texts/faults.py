@@ -13,13 +13,14 @@ test is a function, or a line, of a crate of tests, or words of a tool. In one t
 the name of each call. `none: WHY` is in place of the tests where there can be none, `never: WHY` where by its contract
 no input has the call answer the fault, and # begins a remark. Each fault but these is once in a table of the page, and
 nothing else. A row may be of several calls, each with each fault of the row, which under "Out of memory" is
-`OutOfMemory`.
+`OutOfMemory`. The faults that the program tells are those of `program`.
 """
 import re
 from pathlib import Path
 
 from ill import repository
 from ill.repository import read
+from ill.texts import program
 
 PAGE, TESTS = "docs/FAULTS.md", "tools/ill/texts/fault-tests"
 USE = re.compile(r"^pub use ([\w:]+?)(?:::\{([^}]*)\}|( as \w+)?);", re.M)
@@ -186,7 +187,7 @@ def read_page(wrong):
     seen, part = [], ""
     for line in read(PAGE).splitlines():
         part = line[3:] if line.startswith("## ") else part
-        if not line.startswith("| `"):
+        if not line.startswith("| `") or part == program.HEADING:
             continue
         cells = [cell.strip() for cell in line.strip("|").split("|")]
         if not all(cells) or len(cells) != CELLS.get(part, 4):

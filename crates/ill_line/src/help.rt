@@ -9,30 +9,50 @@ The commands stand in groups:
   for more than 1,000 loans  shelf, which has commands of its own
   to look inside             verify, show, check, simulate, simulate-desks
 
-A desk is the loans of one library in one role, and it is kept in a file. `new`
-begins it, and `act` does what the library decides in a loan. `list` lists the
-loans, those first that wait for the library. `news` tells what came. `loan`
-tells all of one, `status` tells how each of them stands, and `report` writes a
-page of the loans for a browser. `take` takes what comes from other libraries,
-and `send` gives a message to carry there. `inbox` and `outbox` do so with
-folders of mails, and `exchange` does all that a night asks for. `verify` tells
-whether a file is well. `show`, `check`, `simulate` and `simulate-desks` keep
-nothing.
+A desk is the loans of one library in one role, and it is kept in a file. How
+messages are carried, by mail or by hand, is left to the libraries. `ill COMMAND
+--help` tells more of a command. What follows holds of all of them.
 
-A loan is named by its GROUP and TRANSACTION. How messages are carried, by mail
-or by hand, is left to the libraries. `ill COMMAND --help` tells more of a
-command.
+A loan is named by its GROUP and TRANSACTION, of 1 to 64 characters of ASCII
+each, from space to tilde. If one begins with a hyphen, `--` goes before the
+arguments. A day is eight digits, as 20250315, of the years 1900 to 9999.
 
-With `--explain`, lines after that of a fault tell which word, file or message
-is wrong, and what would be right. It stands before the command, or after it
-before the words of an action. The lines begin with spaces, and no program may
-rest on them.
+FILE has at most 67,108,864 bytes. Only `new`, `act`, `take`, `inbox` and
+`exchange` change it. `show`, `check`, `simulate` and `simulate-desks` read and
+write no file.
 
-Several commands may be started at once on one file. Those that may change it,
-`new`, `act`, `take`, `inbox`, `outbox` and `exchange`, wait for each other: ten
-seconds, and then they end with `store failed`. A `take` holds the file until
-its input ends. `list`, `news`, `loan`, `slip`, `status`, `report`, `send` and
+Several commands may be started at once on one file. `new`, `act`, `take`,
+`inbox`, `outbox` and `exchange` wait for each other: ten seconds, and then they
+end with `store failed`. Each holds the file until it ends, `take` until its
+input ends. `list`, `news`, `loan`, `slip`, `status`, `report`, `send` and
 `verify` wait for nobody.
+
+PATH is the file of a desk, or a folder of desks. A folder's desks come in the
+order of their names: all regular files, but for those that begin with a dot or
+that lie beside a desk, as `ill new --help` names them. Of a folder with a
+shelf, only the desks of its groups come. Of several desks `list` and `news`
+write a line `PATH:` before each of which they tell something, and an empty line
+before each but the first. A desk that cannot be read is told on standard error,
+and the others come. So is a name in a folder that is no UTF-8, which counts as
+`store failed`. The exit status is that of the first desk that fails.
+
+Only `take`, `show`, `check`, `simulate` and `simulate-desks` read standard
+input. `take`, `show` and `check` read APDUs, in the short form, one after
+another up to its end: at most 100,000 of them, each of 359 bytes at most.
+
+A character on which a terminal or an editor may act is shown by its number, as
+\\u{202e}. So is a space of a group or transaction at an edge, or after another
+one, in a line of `list` or `news`. Only `show` without --json writes each
+character as it is.
+
+With --json each loan or message is an object of JSON on a line, in the order of
+the text and with its labels. Of several desks each object has its PATH in
+`file`.
+
+With --explain, lines after that of a fault tell which word, file or message is
+wrong, and what would be right. It stands before the command, or after it before
+the words of an action. The lines begin with spaces, and no program may rest on
+them.
 
 The start of a loan, with the requester's desk in the file `here` and the
 responder's in the file `there`:
@@ -74,7 +94,12 @@ The exit status, and the line of a fault on standard error after `ill: `:
   3  left                 `inbox` or `exchange` has left mails for the next run
   3  read                 the input cannot be read
   3  write                the output cannot be written; a closed pipe too
-  3  memory               memory ran out";
+  3  memory               memory ran out
+
+Any command may end with `arguments`, `write` or `memory`. One on a FILE, PATH
+or DIR may also end with `store failed` or `store too-large`, and each of these
+but `new` with `no-record` or for a bad record. The help of a command tells its
+other ends.";
 
 pub const NEW: &str = "\
 Begin a desk of one role, in a file.
@@ -84,13 +109,10 @@ one as requester and one as responder, in two files.
 
 FILE must not be there yet, and its folder must. Its name may not end in .new,
 .lck, .came, .mail or .retired: what lies beside a desk has such names, and is
-the program's. A record is written by way of FILE.new. Other commands may run on
-FILE at any time, as `ill --help` tells. One line, `done`, is written to
-standard output. Standard input is not read.
+the program's. A record is written by way of FILE.new. One line, `done`, is
+written to standard output.
 
-The exit status is 0 if the desk is saved, 1 with `exists`, 2 for wrong
-arguments, a ROLE that is none too, and 3 with `store failed`, `store
-too-large`, `write` or `memory`.";
+The exit status is 0 if the desk is saved, and 1 with `exists`.";
 
 pub const NEW_EXAMPLE: &str = "Example:
   $ ill new box requester
@@ -101,10 +123,8 @@ pub const NEW_EXAMPLE: &str = "Example:
 pub const ACT: &str = "\
 Perform one action in a loan, and save it.
 
-The loan is that of GROUP and TRANSACTION, of 1 to 64 characters of ASCII each,
-from space to tilde; if one begins with a hyphen, `--` goes before the
-arguments. A requester's `request` begins a loan, and the ILL-Request that
-`take` takes begins a responder's. A desk has room for 1,000 loans.
+A requester's `request` begins a loan, and the ILL-Request that `take` takes
+begins a responder's. A desk has room for 1,000 loans.
 
 The words of a requester:
   request EXPIRY ITEM    ask for the item; after the day EXPIRY the responder
@@ -126,9 +146,8 @@ The words of a responder, on the day that --today says:
   check-in               say that the item is back
   expire                 end the request, whose expiry day is past
 
-A day is eight digits, as 20250315, of the years 1900 to 9999. DUE may also be
-`+N`, N one to five digits: N days after the day of the action. EXPIRY and
-WISHED may be `none`. RESULT is conditional, retry, unfilled,
+DUE is a day or `+N`, N one to five digits: N days after the day of the action.
+EXPIRY and WISHED are days or `none`. RESULT is conditional, retry, unfilled,
 locations-provided, will-supply, hold-placed or estimate. ITEM is all the words
 that remain, of 200 bytes at most. None of the words may hold a space, so a
 title has no quotes round it: `request none War and Peace`.
@@ -161,13 +180,8 @@ changes, and OUTCOME says why:
   not-expired            `expire`, and no expiry day is past
   numbers-used           all 255 numbers are used
 
-Standard input is not read, and FILE has at most 67,108,864 bytes. While another
-command changes FILE, this one waits, as `ill --help` tells.
-
-The exit status is 0 if the action is done, 1 if it is refused or with
-`no-record`, 2 for wrong arguments or words or a bad record, and 3 with `store
-failed`, `store too-large`, `write` or `memory`. After `store failed` the action
-may be saved or not: `ill status FILE` shows which.";
+The exit status is 0 if the action is done, and 1 if it is refused. After `store
+failed` the action may be saved or not: `ill status FILE` shows which.";
 
 pub const ACT_EXAMPLE: &str = "Example:
   $ ill new box requester
@@ -188,11 +202,8 @@ pub const ACT_EXAMPLE: &str = "Example:
 pub const TAKE: &str = "\
 Take the APDUs on standard input, and save what they change.
 
-The APDUs, the messages of other libraries as `ill send` gives them there, stand
-one after another up to the end of the input: `ill take FILE < message`. Each
-is for the loan that it names. There are at most 100,000 of them. FILE has at
-most 67,108,864 bytes. While another command changes FILE, this one waits, as
-`ill --help` tells; and it holds FILE itself until its input ends.
+The APDUs are messages of other libraries, as `ill send` gives them there:
+`ill take FILE < message`. Each is for the loan that it names.
 
 For each of them a line is written to standard output:
   OUTCOME STATE DUE RELEASED/ISSUED
@@ -211,8 +222,6 @@ OUTCOME is one of these; after it the line says how its loan stands, as that of
 With --long the line begins with what the message is, and its further fields
 stand after it, as `ill show` has them, each on an indented line of its own:
   GROUP TRANSACTION TYPE NUMBER OUTCOME STATE DUE RELEASED/ISSUED
-A character on which a terminal or an editor may act is shown by its number, as
-\\u{202e}.
 
 With --keep each message that is taken is kept as it came, in FILE.came, before
 that it was taken is saved. `ill news` tells all of them in words, `ill show <
@@ -229,10 +238,9 @@ Conditional-Reply no, by which the requester declines its conditions, issues an
 ILL-Answer unfilled. ISSUED has risen by one then, as from 1/1 to 2/2, and that
 message has to be sent, like one of an action: `ill send FILE G1 T1 2`.
 
-The exit status is 0 if each was taken, a repeat or stale, and 1 if one
-was anything else or with `no-record`. It is 2 if the input has a faulty
-message or too many, and for a bad record, and 3 with `store failed`, `store
-too-large`, `read`, `write` or `memory`. The messages before a fault stay taken.";
+The exit status is 0 if each was taken, a repeat or stale, and 1 if one was
+anything else. It is 2 if the input has a faulty message or too many, and 3 with
+`read`. The messages before a fault stay taken.";
 
 pub const TAKE_EXAMPLE: &str = "Example:
   $ ill new here requester
@@ -257,9 +265,7 @@ Take the mails of a folder, and save what they change once.
 
 A mail is a regular file of FOLDER whose name begins with no dot, with one APDU:
 a message of another library, as `ill send` gives it there. One line end may
-stand after it. FILE has at most 67,108,864 bytes. While another command changes
-FILE, this one waits, as `ill --help` tells, and holds FILE itself until it
-ends.
+stand after it.
 
 FOLDER may be neither the folder of FILE nor a shelf, and lie in no folder whose
 name ends in .mail: files there belong to desks.
@@ -304,18 +310,15 @@ The reasons for which a mail stays:
   no-such-transaction    a requester's desk has no such loan, or not yet
   desk-full              it would begin a loan, and the desk has 1,000
 
-A character of a name on which a terminal or an editor may act is shown by its
-number, as \\u{202e}. The last line counts the mails:
+The last line counts the mails:
   taken N, repeat N, stale N, conflict N, unknown N, aside N, left N, waiting N
 `unknown` counts those of a loan that a responder's desk has not: they come
 again, with its request. `waiting` counts the mails beyond the first 10,000.
 
-Standard input is not read. The exit status is 0 if all mails are done, and 1
-if one was put aside or in conflict, or with `no-record`. It is 2 for a bad
-record, and 3 with `left`, `store failed`, `store too-large`, `write` or
-`memory`. With `left` mails stay or wait; what else was to be done is done. A
-file that cannot be removed or put aside is named on standard error, and then it
-is `store failed`.";
+The exit status is 0 if all mails are done, 1 if one was put aside or in
+conflict, and 3 with `left`. Then mails stay or wait; what else was to be done
+is done. A file that cannot be removed or put aside is named on standard error,
+and then it is `store failed`.";
 
 pub const INBOX_EXAMPLE: &str = "Example:
   $ ill new here requester
@@ -351,17 +354,12 @@ power. Its name is made of its loan and its number, as
 `7ce619cb6e23ba0dd166097fce0754f3-001`, and is the same in every run. So a mail
 that nobody has fetched is there once. It is written to a file with a dot before
 this name, and renamed once the disk has it. A line `sent N` tells how many they
-are. FOLDER may be neither the folder of FILE nor a shelf, and lie in no folder
-whose name ends in .mail.
+are. FOLDER may be what `ill inbox` lets it be.
 
 With --stream the messages are written to standard output in place of FOLDER,
-one after another and nothing else. FILE has at most 67,108,864 bytes; it is
-not changed. While another command changes FILE, this one waits, as `ill --help`
-tells.
+one after another and nothing else.
 
-The exit status is 0 if all messages are there, 1 with `no-record`, 2 for
-wrong arguments or a bad record, and 3 with `store failed`, `store too-large`,
-`write` or `memory`: the first messages may be there then.";
+The exit status is 0 if all messages are there. Else the first ones may be.";
 
 pub const OUTBOX_EXAMPLE: &str = "Example:
   $ ill new here requester
@@ -410,10 +408,8 @@ line `sent N`. Standard error has a line for each mail that wants a person: one
 that is put aside or stays, and a conflict that no lost, late or repeated mail
 explains. So cron mails only these.
 
-The exit status is 0 if nothing wants a person, 1 if something does or
-with `no-record`, 2 for wrong arguments or a bad record, and 3 if a mail
-stays for the next run (`left`), or with `store failed`, `store too-large`,
-`write` or `memory`.";
+The exit status is 0 if nothing wants a person, 1 if something does, and 3 if a
+mail stays for the next run (`left`).";
 
 pub const EXCHANGE_EXAMPLE: &str = "Example:
   $ ill new here requester
@@ -436,13 +432,11 @@ The message must be saved, which what `act` and `take` have told always is.
 
 Its bytes, and nothing else, are written to standard output: 16 to 359 of them,
 which are not for a terminal. Give them to a file or another program, as in
-`ill send FILE G1 T1 1 > message`. FILE has at most 67,108,864 bytes; it is not
-changed, so nothing tells what was sent. A message may be sent again at any
-time, and has the same bytes then. Standard input is not read.
+`ill send FILE G1 T1 1 > message`. FILE is not changed, so nothing tells what
+was sent. A message may be sent again at any time, and has the same bytes then.
 
-The exit status is 0 if the message is written, 1 with `no-such-transaction`,
-`no-such-message`, `not-saved` or `no-record`, 2 for wrong arguments or a bad
-record, and 3 with `store failed`, `store too-large`, `write` or `memory`.";
+The exit status is 0 if the message is written, and 1 with
+`no-such-transaction`, `no-such-message` or `not-saved`.";
 
 pub const SEND_EXAMPLE: &str = "Example:
   $ ill new box requester
@@ -475,10 +469,6 @@ date, or else the last day of its request, comes first. The columns of a line:
                          some day, with commas between them
   title                  the item that is asked for, or `-`
 
-A character of a title on which a terminal or an editor may act is shown by its
-number, as \\u{202e}. So is a space of a group or transaction at an edge, or
-after another one.
-
 The work is that of a day. These options say which:
   --today DAY            the day. Without it no date is past, and none is soon
   --ahead DAYS           a due date is soon if it is at most DAYS days away:
@@ -499,26 +489,11 @@ says how many more loans may want a hand by their dates. Each open loan that has
 at most 10 numbers left for its messages has such a line, whichever loans are
 listed.
 
-PATH is the file of a desk, or a folder of desks. A folder's desks are listed in
-the order of their names: all regular files, but for those that begin with a dot
-or that lie beside a desk, as `ill new --help` names them. Of a folder with a
-shelf, only the desks of its groups are listed. If there are several desks, a
-line `PATH:` stands before each that is listed, and an empty line before each
-but the first.
+With --json a loan has `kind`, which is loan, `work`, `state`, `due`, `group`,
+`transaction`, `now` (what `act` takes now) and `item`. After them an object
+whose `kind` is counts has `loans`, `open`, `todo` and `room`.
 
-A desk that cannot be read is told on standard error, and the others are listed.
-So is a name in a folder that is no UTF-8, which counts as `store failed`.
-
-With --json each loan that is listed is an object of JSON on a line, in the same
-order: `kind`, which is loan, `work`, `state`, `due`, `group`, `transaction`,
-`now` (what `act` takes now) and `item`. After them an object whose `kind` is
-counts has `loans`, `open`, `todo` and `room`. If there are several desks, each
-object has its PATH in `file`.
-
-A desk has at most 67,108,864 bytes and is not changed. Standard input is not
-read. The exit status is 0 if the loans are listed, 1 with `no-record`, 2 for
-wrong arguments or a bad record, and 3 with `store failed`, `store too-large`,
-`write` or `memory`. Of several desks it is that of the first that fails.";
+`ill --help` tells which desks a PATH has, and what comes of several.";
 
 pub const LIST_EXAMPLE: &str = "Example:
   $ ill new here requester
@@ -581,26 +556,13 @@ The words of what a responder hears:
   asks to renew, until DAY         Renew with a wished day
   on its way back                  Returned
 
-A character of a title on which a terminal or an editor may act is shown by its
-number, as \\u{202e}. So is a space of a group or transaction at an edge, or
-after another one. With --last only the last N messages are told, 1 to 255. The
-last line counts the messages, and those of them that are shown.
+With --last only the last N messages are told, 1 to 255. The last line counts
+the messages, and those of them that are shown.
 
-PATH is the file of a desk, or a folder of desks, as `ill list --help` tells. If
-there are several desks, a line `PATH:` stands before each, and an empty line
-before each but the first. A desk that cannot be read is told on standard error,
-and the others are told. So is a name in a folder that is no UTF-8, which counts
-as `store failed`.
+With --json a message has `kind`, which is news, `group`, `transaction`,
+`number`, `words` and `item`. No line has counts.
 
-With --json each message is an object of JSON on a line, in the same order:
-`kind`, which is news, `group`, `transaction`, `number`, `words` and `item`. If
-there are several desks, each object has its PATH in `file`. No line has counts.
-
-FILE and FILE.came have at most 67,108,864 bytes each and are not changed.
-Standard input is not read. The exit status is 0 if the messages are told, 1
-with `no-record`, 2 for wrong arguments or a bad record, and 3 with `store
-failed`, `store too-large`, `write` or `memory`. Of several desks it is that of
-the first that fails.";
+`ill --help` tells which desks a PATH has, and what comes of several.";
 
 pub const NEWS_EXAMPLE: &str = "Example:
   $ ill new here requester
@@ -638,13 +600,7 @@ the loans were begun; none, if the desk has no loan:
   marks                  those that are set of `received` (a Received was
                          issued, or taken), `checked-in` and `declined`, or `-`
 
-With --json each loan is an object of JSON on a line, with these labels. It has
-`released` and `issued` in place of `messages`.
-
-FILE has at most 67,108,864 bytes and is not changed. Other commands may run on
-FILE at any time, as `ill --help` tells. Standard input is not read. The exit
-status is 0 if the loans are shown, 1 with `no-record`, 2 for a bad record,
-and 3 with `store failed`, `store too-large`, `write` or `memory`.";
+With --json a loan has `released` and `issued` in place of `messages`.";
 
 pub const STATUS_EXAMPLE: &str = "Example:
   $ ill new box requester
@@ -695,18 +651,11 @@ With --picture the messages are drawn in place of all this, as a sequence chart
 in the language of Mermaid. The order of each side is right, and so is what
 answers a message; how both orders lay in time, nobody knows.
 
-A character of an item on which a terminal or an editor may act is shown by its
-number, as \\u{202e}.
+With --json the loan also has the labels of `ill status --json`. Its `messages`
+are an array of those that it has issued, and its `came` one of those that were
+kept. With --picture too it is the object.
 
-With --json the loan is an object of JSON on one line, with these labels and
-those of `ill status --json`. Its `messages` are an array of those that it has
-issued, and its `came` one of those that were kept. With --picture too it is the
-object.
-
-FILE has at most 67,108,864 bytes and is not changed. Standard input is not
-read. The exit status is 0 if the loan is shown, 1 with `no-such-transaction`
-or `no-record`, 2 for wrong arguments or a bad record, and 3 with `store
-failed`, `store too-large`, `write` or `memory`.";
+The exit status is 0 if the loan is shown, and 1 with `no-such-transaction`.";
 
 pub const LOAN_EXAMPLE: &str = "Example:
   $ ill new box requester
@@ -749,13 +698,9 @@ commands. The longer the names, the finer are the bars. There are none if a name
 has a character that is no letter, no digit and none of - . / : _ and +: a shell
 might take it for more than a name.
 
-What a person wrote stands there as text, whatever its characters. One on which
-a terminal or an editor may act is shown by its number, as \\u{202e}.
+What a person wrote stands there as text, whatever its characters.
 
-FILE has at most 67,108,864 bytes and is not changed. Standard input is not
-read. The exit status is 0 if the slip is written, 1 with `no-such-transaction`
-or `no-record`, 2 for wrong arguments or a bad record, and 3 with `store
-failed`, `store too-large`, `write` or `memory`.";
+The exit status is 0 if the slip is written, and 1 with `no-such-transaction`.";
 
 pub const SLIP_EXAMPLE: &str = "Example:
   $ ill new box requester
@@ -775,10 +720,7 @@ These lines are written to standard output:
   room                   for how many more loans there is room
 
 A record that is none, or was damaged, is a fault, which tells the place of the
-first wrong byte if there is one. FILE has at most 67,108,864 bytes and is
-not changed. Standard input is not read. The exit status is 0 if it is a
-desk, 1 with `no-record`, 2 for a bad record, and 3 with `store failed`, `store
-too-large`, `write` or `memory`.";
+first wrong byte if there is one.";
 
 pub const VERIFY_EXAMPLE: &str = "Example:
   $ ill new box requester
@@ -796,7 +738,8 @@ pub const REPORT: &str = "\
 Write a page for a browser of the loans of desks.
 
 The page is one file of HTML, on standard output. It has no scripts, and it
-needs nothing from elsewhere. It may be printed. Each PATH is as for `list`.
+needs nothing from elsewhere. It may be printed. `ill --help` tells which desks
+a PATH has.
 
 Of each desk the page counts the loans that want a hand on DAY, those that are
 not over, all loans, and the room for more. Then it has a table for each kind of
@@ -808,20 +751,11 @@ A row has the title of a loan, its group and transaction, and its state in plain
 words. It has the day on which the item is due, or else the day after which the
 request may expire. Last it has the verbs that `ill act` takes on DAY. In each
 table the earliest of these days stands first, and loans without one last. A day
-is YYYY-MM-DD. DAY is eight digits, as 20250315.
+is written YYYY-MM-DD.
 
 What a person wrote, titles, groups, transactions and names of files, stands
-there as text, whatever its characters. One on which a terminal or an editor
-may act is shown by its number, as \\u{202e}.
-
-A desk that cannot be read has its fault on the page, and is told on standard
-error. The others are there all the same.
-
-FILE has at most 67,108,864 bytes and is not changed. Other commands may run on
-FILE at any time, as `ill --help` tells. Standard input is not read. The exit
-status is 0 if the page is written, 1 with `no-record`, 2 for wrong arguments or
-a bad record, and 3 with `store failed`, `store too-large`, `write` or `memory`.
-Of several desks it is that of the first that fails.";
+there as text, whatever its characters. A desk that cannot be read has its fault
+on the page too.";
 
 pub const REPORT_EXAMPLE: &str = "Example:
   $ ill new here requester
@@ -833,15 +767,11 @@ pub const REPORT_EXAMPLE: &str = "Example:
 pub const SHOW: &str = "\
 Show each APDU on standard input.
 
-The APDUs stand one after another, in the short form, up to the end of the
-input, as in `ill show < FILE`: at most 100,000 of them, each of 359 bytes at
-most. For each of them its type, its transaction, its number and its further
-fields are written to standard output, a line for each. With --json each APDU is
-an object of JSON on a line, with the same labels.
+Of each its type, its transaction, its number and its further fields are written
+to standard output, a line for each: `ill show < FILE`.
 
-The exit status is 0 if all of them are shown. It is 2 if one has a fault
-or there are too many, and 3 with `read`, `write` or `memory`. The APDUs before
-a fault are shown.";
+The exit status is 0 if all of them are shown. It is 2 if one has a fault or
+there are too many, and 3 with `read`. The APDUs before a fault are shown.";
 
 pub const SHOW_EXAMPLE: &str = "Example:
   $ printf 'f\\20\\200\\1\\1\\241\\10\\201\\2G1\\202\\2T1\\202\\1\\2' | ill show
@@ -853,13 +783,11 @@ pub const SHOW_EXAMPLE: &str = "Example:
 pub const CHECK: &str = "\
 Check the APDUs on standard input and count them.
 
-The APDUs stand one after another, in the short form, up to the end of the
-input, as in `ill check < FILE`: at most 100,000 of them, each of 359 bytes at
-most. After the last of them their number is written to standard output. If
-one of them has a fault, nothing is written there.
+After the last of them their number is written to standard output: `ill check <
+FILE`. If one of them has a fault, nothing is written there.
 
-The exit status is 0 if they are counted. It is 2 if one has a fault or
-there are too many, and 3 with `read`, `write` or `memory`.";
+The exit status is 0 if they are counted. It is 2 if one has a fault or there
+are too many, and 3 with `read`.";
 
 pub const CHECK_EXAMPLE: &str = "Example:
   $ printf 'f\\20\\200\\1\\1\\241\\10\\201\\2G1\\202\\2T1\\202\\1\\2' | ill check
@@ -868,13 +796,11 @@ pub const CHECK_EXAMPLE: &str = "Example:
 pub const SIMULATE: &str = "\
 Perform a script of both sides of a loan, from standard input.
 
-The script comes from standard input, as in `ill simulate G1 T1 < FILE`: at most
-100,000 lines, of at most 1,024 bytes each. A line says one event; an empty one,
+The script, as in `ill simulate G1 T1 < FILE`, has at most 100,000 lines, of at
+most 1,024 bytes each. A line says one event; an empty one,
 and one that begins with `#`, says nothing. For each event a line is written to
 standard output: its number, what is seen of it, and how both sides stand after
-it. No file is read or written. GROUP and TRANSACTION have 1 to 64 characters of
-ASCII each, from space to tilde; if one begins with a hyphen, `--` goes
-before the two.
+it.
 
 The lines of a script:
   requester request EXPIRY ITEM
@@ -893,14 +819,11 @@ The lines of a script:
   deliver SIDE NUMBER
   noise SIDE HEX
 
-SIDE is requester or responder. EXPIRY, WISHED, TODAY and DUE are days, such as
-20250315; EXPIRY, WISHED and HEX may be `none`. RESULT is conditional, retry,
-unfilled, locations-provided, will-supply, hold-placed or estimate.
+SIDE is requester or responder. EXPIRY, WISHED, TODAY and DUE are days; EXPIRY,
+WISHED and HEX may be `none`. RESULT is as for `ill act`.
 
-The exit status is 0 if the whole script was performed. It is 2 for arguments
-that are no qualifiers and for a line that is no event, and 3 if the input
-cannot be read, the output cannot be written, or memory runs out. The lines of
-the events before are written.";
+The exit status is 0 if the whole script was performed. It is 2 for a line that
+is no event, and 3 with `read`. The lines of the events before are written.";
 
 pub const SIMULATE_EXAMPLE: &str = "Example:
   $ printf 'requester request none Maps\\nsave requester\\n' | ill simulate G1 T1
@@ -910,24 +833,21 @@ pub const SIMULATE_EXAMPLE: &str = "Example:
 pub const SIMULATE_DESKS: &str = "\
 Perform a script of two desks, from standard input.
 
-A desk is the loans of one library, all in one role; both begin without a loan.
-The script comes from standard input, as in `ill simulate-desks < FILE`, and has
-the lines of a script of `simulate` and one more:
+Both desks begin without a loan. The script, as in `ill simulate-desks < FILE`,
+has the lines of a script of `simulate` and one more:
   use GROUP TRANSACTION
 
 It is no event: the lines after it are in this loan. An event before the first
 of them is a bad line. A save, a faulted save and a restart are those of a whole
-desk. For each event a line is written to standard output: its number, what is
-seen of it, and how both sides of the loan in use stand after it, IDLE if a
-desk does not hold it. No file is read or written.
+desk. The line of an event says how both sides of the loan in use stand after
+it, IDLE if a desk does not hold it.
 
 Two words are seen at desks alone: `no-such-transaction` of what names a loan
 that the desk does not hold and does not begin it, and `desk-full` of what would
 begin one more than 1,000.
 
-The exit status is 0 if the whole script was performed. It is 2 for a line
-that is no event and no use, and 3 if the input cannot be read, the output
-cannot be written, or memory runs out. The lines of the events before are
+The exit status is 0 if the whole script was performed. It is 2 for a line that
+is no event and no use, and 3 with `read`. The lines of the events before are
 written.";
 
 pub const SIMULATE_DESKS_EXAMPLE: &str = "Example:
@@ -951,9 +871,7 @@ One line is written: `done`, or `not-now` if a loan of the group is not over.
 Then nothing is changed. After `done`, nothing else is known of the loans. Both
 libraries may retire a group as soon as its loans are over.
 
-The exit status is 0 after `done`, 1 after `not-now` or with `no-record`, 2
-for wrong arguments or a bad record, and 3 with `store failed`, `write` or
-`memory`.";
+The exit status is 0 after `done`, and 1 after `not-now`.";
 
 pub const RETIRE_EXAMPLE: &str = "Example:
   $ ill shelf new shelf requester
@@ -1003,8 +921,7 @@ Begin a shelf of one role, in a folder.
 DIR is made, if it is not there. Its folder must be there. One line, `done`, is
 written. `exists` tells that DIR is a shelf already.
 
-The exit status is 0 if the shelf is saved, 1 with `exists`, 2 for wrong
-arguments, and 3 with `store failed`, `write` or `memory`.";
+The exit status is 0 if the shelf is saved, and 1 with `exists`.";
 
 pub const SHELF_ACT: &str = "\
 Perform one action in a loan, at the desk of its group.

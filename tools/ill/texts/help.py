@@ -5,7 +5,8 @@ It reads the command line as the module `words` does, which writes the completio
 - each number, in figures or as a word from two on, with the constants of the sources. Phrases with numbers stand below;
   a number in no such phrase is a fault, and so is a phrase that no text has. Of the man page it reads what is written
   by hand;
-- the status of each fault of the list of `ill --help`, and those of each command, with what the sources answer;
+- the status of each fault of the list of `ill --help`, and those of each command, with what the sources answer. Ends
+  that all commands have, or all on a desk, are told by `ill --help` alone;
 - lists of words: roles, actions, results, outcomes, marks, lines of a script and lines of a status;
 - each word in backquotes, in capitals or with the name of a message, with the words that there are;
 - the numbers, verbs, results and reserved names in the sentences of `--explain`.
@@ -35,7 +36,7 @@ PHRASES = """
 room for {loans} loans; the desk has {loans} loans; the desk has {loans}
 begin one more than {loans}; From {many} loans on; loans of a desk {loans}; would begin a loan, and the desk has {loans}
 {mails} at most in one run; beyond the first {mails}; its first {longer} bytes; longer than {longest} bytes
-at most {messages} of them; more than {messages} messages; messages of one input {messages}
+more than {messages} messages; messages of one input {messages}
 at most {messages} of them, each of {longest} bytes at most
 {shortest} to {longest} of them; {shortest} to {longest} bytes
 {lines} lines, of at most {line} bytes each; {lines} lines of at most {line} bytes
@@ -44,7 +45,7 @@ the words that remain, of {item} bytes at most; {first} to {item} bytes of UTF-8
 more than {record} bytes; at most {record} bytes; FILE {record} bytes
 wait for each other: {wait} seconds; held FILE for {wait} seconds
 {day_digits} digits, as {day}, of the years {first_year} to {last_year}; A day is {day_digits} digits, as {day}
-days, such as {day}; The day of the action, as {day}; The day of the report, as {day}; The day of the run, as {day}
+The day of the action, as {day}; The day of the report, as {day}; The day of the run, as {day}
 want the day: `--today {day}`; DAY is {day_digits} digits, as {day}; The day of the work, as {day}
 at most DAYS days away: {first} to {last}, or {ahead} without this option; a due date is soon, or {ahead}
 N days after that day, {first} to {last}; the last N messages, {first} to {last}
@@ -57,7 +58,7 @@ numbers its messages of a loan {first}, {second}, {third}.
 all {last} numbers are used; messages of a loan {last}
 If at most {few} numbers are left after an action; that has at most {few} numbers left
 {status_lines} lines for each loan; The first {status_lines} lines on standard output
-lines of {side_fields} fields; goes before the {simulated}.
+lines of {side_fields} fields
 has {roles} desks, one as requester and one as responder, in {roles} files; script of {roles} desks
 {desk_words} words are seen at desks alone; Bytes of a message or a record are counted from {zero}
 ISSUED has risen by one then, as from {first}/{first} to {second}/{second}
@@ -69,8 +70,7 @@ a day has {day_digits} digits, as {day}; the years are {first_year} to {last_yea
 no number of a message: it is {first} to {last}; stand one to {days_digits} digits; counted from {zero}
 makes {made} desks at most; mail of one run makes {made} desks at most
 so no loan can come to {roles} of them; as `%` and {escaped} digits; with % and {escaped} digits
-is {well} after `done`, {refused} after `not-now`; {bad} for wrong arguments or a bad record, and {failed} with
-is {well} if the shelf is saved, {refused} with `exists`, {bad} for wrong arguments, and {failed} with
+is {well} after `done`, and {refused} after `not-now`; is {well} if the shelf is saved, and {refused} with `exists`
 If none fails, it is {failed} if mails are left, {refused} if one was put aside or in conflict, else {well}.
 If none fails, it is {failed} if mails are left, or with; Else it is {refused} if a mail wants a person, or {well}.
 If DIR is no shelf, it is {refused} with `no-record`
@@ -84,18 +84,15 @@ NAMES = r"`\+14` is the day 14|UTF-8|Code 128|`[0-9a-f]{32}-\d{3}`|SHA-256|ISO \
 CAUSES = {
     "the desk is saved": "ok", "all mails are done": "ok", "one was put aside or in conflict": "refused",
     "the action is done": "ok", "each was taken, a repeat or stale": "ok", "the message is written": "ok",
-    "the loans are listed": "ok", "the loans are shown": "ok", "the loan is shown": "ok", "the slip is written": "ok",
-    "the page is written": "ok", "the messages are told": "ok",
-    "it is a desk": "ok", "all messages are there": "ok", "nothing wants a person": "ok",
+    "the loan is shown": "ok", "the slip is written": "ok", "all messages are there": "ok",
+    "nothing wants a person": "ok",
     "all of them are shown": "ok", "they are counted": "ok", "the whole script was performed": "ok",
     "it is refused": "refused", "one was anything else": "refused", "something does": "refused",
     "a mail stays for the next run": "left",
-    "wrong arguments, a ROLE that is none too": "arguments", "wrong arguments or words": "arguments",
-    "wrong arguments": "arguments", "arguments that are no qualifiers": "arguments", "a bad record": "record",
+    "a bad record": "record",
     "the input has a faulty message or too many": "der, too-many",
     "one has a fault or there are too many": "der, too-many", "a line that is no event and no use": "script",
-    "a line that is no event": "script",
-    "the input cannot be read": "read", "the output cannot be written": "write", "memory runs out": "memory"}
+    "a line that is no event": "script"}
 # The variants that have these statuses.
 STATUS = {
     "ok": "Ok(true)", "refused": "Ok(false)", "arguments": "ToolFault::Arguments", "der": "ToolFault::Der",
@@ -168,11 +165,10 @@ def numbers_of():
         "ahead": constant("SOON", f"{SHOW}/soon.rt"),
         "number_digits": constant("NUMBER_DIGITS", f"{WORDS}/words.rt"),
         "status_lines": len(status_labels()), "side_fields": len(re.findall(r"\n    pub \w+:", shown)),
-        "simulated": len(arguments_of()["simulate"]),
         "roles": len(roles), "desk_words": len(variants("DeskOutcome", f"{WORDS}/outcome.rt")) - 1,
         "made": constant("NEW_DESKS", f"{SHELF}/sorting.rt"), "escaped": 2,
         **{status: statuses()[STATUS[cause]] for status, cause in (("well", "ok"), ("refused", "refused"),
-                                                                  ("bad", "arguments"), ("failed", "left"))}}
+                                                                  ("failed", "left"))}}
 
 
 def variants(name, path):
@@ -425,19 +421,34 @@ def compare_faults(text, known):
 
 
 def compare_status(name, text, wanted, known):
-    """The sentences on the exit status of a command name each thing that may become of it, with its status. It answers
-    the text without them."""
+    """The sentences on the exit status of a command, if there are any, name each thing that may become of it, with its
+    status, but for success and what `ill --help` tells. It answers the text without them."""
     said = re.search(r"The exit status is (.*?\.)(?= (?!It is)|$)", joined(text))
-    if said is None:
-        raise Unread(f"{name}: it says no exit status")
     found = set()
-    parts = re.split(r"(?:^|,? (?:and )?|\. It is )([0-9]) (?=if |after |with |for )", said[1])
+    parts = re.split(r"(?:^|,? (?:and )?|\. It is )([0-9]) (?=if |after |with |for )", said[1] if said else "")
     for status, part in zip(parts[1::2], parts[2::2]):
         for key in causes_in(part, name):
             found.add(key)
             expect_same("statuses", int(status), known.get(STATUS[key]), f"{name}: the status of {key}")
-    expect_same("statuses", sorted(found), sorted(wanted), f"{name}: what it may end with")
-    return joined(text).replace(said[0], "")
+    expect_same("statuses", sorted(found - {"ok"}), sorted(wanted - {"ok"}), f"{name}: what it may end with")
+    return joined(text).replace(said[0], "") if said else joined(text)
+
+
+def told_of_all(text):
+    """Returns what `ill --help` tells that any command may end with, any command on a desk, and any of these but
+    `new`."""
+    said = re.search(r"Any command may end with (.*?)\. One on a FILE, PATH or DIR may also end with (.*?), and each of "
+                     r"these but `new` with (.*?)\.", joined(text))
+    if said is None:
+        raise Unread("ILL: it does not tell what any command may end with")
+    return [set(causes_in(part, "ILL")) for part in said.groups()]
+
+
+def ends_of_all(text, own):
+    """Returns what `ill --help` tells that a command may end with, by the arguments of the command."""
+    of_any, of_desks, of_old_desks = told_of_all(text)
+    return of_any | (of_desks if FILE_KINDS & set(own) else set()) \
+        | (of_old_desks if FILE_KINDS & set(own) and "NewFile" not in own else set())
 
 
 def causes_in(part, name):
@@ -490,20 +501,22 @@ def lists_of(arguments):
     results = results_of()
     filed = [command for command, own in arguments.items() if FILE_KINDS & set(own)]
     locking = [name for name in filed if re.search(r"\block\(|open_locked\(", body(name, *FILED))]
+    reading = [it for it, own in arguments.items() if "read" in causes_of(it, own)]
     marks = dict.fromkeys(re.findall(r'push_mark\(&mut marks, .*?"([\w-]+)"', read(f"{SHOW}/marks.rt")))
     refusals = named("Refusal", read(f"{core}/refusal.rt"))
     at_desks = named("DeskOutcome", read(f"{WORDS}/outcome.rt"))
     untold = sorted(set(refusals) - set(ACTED + TAKEN))
     expect_same("lists", ["OtherTransaction", "OutOfMemory"], untold, "the refusals that no desk tells")
     words = refusals | named("Taking", read(f"{core}/taking.rt")) | at_desks
-    return [("ILL", "change it, (.*?), wait for each other", locking),
-            ("ILL", r"input ends\. (.*?) wait for nobody", [it for it in filed if it not in locking]),
-            ("ILL", r"a file is well\. (.*?) keep nothing", [it for it in arguments if it not in filed]),
+    return [("ILL", r"on one file\. (.*?) wait for each other", locking),
+            ("ILL", r"until its input ends\. (.*?) wait for nobody", [it for it in filed if it not in locking]),
+            ("ILL", r"change it\. (.*?) read and write no file", [it for it in arguments if it not in filed]),
+            ("ILL", r"Only ([^.]*?) read standard input", reading),
             ("NEW", r"name may not end in (.*?): what lies", beside()),
             ("NEW", r"two desks, one as (\w+) and one", roles[:1]), ("NEW", r"and one as (\w+), in", roles[1:]),
             ("SIMULATE", r"SIDE is (\w+ or \w+)\.", roles), ("STATUS", r"role (\w+ or \w+) group", roles),
             ("STATUS", "those that are set of (.*?), or `-`", list(marks)),
-            ("ACT", r"RESULT is (.*?)\.", results), ("SIMULATE", r"RESULT is (.*?)\.", results),
+            ("ACT", r"RESULT is (.*?)\.", results),
             ("SIMULATE_DESKS", "at desks alone: `(.*?)` of what names", [at_desks[AT_DESKS[0]]]),
             ("SIMULATE_DESKS", "and `([^`]*)` of what would", [at_desks[AT_DESKS[1]]])], words
 
@@ -587,7 +600,9 @@ def compare():
     words = compare_lists(text, arguments)
     for command, own in arguments.items():
         name = command.replace("-", "_").upper()
-        text[name] = compare_status(name, text[name], causes_of(command, own), known)
+        wanted, told = causes_of(command, own), ends_of_all(text["ILL"], own)
+        expect_same("statuses", sorted(told - wanted - {"arguments"}), [], f"ILL: {command} does not end with")
+        text[name] = compare_status(name, text[name], wanted - told, known)
     text["ILL"] = re.sub(r"(?m)^  \d  (\S+ )*", "", text["ILL"])
     compare_words(text, words, arguments)
     compare_explanations()

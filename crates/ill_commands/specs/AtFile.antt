@@ -4,7 +4,7 @@ use Rattle.std.specs.Prelude.{Err, IfErr}
 use Rattle.ill_values.specs.Day.{Date}
 use Rattle.ill_values.specs.TxnId.{Qualifiers}
 use Rattle.ill_saved.specs.declared.side.Side.{Side}
-use Rattle.ill_saved.specs.declared.store.StoreFault.{StoreFault}
+use Rattle.ill_store.specs.declared.store.StoreFault.{StoreFault}
 use Rattle.ill_saved.specs.Holdings.{DeskEntry}
 use Rattle.ill_saved.specs.ManySides.{DeskContents, found_by, txn_held, many_sides}
 use Rattle.ill_text.specs.declared.fault.ToolFault.{ToolFault}

@@ -1,9 +1,9 @@
 -- Derives the effect of the command `new` from the results of its calls.
 use Rattle.std.proofs.Common.{rules, ◌≡◌, ◌⊎◌, ℕ, List, Option, Some, None, Result, Ok, Err, inl, inr, ◌∙◌}
 use Rattle.ill_saved.specs.declared.fault.DeskFault.TheVariants.{Store}
-use Rattle.ill_saved.specs.declared.store.StoreFault.TheVariants.{Failed}
-use Rattle.ill_saved.specs.declared.store.NextCall.{NextCall}
-use Rattle.ill_saved.specs.Store.{Allows, plan_after_call}
+use Rattle.ill_store.specs.declared.store.StoreFault.TheVariants.{Failed}
+use Rattle.ill_store.specs.declared.store.NextCall.{NextCall}
+use Rattle.ill_store.specs.Store.{Allows, plan_after_call}
 use Rattle.ill_text.specs.declared.fault.ToolFault.{ToolFault}
 use Rattle.ill_text.specs.declared.fault.ToolFault.TheVariants.{Desk, Write, OutOfMemory}
 use Rattle.ill_desk.specs.New.{LandsFirst, BeginsOver}

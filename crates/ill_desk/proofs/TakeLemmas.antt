@@ -5,8 +5,8 @@ use Rattle.std.proofs.Common.{◌∙◌, arith}
 use Rattle.ill_values.specs.declared.apdu.Apdu.{Apdu}
 use Rattle.ill_der.specs.Handling.{Handles, Handled}
 use Rattle.ill_saved.specs.declared.fault.DeskFault.TheVariants as desks
-use Rattle.ill_saved.specs.declared.store.StoreFault.TheVariants as stores
-use Rattle.ill_saved.specs.Store.{HasRisen}
+use Rattle.ill_store.specs.declared.store.StoreFault.TheVariants as stores
+use Rattle.ill_store.specs.Store.{HasRisen}
 use Rattle.ill_text.specs.declared.fault.ToolFault.{ToolFault}
 use Rattle.ill_text.specs.declared.fault.ToolFault.TheVariants.{Desk}
 use Rattle.ill_text.specs.Input.{Rest, rest_of, StopsReading, Ends, ReadsInput}

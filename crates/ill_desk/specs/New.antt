@@ -2,10 +2,10 @@
 use Rattle.std.specs.Prelude.{◌≡◌, ◌⊎◌, ℕ, true, List, [], take, Option, None, Some, Result, Ok, Err}
 use Rattle.std.specs.Io.KnownBytes.{Appends}
 use Rattle.ill_saved.specs.declared.fault.DeskFault.TheVariants.{Exists, Store}
-use Rattle.ill_saved.specs.declared.store.StoreFault.TheVariants.{Failed}
-use Rattle.ill_saved.specs.declared.store.NextCall.{NextCall}
+use Rattle.ill_store.specs.declared.store.StoreFault.TheVariants.{Failed}
+use Rattle.ill_store.specs.declared.store.NextCall.{NextCall}
 use Rattle.ill_text.specs.Fault.{CountsToolFailure}
-use Rattle.ill_saved.specs.Store.{Allows, LandsAtFailure, StoreState, plan_after_call}
+use Rattle.ill_store.specs.Store.{Allows, LandsAtFailure, StoreState, plan_after_call}
 use Rattle.ill_text.specs.declared.fault.ToolFault.{ToolFault}
 use Rattle.ill_text.specs.declared.fault.ToolFault.TheVariants.{Desk, Write, OutOfMemory}
 

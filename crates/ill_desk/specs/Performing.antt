@@ -7,8 +7,8 @@ use Rattle.ill_core.specs.declared.taking.Taking.{Taking}
 use Rattle.ill_core.specs.declared.taking.Taking.TheVariants.{Taken}
 use Rattle.ill_saved.specs.declared.fault.DeskFault.{DeskFault}
 use Rattle.ill_saved.specs.declared.fault.DeskFault.TheVariants as desks
-use Rattle.ill_saved.specs.declared.store.StoreFault.TheVariants.{Failed}
-use Rattle.ill_saved.specs.Store.{StoreState}
+use Rattle.ill_store.specs.declared.store.StoreFault.TheVariants.{Failed}
+use Rattle.ill_store.specs.Store.{StoreState}
 use Rattle.ill_saved.specs.Desk.{DeskOf}
 use Rattle.ill_words.specs.declared.outcome.Outcome.TheVariants as outcomes
 use Rattle.ill_words.specs.declared.outcome.DeskOutcome.{DeskOutcome}

@@ -7,7 +7,7 @@ use Rattle.ill_words.specs.declared.outcome.DeskOutcome.{DeskOutcome}
 use Rattle.ill_text.specs.declared.fault.ToolFault.{ToolFault}
 use Rattle.ill_text.specs.declared.fault.ToolFault.TheVariants.{Desk, OutOfMemory}
 use Rattle.ill_saved.specs.declared.fault.DeskFault.TheVariants as desks
-use Rattle.ill_saved.specs.declared.store.StoreFault.TheVariants.{Failed}
+use Rattle.ill_store.specs.declared.store.StoreFault.TheVariants.{Failed}
 use Rattle.ill_der.specs.ShortForm.{spelling}
 use Rattle.ill_der.specs.Handling.{Handles}
 use Rattle.ill_text.specs.Input.{ReadsInput}

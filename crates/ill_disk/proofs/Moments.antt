@@ -1,13 +1,16 @@
 -- Lemmas on the disks between two calls, and on the answers of calls.
 use Rattle.std.proofs.Common.{◌≡◌, inl, inr, ⊎_elim, refl, sym, ◌∙◌, ap, subst, ℕ, false, List, [], ◌∷◌, ◌++◌, Option}
-use Rattle.std.proofs.Common.{Some, None, option_map, Result, Ok, Err, IfOk, IsErr}
+use Rattle.std.proofs.Common.{Some, None, option_map, is_some, true, arith, Result, Ok, Err, IfOk, OnOk, IsErr}
 use Rattle.std.proofs.lemmas.Bool.{true≢false}
-use Rattle.ill_disk.specs.Disk.{In, File, Disk, AreLeft, Crash, IsWhole, after_create, content}
+use Rattle.std.proofs.lemmas.Option.{none-some}
+use Rattle.ill_disk.specs.Disk.{In, File, Disk, AreLeft, Crash, IsWhole, after_create, content, found_at}
 use Rattle.ill_disk.specs.Calls.{DiskState, Reads, Changes, Creates, Answers, Passes, Throughout}
-use Rattle.ill_disk.specs.Calls.{followed_by, IsMoment, at_the_end, meanwhile}
+use Rattle.ill_disk.specs.Calls.{followed_by, IsMoment, at_the_end, meanwhile, IsLonger, IsLargeOnlyIf, WantsFile}
 use Rattle.ill_disk.specs.MemoryDisk.{DiskOverTime, past_state}
 use Rattle.ill_disk.specs.BadCalls.{IsBadAnswer, IsBadRead, not_changed, other_change, broken, past_lost, turned}
-use Rattle.ill_disk.specs.BadCalls.{other_bytes, changed}
+use Rattle.ill_disk.specs.BadCalls.{other_bytes, changed, IsBadFinding, IsBadSize, done_on_none, none_at_a_file}
+use Rattle.ill_disk.specs.BadCalls.{large_without_file, large_within}
+use Rattle.ill_disk.specs.declared.disk.DiskFault.{DiskFault}
 use Rattle.ill_disk.proofs.Crashes.{in_append}
 use Rattle.ill_disk.proofs.Memory.{value_or}
 
@@ -37,6 +40,32 @@ begins {old = old} has = record {
   no_more None = refl
   no_more (Some disks) = ap (λ (l : List Disk). Some l) (followed_by_none disks)
 
+-- Disks that are added twice are added at once.
+twice : (past : Option (List Disk)) (first second : List Disk) →
+    followed_by (followed_by past first) second ≡ followed_by past (first ++ second)
+twice None first second = refl
+twice (Some disks) first second = ap (λ (l : List Disk). Some l) (together disks first second)
+
+-- What holds up to a state and from it on holds throughout.
+pub joins : {P : Disk → Type 0} {old now new : DiskState} → Throughout P old now → Throughout P now new → Throughout P old new
+joins {P = P} {old = old} {now = now} {new = new} first second = record {
+  during = first.during ++ second.during;
+  past = second.past ∙ ap (λ (p : Option (List Disk)). followed_by p second.during) first.past
+      ∙ twice old.past first.during second.during;
+  each = λ d passed. ⊎_elim (first.each d) (second.each d) (in_append first.during second.during d passed);
+  last = second.last;
+}
+
+-- What follows from a property holds throughout if the property does.
+pub holds_too : {P Q : Disk → Type 0} {old new : DiskState} → ((d : Disk) → P d → Q d) → Throughout P old new →
+    Throughout Q old new
+holds_too {P = P} {Q = Q} {old = old} {new = new} gives held = record {
+  during = held.during;
+  past = held.past;
+  each = λ d passed. gives d (held.each d passed);
+  last = gives new.now held.last;
+}
+
 -- A call goes on from disks that have P to one that has it.
 pub goes_on : {P : Disk → Type 0} {old now new : DiskState} → Throughout P old now → Passes now new → P new.now →
     Throughout P old new
@@ -47,11 +76,7 @@ goes_on {P = P} {old = old} {now = now} {new = new} so_far (inl grown) has = rec
   each = λ d passed. ⊎_elim (so_far.each d) (λ is. ⊎_elim (λ same. subst P (sym same) so_far.last) (λ none. absurd none) is)
       (in_append so_far.during (now.now ∷ []) d passed);
   last = has;
-} where
-  twice : (past : Option (List Disk)) (first second : List Disk) →
-      followed_by (followed_by past first) second ≡ followed_by past (first ++ second)
-  twice None first second = refl
-  twice (Some disks) first second = ap (λ (l : List Disk). Some l) (together disks first second)
+}
 goes_on so_far (inr same) has = record {
   during = so_far.during;
   past = same.0 ∙ so_far.past;
@@ -110,6 +135,23 @@ no_bad_read {X = X} {E = E} bytes_of path old answer new given (other_bytes foun
     differ (subst (λ (r : Result (Option X) E). IfOk r (λ f. option_map bytes_of f ≡ content path old.now)) is
     (given.done h).bytes)
 no_bad_read bytes_of path old answer new given (changed h differ) = differ (given.done h).same
+
+-- A call that wants a file gives no false answer.
+pub no_bad_finding : {A : Type 0} (path : List ℕ) (old : DiskState) (answer : Result A DiskFault) →
+    WantsFile path old answer → IsBadFinding path old answer → ⊥
+no_bad_finding {A = A} path old answer wants (done_on_none done h is none) =
+    true≢false (sym (subst (λ (r : Result A DiskFault). OnOk r (is_some (found_at path old.now.names) ≡ true)) is
+    (wants.found h)) ∙ ap is_some none)
+no_bad_finding path old answer wants (none_at_a_file file h is stands) =
+    none-some file (sym (wants.none h is) ∙ stands)
+
+-- A read gives no false answer on the size of a file.
+pub no_bad_size : {A : Type 0} (limit : ℕ) (path : List ℕ) (old : DiskState) (answer : Result A DiskFault) →
+    IsLargeOnlyIf limit path old answer → IsBadSize limit path old answer → ⊥
+no_bad_size limit path old answer large (large_without_file h is none) =
+    subst (λ (c : Option (List ℕ)). IsLonger limit c) none (large h is)
+no_bad_size limit path old answer large (large_within bytes h is found within) =
+    omega (arith, subst (λ (c : Option (List ℕ)). IsLonger limit c) found (large h is), within)
 
 -- ---- a new file that is written in part
 

@@ -1,7 +1,9 @@
 -- These are answers that no honest disk may give. By the laws the definitions of `Calls` exclude them all.
-use Rattle.std.specs.Prelude.{◌≡◌, ℕ, true, List, [], ◌∷◌, ◌++◌, Option, Some, option_map, Result, Ok}
-use Rattle.ill_disk.specs.Disk.{Disk, IsWhole, content}
+use Rattle.std.specs.Prelude.{◌≡◌, ◌≤◌, ℕ, true, List, [], ◌∷◌, ◌++◌, length, Option, Some, None, option_map, Result, Ok, Err}
+use Rattle.ill_disk.specs.Disk.{Disk, IsWhole, content, found_at}
 use Rattle.ill_disk.specs.Calls.{DiskState}
+use Rattle.ill_disk.specs.declared.disk.DiskFault.{DiskFault}
+use Rattle.ill_disk.specs.declared.disk.DiskFault.TheVariants.{NotFound, TooLarge}
 
 -- A disk cannot answer a call that makes this change so, and be in the state `new` after it.
 pub data IsBadAnswer {E : Type 0} (change : Disk → Disk) (old : DiskState) (answer : Result (Unit {0}) E) (new : DiskState)
@@ -21,3 +23,17 @@ pub data IsBadRead {X E : Type 0} (bytes_of : X → List ℕ) (path : List ℕ) 
   other_bytes : (found : Option X) → old.is_honest ≡ true → answer ≡ Ok found →
       (option_map bytes_of found ≡ content path old.now → ⊥) → IsBadRead bytes_of path old answer new
   changed : old.is_honest ≡ true → (new.now ≡ old.now → ⊥) → IsBadRead bytes_of path old answer new
+
+-- A disk cannot answer a call on the file at this path so.
+pub data IsBadFinding {A : Type 0} (path : List ℕ) (old : DiskState) (answer : Result A DiskFault) : Type 0 where
+  done_on_none : (done : A) → old.is_honest ≡ true → answer ≡ Ok done → found_at path old.now.names ≡ None →
+      IsBadFinding path old answer
+  none_at_a_file : (file : ℕ) → old.is_honest ≡ true → answer ≡ Err NotFound →
+      found_at path old.now.names ≡ Some file → IsBadFinding path old answer
+
+-- A disk cannot answer a read of the file at this path, with this limit, so.
+pub data IsBadSize {A : Type 0} (limit : ℕ) (path : List ℕ) (old : DiskState) (answer : Result A DiskFault) : Type 0 where
+  large_without_file : old.is_honest ≡ true → answer ≡ Err TooLarge → content path old.now ≡ None →
+      IsBadSize limit path old answer
+  large_within : (bytes : List ℕ) → old.is_honest ≡ true → answer ≡ Err TooLarge → content path old.now ≡ Some bytes →
+      length bytes ≤ limit → IsBadSize limit path old answer

@@ -1,6 +1,8 @@
 -- The state of a disk, and the answers of its calls.
-use Rattle.std.specs.Prelude.{◌≡◌, ◌⊎◌, ℕ, Bool, true, List, [], ◌∷◌, ◌++◌, Option, Some, None, is_some, option_map, Result, Ok}
-use Rattle.std.specs.Prelude.{Err, IfOk, OnOk}
+use Rattle.std.specs.Prelude.{◌≡◌, ◌⊎◌, ◌<◌, ℕ, Bool, true, List, [], ◌∷◌, ◌++◌, length, Option, Some, None, is_some}
+use Rattle.std.specs.Prelude.{option_map, Result, Ok, Err, IfOk, OnOk, IsErrOf}
+use Rattle.ill_disk.specs.declared.disk.DiskFault.{DiskFault}
+use Rattle.ill_disk.specs.declared.disk.DiskFault.TheVariants.{NotFound, TooLarge}
 use Rattle.ill_disk.specs.Disk.{In, Disk, IsWhole, content, found_at, after_create}
 
 -- The state of a disk: its files and names now, and the disks that it was, the first one first. A disk may keep no past.
@@ -25,6 +27,10 @@ abbrev pub Changes : {E : Type 0} → (Disk → Disk) → Disk → Result (Unit 
 Changes change old (Ok done) new = new ≡ change old
 Changes change old (Err fault) new = (new ≡ old) ⊎ (new ≡ change old)
 
+-- Returns the disk itself, for a call that changes nothing.
+abbrev pub unchanged : Disk → Disk
+unchanged d = d
+
 -- A call that is done has made a new file of these bytes. If it failed, there is none, or it has any bytes.
 abbrev pub Creates : {E : Type 0} → List ℕ → List ℕ → Disk → Result (Unit {0}) E → Disk → Type 0
 Creates path bytes old (Ok done) new = new ≡ after_create path bytes old
@@ -43,13 +49,24 @@ pub record Answers {A E : Type 0} (does : Disk → Result A E → Disk → Type 
   pub past : old.is_honest ≡ true → Passes old new
   pub honest : new.is_honest ≡ old.is_honest
 
--- On an honest disk the call is done only if a file stands at the path.
-abbrev pub WantsFile : {A E : Type 0} → List ℕ → DiskState → Result A E → Type 0
-WantsFile path old answer = old.is_honest ≡ true → OnOk answer (is_some (found_at path old.now.names) ≡ true)
+-- On an honest disk the call is done only if a file stands at the path. It answers `NotFound` only if none does.
+pub record WantsFile {A : Type 0} (path : List ℕ) (old : DiskState) (answer : Result A DiskFault) : Type 0 where
+  pub found : old.is_honest ≡ true → OnOk answer (is_some (found_at path old.now.names) ≡ true)
+  pub none : old.is_honest ≡ true → IsErrOf answer NotFound → found_at path old.now.names ≡ None
 
 -- On an honest disk the call is done only if no file stands at the path.
 abbrev pub WantsNoFile : {A E : Type 0} → List ℕ → DiskState → Result A E → Type 0
 WantsNoFile path old answer = old.is_honest ≡ true → OnOk answer (found_at path old.now.names ≡ None)
+
+-- A file was found, and it has more bytes than this.
+abbrev pub IsLonger : ℕ → Option (List ℕ) → Type 0
+IsLonger limit None = ⊥
+IsLonger limit (Some bytes) = limit < length bytes
+
+-- On an honest disk a read answers `TooLarge` only if the file has more bytes than the limit.
+abbrev pub IsLargeOnlyIf : {A : Type 0} → ℕ → List ℕ → DiskState → Result A DiskFault → Type 0
+IsLargeOnlyIf limit path old answer =
+    old.is_honest ≡ true → IsErrOf answer TooLarge → IsLonger limit (content path old.now)
 
 -- ---- moments
 

@@ -1,5 +1,5 @@
 -- The state of a disk in memory.
-use Rattle.std.specs.Prelude.{ℕ, ◌<◌, true, if◌then◌else◌, List, [], length, map, Vec, Option, Some, None}
+use Rattle.std.specs.Prelude.{ℕ, ◌<◌, true, if◌then◌else◌, List, [], map, Vec, Some, None}
 use Rattle.std.specs.declared.alloc.Global.{Global}
 use Rattle.ill_disk.specs.Disk.{File, Name, Disk, with_name, without}
 use Rattle.ill_disk.specs.Calls.{DiskState}
@@ -32,11 +32,6 @@ names_after (Rename from to file) names = with_name to.now file (without from.no
 -- Returns a file as a crash leaves it: its bytes if it was flushed, and else none.
 abbrev pub file_after_crash : File → File
 file_after_crash f = record { bytes = if f.is_flushed then f.bytes else []; is_flushed = true }
-
--- A file was found, and it has more bytes than this.
-abbrev pub IsLonger : ℕ → Option (List ℕ) → Type 0
-IsLonger limit None = ⊥
-IsLonger limit (Some bytes) = limit < length bytes
 
 -- The file of the change is one of the first so many.
 abbrev pub IsMadeBy : ℕ → Change → Type 0

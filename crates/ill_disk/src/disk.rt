@@ -2,7 +2,7 @@
 
 ghost use Rattle.std.specs.Prelude.{◌≡◌, ◌≤◌, length, IfOk, IfSome};
 ghost use Rattle.ill_disk.specs.Disk.{after_remove, after_rename, after_flush, after_flush_names};
-ghost use Rattle.ill_disk.specs.Calls.{DiskState, Reads, Creates, Changes, Answers, WantsFile, WantsNoFile};
+ghost use Rattle.ill_disk.specs.Calls.{DiskState, Reads, Creates, Changes, Answers, IsLargeOnlyIf, WantsFile, WantsNoFile, unchanged};
 ghost use Rattle.ill_disk.specs.declared.disk.DiskFault.TheVariants.{OutOfMemory};
 
 use std::alloc::{AllocError, AllocFailed, Global};
@@ -14,6 +14,12 @@ pub enum DiskFault {
     /// The call failed. A change was made, or it was not.
     #[error("failed")]
     Failed,
+    /// No file stands at the path.
+    #[error("not-found")]
+    NotFound,
+    /// The file is longer than the limit. Only `read` gives this.
+    #[error("too-large")]
+    TooLarge,
     /// Memory ran out.
     #[error("memory")]
     OutOfMemory,
@@ -45,8 +51,8 @@ pub trait Disk {
     /// answers.
     ghost state: { Self → DiskState };
 
-    /// Returns the bytes of the file at `path`, or `None` if there is none. A file of more than `limit` bytes is a
-    /// failure.
+    /// Returns the bytes of the file at `path`, or `None` if there is none. A file of more than `limit` bytes is
+    /// `TooLarge`.
     fn read(
         &mut self,
         alloc: Global,
@@ -54,24 +60,30 @@ pub trait Disk {
         limit: usize,
     ) -> Result<Option<Vec<u8>>, DiskFault>
         ensures reads { Answers (Reads (λ b. b.items) path.now) (state self.old) result (state self.new) }
-        ensures within { IfOk result (λ found. IfSome found (λ b. length b.items ≤ limit)) };
+        ensures within { IfOk result (λ found. IfSome found (λ b. length b.items ≤ limit)) }
+        ensures large { IsLargeOnlyIf limit path.now (state self.old) result };
+
+    /// Looks up the file at `path`, before it is replaced. Fails if the disk finds that somebody else has replaced the
+    /// file since this disk read it or renamed it. Changes nothing.
+    fn look_up(&mut self, path: &[u8]) -> Result<(), DiskFault>
+        ensures { Answers (Changes unchanged) (state self.old) result (state self.new) };
 
     /// Makes a new file of `bytes` at a path where none stands. If it fails, a file with any bytes may stand there.
     fn create_new(&mut self, path: &[u8], bytes: &[u8]) -> Result<(), DiskFault>
         ensures creates { Answers (Creates path.now bytes.now) (state self.old) result (state self.new) }
         ensures free { WantsNoFile path.now (state self.old) result };
 
-    /// Flushes the bytes of the file at `path`.
+    /// Flushes the bytes of the file at `path`. `NotFound` if there is none.
     fn flush(&mut self, path: &[u8]) -> Result<(), DiskFault>
         ensures changes { Answers (Changes (after_flush path.now)) (state self.old) result (state self.new) }
         ensures found { WantsFile path.now (state self.old) result };
 
-    /// Renames the file at `from` to `to`, over what stands there.
+    /// Renames the file at `from` to `to`, over what stands there. `NotFound` if there is none.
     fn rename(&mut self, from: &[u8], to: &[u8]) -> Result<(), DiskFault>
         ensures changes { Answers (Changes (after_rename from.now to.now)) (state self.old) result (state self.new) }
         ensures found { WantsFile from.now (state self.old) result };
 
-    /// Removes `path`.
+    /// Removes `path`. `NotFound` if no file stands there.
     fn remove(&mut self, path: &[u8]) -> Result<(), DiskFault>
         ensures changes { Answers (Changes (after_remove path.now)) (state self.old) result (state self.new) }
         ensures found { WantsFile path.now (state self.old) result };

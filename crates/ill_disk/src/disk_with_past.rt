@@ -60,7 +60,7 @@ impl DiskWithPast {
     }
 }
 
-/// Each call first adds the disk before it to the past. If memory runs out for that, it changes nothing.
+/// Each call but `look_up` first adds the disk before it to the past. If memory runs out for that, it changes nothing.
 impl Disk for DiskWithPast {
     ghost state = { past_state };
 
@@ -72,6 +72,10 @@ impl Disk for DiskWithPast {
     ) -> Result<Option<Vec<u8>>, DiskFault> {
         self.keep()?;
         self.disk.read(alloc, path, limit)
+    }
+
+    fn look_up(&mut self, path: &[u8]) -> Result<(), DiskFault> {
+        self.disk.look_up(path)
     }
 
     fn create_new(&mut self, path: &[u8], bytes: &[u8]) -> Result<(), DiskFault> {

@@ -1,87 +1,267 @@
-//! A folder of the host's as a disk: the only place here that names the files of the host.
+//! A record in a file of the host's, as a disk: the only place here that names the files of the host.
 
-ghost use Rattle.std.specs.Prelude.{◌≡◌, ◌≤◌, length, IfOk, string_bytes};
-ghost use Rattle.ill_disk.specs.HostDisk.{HostDiskOf, host_state};
+ghost use Rattle.std.specs.Prelude.{◌≡◌, ◌≤◌, ◌++◌, codes, length, IfOk, IfSome, string_bytes};
+ghost use Rattle.ill_disk.specs.HostDisk.{HostDiskOf, folder_of, host_state};
 
 use crate::disk::{Disk, DiskFault};
 use crate::regular_file;
-use std::alloc::Global;
-use std::fs::OpenFile;
+use crate::regular_file::{Identity, NEW};
+use std::alloc::{AllocError, Global};
+use std::fs::{Metadata, OpenFile};
 use std::io::{ErrorKind, Read, Write};
 use std::marker::Model;
+use std::path::Path;
 use std::rt::Files;
-use std::{fs, io, str};
+use std::{fs, io, mem, str};
 
-/// A folder of the host's. The path of a call is a path of the host's that leads into this folder.
+/// The folder of a record in a file of the host's. The path of a call is a path of the host's into this folder.
+///
+/// A save of the record makes a new file beside it, whose name ends with `.new`. The disk keeps the record or the new
+/// file open from its read or its making to its flush. So a flush is one of the file that was read or made.
 ///
 /// No contract says what a file of the host's holds, so this disk is not honest. docs/STORES.md says, call by call, what
 /// the host has to do.
 #[derive(Drop)]
 pub struct HostDisk<'a, R: Files> {
     rt: &'a R,
-    folder: String,
+    /// The path of the record.
     path: String,
+    /// The path of the new file beside it.
+    new_path: String,
+    /// The file of the record that was last read, or renamed over it.
+    known: Known,
+    /// The file of the record that `look_up` found.
+    found: Option<Metadata>,
+    /// The open folder, from `look_up` to the flush of its names.
+    folder: OpenFolder<R::File>,
+    /// The file that is open until it is flushed.
+    open: OpenOne<R::File>,
+}
+
+/// The file of the record, as this disk knows it.
+#[derive(Clone, Copy, PartialEq, Eq)]
+enum Known {
+    /// The record was neither read nor replaced.
+    Nothing,
+    /// There was no file.
+    Absent,
+    /// The record was in this file.
+    File(Identity),
+}
+
+impl Known {
+    /// Returns true if `found` may be the known file, or if there is no file and none was known.
+    fn fits(self, found: Option<&Metadata>) -> bool {
+        match (self, found) {
+            (Known::Nothing, _) | (Known::Absent, None) => true,
+            (Known::File(known), Some(found)) => known == Identity::of(found),
+            _ => false,
+        }
+    }
+}
+
+/// The folder of the record.
+#[derive(Drop)]
+enum OpenFolder<F> {
+    /// It is not open.
+    Closed,
+    /// This user may not read it.
+    Hidden,
+    /// It is open.
+    Open(F),
+}
+
+/// The file that is open until it is flushed.
+#[derive(Drop)]
+enum OpenOne<F> {
+    /// None is open.
+    Nothing,
+    /// The record, which was read.
+    Record(F),
+    /// The new file, which was made.
+    New(F),
+    /// The new file, which was flushed.
+    Flushed(Identity),
 }
 
 impl<'a, R: Files> Model for HostDisk<'a, R> {
     ghost Value = { HostDiskOf };
 
-    ghost view = { λ d. record { folder = string_bytes d.folder; path = string_bytes d.path } };
+    ghost view = { λ d. record { path = string_bytes d.path } };
+
+    ghost invariant = { λ d. string_bytes d.new_path ≡ string_bytes d.path ++ codes ".new" };
 }
 
 impl<'a, R: Files> HostDisk<'a, R> {
-    /// Returns the folder at `folder`, with a record at `path`, which need not exist. A new file gets the group, the
-    /// permissions and the owner of the record, as far as the system allows. Touches no file.
-    pub fn at(
-        rt: &'a R,
-        alloc: Global,
-        folder: &str,
-        path: &str,
-    ) -> Result<HostDisk<'a, R>, DiskFault>
-        ensures { IfOk result (λ disk. disk ≡ record { folder = folder.now; path = path.now }) }
+    /// Returns the folder of the record at `path`, which need not exist. Touches no file.
+    ///
+    /// A new file gets the group, the permissions and the owner of the record, as far as the system allows.
+    pub fn at(rt: &'a R, alloc: Global, path: &str) -> Result<HostDisk<'a, R>, AllocError>
+        ensures { IfOk result (λ disk. disk ≡ record { path = path.now }) }
     {
+        let mut new_path = String::from_str(alloc, path)?;
+        new_path.push_str(NEW)?;
         Ok(HostDisk {
             rt,
-            folder: String::from_str(alloc, folder)?,
             path: String::from_str(alloc, path)?,
+            new_path,
+            known: Known::Nothing,
+            found: None,
+            folder: OpenFolder::Closed,
+            open: OpenOne::Nothing,
         })
     }
 
-    /// Creates a file of these bytes at a free path. It gets the group, the permissions and the owner of the record.
-    fn create(&self, path: &str, bytes: &[u8]) -> io::Result<()> {
-        let record = regular_file::find(self.rt, self.path.as_str())?;
-        let mut file = regular_file::create(self.rt, path, record.as_ref())?;
-        if let Some(record) = &record {
+    /// Returns true if these are the bytes of the record's path.
+    fn is_record(&self, path: &[u8]) -> bool {
+        path == self.path.as_bytes()
+    }
+
+    /// Returns true if these are the bytes of the new file's path.
+    fn is_new(&self, path: &[u8]) -> bool {
+        path == self.new_path.as_bytes()
+    }
+
+    /// Closes what is open.
+    fn close(&mut self) {
+        self.found = None;
+        self.folder = OpenFolder::Closed;
+        self.open = OpenOne::Nothing;
+    }
+
+    /// Opens the record for reading, if there is one, and remembers its file.
+    fn open_record(&mut self) -> io::Result<Option<R::File>> {
+        match regular_file::open(self.rt, self.path.as_str())? {
+            Some((file, identity)) => {
+                self.known = Known::File(identity);
+                Ok(Some(file))
+            }
+            None => {
+                self.known = Known::Absent;
+                Ok(None)
+            }
+        }
+    }
+
+    /// Reads the record, and keeps its file open.
+    fn read_record(&mut self, alloc: Global, limit: usize) -> Result<Option<Vec<u8>>, DiskFault>
+        ensures { IfOk result (λ found. IfSome found (λ b. length b.items ≤ limit)) }
+    {
+        self.close();
+        let opened = match self.open_record() {
+            Ok(opened) => opened,
+            Err(error) => return Err(fault_of(&error)),
+        };
+        let Some(file) = opened else {
+            return Ok(None);
+        };
+        let (bytes, file) = read_all(alloc, file, limit)?;
+        self.open = OpenOne::Record(file);
+        Ok(Some(bytes))
+    }
+
+    /// Looks up the record, and opens its folder. A file other than the known one is a fault. An empty path names no
+    /// file, and touches nothing.
+    fn look_up_record(&mut self) -> io::Result<()> {
+        self.close();
+        if self.path.is_empty() {
+            return Err(ErrorKind::NotFound.into());
+        }
+        let found = regular_file::find(self.rt, self.path.as_str())?;
+        if !self.known.fits(found.as_ref()) {
+            return Err(ErrorKind::AlreadyExists.into());
+        }
+        self.found = found;
+        self.folder = self.open_folder()?;
+        Ok(())
+    }
+
+    /// Creates the new file with these bytes, and keeps it open. It gets the group, the permissions and the owner of the
+    /// record that was looked up.
+    fn create_beside(&mut self, bytes: &[u8]) -> io::Result<()> {
+        let record = self.found.as_ref();
+        let path = self.new_path.as_str();
+        let mut file = regular_file::create(self.rt, path, record)?;
+        if let Some(record) = record {
             regular_file::share_like(self.rt, path, &file, record)?;
         }
-        file.write_all(bytes)
+        file.write_all(bytes)?;
+        self.open = OpenOne::New(file);
+        Ok(())
     }
 
     /// Flushes the file at a path. The record counts as flushed if the file system has no such call.
-    fn flush_at(&self, path: &str) -> io::Result<()> {
-        let Some((file, _)) = regular_file::open(self.rt, path)? else {
-            return Err(ErrorKind::NotFound.into());
-        };
-        match file.sync_all() {
-            Err(error)
-                if path == self.path.as_str() && regular_file::is_unsupported(error.kind()) => {
+    fn flush_at(&mut self, path: &[u8]) -> io::Result<()> {
+        match mem::replace(&mut self.open, OpenOne::Nothing) {
+            OpenOne::Record(file) if self.is_record(path) => flush_if_supported(&file),
+            OpenOne::New(file) if self.is_new(path) => {
+                file.sync_all()?;
+                self.open = OpenOne::Flushed(Identity::of(&file.metadata()?));
                 Ok(())
             }
-            flushed => flushed,
+            _ => match regular_file::open(self.rt, path_of(path)?)? {
+                Some((file, _)) => file.sync_all(),
+                None => Err(ErrorKind::NotFound.into()),
+            },
         }
     }
 
-    /// Flushes the folder. It counts as flushed if this user may not read it, or if the file system has no such call.
-    fn flush_folder(&self) -> io::Result<()> {
-        let folder = match fs::open(self.rt, self.folder.as_str()) {
-            Err(error) if error.kind() == ErrorKind::PermissionDenied => return Ok(()),
-            Err(error) => return Err(error),
-            Ok(folder) => folder,
-        };
-        match folder.sync_all() {
-            Err(error) if regular_file::is_unsupported(error.kind()) => Ok(()),
-            flushed => flushed,
+    /// Renames a file. The new file that replaces the record is known from then on.
+    fn rename_at(&mut self, from: &[u8], to: &[u8]) -> io::Result<()> {
+        fs::rename(self.rt, path_of(from)?, path_of(to)?)?;
+        if self.is_new(from)
+            && self.is_record(to)
+            && let OpenOne::Flushed(identity) = self.open
+        {
+            self.known = Known::File(identity);
         }
+        Ok(())
+    }
+
+    /// Opens the folder that holds the record.
+    fn open_folder(&self) -> io::Result<OpenFolder<R::File>> {
+        match fs::open(self.rt, folder_of(self.path.as_str())) {
+            Ok(folder) => Ok(OpenFolder::Open(folder)),
+            Err(error) if error.kind() == ErrorKind::PermissionDenied => Ok(OpenFolder::Hidden),
+            Err(error) => Err(error),
+        }
+    }
+
+    /// Flushes the names in the folder. They count as flushed if this user may not read it, or if the file system has no
+    /// such call. A folder that does not exist has no names.
+    fn flush_folder(&mut self) -> io::Result<()> {
+        let folder = match mem::replace(&mut self.folder, OpenFolder::Closed) {
+            OpenFolder::Closed => match self.open_folder() {
+                Err(error) if error.kind() == ErrorKind::NotFound && self.known == Known::Absent =>
+                    {
+                        return Ok(());
+                    }
+                opened => opened?,
+            },
+            opened => opened,
+        };
+        match folder {
+            OpenFolder::Open(folder) => flush_if_supported(&folder),
+            OpenFolder::Closed | OpenFolder::Hidden => Ok(()),
+        }
+    }
+}
+
+/// Flushes an opened file or folder. It counts as flushed if the file system has no such call.
+fn flush_if_supported<F: OpenFile>(opened: &F) -> io::Result<()> {
+    match opened.sync_all() {
+        Err(error) if regular_file::is_unsupported(error.kind()) => Ok(()),
+        flushed => flushed,
+    }
+}
+
+/// Returns the folder that holds the file at a path.
+fn folder_of(path: &str) -> &str
+    ensures { result.now ≡ folder_of path.now }
+{
+    match Path::new(path).parent() {
+        Some(folder) if !folder.as_str().is_empty() => folder.as_str(),
+        _ => ".",
     }
 }
 
@@ -96,8 +276,16 @@ fn path_of(path: &[u8]) -> io::Result<&str> {
 /// Returns the fault of a call for the error of the host.
 fn fault_of(error: &io::Error) -> DiskFault {
     match error.kind() {
-        ErrorKind::OutOfMemory => DiskFault::OutOfMemory,
+        ErrorKind::NotFound => DiskFault::NotFound,
         _ => DiskFault::Failed,
+    }
+}
+
+/// Returns the fault of a read of bytes, which takes memory.
+fn read_fault_of(error: &io::Error) -> DiskFault {
+    match error.kind() {
+        ErrorKind::OutOfMemory => DiskFault::OutOfMemory,
+        _ => fault_of(error),
     }
 }
 
@@ -109,16 +297,16 @@ fn answer_of(answer: io::Result<()>) -> Result<(), DiskFault> {
     }
 }
 
-/// Reads all bytes of a file. More than `limit` are a failure.
-fn read_all<F: Read + Drop>(alloc: Global, file: F, limit: usize) -> Result<Vec<u8>, DiskFault>
-    ensures { IfOk result (λ bytes. length bytes.items ≤ limit) }
+/// Reads all bytes of a file, and gives the file back. More than `limit` are `TooLarge`.
+fn read_all<F: Read + Drop>(alloc: Global, file: F, limit: usize) -> Result<(Vec<u8>, F), DiskFault>
+    ensures { IfOk result (λ read. length read.0.items ≤ limit) }
 {
     let mut bytes = Vec::new(alloc);
     let mut file = file.take((limit as u64).saturating_add(1));
     match file.read_to_end(&mut bytes) {
-        Ok(_) if bytes.len() > limit => Err(DiskFault::Failed),
-        Ok(_) => Ok(bytes),
-        Err(error) => Err(fault_of(&error)),
+        Ok(_) if bytes.len() > limit => Err(DiskFault::TooLarge),
+        Ok(_) => Ok((bytes, file.into_inner())),
+        Err(error) => Err(read_fault_of(&error)),
     }
 }
 
@@ -133,36 +321,47 @@ impl<'a, R: Files> Disk for HostDisk<'a, R> {
         path: &[u8],
         limit: usize,
     ) -> Result<Option<Vec<u8>>, DiskFault> {
+        if self.is_record(path) {
+            return self.read_record(alloc, limit);
+        }
         let opened = match path_of(path) {
             Ok(path) => regular_file::open(self.rt, path),
             Err(error) => Err(error),
         };
         match opened {
             Ok(None) => Ok(None),
-            Ok(Some((file, _))) => Ok(Some(read_all(alloc, file, limit)?)),
+            Ok(Some((file, _))) => Ok(Some(read_all(alloc, file, limit)?.0)),
+            Err(error) => Err(fault_of(&error)),
+        }
+    }
+
+    fn look_up(&mut self, path: &[u8]) -> Result<(), DiskFault> {
+        if self.is_record(path) {
+            return answer_of(self.look_up_record());
+        }
+        let found = match path_of(path) {
+            Ok(path) => regular_file::find(self.rt, path),
+            Err(error) => Err(error),
+        };
+        match found {
+            Ok(_) => Ok(()),
             Err(error) => Err(fault_of(&error)),
         }
     }
 
     fn create_new(&mut self, path: &[u8], bytes: &[u8]) -> Result<(), DiskFault> {
-        answer_of(match path_of(path) {
-            Ok(path) => self.create(path, bytes),
-            Err(error) => Err(error),
-        })
+        if self.is_new(path) {
+            return answer_of(self.create_beside(bytes));
+        }
+        answer_of(create_alone(self.rt, path, bytes))
     }
 
     fn flush(&mut self, path: &[u8]) -> Result<(), DiskFault> {
-        answer_of(match path_of(path) {
-            Ok(path) => self.flush_at(path),
-            Err(error) => Err(error),
-        })
+        answer_of(self.flush_at(path))
     }
 
     fn rename(&mut self, from: &[u8], to: &[u8]) -> Result<(), DiskFault> {
-        answer_of(match (path_of(from), path_of(to)) {
-            (Ok(from), Ok(to)) => fs::rename(self.rt, from, to),
-            (Err(error), _) | (_, Err(error)) => Err(error),
-        })
+        answer_of(self.rename_at(from, to))
     }
 
     fn remove(&mut self, path: &[u8]) -> Result<(), DiskFault> {
@@ -175,4 +374,9 @@ impl<'a, R: Files> Disk for HostDisk<'a, R> {
     fn flush_names(&mut self) -> Result<(), DiskFault> {
         answer_of(self.flush_folder())
     }
+}
+
+/// Creates a file with these bytes at a free path.
+fn create_alone<R: Files>(rt: &R, path: &[u8], bytes: &[u8]) -> io::Result<()> {
+    regular_file::create(rt, path_of(path)?, None)?.write_all(bytes)
 }

@@ -2,8 +2,8 @@
 
 ghost use Rattle.std.specs.Prelude.{◌≡◌, ◌⊎◌, ℕ, length, false, slice_get, List, Option, Some, None, Result};
 ghost use Rattle.ill_disk.specs.Disk.{In, File, Name, Disk, Crash, Leaves, IsWhole, IsOldOr, content, found_at, with_rename, with_name, without, after_create, after_remove, after_rename, after_flush, after_flush_names, empty_disk, after_save, on_the_way};
-ghost use Rattle.ill_disk.specs.Calls.{DiskState, Reads, Changes, Answers, Throughout, IsMoment};
-ghost use Rattle.ill_disk.specs.BadCalls.{IsBadAnswer, IsBadRead};
+ghost use Rattle.ill_disk.specs.Calls.{DiskState, Reads, Changes, Answers, IsLargeOnlyIf, Throughout, IsMoment, WantsFile};
+ghost use Rattle.ill_disk.specs.BadCalls.{IsBadAnswer, IsBadFinding, IsBadRead, IsBadSize};
 ghost use Rattle.ill_disk.specs.declared.disk.DiskFault.{DiskFault};
 ghost use Rattle.ill_disk.specs.BadDisk.{IsBadCrash, IsHalfRenamed, LosesNames};
 
@@ -123,6 +123,16 @@ pub fn no_answer_is_bad()
         Answers (Changes change) old answer new → IsBadAnswer change old answer new → ⊥ }
     ensures reads { (path : List ℕ) (old : DiskState) (answer : Result (Option (List ℕ)) DiskFault) (new : DiskState) →
         Answers (Reads (λ b. b) path) old answer new → IsBadRead (λ b. b) path old answer new → ⊥ }
+{}
+
+/// An honest disk is done with a call on a file only if it stands, and answers `NotFound` only if none stands. A read
+/// answers `TooLarge` only if the file is longer than the limit.
+#[tactic(auto, using(crate::proofs::Moments::no_bad_finding, crate::proofs::Moments::no_bad_size))]
+pub fn no_fault_is_false()
+    ensures finding { (path : List ℕ) (old : DiskState) (answer : Result (Unit {0}) DiskFault) →
+        WantsFile path old answer → IsBadFinding path old answer → ⊥ }
+    ensures size { (limit : ℕ) (path : List ℕ) (old : DiskState) (answer : Result (Option (List ℕ)) DiskFault) →
+        IsLargeOnlyIf limit path old answer → IsBadSize limit path old answer → ⊥ }
 {}
 
 /// A claim on each disk from one state to another leaves out no disk that the past has gained, and not the last one.

@@ -6,7 +6,7 @@ mod disk_with_past;
 mod host_disk;
 pub mod laws;
 mod memory_disk;
-mod regular_file;
+pub mod regular_file;
 
 pub use disk::{Disk, DiskFault};
 pub use disk_with_past::DiskWithPast;

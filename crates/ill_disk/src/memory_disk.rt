@@ -1,11 +1,11 @@
 //! A disk in memory, which keeps what a crash may leave.
 
-ghost use Rattle.std.specs.Prelude.{◌≡◌, ◌<◌, ◌≤◌, ◌++◌, [], ◌∷◌, map, length, IfOk, IfSome, OnOk, OnErr, IsErrOf, is_some, true, false, slice_get, Option, Some, None, option_map, bytes_eq};
+ghost use Rattle.std.specs.Prelude.{◌≡◌, ◌<◌, ◌≤◌, ◌++◌, [], ◌∷◌, map, length, IfOk, IfSome, IfErr, OnOk, OnErr, IsErrOf, is_some, true, false, slice_get, Option, Some, None, Ok, option_map, bytes_eq};
 ghost use Rattle.ill_disk.specs.Disk as disks;
 ghost use Rattle.ill_disk.specs.Disk.{Crash, found_at, without, with_name, bytes_of, content, after_change, after_flush, after_flush_names, after_remove, after_rename, flush_found, empty_disk, IsWhole};
-ghost use Rattle.ill_disk.specs.Calls.{Changes, Creates};
-ghost use Rattle.ill_disk.specs.MemoryDisk.{memory_state, IsLonger, IsMadeBy, lists_of, names_after, file_after_crash};
-ghost use Rattle.ill_disk.specs.declared.disk.DiskFault.TheVariants.{Failed};
+ghost use Rattle.ill_disk.specs.Calls.{Changes, Creates, IsLonger, unchanged};
+ghost use Rattle.ill_disk.specs.MemoryDisk.{memory_state, IsMadeBy, lists_of, names_after, file_after_crash};
+ghost use Rattle.ill_disk.specs.declared.disk.DiskFault.TheVariants.{Failed, NotFound, TooLarge};
 
 use crate::disk::{Disk, DiskFault};
 use std::alloc::{AllocError, Global};
@@ -76,14 +76,15 @@ impl MemoryFile {
         })
     }
 
-    /// Returns the bytes. More than `limit` are a failure.
+    /// Returns the bytes. More than `limit` are `TooLarge`.
     fn read(&self, alloc: Global, limit: usize) -> Result<Vec<u8>, DiskFault>
         ensures bytes { IfOk result (λ bytes. bytes.items ≡ self.now.bytes) }
         ensures within { IfOk result (λ bytes. length bytes.items ≤ limit) }
-        ensures cause { IsErrOf result Failed → limit < length self.now.bytes }
+        ensures large { IsErrOf result TooLarge → limit < length self.now.bytes }
+        ensures cause { IsErrOf result Failed → ⊥ }
     {
         if self.bytes.len() > limit {
-            return Err(DiskFault::Failed);
+            return Err(DiskFault::TooLarge);
         }
         Ok(Vec::from_slice(alloc, &self.bytes)?)
     }
@@ -345,7 +346,7 @@ fn crash_files(alloc: Global, files: &[MemoryFile]) -> Result<Vec<MemoryFile>, A
     Ok(after)
 }
 
-/// Returns the bytes of a file, if it was made. More than `limit` bytes are a failure.
+/// Returns the bytes of a file, if it was made. More than `limit` bytes are `TooLarge`.
 fn read_at(
     alloc: Global,
     files: &[MemoryFile],
@@ -354,7 +355,8 @@ fn read_at(
 ) -> Result<Option<Vec<u8>>, DiskFault>
     ensures bytes { IfOk result (λ found. option_map (λ b. b.items) found ≡ bytes_of files.now (Some file)) }
     ensures within { IfOk result (λ found. IfSome found (λ b. length b.items ≤ limit)) }
-    ensures cause { IsErrOf result Failed → IsLonger limit (bytes_of files.now (Some file)) }
+    ensures large { IsErrOf result TooLarge → IsLonger limit (bytes_of files.now (Some file)) }
+    ensures cause { IsErrOf result Failed → ⊥ }
 {
     match files.get(file) {
         None => Ok(None),
@@ -431,8 +433,8 @@ impl MemoryDisk {
     }
 }
 
-/// A call that fails changes nothing: all memory is taken before the first change. A call answers `Failed` for these
-/// reasons alone: a path stands that has to be free, none stands where one has to be, or a file is too long to read.
+/// A call that fails changes nothing: all memory is taken before the first change. `create_new` alone answers `Failed`,
+/// if a file stands at the path.
 impl Disk for MemoryDisk {
     ghost state = { memory_state };
 
@@ -445,13 +447,23 @@ impl Disk for MemoryDisk {
         ensures bytes { IfOk result (λ found. option_map (λ b. b.items) found ≡ content path.now self.old) }
         ensures within { IfOk result (λ found. IfSome found (λ b. length b.items ≤ limit)) }
         ensures state { self.new ≡ self.old }
-        ensures cause { IsErrOf result Failed → IsLonger limit (content path.now self.old) }
+        ensures longer { IsErrOf result TooLarge → IsLonger limit (content path.now self.old) }
+        ensures cause { IsErrOf result Failed → ⊥ }
         ensures whole { IsWhole self.old }
     {
         match find(&self.names, path) {
             None => Ok(None),
             Some(file) => read_at(alloc, &self.files, file, limit),
         }
+    }
+
+    fn look_up(&mut self, path: &[u8]) -> Result<(), DiskFault>
+        ensures done { result ≡ Ok tt }
+        ensures state { self.new ≡ self.old }
+        ensures whole { IsWhole self.old }
+    {
+        let _ = find(&self.names, path);
+        Ok(())
     }
 
     fn create_new(&mut self, path: &[u8], bytes: &[u8]) -> Result<(), DiskFault>
@@ -477,11 +489,12 @@ impl Disk for MemoryDisk {
         ensures found { OnOk result (is_some (found_at path.now self.old.names) ≡ true) }
         ensures state { Changes (after_flush path.now) self.old result self.new }
         ensures unchanged { OnErr result (self.new ≡ self.old) }
-        ensures cause { OnErr result (found_at path.now self.old.names ≡ None) }
+        ensures none { OnErr result (found_at path.now self.old.names ≡ None) }
+        ensures cause { IfErr result (λ fault. fault ≡ NotFound) }
         ensures whole { IsWhole self.old }
     {
         match find(&self.names, path) {
-            None => Err(DiskFault::Failed),
+            None => Err(DiskFault::NotFound),
             Some(file) => {
                 flush_at(&mut self.files, file);
                 Ok(())
@@ -493,11 +506,12 @@ impl Disk for MemoryDisk {
         ensures found { OnOk result (is_some (found_at from.now self.old.names) ≡ true) }
         ensures state { Changes (after_rename from.now to.now) self.old result self.new }
         ensures unchanged { OnErr result (self.new ≡ self.old) }
-        ensures cause { IsErrOf result Failed → found_at from.now self.old.names ≡ None }
+        ensures none { IsErrOf result NotFound → found_at from.now self.old.names ≡ None }
+        ensures cause { IsErrOf result Failed → ⊥ }
         ensures whole { IsWhole self.old }
     {
         match find(&self.names, from) {
-            None => Err(DiskFault::Failed),
+            None => Err(DiskFault::NotFound),
             Some(file) => Ok(self.change(Change::Rename(from, to, file))?),
         }
     }
@@ -506,11 +520,12 @@ impl Disk for MemoryDisk {
         ensures found { OnOk result (is_some (found_at path.now self.old.names) ≡ true) }
         ensures state { Changes (after_remove path.now) self.old result self.new }
         ensures unchanged { OnErr result (self.new ≡ self.old) }
-        ensures cause { IsErrOf result Failed → found_at path.now self.old.names ≡ None }
+        ensures none { IsErrOf result NotFound → found_at path.now self.old.names ≡ None }
+        ensures cause { IsErrOf result Failed → ⊥ }
         ensures whole { IsWhole self.old }
     {
         match find(&self.names, path) {
-            None => Err(DiskFault::Failed),
+            None => Err(DiskFault::NotFound),
             Some(_) => Ok(self.change(Change::Remove(path))?),
         }
     }

@@ -6,6 +6,17 @@ use std::os::unix::fs::{MetadataExt, OpenOptionsExt, PermissionsExt, lchown};
 use std::rt::Files;
 use std::{fs, io};
 
+/// The ending of the name of the new file that a save writes beside the record.
+pub const NEW: &str = ".new";
+
+/// The ending of the name of the file beside the record that is locked instead of it.
+pub const LOCK: &str = ".lck";
+
+/// Returns true if the ending of a path is reserved for a file beside a record.
+pub fn is_reserved(path: &[u8]) -> bool {
+    path.ends_with(NEW.as_bytes()) || path.ends_with(LOCK.as_bytes())
+}
+
 /// The identity of a file at its last modification: its device, its inode and the time of the modification.
 #[derive(Clone, Copy, PartialEq, Eq)]
 pub struct Identity {

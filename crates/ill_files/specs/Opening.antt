@@ -2,7 +2,7 @@
 use Rattle.std.specs.Prelude.{◌≡◌, ℕ, Bool, true, false, List, Option, Result, Ok}
 use Rattle.std.specs.Prelude.{Err, IsErrAnd}
 use Rattle.ill_saved.specs.declared.fault.DeskFault.TheVariants.{Store}
-use Rattle.ill_saved.specs.declared.store.StoreFault.TheVariants.{Failed}
+use Rattle.ill_store.specs.declared.store.StoreFault.TheVariants.{Failed}
 use Rattle.ill_text.specs.declared.fault.ToolFault.{ToolFault}
 use Rattle.ill_text.specs.declared.fault.ToolFault.TheVariants.{Desk}
 use Rattle.ill_text.specs.Fault.{IsOpenFault}

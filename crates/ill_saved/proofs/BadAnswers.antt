@@ -1,12 +1,12 @@
 -- The definitions of a desk's calls exclude each case of `BadAnswers`.
 use Rattle.std.proofs.Common.{◌≡◌, ◌⊎◌, inl, inr, ℕ, Bool, List, Option, Some, None, Result, Err, sym, ◌∙◌}
 use Rattle.std.proofs.lemmas.Bool.{true≢false}
-use Rattle.ill_saved.specs.declared.store.NextCall.{NextCall}
-use Rattle.ill_saved.specs.declared.store.NextCall.TheVariants.{Works, FailsOld, FailsNew}
+use Rattle.ill_store.specs.declared.store.NextCall.{NextCall}
+use Rattle.ill_store.specs.declared.store.NextCall.TheVariants.{Works, FailsOld, FailsNew}
 use Rattle.ill_saved.specs.declared.fault.DeskFault.{DeskFault}
 use Rattle.ill_saved.specs.declared.fault.DeskFault.TheVariants.{OutOfMemory}
 use Rattle.ill_saved.specs.Holdings.{IsReadFault}
-use Rattle.ill_saved.specs.Store.{LandsAtFailure}
+use Rattle.ill_store.specs.Store.{LandsAtFailure}
 use Rattle.ill_saved.specs.Desk.{IsSaveFault, IsCreateAnswer, IsLoadFault, SaveLands, PlanAfter}
 use Rattle.ill_saved.specs.BadAnswers.{IsOfNoRecord, core, bytes, trailing, no_such_message, not_saved, no_such_transaction}
 use Rattle.ill_saved.specs.BadAnswers.{desk_full, store_memory, CannotSave, save_other, save_exists, save_no_record, save_record}

@@ -45,8 +45,8 @@ use Rattle.ill_saved.specs.declared.side.Standing.{Standing}
 use Rattle.ill_saved.specs.declared.side.Standing.TheVariants as standings
 use Rattle.ill_saved.specs.declared.side.Action.{Action}
 use Rattle.ill_saved.specs.declared.side.Action.TheVariants as actions
-use Rattle.ill_saved.specs.declared.store.NextCall.{NextCall}
-use Rattle.ill_saved.specs.declared.store.NextCall.TheVariants as plans
+use Rattle.ill_store.specs.declared.store.NextCall.{NextCall}
+use Rattle.ill_store.specs.declared.store.NextCall.TheVariants as plans
 use Rattle.ill_saved.specs.Side.{issued_of, txn_of, is_idle, standing_of, back_to, is_asked, KeepsRequest, IsConsistent, idle_of}
 use Rattle.ill_saved.specs.Side.{idle_side, done_by, acts, takes, Acts, Takes, IsSideTransition, IsPrefix, Grows, acted, took}
 use Rattle.ill_saved.specs.Side.{IsAfterTransitions, GoesBack}
@@ -55,7 +55,7 @@ use Rattle.ill_saved.specs.Faults.{of_core, of_record}
 use Rattle.ill_saved.proofs.Records.{no_digest}
 use Rattle.ill_saved.specs.Records.{record_at, record_spelling, Decodes}
 use Rattle.ill_saved.specs.Ranges.{Each, IsSide}
-use Rattle.ill_saved.specs.Store.{Allows, StoreState, StoreLoads}
+use Rattle.ill_store.specs.Store.{Allows, StoreState, StoreLoads}
 use Rattle.ill_saved.specs.LandedBytes.{LandedBytes, IsLandedRecord, HoldsReleased, GoesBackTo}
 use Rattle.ill_saved.specs.Holdings.{DeskEntry, Effects, DeskActs, DeskTakesApdu, GoesBackToLanded, IsBacked, IsBackedBy}
 use Rattle.ill_saved.specs.Holdings.{IsBackedByRead, IsReadFault, IsRecordOf, ReadsRecord, Sends, StaysBacked, landed_live}

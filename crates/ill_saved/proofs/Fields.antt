@@ -20,7 +20,6 @@ use Rattle.ill_der.specs.ShortForm.{spelling, apdu_at}
 use Rattle.ill_der.specs.Laws.{IsBytes, BeginsWithOne}
 use Rattle.ill_core.specs.declared.state.State.{State}
 use Rattle.ill_values.specs.Bodies.{is_ill_request}
-use Rattle.ill_saved.specs.declared.fault.LayoutFault.{LayoutFault}
 use Rattle.ill_saved.specs.declared.fault.LayoutFault.TheVariants.{Short, Bad}
 use Rattle.ill_saved.specs.declared.role.Role.{Role}
 use Rattle.ill_saved.specs.declared.role.Role.TheVariants as roles

@@ -11,7 +11,6 @@ pub mod DeskEntry
 pub mod Together
 pub mod Desks
 pub mod Contents
-pub mod Files
 pub mod Sizes
 pub mod Places
 pub mod BadAnswers

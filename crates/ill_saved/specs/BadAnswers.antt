@@ -5,14 +5,14 @@ use Rattle.ill_der.specs.declared.fault.DerFault.{DerFault}
 use Rattle.ill_core.specs.declared.refusal.Refusal.{Refusal}
 use Rattle.ill_saved.specs.declared.fault.RecordFault.{RecordFault}
 use Rattle.ill_saved.specs.declared.fault.RecordFault.TheVariants as records
-use Rattle.ill_saved.specs.declared.store.StoreFault.{StoreFault}
-use Rattle.ill_saved.specs.declared.store.StoreFault.TheVariants as stores
-use Rattle.ill_saved.specs.declared.store.NextCall.{NextCall}
+use Rattle.ill_store.specs.declared.store.StoreFault.{StoreFault}
+use Rattle.ill_store.specs.declared.store.StoreFault.TheVariants as stores
+use Rattle.ill_store.specs.declared.store.NextCall.{NextCall}
 use Rattle.ill_saved.specs.declared.fault.DeskFault.{DeskFault}
 use Rattle.ill_saved.specs.declared.fault.DeskFault.TheVariants.{Core, Bytes, Trailing, Exists, NoRecord, Store, Saved}
 use Rattle.ill_saved.specs.declared.fault.DeskFault.TheVariants.{NoSuchMessage, NotSaved, NoSuchTransaction, DeskFull}
 use Rattle.ill_saved.specs.declared.fault.DeskFault.TheVariants.{OutOfMemory}
-use Rattle.ill_saved.specs.Store.{plan_after_call}
+use Rattle.ill_store.specs.Store.{plan_after_call}
 
 -- ---- faults
 

@@ -4,8 +4,8 @@ use Rattle.ill_der.specs.declared.fault.DerFault.{DerFault}
 use Rattle.ill_der.specs.declared.fault.DerFault.TheVariants as ders
 use Rattle.ill_core.specs.declared.refusal.Refusal.{Refusal}
 use Rattle.ill_core.specs.declared.refusal.Refusal.TheVariants as refusals
-use Rattle.ill_saved.specs.declared.store.StoreFault.{StoreFault}
-use Rattle.ill_saved.specs.declared.store.StoreFault.TheVariants as stores
+use Rattle.ill_store.specs.declared.store.StoreFault.{StoreFault}
+use Rattle.ill_store.specs.declared.store.StoreFault.TheVariants as stores
 use Rattle.ill_saved.specs.declared.file_lock.LockFault.{LockFault}
 use Rattle.ill_saved.specs.declared.file_lock.LockFault.TheVariants as locks
 use Rattle.ill_saved.specs.declared.fault.RecordFault.{RecordFault}

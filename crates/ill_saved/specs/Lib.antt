@@ -6,7 +6,6 @@ pub mod Layout
 pub mod Records
 pub mod RecordsV2
 pub mod Ranges
-pub mod Store
 pub mod Faults
 pub mod LandedBytes
 pub mod Holdings

@@ -12,15 +12,14 @@ ghost use Rattle.ill_saved.specs.Desk.{DeskOf, DeskTakes, IsOneApdu, DeskSaves, 
 use crate::fault::DeskFault;
 use crate::holdings::Holdings;
 use crate::many_sides::ManySides;
-use crate::memory_store::MemoryStore;
 use crate::one_side::OneSide;
 use crate::role::Role;
 use crate::shown::Shown;
 use crate::side::{Action, Side};
 use crate::sides::Sides;
-use crate::store::{NextCall, Store};
 use ill_core::Taking;
 use ill_der::decode;
+use ill_store::{MemoryStore, NextCall, Store};
 use ill_values::{Apdu, Number, TxnId};
 use std::alloc::Global;
 use std::marker::Model;

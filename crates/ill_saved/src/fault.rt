@@ -8,9 +8,9 @@ ghost use Rattle.ill_saved.specs.declared.fault.SidesFault.TheVariants as sides;
 ghost use Rattle.ill_saved.specs.declared.fault.DeskFault.TheVariants as desks;
 
 use crate::side::Side;
-use crate::store::StoreFault;
 use ill_core::Refusal;
 use ill_der::DerFault;
+use ill_store::StoreFault;
 use std::alloc::{AllocError, AllocFailed};
 use thiserror::Error;
 

@@ -2,12 +2,12 @@
 
 ghost use Rattle.std.specs.Prelude.{◌≡◌, ◌⊎◌, IfErr};
 ghost use Rattle.ill_saved.specs.declared.file_lock.LockFault.TheVariants as locks;
-ghost use Rattle.ill_saved.specs.declared.store.StoreFault.TheVariants.{Failed, OutOfMemory};
+ghost use Rattle.ill_store.specs.declared.store.StoreFault.TheVariants.{Failed, OutOfMemory};
 ghost use Rattle.ill_saved.specs.Faults.{of_lock};
 
-use crate::file_store::{FileStore, RECORD_LIMIT};
-use crate::regular_file;
-use crate::store::StoreFault;
+use crate::sides::RECORD_LIMIT;
+use ill_disk::regular_file;
+use ill_store::{FileStore, StoreFault};
 use std::alloc::{AllocError, AllocFailed, Global};
 use std::fs::{File, Metadata, OpenFile, TryLockError};
 use std::io::ErrorKind;
@@ -169,7 +169,9 @@ enum Attempt<F> {
 
 /// Tries to take a lock until it is taken, at most `TRIES` times.
 fn wait<R: LockFiles>(rt: &R, path: &str, lock_path: &str) -> io::Result<Attempt<R::File>> {
-    regular_file::refuse_reserved(path)?;
+    if regular_file::is_reserved(path.as_bytes()) {
+        return Err(ErrorKind::InvalidInput.into());
+    }
     if path.is_empty() {
         return Ok(Attempt::Needless);
     }

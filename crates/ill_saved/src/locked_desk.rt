@@ -7,8 +7,8 @@ ghost use Rattle.ill_saved.specs.Desk.{AreAllReleased, IsCreateAnswer, IsStartAn
 use crate::desk::Desk;
 use crate::fault::DeskFault;
 use crate::file_lock::{FileLock, LockFiles};
-use crate::file_store::FileStore;
 use crate::role::Role;
+use ill_store::FileStore;
 use std::alloc::Global;
 
 /// A desk in a file, and the lock of that file. Its end lets the desk go first, and then the lock.

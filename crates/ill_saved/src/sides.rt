@@ -21,6 +21,10 @@ use std::marker::Model;
 /// The maximum number of sides of one library that are held.
 pub const SIDES_LIMIT: usize = 1000;
 
+/// A limit for `FileStore::at` with which every record of a desk can be loaded. A record has at most 41,813,039
+/// bytes (`laws::sides_record_is_short`).
+pub const RECORD_LIMIT: u32 = 67_108_864;
+
 /// The sides of one library, all of one role, in the order in which they were put. None is idle, their
 /// transactions differ, and they are at most 1,000.
 #[derive(Drop)]

@@ -1,8 +1,8 @@
 //! Calls stores in real files, and looks at the files of their folder.
 
 ghost use Rattle.std.specs.Prelude.{◌≡◌, IfErr};
-ghost use Rattle.ill_saved.specs.declared.store.StoreFault.TheVariants.{Failed};
-ghost use Rattle.ill_saved.specs.Store.{failed_file};
+ghost use Rattle.ill_store.specs.declared.store.StoreFault.TheVariants.{Failed};
+ghost use Rattle.ill_store.specs.Store.{failed_file};
 
 use crate::failing::{Deceit, Failing};
 use ill_saved::{FileLock, FileStore, LockFault, LockFiles, Store, StoreFault};

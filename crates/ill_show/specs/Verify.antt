@@ -7,9 +7,9 @@ use Rattle.ill_saved.specs.Side.{issued_of}
 use Rattle.ill_saved.specs.Sides.{SidesOf, most_sides}
 use Rattle.ill_saved.specs.RecordsV2.{is_version_1, records_at}
 use Rattle.ill_saved.specs.Faults.{of_store}
-use Rattle.ill_saved.specs.Store.{StoreState}
+use Rattle.ill_store.specs.Store.{StoreState}
 use Rattle.ill_saved.specs.declared.fault.RecordFault.{RecordFault}
-use Rattle.ill_saved.specs.declared.store.StoreFault.{StoreFault}
+use Rattle.ill_store.specs.declared.store.StoreFault.{StoreFault}
 use Rattle.ill_saved.specs.declared.fault.DeskFault.TheVariants.{NoRecord, Saved}
 use Rattle.ill_text.specs.declared.fault.ToolFault.{ToolFault}
 use Rattle.ill_text.specs.declared.fault.ToolFault.TheVariants.{Desk, OutOfMemory}

@@ -2,8 +2,8 @@
 use Rattle.std.specs.Prelude.{◌≡◌, ◌⊎◌, ℕ, ◌≤◌, Result, Ok, Err}
 use Rattle.ill_saved.specs.declared.fault.DeskFault.{DeskFault}
 use Rattle.ill_saved.specs.declared.fault.DeskFault.TheVariants as desks
-use Rattle.ill_saved.specs.declared.store.StoreFault.TheVariants.{Failed}
-use Rattle.ill_saved.specs.Store.{HasRisen}
+use Rattle.ill_store.specs.declared.store.StoreFault.TheVariants.{Failed}
+use Rattle.ill_store.specs.Store.{HasRisen}
 use Rattle.ill_words.specs.declared.outcome.Outcome.TheVariants as outcomes
 use Rattle.ill_words.specs.declared.outcome.DeskOutcome.{DeskOutcome}
 use Rattle.ill_words.specs.declared.outcome.DeskOutcome.TheVariants.{Plain, NoSuchTransaction, DeskFull}

@@ -4,11 +4,11 @@ use Rattle.std.specs.Map.{set_value}
 use Rattle.ill_values.specs.TxnId.{Qualifiers}
 use Rattle.ill_values.specs.declared.apdu.Apdu.{Apdu}
 use Rattle.ill_core.specs.Issued.{is_same_txn}
-use Rattle.ill_saved.specs.declared.store.NextCall.TheVariants.{Works}
+use Rattle.ill_store.specs.declared.store.NextCall.TheVariants.{Works}
 use Rattle.ill_saved.specs.declared.fault.DeskFault.{DeskFault}
 use Rattle.ill_saved.specs.declared.fault.DeskFault.TheVariants as faults
 use Rattle.ill_saved.specs.Sides.{SidesOf}
-use Rattle.ill_saved.specs.Store.{MemoryStoreState}
+use Rattle.ill_store.specs.Store.{MemoryStoreState}
 use Rattle.ill_saved.specs.Holdings.{is_refusal, landed_live}
 use Rattle.ill_saved.specs.Desk.{DeskOf}
 use Rattle.ill_saved.specs.ManySides.{DeskContents, many_sides, sides_held, whole_of}

@@ -1,8 +1,8 @@
 -- A store that counts each failure counts as each store must.
 use Rattle.std.proofs.Common.{arith, ◌≡◌, ℕ, ◌≤◌, Result, Ok, Err}
-use Rattle.ill_saved.specs.declared.store.StoreFault.{StoreFault}
-use Rattle.ill_saved.specs.declared.store.StoreFault.TheVariants.{Failed, TooLarge, OutOfMemory}
-use Rattle.ill_saved.specs.Store.{HasRisen, CountsFailure, IsNotTooLarge, one_more}
+use Rattle.ill_store.specs.declared.store.StoreFault.{StoreFault}
+use Rattle.ill_store.specs.declared.store.StoreFault.TheVariants.{Failed, TooLarge, OutOfMemory}
+use Rattle.ill_store.specs.Store.{HasRisen, CountsFailure, IsNotTooLarge, one_more}
 use Rattle.sqlite_desk.specs.Counting.{CountsEach}
 
 -- After one more failure, the count has not fallen, and it has risen or is at its maximum.

@@ -1,8 +1,8 @@
 -- How a store in a database counts its failures.
 use Rattle.std.specs.Prelude.{◌≡◌, ℕ, Result, Err}
-use Rattle.ill_saved.specs.declared.store.StoreFault.{StoreFault}
-use Rattle.ill_saved.specs.declared.store.StoreFault.TheVariants.{Failed, TooLarge, OutOfMemory}
-use Rattle.ill_saved.specs.Store.{one_more}
+use Rattle.ill_store.specs.declared.store.StoreFault.{StoreFault}
+use Rattle.ill_store.specs.declared.store.StoreFault.TheVariants.{Failed, TooLarge, OutOfMemory}
+use Rattle.ill_store.specs.Store.{one_more}
 
 -- Each call that answers `Failed` is counted, and no other. No call answers `TooLarge`.
 abbrev pub CountsEach : {X : Type 0} → ℕ → Result X StoreFault → ℕ → Type 0

@@ -102,7 +102,7 @@ def subject(head):
 
 def fault_of(answer):
     """Returns the type of the faults in an answer, or None where it is no Result."""
-    answer = " ".join(answer.split())
+    answer = " ".join(answer.split()).partition(" where ")[0]
     if not answer.startswith("Result<"):
         return None
     depth, last = 0, 0

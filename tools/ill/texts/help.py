@@ -156,7 +156,7 @@ def numbers_of():
         "lines": constant("MAX_LINES", f"{WORLD}/simulation.rt"), "line": constant("MAX_LINE", f"{WORLD}/lines.rt"),
         "qualifier": constant("QUALIFIER_LIMIT", f"{values}/text.rt"),
         "item": constant("ITEM_LIMIT", f"{values}/text.rt"),
-        "record": constant("RECORD_LIMIT", f"{saved}/file_store.rt"),
+        "record": constant("RECORD_LIMIT", f"{saved}/sides.rt"),
         "wait": constant("TRIES", f"{saved}/file_lock.rt") * pause // 1000,
         "day_digits": int(find(r"text\.len\(\) == (\d+) && is_digits", f"{values}/day.rt")[1]),
         "first_year": int(years[1]), "last_year": int(years[2]),
@@ -215,7 +215,7 @@ def texts_of(kind, path):
 
 
 SOURCES = {"ToolFault": f"{TEXT}/fault.rt", "DeskFault": "crates/ill_saved/src/fault.rt",
-           "RecordFault": "crates/ill_saved/src/fault.rt", "StoreFault": "crates/ill_saved/src/store.rt",
+           "RecordFault": "crates/ill_saved/src/fault.rt", "StoreFault": "crates/ill_store/src/store.rt",
            "DerFault": "crates/ill_der/src/fault.rt"}
 
 
@@ -530,7 +530,7 @@ def compare_explanations():
         expect_same("lists", found, sorted({form.split()[0] for form in forms}), f"explain: the verbs of a {role}")
     results = results_of()
     expect_same("lists", listed(explanations(), r"The results: (.*?)\.", EXPLAIN), results, "explain: the results")
-    ends = re.findall(r'pub const \w+: &str = "([^"]+)"', read("crates/ill_saved/src/regular_file.rt"))
+    ends = re.findall(r'pub const \w+: &str = "([^"]+)"', read("crates/ill_disk/src/regular_file.rt"))
     expect_same("lists", [end for end in ends if end not in beside()], [], "explain: the reserved names")
 
 

@@ -1,2 +1,0 @@
-pub mod BadStore
-pub mod DiskStore

@@ -1,0 +1,32 @@
+-- Proves the contracts of the impl of `Store` for `FileStore` (`src/file_store.rt`).
+-- Each call that fails counts its failure, and no contract states the content of a file.
+use Rattle.std.proofs.Common.{rules, refl}
+use Rattle.ill_store.proofs.Files.{load_counts, save_counts}
+use Rattle.ill_store.proofs.file_store.FileStoreStore.TheImpl.Goals as goal
+
+-- A load of a store in a file satisfies the contract of each store.
+pub load-tells : goal.load-tells
+load-tells g c = record {
+  loads = record {
+    loaded = λ honest. search rules;
+    planned = λ honest. tt;
+    landed = λ honest. refl;
+    counted = load_counts (λ b. b.items) c.args.self.now c.new.self.now c.result c.ensures;
+    honest = refl;
+    plan = refl;
+  };
+  memory = tt;
+}
+
+-- A save of a store in a file satisfies the contract of each store.
+pub save-tells : goal.save-tells
+save-tells g c =
+    let told = save_counts c.args.self.now c.new.self.now c.result c.ensures in
+    record {
+      planned = λ honest. tt;
+      landed = λ honest. search rules;
+      large = told.0;
+      counted = told.1;
+      honest = refl;
+      plan = refl;
+    }

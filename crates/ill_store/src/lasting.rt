@@ -1,0 +1,65 @@
+//! The calls of a disk that load and save a record so that it lasts.
+
+ghost use Rattle.std.specs.Prelude.{◌≡◌, ◌≤◌, length, IfOk, IfSome};
+ghost use Rattle.ill_store.specs.DiskStore.{DiskLoads, DiskPlaces, DiskSaves};
+
+use ill_disk::{Disk, DiskFault};
+use std::alloc::Global;
+
+/// Loads the record at `path`, of at most `limit` bytes. From then on each crash of an honest disk leaves it.
+///
+/// Flushes its file, if there is one, and then the names.
+pub fn load<D: Disk>(
+    disk: &mut D,
+    alloc: Global,
+    path: &[u8],
+    limit: usize,
+) -> Result<Option<Vec<u8>>, DiskFault>
+    ensures loads { DiskLoads (λ b. b.items) path.now (D.state disk.old) result (D.state disk.new) }
+    ensures within { IfOk result (λ found. IfSome found (λ b. length b.items ≤ limit)) }
+{
+    match disk.read(alloc, path, limit)? {
+        None => {
+            disk.flush_names()?;
+            Ok(None)
+        }
+        Some(found) => {
+            disk.flush(path)?;
+            disk.flush_names()?;
+            Ok(Some(found))
+        }
+    }
+}
+
+/// Saves `bytes` at `path`. Once it is done, each crash of an honest disk leaves them. If it fails, a crash leaves what
+/// one before it might have left, or these bytes.
+///
+/// Looks up the record, and removes what an earlier save has left at `aside`. Places the new record, and flushes the
+/// names. If the new record cannot be placed, removes what stands at `aside`.
+pub fn save<D: Disk>(disk: &mut D, path: &[u8], aside: &[u8], bytes: &[u8]) -> Result<(), DiskFault>
+    requires { aside.now ≡ path.now → ⊥ }
+    ensures { DiskSaves path.now bytes.now (D.state disk.old) result (D.state disk.new) }
+{
+    disk.look_up(path)?;
+    match disk.remove(aside) {
+        Ok(()) | Err(DiskFault::NotFound) => {}
+        Err(fault) => return Err(fault),
+    }
+    match place(disk, path, aside, bytes) {
+        Ok(()) => disk.flush_names(),
+        Err(fault) => {
+            let _ = disk.remove(aside);
+            Err(fault)
+        }
+    }
+}
+
+/// Makes a new file of `bytes` at `aside`, flushes it, and renames it over the record.
+fn place<D: Disk>(disk: &mut D, path: &[u8], aside: &[u8], bytes: &[u8]) -> Result<(), DiskFault>
+    requires { aside.now ≡ path.now → ⊥ }
+    ensures { DiskPlaces aside.now path.now bytes.now (D.state disk.old) result (D.state disk.new) }
+{
+    disk.create_new(aside, bytes)?;
+    disk.flush(aside)?;
+    disk.rename(aside, path)
+}

@@ -1,0 +1,38 @@
+//! The laws of a store on a disk are the contracts of functions that do nothing.
+
+ghost use Rattle.std.specs.Prelude.{◌≡◌, ◌⊎◌, ℕ, true, List, Option, Some, Result, Ok};
+ghost use Rattle.ill_disk.specs.Disk.{Disk, Crash};
+ghost use Rattle.ill_disk.specs.Calls.{DiskState, IsMoment};
+ghost use Rattle.ill_store.specs.declared.store.StoreFault.{StoreFault};
+ghost use Rattle.ill_store.specs.DiskStore.{Lasts, DiskLoads, DiskSaves};
+ghost use Rattle.ill_store.specs.BadStore.{IsBadLoad, IsBadSave};
+
+/// If the power goes at any moment of a load, done or failed, the next load gives the record that lasted before.
+pub fn a_load_that_is_cut_keeps_the_record()
+    ensures { (path : List ℕ) (old new later last : DiskState) (moment : Disk) (lasted read : Option (List ℕ))
+        (answer again : Result (Option (List ℕ)) StoreFault) → old.is_honest ≡ true → Lasts path old.now lasted →
+        DiskLoads (λ b. b) path old answer new → IsMoment old new moment → Crash moment later.now →
+        later.is_honest ≡ true → DiskLoads (λ b. b) path later again last → again ≡ Ok read → read ≡ lasted }
+{}
+
+/// If the power goes at any moment of a save, done or failed, the next load gives the record that lasted before, or the
+/// new one whole.
+pub fn a_save_that_is_cut_leaves_one_record_whole()
+    ensures { (path bytes : List ℕ) (old new later last : DiskState) (moment : Disk) (lasted read : Option (List ℕ))
+        (answer : Result (Unit {0}) StoreFault) (again : Result (Option (List ℕ)) StoreFault) → old.is_honest ≡ true →
+        Lasts path old.now lasted → DiskSaves path bytes old answer new → IsMoment old new moment →
+        Crash moment later.now → later.is_honest ≡ true → DiskLoads (λ b. b) path later again last → again ≡ Ok read →
+        (read ≡ lasted) ⊎ (read ≡ Some bytes) }
+{}
+
+/// On an honest disk no load gives another record than a read of its path. None loses the record, later or meanwhile.
+pub fn no_load_is_bad()
+    ensures { (path : List ℕ) (old new : DiskState) (answer : Result (Option (List ℕ)) StoreFault) →
+        DiskLoads (λ b. b) path old answer new → IsBadLoad path old answer new → ⊥ }
+{}
+
+/// On an honest disk no save that is done is lost, and none leaves a third record at any moment.
+pub fn no_save_is_bad()
+    ensures { (path bytes : List ℕ) (old new : DiskState) (answer : Result (Unit {0}) StoreFault) →
+        DiskSaves path bytes old answer new → IsBadSave path bytes old answer new → ⊥ }
+{}

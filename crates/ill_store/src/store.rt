@@ -1,0 +1,70 @@
+//! The store in which a side keeps its record.
+
+ghost use Rattle.std.specs.Prelude.{◌≡◌, Bool, true};
+ghost use Rattle.ill_store.specs.declared.store.StoreFault.TheVariants.{OutOfMemory};
+ghost use Rattle.ill_store.specs.Store.{StoreState, StoreLoads, StoreSaves, RunsOutOnlyIf};
+
+use std::alloc::{AllocError, AllocFailed, Global};
+use thiserror::Error;
+
+/// The fault of a load or a save.
+#[derive(Clone, Copy, Debug, PartialEq, Eq, Hash, Error)]
+pub enum StoreFault {
+    /// The call failed. After a `save`, the old or the new bytes have landed.
+    #[error("failed")]
+    Failed,
+    /// The record is longer than the store's limit. Only `load` gives this.
+    #[error("too-large")]
+    TooLarge,
+    /// Memory ran out. The landed bytes are unchanged.
+    #[error("memory")]
+    OutOfMemory,
+}
+
+impl From<AllocError> for StoreFault {
+    ghost from_gives = { λ _ fault. fault ≡ OutOfMemory };
+
+    fn from(_error: AllocError) -> StoreFault {
+        StoreFault::OutOfMemory
+    }
+}
+
+impl<T: Drop> From<AllocFailed<T>> for StoreFault {
+    ghost from_gives = { λ _ fault. fault ≡ OutOfMemory };
+
+    fn from(_error: AllocFailed<T>) -> StoreFault {
+        StoreFault::OutOfMemory
+    }
+}
+
+/// The plan for the next call of a store.
+#[derive(Clone, Copy, Debug, PartialEq, Eq, Hash)]
+pub enum NextCall {
+    /// It does not fail, unless memory runs out.
+    Works,
+    /// It fails, and the landed bytes stay.
+    FailsOld,
+    /// It fails, but the bytes of a `save` have landed.
+    FailsNew,
+}
+
+/// A place for the bytes of one record. The landed bytes are the bytes that a `load` would return now.
+///
+/// The contracts state the landed bytes only of an honest store. An honest store follows its plan, if it has one.
+pub trait Store {
+    /// Returns the state of the store: its landed bytes, the number of failed calls, and the plan for the next call.
+    /// Its part `is_honest` is true if the store does as it answers.
+    ghost state: { Self → StoreState };
+
+    /// Returns true if the next `load` takes memory. A store that does not say so may take memory.
+    ghost load_takes_memory: { Self → Bool } = { λ _. true };
+
+    /// Loads the landed bytes, or `None` if nothing has landed.
+    fn load(&mut self, alloc: Global) -> Result<Option<Vec<u8>>, StoreFault>
+        ensures loads { StoreLoads (λ b. b.items) (state self.old) result (state self.new) }
+        ensures memory { RunsOutOnlyIf (load_takes_memory self.old) result };
+
+    /// Saves `bytes` in place of the landed bytes. After `Failed`, the old or the new bytes have landed.
+    fn save(&mut self, alloc: Global, bytes: &[u8]) -> Result<(), StoreFault>
+        ensures { StoreSaves bytes.now (state self.old) result (state self.new) };
+}

@@ -33,6 +33,8 @@ impl Store for LimitedStore {
       plan = None;
     } };
 
+    ghost leaves = { λ _ _. Unit {0} };
+
     fn load(&mut self, alloc: Global) -> Result<Option<Vec<u8>>, StoreFault> {
         self.store.load(alloc)
     }

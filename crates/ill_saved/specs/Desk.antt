@@ -81,6 +81,10 @@ Loads read begins (Some bytes) plan (Err (Saved fault)) =
 Loads read begins landed plan (Err OutOfMemory) = Unit {0}
 Loads read begins landed plan answer = ⊥
 
+-- `leaves` holds of each record that a loss of power may leave: of the landed one alone.
+abbrev pub LeavesLanded : Option (List ℕ) → (Option (List ℕ) → Type 0) → Type 0
+LeavesLanded landed leaves = (left : Option (List ℕ)) → leaves left → left ≡ landed
+
 -- The fault is one that loading can have: of the store, of the record, or a lack of memory.
 abbrev pub IsLoadFault : Bool → DeskFault → Type 0
 IsLoadFault has_digest (Store stores.Failed) = Unit {0}

@@ -1,5 +1,6 @@
 -- The sides that a desk holds: one side, or the sides of many transactions (this profile's own).
-use Rattle.std.specs.Prelude.{◌≡◌, ℕ, ◌≤◌, nat_le, List, length, Bool, true, false, Option, None, Some, is_ok, Result, Ok, Err}
+use Rattle.std.specs.Prelude.{◌≡◌, ◌⊎◌, ℕ, ◌≤◌, nat_le, List, length, Bool, true, false, Option, None, Some, is_ok, Result, Ok}
+use Rattle.std.specs.Prelude.{Err}
 use Rattle.std.specs.Prelude.{MatchResult}
 use Rattle.ill_values.specs.declared.apdu.Apdu.{Apdu}
 use Rattle.ill_values.specs.Apdu.{IsApdu}
@@ -133,6 +134,18 @@ IsBackedByRead backs (Err fault) live = ⊥
 -- The landed bytes back the live sides.
 abbrev pub IsBacked : {L K : Type 0} → Effects L K → (L → L → Type 0) → Option (List ℕ) → L → Type 0
 IsBacked effects backs landed live = IsBackedByRead backs (landed_live effects landed live) live
+
+-- The record that has landed backs the live sides. So does each record that a loss of power may leave.
+pub record IsDurablyBacked {L K : Type 0} (effects : Effects L K) (backs : L → L → Type 0) (landed : Option (List ℕ))
+    (leaves : Option (List ℕ) → Type 0) (live : L) : Type 0 where
+  pub now : IsBacked effects backs landed live
+  pub later : (left : Option (List ℕ)) → leaves left → IsBacked effects backs left live
+
+-- A loss of power during a save of the live sides leaves their record, or what it might have left before. Each of these
+-- backs the live sides.
+abbrev pub IsBackedInSave : {L K : Type 0} → Effects L K → (L → L → Type 0) → (Option (List ℕ) → Type 0) → L → Type 0
+IsBackedInSave effects backs leaves live =
+    (left : Option (List ℕ)) → leaves left ⊎ (left ≡ Some (effects.spelling live)) → IsBacked effects backs left live
 
 -- Message `number` of the side `key` is `a`, and the desk may send it: it is issued and released.
 abbrev pub MaySend : {L K : Type 0} → Effects L K → L → K → ℕ → Apdu → Type 0

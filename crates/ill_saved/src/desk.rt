@@ -1,13 +1,13 @@
 //! A desk: one side or many, in memory and in a store.
 
-ghost use Rattle.std.specs.Prelude.{◌≡◌, ◌≤◌, true, length, option_copied, IfOk, IfErr, IfSome};
+ghost use Rattle.std.specs.Prelude.{◌≡◌, ◌≤◌, true, length, option_copied, IfOk, IfErr, IfSome, OnOk};
 ghost use Rattle.ill_der.specs.ShortForm.{apdu_at};
 ghost use Rattle.ill_saved.specs.Side.{issued_of, idle_of, shown_of};
 ghost use Rattle.ill_saved.specs.Sides.{found_by};
-ghost use Rattle.ill_saved.specs.Holdings.{DeskActs, DeskTakesApdu, SendsHeld, IsBacked, IsReadAgain, held_after, landed_live};
+ghost use Rattle.ill_saved.specs.Holdings.{DeskActs, DeskTakesApdu, SendsHeld, IsBackedInSave, IsDurablyBacked, IsReadAgain, held_after, landed_live};
 ghost use Rattle.ill_saved.specs.OneSide.{OneBacks, alone, one_side};
 ghost use Rattle.ill_saved.specs.ManySides.{ManyBack, held_for, many_sides, no_sides, sides_held, txn_held};
-ghost use Rattle.ill_saved.specs.Desk.{DeskOf, DeskTakes, IsOneApdu, DeskSaves, IsSaveFault, IsLoadFault, Loads, Restarts, RestartLeaves, RunsOutInLoad, NothingTakesMemory, answer_of, store_of, Creates, IsCreateAnswer, Begins, IsStartAnswer, AreAllReleased, DeskLoads, IfEncoded};
+ghost use Rattle.ill_saved.specs.Desk.{DeskOf, DeskTakes, IsOneApdu, DeskSaves, IsSaveFault, IsLoadFault, Loads, Restarts, RestartLeaves, RunsOutInLoad, NothingTakesMemory, answer_of, store_of, Creates, IsCreateAnswer, Begins, IsStartAnswer, AreAllReleased, DeskLoads, IfEncoded, LeavesLanded};
 
 use crate::fault::DeskFault;
 use crate::holdings::Holdings;
@@ -43,7 +43,7 @@ impl<H: Holdings, S: Store> Model for AnyDesk<H, S> {
     ghost view = { λ desk. record { live = desk.held; store = desk.store } };
 
     ghost invariant = { λ desk. (S.state desk.store).is_honest ≡ true →
-        IsBacked H.effects H.backs (S.state desk.store).landed desk.held };
+        IsDurablyBacked H.effects H.backs (S.state desk.store).landed (S.leaves desk.store) desk.held };
 }
 
 impl<H: Holdings, S: Store> AnyDesk<H, S> {
@@ -122,13 +122,16 @@ impl<H: Holdings, S: Store> AnyDesk<H, S> {
     }
 
     /// Saves all sides, so that all their messages may be sent. A fault changes neither the sides nor the released
-    /// messages. The desk allocates all its memory before it calls the store.
+    /// messages. The desk allocates all its memory before it calls the store. A loss of power meanwhile leaves a record
+    /// that has each released message.
     pub fn save(&mut self, alloc: Global) -> Result<(), DeskFault>
         ensures live { self.new.live ≡ held_after H.effects result self.old.live }
         ensures store { DeskSaves (H.effects.spelling self.old.live) (S.state self.old.store) result
             (S.state self.new.store) }
         ensures sides { IfEncoded H.in_range result self.old.live }
         ensures reads { IfEncoded (IsReadAgain H.effects) result self.old.live }
+        ensures meanwhile { (S.state self.old.store).is_honest ≡ true →
+            IfEncoded (IsBackedInSave H.effects H.backs (S.leaves self.old.store)) result self.old.live }
         ensures faults { IsSaveFault result }
     {
         let record = self.held.record(alloc)?;
@@ -239,7 +242,7 @@ impl<S: Store> Desk1<S> {
         ensures value { result.now ≡ self.now.live.side }
         ensures issued { self.now.live.released ≤ length (issued_of self.now.live.side) }
         ensures backed { (S.state self.now.store).is_honest ≡ true →
-            IsBacked one_side OneBacks (S.state self.now.store).landed self.now.live }
+            IsDurablyBacked one_side OneBacks (S.state self.now.store).landed (S.leaves self.now.store) self.now.live }
     {
         self.held.side()
     }
@@ -288,7 +291,7 @@ impl<S: Store> Desk<S> {
     pub fn sides(&self) -> &Sides
         ensures value { result.now ≡ sides_held self.now.live }
         ensures backed { (S.state self.now.store).is_honest ≡ true →
-            IsBacked many_sides ManyBack (S.state self.now.store).landed self.now.live }
+            IsDurablyBacked many_sides ManyBack (S.state self.now.store).landed (S.leaves self.now.store) self.now.live }
     {
         self.held.sides()
     }
@@ -313,6 +316,8 @@ fn load<H: Holdings, S: Store>(alloc: Global, store: &mut S) -> Result<Option<H>
     ensures faults { IfErr result (IsLoadFault H.effects.has_digest) }
     ensures memory { NothingTakesMemory (S.state store.old) (S.load_takes_memory store.old) result }
     ensures store { DeskLoads (S.state store.old) result (S.state store.new) }
+    ensures lasts { (S.state store.old).is_honest ≡ true →
+        OnOk result (LeavesLanded (S.state store.old).landed (S.leaves store.new)) }
 {
     match store.load(alloc)? {
         Some(bytes) => Ok(Some(H::read(alloc, bytes)?)),

@@ -1,6 +1,6 @@
 //! Laws of saved records: contracts of functions that do nothing.
 
-ghost use Rattle.std.specs.Prelude.{◌≡◌, ℕ, ◌≤◌, ◌<◌, List, Bool, true, false, length, Option, Result, Ok, Err};
+ghost use Rattle.std.specs.Prelude.{◌≡◌, ◌⊎◌, ℕ, ◌≤◌, ◌<◌, List, Bool, true, false, length, Option, Some, Result, Ok, Err};
 ghost use Rattle.ill_values.specs.TxnId.{Qualifiers};
 ghost use Rattle.ill_der.specs.declared.fault.DerFault.{DerFault};
 ghost use Rattle.ill_der.specs.Laws.{IsBytes};
@@ -14,7 +14,7 @@ ghost use Rattle.ill_store.specs.declared.store.StoreFault.TheVariants.{Failed};
 ghost use Rattle.ill_store.specs.declared.store.NextCall.{NextCall};
 ghost use Rattle.ill_saved.specs.BadAnswers.{CannotSave, CannotCreate, CannotLoad, CannotRead, LandsWrong, PlansWrong};
 ghost use Rattle.ill_store.specs.Store.{StoreState, most_failures};
-ghost use Rattle.ill_saved.specs.Holdings.{DeskEntry, IsBacked, IsReadFault, MaySend, ReadHas, landed_live};
+ghost use Rattle.ill_saved.specs.Holdings.{DeskEntry, IsBacked, IsBackedInSave, IsReadFault, MaySend, ReadHas, landed_live};
 ghost use Rattle.ill_saved.specs.OneSide.{OneBacks, one_side};
 ghost use Rattle.ill_saved.specs.ManySides.{DeskContents, ManyBack, many_sides};
 ghost use Rattle.ill_saved.specs.Desk.{DeskFailsCounted, DeskLoads, DeskTakes, IsCreateAnswer, IsLoadFault, IsSaveFault, PlanAfter, RestartLeaves, SaveLands};
@@ -23,6 +23,9 @@ ghost use Rattle.ill_saved.specs.Records.{side_spelled, record_at, record_spelli
 ghost use Rattle.ill_saved.specs.RecordsV2.{sides_spelling, is_version_1, records_at, AreSides};
 ghost use Rattle.ill_saved.specs.Ranges.{IsInRange, IsSide};
 ghost use Rattle.ill_saved.specs.Sides.{SidesOf};
+
+use crate::desk::Desk;
+use ill_store::Store;
 
 /// Each side that is consistent and in range is read from its encoding. So `decode_record` returns the side that
 /// `encode_record` encoded.
@@ -154,6 +157,23 @@ pub fn what_may_be_sent_has_landed()
         ReadHas many_sides (landed_live many_sides landed live) txn number a }
 {
     follows_issues();
+}
+
+/// Message `number` that a desk may send is message `number` of each record that a loss of power may leave, also during a
+/// save (`meanwhile`). So a desk that starts after a loss of power has each message that has ever left.
+pub fn what_may_be_sent_outlasts_the_power<S: Store>(desk: &Desk<S>)
+    ensures left { (S.state desk.now.store).is_honest ≡ true →
+        (left : Option (List ℕ)) (txn : Qualifiers) (number : ℕ) (a : Apdu) → S.leaves desk.now.store left →
+        MaySend many_sides desk.now.live txn number a →
+        ReadHas many_sides (landed_live many_sides left desk.now.live) txn number a }
+    ensures left_in_save { IsBackedInSave many_sides ManyBack (S.leaves desk.now.store) desk.now.live →
+        (left : Option (List ℕ)) (txn : Qualifiers) (number : ℕ) (a : Apdu) →
+        S.leaves desk.now.store left ⊎ (left ≡ Some (many_sides.spelling desk.now.live)) →
+        MaySend many_sides desk.now.live txn number a →
+        ReadHas many_sides (landed_live many_sides left desk.now.live) txn number a }
+{
+    follows_issues();
+    let _ = desk.sides();
 }
 
 /// No call of a desk has a fault of another call. A save fails only by its store or by memory. Creating a desk also fails

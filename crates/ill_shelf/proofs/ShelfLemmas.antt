@@ -1,8 +1,12 @@
 -- Proves what the names of a shelf's desks tell.
-use Rattle.std.proofs.Common.{ℕ, List, Option, Result}
+use Rattle.std.proofs.Common.{ℕ, Bool, List, Option, Result, Ok, Err, IfErr}
+use Rattle.ill_saved.specs.declared.side.Side.{Side}
 use Rattle.ill_text.specs.declared.fault.ToolFault.{ToolFault}
+use Rattle.ill_text.specs.declared.fault.ToolFault.TheVariants as faults
+use Rattle.ill_text.specs.Fault.{IsOpenFault}
 use Rattle.ill_text.specs.Input.{ReadsInput}
 use Rattle.ill_text.proofs.InputLemmas.{reads_on_views}
+use Rattle.ill_night.specs.Retire.{Retires}
 use Rattle.ill_shelf.specs.Shelf.{ShelfTaking, TakesAtHome}
 
 -- If an input is read by `TakesAtHome` of views of states, `TakesAtHome` reads it from view to view.
@@ -14,3 +18,17 @@ taken_home view left rest before after count is =
     reads_on_views (λ s apdu r t. TakesAtHome (view s) apdu r (view t)) TakesAtHome view (λ s t apdu r h. h) left rest before
     after count
     is
+
+-- Retiring a group fails by its store, or when memory runs out, alone.
+pub retire_faults : (sides : List Side) (old new : Option (Option (List ℕ))) (answer : Result Bool ToolFault) →
+    Retires sides old answer new → IfErr answer IsOpenFault
+retire_faults sides old new (Ok is_marked) retires = tt
+retire_faults sides old new (Err (faults.Desk fault)) retires = tt
+retire_faults sides old new (Err faults.OutOfMemory) retires = tt
+retire_faults sides old new (Err faults.Arguments) retires = absurd retires.1
+retire_faults sides old new (Err (faults.Der fault)) retires = absurd retires.1
+retire_faults sides old new (Err faults.TooMany) retires = absurd retires.1
+retire_faults sides old new (Err (faults.Script line)) retires = absurd retires.1
+retire_faults sides old new (Err faults.Left) retires = absurd retires.1
+retire_faults sides old new (Err faults.Read) retires = absurd retires.1
+retire_faults sides old new (Err faults.Write) retires = absurd retires.1

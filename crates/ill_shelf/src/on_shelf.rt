@@ -24,7 +24,7 @@ use ill_mail::mail_box::remove_if_there;
 use ill_mail::places::{Places, look_at_places};
 use ill_night::night::Night;
 use ill_night::retire::run_desk_retire;
-use ill_saved::{FileStore, LockFiles, LockedDesk, RECORD_LIMIT, Role, Store};
+use ill_saved::{Desk, FileStore, LockFiles, LockedDesk, RECORD_LIMIT, Role, Store};
 use ill_show::loan::LoanView;
 use ill_text::fault::{STORE_FAILED, ToolFault, graver};
 use ill_text::form::Form;
@@ -396,7 +396,19 @@ fn mark_retired<T: Files>(rt: &T, alloc: Global, file: &str) -> Result<bool, Too
     let desk = open(rt, alloc, file)?;
     let path = retired_path(alloc, file)?;
     let mut mark = FileStore::at(rt, alloc, path.as_str(), RECORD_LIMIT)?;
-    run_desk_retire(alloc, &desk, &mut mark)
+    retire_desk(alloc, &desk, &mut mark)
+}
+
+/// Marks the group of `desk` as retired in the store `mark`, as `run_desk_retire` does.
+#[tactic(auto, using(crate::proofs::ShelfLemmas::retire_faults))]
+fn retire_desk<S: Store, C: Store>(
+    alloc: Global,
+    desk: &Desk<S>,
+    mark: &mut C,
+) -> Result<bool, ToolFault>
+    ensures { IfErr result IsOpenFault }
+{
+    run_desk_retire(alloc, desk, mark)
 }
 
 /// Removes the file of a desk and the files beside it, and makes that durable. Mails that were put aside stay in their

@@ -14,6 +14,8 @@ use Rattle.ill_disk.proofs.Moments.{begins, goes_on, holds_too, joins}
 use Rattle.ill_disk.proofs.Saves.{created_left, create_elsewhere, remove_elsewhere, save_moments, save_is_read, save_lasts}
 use Rattle.ill_store.specs.DiskStore.{Lasts, LeavesOld, LeavesOldOr, ReadsOldOr, IsOld, IsOldOrNew, DiskLoads}
 use Rattle.ill_store.specs.DiskStore.{DiskPlaces, DiskSaves, after_placing}
+use Rattle.ill_store.specs.Store.{LoadLasts, SaveLasts}
+use Rattle.ill_store.specs.declared.store.StoreFault.{StoreFault}
 
 -- A property of a disk with a change and without it holds after the call, done or failed.
 pub either_way : {E : Type 0} (P : Disk → Type 0) (change : Disk → Disk) (old new : Disk) (result : Result (Unit {0}) E) →
@@ -546,3 +548,23 @@ no_call_saves {path = path} {bytes = bytes} {old = old} {fault = fault} same =
       moments = λ h. begins (inl refl, λ found left. inl left);
       honest = refl;
     })
+
+-- ---- what a loss of power leaves in a store
+
+-- After a load a loss of power leaves the record that was read, or what it might have left before.
+pub load_leaves : {X : Type 0} {bytes_of : X → List ℕ} {p q : List ℕ} {old new : DiskState}
+    {answer : Result (Option X) StoreFault} → q ≡ p → DiskLoads bytes_of p old answer new → old.is_honest ≡ true →
+    LoadLasts (content p old.now) (Leaves old.now p) answer (Leaves new.now q)
+load_leaves {new = new} {answer = Ok found} same loads h = λ left leaves.
+    loads.lasts h left (subst (λ (r : List ℕ). Leaves new.now r left) same leaves)
+load_leaves {new = new} {answer = Err fault} same loads h = λ left leaves.
+    (loads.moments h).last.1 left (subst (λ (r : List ℕ). Leaves new.now r left) same leaves)
+
+-- After a save a loss of power leaves the new record, or, if the save failed, what it might have left before.
+pub save_leaves : {p q bytes : List ℕ} {old new : DiskState} {answer : Result (Unit {0}) StoreFault} → q ≡ p →
+    DiskSaves p bytes old answer new → old.is_honest ≡ true →
+    SaveLasts bytes (Leaves old.now p) answer (Leaves new.now q)
+save_leaves {new = new} {answer = Ok done} same saves h = λ left leaves.
+    saves.lasts h left (subst (λ (r : List ℕ). Leaves new.now r left) same leaves)
+save_leaves {new = new} {answer = Err fault} same saves h = λ left leaves.
+    (saves.moments h).last.1 left (subst (λ (r : List ℕ). Leaves new.now r left) same leaves)

@@ -5,8 +5,10 @@ use Rattle.ill_disk.specs.Disk.{Disk, Crash, content}
 use Rattle.ill_disk.specs.Calls.{DiskState, IsMoment}
 use Rattle.ill_disk.proofs.Moments.{each_moment}
 use Rattle.ill_store.specs.DiskStore.{Lasts, IsOld, IsOldOrNew, DiskLoads, DiskSaves}
-use Rattle.ill_store.specs.BadStore.{IsBadLoad, IsBadSave}
+use Rattle.ill_store.specs.BadStore.{IsBadLoad, IsBadSave, LosesLoaded, LosesSaved}
 use Rattle.ill_store.specs.BadStore as bad
+use Rattle.ill_store.specs.Store.{LoadLasts, SaveLasts}
+use Rattle.ill_store.specs.declared.store.StoreFault.{StoreFault}
 
 -- A record as a load reads it is itself.
 as_read : (found : Option (List ℕ)) → option_map (λ (b : List ℕ). b) found ≡ found
@@ -79,3 +81,20 @@ none_bad_save path bytes old new answer saves (bad.third_left d left h moment le
 none_bad_save path bytes old new answer saves (bad.third_read d h moment not_old not_new) =
     ⊎_elim not_old not_new (save_moment path bytes old new answer d h saves moment).0
 none_bad_save path bytes old new answer saves (bad.turned differ) = differ saves.honest
+
+-- No load loses the record that a loss of power leaves.
+pub none_loses_loaded : {X : Type 0} (landed : Option (List ℕ)) (before : Option (List ℕ) → Type 0)
+    (answer : Result X StoreFault) (after : Option (List ℕ) → Type 0) → LoadLasts landed before answer after →
+    LosesLoaded landed before answer after → ⊥
+none_loses_loaded {X = X} landed before answer after lasts (bad.not_the_landed found left is leaves differ) =
+    differ (subst (λ (r : Result X StoreFault). LoadLasts landed before r after) is lasts left leaves)
+none_loses_loaded {X = X} landed before answer after lasts (bad.none_of_before fault left is leaves differ) =
+    differ (subst (λ (r : Result X StoreFault). LoadLasts landed before r after) is lasts left leaves)
+
+-- No save loses the record that a loss of power leaves.
+pub none_loses_saved : (bytes : List ℕ) (before : Option (List ℕ) → Type 0) (answer : Result (Unit {0}) StoreFault)
+    (after : Option (List ℕ) → Type 0) → SaveLasts bytes before answer after → LosesSaved bytes before answer after → ⊥
+none_loses_saved bytes before answer after lasts (bad.not_the_saved done left is leaves differ) =
+    differ (subst (λ (r : Result (Unit {0}) StoreFault). SaveLasts bytes before r after) is lasts left leaves)
+none_loses_saved bytes before answer after lasts (bad.neither_old_nor_new fault left is leaves not_old not_new) =
+    ⊎_elim not_old not_new (subst (λ (r : Result (Unit {0}) StoreFault). SaveLasts bytes before r after) is lasts left leaves)

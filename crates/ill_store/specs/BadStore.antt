@@ -1,8 +1,9 @@
 -- These are loads and saves that no store on an honest disk may make. Each case has its own fault. By the laws the
 -- definitions of `DiskStore` exclude them all.
-use Rattle.std.specs.Prelude.{◌≡◌, ℕ, true, List, Option, Some, Result, Ok}
+use Rattle.std.specs.Prelude.{◌≡◌, ℕ, true, List, Option, Some, Result, Ok, Err}
 use Rattle.ill_disk.specs.Disk.{Disk, Leaves, content}
 use Rattle.ill_disk.specs.Calls.{DiskState, IsMoment}
+use Rattle.ill_store.specs.declared.store.StoreFault.{StoreFault}
 
 -- A load at this path cannot answer so, and leave the disk in the state `new`.
 pub data IsBadLoad {E : Type 0} (path : List ℕ) (old : DiskState) (answer : Result (Option (List ℕ)) E) (new : DiskState)
@@ -29,3 +30,21 @@ pub data IsBadSave {E : Type 0} (path bytes : List ℕ) (old : DiskState) (answe
   third_read : (d : Disk) → old.is_honest ≡ true → IsMoment old new d → (content path d ≡ content path old.now → ⊥) →
       (content path d ≡ Some bytes → ⊥) → IsBadSave path bytes old answer new
   turned : (new.is_honest ≡ old.is_honest → ⊥) → IsBadSave path bytes old answer new
+
+-- ---- what a loss of power leaves
+
+-- A loss of power cannot leave such a record after a load of this answer.
+pub data LosesLoaded {X : Type 0} (landed : Option (List ℕ)) (before : Option (List ℕ) → Type 0)
+    (answer : Result X StoreFault) (after : Option (List ℕ) → Type 0) : Type 0 where
+  not_the_landed : (found : X) (left : Option (List ℕ)) → answer ≡ Ok found → after left → (left ≡ landed → ⊥) →
+      LosesLoaded landed before answer after
+  none_of_before : (fault : StoreFault) (left : Option (List ℕ)) → answer ≡ Err fault → after left → (before left → ⊥) →
+      LosesLoaded landed before answer after
+
+-- A loss of power cannot leave such a record after a save of `bytes` with this answer.
+pub data LosesSaved (bytes : List ℕ) (before : Option (List ℕ) → Type 0) (answer : Result (Unit {0}) StoreFault)
+    (after : Option (List ℕ) → Type 0) : Type 0 where
+  not_the_saved : (done : Unit {0}) (left : Option (List ℕ)) → answer ≡ Ok done → after left → (left ≡ Some bytes → ⊥) →
+      LosesSaved bytes before answer after
+  neither_old_nor_new : (fault : StoreFault) (left : Option (List ℕ)) → answer ≡ Err fault → after left → (before left → ⊥) →
+      (left ≡ Some bytes → ⊥) → LosesSaved bytes before answer after

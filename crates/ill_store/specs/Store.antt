@@ -107,6 +107,23 @@ pub record StoreSaves (bytes : List ℕ) (old : StoreState) (answer : Result (Un
   pub honest : new.is_honest ≡ old.is_honest
   pub plan : new.plan ≡ plan_after_call old.plan
 
+-- ---- a loss of power
+
+-- `after` holds of each record that a loss of power may leave after a load, and `before` of each that one might have left
+-- before it. After a load that is done, it is the landed record. After one that failed, it is one of those before.
+abbrev pub LoadLasts : {X : Type 0} → Option (List ℕ) → (Option (List ℕ) → Type 0) → Result X StoreFault →
+    (Option (List ℕ) → Type 0) → Type 0
+LoadLasts landed before (Ok found) after = (left : Option (List ℕ)) → after left → left ≡ landed
+LoadLasts landed before (Err fault) after = (left : Option (List ℕ)) → after left → before left
+
+-- `after` holds of each record that a loss of power may leave after a save of `bytes`, and `before` of each that one might
+-- have left before it. After a save that is done, it is `bytes`. After one that failed, it is `bytes`, or one of those
+-- before.
+abbrev pub SaveLasts : List ℕ → (Option (List ℕ) → Type 0) → Result (Unit {0}) StoreFault → (Option (List ℕ) → Type 0)
+    → Type 0
+SaveLasts bytes before (Ok done) after = (left : Option (List ℕ)) → after left → left ≡ Some bytes
+SaveLasts bytes before (Err fault) after = (left : Option (List ℕ)) → after left → before left ⊎ (left ≡ Some bytes)
+
 -- ---- a store that fails from a call on
 
 -- A fuse: its inner store, the number of calls that it still passes on to it, and its own count of failures.

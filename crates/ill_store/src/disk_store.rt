@@ -3,6 +3,7 @@
 ghost use Rattle.std.specs.Prelude.{◌≡◌, ◌≤◌, ◌++◌, codes, length, IfOk, IfErr, IfSome};
 ghost use Rattle.ill_store.specs.declared.store.StoreFault.TheVariants.{Failed};
 ghost use Rattle.ill_store.specs.Store.{StoreLoads, StoreSaves, failures_after, one_more};
+ghost use Rattle.ill_disk.specs.Disk.{Leaves};
 ghost use Rattle.ill_store.specs.DiskStore.{DiskStoreOf, DiskLoads, DiskSaves, aside_of, store_state};
 
 use crate::lasting;
@@ -97,6 +98,8 @@ impl<D: Disk> DiskStore<D> {
 /// that runs out of memory counts as failed, since the disk may have changed.
 impl<D: Disk> Store for DiskStore<D> {
     ghost state = { store_state D.state };
+
+    ghost leaves = { λ s. Leaves (D.state s.disk).now s.path };
 
     fn load(&mut self, alloc: Global) -> Result<Option<Vec<u8>>, StoreFault>
         ensures loads { StoreLoads (λ b. b.items) (store_state D.state self.old) result (store_state D.state self.new) }

@@ -59,6 +59,8 @@ impl<'a, R: Files> Store for FileStore<'a, R> {
       plan = None;
     } };
 
+    ghost leaves = { λ _ _. Unit {0} };
+
     fn load(&mut self, alloc: Global) -> Result<Option<Vec<u8>>, StoreFault>
         ensures { FileLoads (λ b. b.items) self.old result self.new }
     {

@@ -1,8 +1,8 @@
 //! A store that fails from a call on.
 
-ghost use Rattle.std.specs.Prelude.{◌≡◌};
+ghost use Rattle.std.specs.Prelude.{◌≡◌, true};
 ghost use Rattle.ill_store.specs.declared.store.StoreFault.TheVariants.{Failed};
-ghost use Rattle.ill_store.specs.Store.{FuseOf, StoreLoads, StoreSaves, RunsOutOnlyIf, fuse_after_failure, fuse_state, FuseCalls};
+ghost use Rattle.ill_store.specs.Store.{FuseOf, StoreLoads, StoreSaves, RunsOutOnlyIf, LoadLasts, SaveLasts, fuse_after_failure, fuse_state, FuseCalls};
 
 use crate::store::{Store, StoreFault};
 use std::alloc::Global;
@@ -59,9 +59,13 @@ impl<S: Store> Store for FuseStore<S> {
 
     ghost load_takes_memory = { λ f. S.load_takes_memory f.inner };
 
+    ghost leaves = { λ f. S.leaves f.inner };
+
     fn load(&mut self, alloc: Global) -> Result<Option<Vec<u8>>, StoreFault>
         ensures calls { FuseCalls S.state (StoreLoads (λ b. b.items)) self.old result self.new }
         ensures memory { RunsOutOnlyIf (S.load_takes_memory self.old.inner) result }
+        ensures lasts { (S.state self.old.inner).is_honest ≡ true →
+            LoadLasts (S.state self.old.inner).landed (S.leaves self.old.inner) result (S.leaves self.new.inner) }
     {
         if self.calls == 0 {
             return Err(self.fail());
@@ -71,7 +75,9 @@ impl<S: Store> Store for FuseStore<S> {
     }
 
     fn save(&mut self, alloc: Global, bytes: &[u8]) -> Result<(), StoreFault>
-        ensures { FuseCalls S.state (StoreSaves bytes.now) self.old result self.new }
+        ensures calls { FuseCalls S.state (StoreSaves bytes.now) self.old result self.new }
+        ensures lasts { (S.state self.old.inner).is_honest ≡ true →
+            SaveLasts bytes.now (S.leaves self.old.inner) result (S.leaves self.new.inner) }
     {
         if self.calls == 0 {
             return Err(self.fail());

@@ -1,11 +1,14 @@
-//! The laws of a store on a disk are the contracts of functions that do nothing.
+//! The laws of stores are the contracts of functions that do nothing.
 
 ghost use Rattle.std.specs.Prelude.{◌≡◌, ◌⊎◌, ℕ, true, List, Option, Some, Result, Ok};
 ghost use Rattle.ill_disk.specs.Disk.{Disk, Crash};
 ghost use Rattle.ill_disk.specs.Calls.{DiskState, IsMoment};
 ghost use Rattle.ill_store.specs.declared.store.StoreFault.{StoreFault};
 ghost use Rattle.ill_store.specs.DiskStore.{Lasts, DiskLoads, DiskSaves};
-ghost use Rattle.ill_store.specs.BadStore.{IsBadLoad, IsBadSave};
+ghost use Rattle.ill_store.specs.Store.{LoadLasts, SaveLasts};
+ghost use Rattle.ill_store.specs.BadStore.{IsBadLoad, IsBadSave, LosesLoaded, LosesSaved};
+
+use crate::store::Store;
 
 /// If the power goes at any moment of a load, done or failed, the next load gives the record that lasted before.
 pub fn a_load_that_is_cut_keeps_the_record()
@@ -35,4 +38,16 @@ pub fn no_load_is_bad()
 pub fn no_save_is_bad()
     ensures { (path bytes : List ℕ) (old new : DiskState) (answer : Result (Unit {0}) StoreFault) →
         DiskSaves path bytes old answer new → IsBadSave path bytes old answer new → ⊥ }
+{}
+
+/// After a load that is done, a loss of power leaves the landed record, and after a save that is done its bytes. After one
+/// that failed it leaves no record but these and those before. This binds each honest store.
+#[tactic(auto, using(crate::proofs::Moments::none_loses_loaded, crate::proofs::Moments::none_loses_saved))]
+pub fn no_store_loses_its_record<S: Store>(before: &S, after: &S)
+    ensures loads { (answer : Result (Option (List ℕ)) StoreFault) →
+        LoadLasts (S.state before.now).landed (S.leaves before.now) answer (S.leaves after.now) →
+        LosesLoaded (S.state before.now).landed (S.leaves before.now) answer (S.leaves after.now) → ⊥ }
+    ensures saves { (bytes : List ℕ) (answer : Result (Unit {0}) StoreFault) →
+        SaveLasts bytes (S.leaves before.now) answer (S.leaves after.now) →
+        LosesSaved bytes (S.leaves before.now) answer (S.leaves after.now) → ⊥ }
 {}

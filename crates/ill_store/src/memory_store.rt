@@ -80,6 +80,8 @@ impl Store for MemoryStore {
       plan = Some m.next;
     } };
 
+    ghost leaves = { λ m left. left ≡ m.landed };
+
     ghost load_takes_memory = { λ m. is_some m.landed };
 
     fn load(&mut self, alloc: Global) -> Result<Option<Vec<u8>>, StoreFault>

@@ -1,8 +1,8 @@
 //! The store in which a side keeps its record.
 
-ghost use Rattle.std.specs.Prelude.{◌≡◌, Bool, true};
+ghost use Rattle.std.specs.Prelude.{◌≡◌, ℕ, Bool, true, List, Option};
 ghost use Rattle.ill_store.specs.declared.store.StoreFault.TheVariants.{OutOfMemory};
-ghost use Rattle.ill_store.specs.Store.{StoreState, StoreLoads, StoreSaves, RunsOutOnlyIf};
+ghost use Rattle.ill_store.specs.Store.{StoreState, StoreLoads, StoreSaves, RunsOutOnlyIf, LoadLasts, SaveLasts};
 
 use std::alloc::{AllocError, AllocFailed, Global};
 use thiserror::Error;
@@ -59,12 +59,20 @@ pub trait Store {
     /// Returns true if the next `load` takes memory. A store that does not say so may take memory.
     ghost load_takes_memory: { Self → Bool } = { λ _. true };
 
-    /// Loads the landed bytes, or `None` if nothing has landed.
+    /// Holds of each record that a loss of power may leave now.
+    ghost leaves: { Self → Option (List ℕ) → Type 0 };
+
+    /// Loads the landed bytes, or `None` if nothing has landed. From then on a loss of power leaves them.
     fn load(&mut self, alloc: Global) -> Result<Option<Vec<u8>>, StoreFault>
         ensures loads { StoreLoads (λ b. b.items) (state self.old) result (state self.new) }
-        ensures memory { RunsOutOnlyIf (load_takes_memory self.old) result };
+        ensures memory { RunsOutOnlyIf (load_takes_memory self.old) result }
+        ensures lasts { (state self.old).is_honest ≡ true →
+            LoadLasts (state self.old).landed (leaves self.old) result (leaves self.new) };
 
-    /// Saves `bytes` in place of the landed bytes. After `Failed`, the old or the new bytes have landed.
+    /// Saves `bytes` in place of the landed bytes. From then on a loss of power leaves them. After `Failed`, the old or
+    /// the new bytes have landed, and a loss of power leaves these, or what it might have left before.
     fn save(&mut self, alloc: Global, bytes: &[u8]) -> Result<(), StoreFault>
-        ensures { StoreSaves bytes.now (state self.old) result (state self.new) };
+        ensures saves { StoreSaves bytes.now (state self.old) result (state self.new) }
+        ensures lasts { (state self.old).is_honest ≡ true →
+            SaveLasts bytes.now (leaves self.old) result (leaves self.new) };
 }

@@ -68,6 +68,8 @@ impl<S: Alter + Drop> Store for SqliteStore<S> {
       plan = None;
     } };
 
+    ghost leaves = { λ _ _. Unit {0} };
+
     fn load(&mut self, _alloc: Global) -> Result<Option<Vec<u8>>, StoreFault>
         ensures { CountsEach self.old.failures result self.new.failures }
     {

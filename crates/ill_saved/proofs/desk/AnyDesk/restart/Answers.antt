@@ -14,4 +14,4 @@ returns-clause-restarts g c =
     → Restarts (landed_live held.effects (g.S.Store.state desk.store).landed desk.live) (g.S.Store.state desk.store).plan
     c.go_back.result c.go_back.new.self) c.self.view_is
     (restarts_to held.effects held.backs c.self.inside.held c.go_back.new.self c.go_back.result c.in_ok-bytes.ensures.loads
-    c.self.invariant c.go_back.ensures.goes c.go_back.ensures.faults)
+    (λ honest. (c.self.invariant honest).now) c.go_back.ensures.goes c.go_back.ensures.faults)

@@ -16,6 +16,7 @@ load-tells g c = record {
     plan = refl;
   };
   memory = tt;
+  lasts = λ honest. search rules;
 }
 
 -- A save of a store in a file satisfies the contract of each store.
@@ -23,10 +24,13 @@ pub save-tells : goal.save-tells
 save-tells g c =
     let told = save_counts c.args.self.now c.new.self.now c.result c.ensures in
     record {
-      planned = λ honest. tt;
-      landed = λ honest. search rules;
-      large = told.0;
-      counted = told.1;
-      honest = refl;
-      plan = refl;
+      saves = record {
+        planned = λ honest. tt;
+        landed = λ honest. search rules;
+        large = told.0;
+        counted = told.1;
+        honest = refl;
+        plan = refl;
+      };
+      lasts = λ honest. search rules;
     }

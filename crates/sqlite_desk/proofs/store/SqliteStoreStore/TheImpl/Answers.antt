@@ -16,15 +16,19 @@ load-tells g c = record {
     plan = refl;
   };
   memory = tt;
+  lasts = λ honest. search rules;
 }
 
 -- A save satisfies the contract of each store.
 pub save-tells : goal.save-tells
 save-tells g c = record {
-  planned = λ honest. tt;
-  landed = λ honest. search rules;
-  large = not_too_large c.args.self.now.failures c.new.self.now.failures c.result c.ensures;
-  counted = counts c.args.self.now.failures c.new.self.now.failures c.result c.ensures;
-  honest = refl;
-  plan = refl;
+  saves = record {
+    planned = λ honest. tt;
+    landed = λ honest. search rules;
+    large = not_too_large c.args.self.now.failures c.new.self.now.failures c.result c.ensures;
+    counted = counts c.args.self.now.failures c.new.self.now.failures c.result c.ensures;
+    honest = refl;
+    plan = refl;
+  };
+  lasts = λ honest. search rules;
 }

@@ -1,2 +1,2 @@
 pub mod PageLemmas
-pub mod TellingLemmas
+pub mod VisitLemmas

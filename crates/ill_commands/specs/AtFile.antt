@@ -30,6 +30,8 @@ use Rattle.ill_show.specs.Report.{Part, gravest_part, report_page}
 use Rattle.ill_text.specs.declared.form.Form.{Form}
 use Rattle.ill_show.specs.Objects.{status_of_desk}
 use Rattle.ill_text.specs.Visits.{Stop, VisitsEach, graver}
+use Rattle.ill_commands.specs.declared.visit.Visit.{Visit}
+use Rattle.ill_commands.specs.declared.visit.Visit.TheVariants as visits
 
 -- A desk was begun. Or its file could not be opened.
 abbrev pub NewAtFile : Option (List ℕ) → Option (List ℕ) → Result Bool ToolFault → Type 0
@@ -73,23 +75,6 @@ ListsDesk form wanted is_headed is_first stop =
     × GoesWell (WritesText stop.before stop.after
     (between form is_first ++ listed_desk form is_headed wanted stop.path sides)) stop.answer)
 
--- Returns true if there are several desks to list.
-abbrev pub are_several : List (List ℕ) → Bool
-are_several files = nat_lt 1 (length files)
-
--- The desks in `files` were listed, one after another. `answer` is the gravest of their answers.
-abbrev pub ListsDesks : Form → Wanted → List (List ℕ) → Option (List ℕ) → Option (List ℕ) → Result Bool ToolFault → Type 0
-ListsDesks form wanted files before after answer =
-    VisitsEach (ListsDesk form wanted (are_several files)) files before after answer
-
--- The desks at the paths were listed, one after another. The result is the gravest of their answers and of that
--- about the names in the folders. Or memory ran out before the first desk.
-abbrev pub ListsPaths : Form → Wanted → Option (List ℕ) → Option (List ℕ) → Result Bool ToolFault → Type 0
-ListsPaths form wanted before after result =
-    ((result ≡ Err OutOfMemory) × (after ≡ before))
-    ⊎ ((files : List (List ℕ)) × (are_texts : Bool) × (answer : Result Bool ToolFault)
-    × ListsDesks form wanted files before after answer × (result ≡ graver answer (names_answer are_texts)))
-
 -- What came to a desk was told in a visit, as `news_text` does. Or a file could not be opened, and nothing was written.
 abbrev pub TellsDesk : Form → Option ℕ → (is_headed is_first : Bool) → Stop → Type 0
 TellsDesk form last is_headed is_first stop =
@@ -97,18 +82,35 @@ TellsDesk form last is_headed is_first stop =
     ⊎ ((sides : List Side) × (came : List ℕ)
     × GoesWell (WritesNews (news_text form is_headed is_first last stop.path sides) came stop.before stop.after) stop.answer)
 
--- What came to the desks in `files` was told, one after another. `answer` is the gravest of their answers.
-abbrev pub TellsDesks : Form → Option ℕ → List (List ℕ) → Option (List ℕ) → Option (List ℕ) → Result Bool ToolFault → Type 0
-TellsDesks form last files before after answer =
-    VisitsEach (TellsDesk form last (are_several files)) files before after answer
+-- A visit has the effect of its command at one desk.
+abbrev pub RunsVisit : Visit → Form → (is_headed is_first : Bool) → Stop → Type 0
+RunsVisit (visits.List wanted) form = ListsDesk form wanted.now
+RunsVisit (visits.News last) form = TellsDesk form last
 
--- What came to the desks at the paths was told. The result is the gravest of their answers and of that about the names in
--- the folders. Or memory ran out before the first desk.
-abbrev pub TellsPaths : Form → Option ℕ → Option (List ℕ) → Option (List ℕ) → Result Bool ToolFault → Type 0
-TellsPaths form last before after result =
+-- Returns true if there are several desks to visit.
+abbrev pub are_several : List (List ℕ) → Bool
+are_several files = nat_lt 1 (length files)
+
+-- The desks in `files` were visited, one after another. `answer` is the gravest of their answers.
+abbrev pub VisitsFiles : (Bool → Bool → Stop → Type 0) → List (List ℕ) → Option (List ℕ) → Option (List ℕ) →
+    Result Bool ToolFault → Type 0
+VisitsFiles Runs files before after answer = VisitsEach (Runs (are_several files)) files before after answer
+
+-- The desks at the paths were visited, one after another. The result is the gravest of their answers and of that
+-- about the names in the folders. Or memory ran out before the first desk.
+abbrev pub VisitsPaths : (Bool → Bool → Stop → Type 0) → Option (List ℕ) → Option (List ℕ) → Result Bool ToolFault → Type 0
+VisitsPaths Runs before after result =
     ((result ≡ Err OutOfMemory) × (after ≡ before))
     ⊎ ((files : List (List ℕ)) × (are_texts : Bool) × (answer : Result Bool ToolFault)
-    × TellsDesks form last files before after answer × (result ≡ graver answer (names_answer are_texts)))
+    × VisitsFiles Runs files before after answer × (result ≡ graver answer (names_answer are_texts)))
+
+-- The wanted loans of the desks at the paths were listed.
+abbrev pub ListsPaths : Form → Wanted → Option (List ℕ) → Option (List ℕ) → Result Bool ToolFault → Type 0
+ListsPaths form wanted before after result = VisitsPaths (ListsDesk form wanted) before after result
+
+-- What came to the desks at the paths was told.
+abbrev pub TellsPaths : Form → Option ℕ → Option (List ℕ) → Option (List ℕ) → Result Bool ToolFault → Type 0
+TellsPaths form last before after result = VisitsPaths (TellsDesk form last) before after result
 
 -- The transaction `txn` at a desk was shown or drawn, with the messages that came. Or a file could not be
 -- opened.

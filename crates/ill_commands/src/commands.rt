@@ -3,11 +3,12 @@
 
 ghost use Rattle.std.specs.Prelude.{◌≡◌, map, string_bytes, IfErr, IfOk};
 ghost use Rattle.ill_show.specs.Report.{AddsPart, AddsParts};
-ghost use Rattle.ill_commands.specs.AtFile.{ActsAtFile, ListsDesk, ListsDesks, ListsPaths, LoanAtFile, NewAtFile, ReportsPaths, SendsAtFile, ShowsFile, SlipAtFile, TakesAtFile, VerifiesFile, after_writing};
+ghost use Rattle.ill_commands.specs.AtFile.{ActsAtFile, ListsDesk, ListsPaths, LoanAtFile, NewAtFile, ReportsPaths, SendsAtFile, ShowsFile, SlipAtFile, TakesAtFile, VerifiesFile, after_writing};
 ghost use Rattle.ill_desk.specs.ActAs.{asking_of};
 ghost use Rattle.ill_files.specs.Opening.{all_well};
 ghost use Rattle.ill_text.specs.Fault.{IsOpenFault};
 
+use crate::visit::{Visit, visit_paths};
 use ill_desk::act_as::{ActionView, run_desk_act_as};
 use ill_desk::new::run_desk_new;
 use ill_desk::send::run_desk_send;
@@ -177,70 +178,11 @@ pub fn list<T: Files, W: Write, E: Write>(
 ) -> Result<bool, ToolFault>
     ensures { ListsPaths form wanted.now (W.contents machine.old.writer) (W.contents machine.new.writer) result }
 {
-    let Ok(found) = desk_paths(machine.rt, machine.alloc, paths) else {
-        return Err(ToolFault::OutOfMemory);
-    };
-    let answer = list_files(machine, &found.files, wanted, form);
-    graver(
-        answer,
-        warn_of_names(machine.alloc, &found.unnamed, &mut machine.errors),
-    )
-}
-
-/// Lists the desks in `files`, one after another, and returns the gravest of their answers.
-fn list_files<T: Files, W: Write, E: Write>(
-    machine: &mut Machine<'_, T, W, E>,
-    files: &[String],
-    wanted: &Wanted,
-    form: Form,
-) -> Result<bool, ToolFault>
-    ensures { ListsDesks form wanted.now (map (λ file. string_bytes file) files.now)
-        (W.contents machine.old.writer) (W.contents machine.new.writer) result }
-{
-    let mut answer = Ok(true);
-    let mut last = Ok(true);
-    for place in 0..files.len() {
-        let listed = Listed {
-            path: files[place].as_str(),
-            is_headed: files.len() > 1,
-            is_first: place == 0,
-            form,
-        };
-        last = list_told(machine, last, &listed, wanted);
-        answer = graver(answer, last);
-    }
-    answer
-}
-
-/// Lists the desk in a file, and writes a line to `errors` if it cannot be read. If the writer failed at the last desk,
-/// with the answer `last`, it is not called again.
-fn list_told<T: Files, W: Write, E: Write>(
-    machine: &mut Machine<'_, T, W, E>,
-    last: Result<bool, ToolFault>,
-    listed: &Listed<'_>,
-    wanted: &Wanted,
-) -> Result<bool, ToolFault>
-    ensures { ListsDesk listed.now.form wanted.now listed.now.is_headed listed.now.is_first (record {
-      path = listed.now.path.now;
-      before = W.contents machine.old.writer;
-      after = W.contents machine.new.writer;
-      answer = result;
-    }) }
-{
-    if let Err(ToolFault::Write) = last {
-        return last;
-    }
-    let answer = list_file(machine, listed, wanted);
-    if let Err(fault) = answer
-        && fault != ToolFault::Write
-    {
-        machine.warn_of_fault(listed.path, fault);
-    }
-    answer
+    visit_paths(machine, paths, &Visit::List(wanted), form)
 }
 
 /// Lists the desk in a file, and tells which loans have few numbers left, its room and what is left out.
-fn list_file<T: Files, W: Write, E: Write>(
+pub(crate) fn list_file<T: Files, W: Write, E: Write>(
     machine: &mut Machine<'_, T, W, E>,
     listed: &Listed<'_>,
     wanted: &Wanted,

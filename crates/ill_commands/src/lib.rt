@@ -3,3 +3,4 @@
 
 pub mod commands;
 pub mod telling;
+mod visit;

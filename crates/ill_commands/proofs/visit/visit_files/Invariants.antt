@@ -1,14 +1,14 @@
--- States the loop invariant of `tell_files` (`src/telling.rt`).
+-- States the loop invariant of `visit_files` (`src/visit.rt`).
 use Rattle.std.proofs.Common.{map, take}
 use Rattle.std.specs.Prelude.{string_bytes}
-use Rattle.ill_commands.specs.AtFile.{TellsDesk, are_several}
+use Rattle.ill_commands.specs.AtFile.{RunsVisit, are_several}
 use Rattle.ill_text.specs.Visits.{VisitsEach}
-use Rattle.ill_commands.proofs.telling.tell_files.Given as goal
+use Rattle.ill_commands.proofs.visit.visit_files.Given as goal
 
--- What came to the desks in the first `place` files was told, as that of all files is.
+-- The desks in the first `place` files were visited, as those of all files are.
 abbrev pub invariant-loop-place : goal.invariant-loop-place
 invariant-loop-place g l =
-    VisitsEach (TellsDesk l.form l.last (are_several (map (λ file. string_bytes file) l.files)))
+    VisitsEach (RunsVisit l.visit l.form (are_several (map (λ file. string_bytes file) l.files)))
     (take l.place (map (λ file. string_bytes file) l.files)) (g.W.Write.contents l.fn.machine.writer)
     (g.W.Write.contents l.machine.writer)
     l.answer

@@ -1,17 +1,17 @@
--- Answers the contract of `news` (`src/telling.rt`).
+-- Answers the contract of `visit_paths` (`src/visit.rt`).
 use Rattle.std.proofs.Common.{map, inr, ap, ◌∙◌}
 use Rattle.std.specs.Prelude.{string_bytes, ◌==◌, length}
 use Rattle.ill_text.specs.Visits.{graver}
-use Rattle.ill_commands.proofs.telling.news.Goals as goal
+use Rattle.ill_commands.proofs.visit.visit_paths.Goals as goal
 
--- Proves the contract of `news` if the files are found. `tell_files` has told what came to the desks in them.
+-- Proves the contract of `visit_paths` if the files are found. `visit_files` has visited the desks in them.
 pub returns : goal.returns
 returns g c =
-    let answer = c.tell_files-answer.result in
+    let answer = c.visit_files-answer.result in
     inr (
       map (λ file. string_bytes file) c.deref.result.now,
       length c.deref-2.result.now == 0,
       answer,
-      c.tell_files-answer.ensures,
+      c.visit_files-answer.ensures,
       c.graver.ensures ∙ ap (λ further. graver answer further) c.warn_of_names.ensures,
     )

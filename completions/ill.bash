@@ -59,10 +59,11 @@ _ill_parts() {
     '') parts=(command) options='--explain --help --version' ;;
     help) parts=(command) options='' ;;
     new) parts=(file role) options='--explain --help' ;;
-    act) parts=(file loan loan words) options='--today --seen --dry-run --explain --help' ;;
-    list) parts=(files) options='--open --mine --today --ahead --due-before --state --actions --json --explain --help' ;;
+    act) parts=(file loan loan words) options='--today --seen --dry-run --long --explain --help' ;;
+    list) parts=(files) options='--open --mine --today --ahead --due-before --state --find --actions --notes --json --explain --help' ;;
     news) parts=(files) options='--last --json --explain --help' ;;
     loan) parts=(file loan loan) options='--picture --json --explain --help' ;;
+    note) parts=(file loan loan none) options='--explain --help' ;;
     slip) parts=(file loan loan) options='--explain --help' ;;
     status) parts=(file) options='--json --explain --help' ;;
     report) parts=(files) options='--today --explain --help' ;;
@@ -79,8 +80,9 @@ _ill_parts() {
     shelf-) parts=(shelf-command) options='--explain --help' ;;
     shelf-help) parts=(shelf-command) options='' ;;
     shelf-new) parts=(folder role) options='--explain --help' ;;
-    shelf-act) parts=(folder loan loan words) options='--today --seen --dry-run --new-group --explain --help' ;;
+    shelf-act) parts=(folder loan loan words) options='--today --seen --dry-run --long --new-group --explain --help' ;;
     shelf-loan) parts=(folder loan loan) options='--picture --json --explain --help' ;;
+    shelf-note) parts=(folder loan loan none) options='--explain --help' ;;
     shelf-slip) parts=(folder loan loan) options='--explain --help' ;;
     shelf-status) parts=(folder) options='--json --explain --help' ;;
     shelf-take) parts=(folder) options='--long --keep --explain --help' ;;
@@ -93,18 +95,18 @@ _ill_parts() {
 }
 
 # Sets `arguments` to those that stand between the command and the cursor, options left out, and `wanted` to
-# the kind of what may come next: `any` (an option too), `argument` (no option any more), `day`, `count`, `state` or
-# `file` (the value of an option).
+# the kind of what may come next: `any` (an option too), `argument` (no option any more), `day`, `count`, `text`,
+# `state` or `file` (the value of an option).
 _ill_read() {
   local at word
   for ((at = 2; at < COMP_CWORD; at++)); do
     word=${COMP_WORDS[at]}
     case $wanted-$word in
-      day-= | count-= | state-= | file-=) ;;     # bash takes --today=DAY for three words
-      day-* | count-* | state-* | file-*) wanted=any ;;
+      day-= | count-= | text-= | state-= | file-=) ;;     # bash takes --today=DAY for three words
+      day-* | count-* | text-* | state-* | file-*) wanted=any ;;
       any---) wanted=argument ;;
       any---today | any---due-before) wanted=day ;;
-      any---seen) wanted=text ;;
+      any---seen | any---find) wanted=text ;;
       any---ahead | any---last) wanted=count ;;
       any---state) wanted=state ;;
       any---copy | any---beat) wanted=file ;;
@@ -145,9 +147,9 @@ _ill() {
     state) offered='IDLE PENDING IN-PROCESS CONDITIONAL CANCEL-PENDING CANCELLED NOT-SUPPLIED SHIPPED RECEIVED
       RENEW/PENDING OVERDUE RENEW/OVERDUE NOT-RECEIVED/OVERDUE RECALL RETURNED CHECKED-IN' ;;
     role) offered='requester responder' ;;
-    command) offered='new act list news loan slip status report take send inbox outbox exchange verify show check
+    command) offered='new act list news loan note slip status report take send inbox outbox exchange verify show check
       simulate simulate-desks shelf help' ;;
-    shelf-command) offered='new act loan slip status take send inbox outbox exchange retire help' ;;
+    shelf-command) offered='new act loan note slip status take send inbox outbox exchange retire help' ;;
     words) offered=$(_ill_words "${arguments[0]}") ;;
     loan)
       _ill_offer_loans "${arguments[@]}"

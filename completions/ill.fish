@@ -20,20 +20,20 @@ end
 
 # The kind of what may come next, a line, the command, a line, and the arguments that stand between the command and the
 # cursor, options left out, a line each. The kind is `any` (an option too), `argument` (no option any more), `day`,
-# `count`, `state` or `file` (the value of an option).
+# `count`, `text`, `state` or `file` (the value of an option).
 function __ill_read
     set -l words (__ill_typed)
     set -l wanted any
     set -l arguments
     for word in $words[3..-1]
         switch $wanted-$word
-            case 'day-*' 'count-*' 'state-*' 'file-*'
+            case 'day-*' 'count-*' 'text-*' 'state-*' 'file-*'
                 set wanted any
             case any---
                 set wanted argument
             case any---today any---due-before
                 set wanted day
-            case any---seen
+            case any---seen any---find
                 set wanted text
             case any---ahead any---last
                 set wanted count
@@ -55,14 +55,14 @@ end
 # __ill_at COUNT COMMAND..: whether an argument of one of these commands comes next, after COUNT others.
 function __ill_at
     set -l read (__ill_read)
-    not contains -- $read[1] day count state file; and test (count $read[3..-1]) = $argv[1]
+    not contains -- $read[1] day count text state file; and test (count $read[3..-1]) = $argv[1]
     and contains -- "$read[2]" $argv[2..-1]
 end
 
 # __ill_any COMMAND..: whether an argument of one of these commands comes next, after any number.
 function __ill_any
     set -l read (__ill_read)
-    not contains -- $read[1] day count state file
+    not contains -- $read[1] day count text state file
     and contains -- "$read[2]" $argv
 end
 
@@ -118,6 +118,7 @@ complete -c ill -n "__ill_at 0 ''" -a act -d 'Perform one action in a loan, and 
 complete -c ill -n "__ill_at 0 ''" -a list -d 'List the loans of desks by the work of the day'
 complete -c ill -n "__ill_at 0 ''" -a news -d 'Tell what came to desks, in the order in which it came'
 complete -c ill -n "__ill_at 0 ''" -a loan -d 'Show all of one loan: request, messages, what may be done'
+complete -c ill -n "__ill_at 0 ''" -a note -d 'Keep a note on one loan, for staff alone'
 complete -c ill -n "__ill_at 0 ''" -a slip -d 'Write a slip of one loan, to print and to lay in its item'
 complete -c ill -n "__ill_at 0 ''" -a status -d 'Show how each loan in a file stands'
 complete -c ill -n "__ill_at 0 ''" -a report -d 'Write a page for a browser of the loans of desks'
@@ -133,10 +134,11 @@ complete -c ill -n "__ill_at 0 ''" -a simulate -d 'Perform a script of both side
 complete -c ill -n "__ill_at 0 ''" -a simulate-desks -d 'Perform a script of two desks, from standard input'
 complete -c ill -n "__ill_at 0 ''" -a shelf -d 'Keep a folder of desks, one for each group of loans'
 complete -c ill -n "__ill_at 0 ''" -a help -d 'Print the help of a command'
-complete -c ill -n '__ill_at 0 help' -a 'new act list news loan slip status report take send inbox outbox exchange verify show check simulate simulate-desks shelf help'
+complete -c ill -n '__ill_at 0 help' -a 'new act list news loan note slip status report take send inbox outbox exchange verify show check simulate simulate-desks shelf help'
 complete -c ill -n '__ill_at 0 shelf' -a new -d 'Begin a shelf of one role, in a folder'
 complete -c ill -n '__ill_at 0 shelf' -a act -d 'Perform one action in a loan, at the desk of its group'
 complete -c ill -n '__ill_at 0 shelf' -a loan -d 'Show all of one loan: request, messages, what may be done'
+complete -c ill -n '__ill_at 0 shelf' -a note -d 'Keep a note on one loan, beside the desk of its group'
 complete -c ill -n '__ill_at 0 shelf' -a slip -d 'Write a slip of one loan, to print and to lay in its item'
 complete -c ill -n '__ill_at 0 shelf' -a status -d 'Show how each loan stands, desk by desk'
 complete -c ill -n '__ill_at 0 shelf' -a take -d 'Take the APDUs on standard input, each at the desk of its group'
@@ -146,29 +148,32 @@ complete -c ill -n '__ill_at 0 shelf' -a outbox -d 'Put the messages of all desk
 complete -c ill -n '__ill_at 0 shelf' -a exchange -d 'Take the mails of a folder, and send into another'
 complete -c ill -n '__ill_at 0 shelf' -a retire -d 'Replace a desk whose loans are over by a mark of its group'
 complete -c ill -n '__ill_at 0 shelf' -a help -d 'Print the help of a command'
-complete -c ill -n '__ill_at 0 shelf-help' -a 'new act loan slip status take send inbox outbox exchange retire help'
-complete -c ill -n '__ill_at 0 new act loan slip status take send inbox outbox exchange verify' -F
+complete -c ill -n '__ill_at 0 shelf-help' -a 'new act loan note slip status take send inbox outbox exchange retire help'
+complete -c ill -n '__ill_at 0 new act loan note slip status take send inbox outbox exchange verify' -F
 complete -c ill -n '__ill_any list news report' -F
-complete -c ill -n '__ill_at 0 shelf-new shelf-act shelf-loan shelf-slip shelf-status shelf-take shelf-send shelf-inbox shelf-outbox shelf-exchange shelf-retire' -x -a '(__fish_complete_directories)'
+complete -c ill -n '__ill_at 0 shelf-new shelf-act shelf-loan shelf-note shelf-slip shelf-status shelf-take shelf-send shelf-inbox shelf-outbox shelf-exchange shelf-retire' -x -a '(__fish_complete_directories)'
 complete -c ill -n '__ill_at 1 inbox outbox exchange shelf-inbox shelf-outbox shelf-exchange' -x -a '(__fish_complete_directories)'
 complete -c ill -n '__ill_at 2 exchange shelf-exchange' -x -a '(__fish_complete_directories)'
 complete -c ill -n '__ill_at 1 new shelf-new' -a 'requester responder'
-complete -c ill -n '__ill_at 1 act loan slip send shelf-act shelf-loan shelf-slip shelf-send shelf-retire' -a '(__ill_loans)'
-complete -c ill -n '__ill_at 2 act loan slip send shelf-act shelf-loan shelf-slip shelf-send' -a '(__ill_loans)'
+complete -c ill -n '__ill_at 1 act loan note slip send shelf-act shelf-loan shelf-note shelf-slip shelf-send shelf-retire' -a '(__ill_loans)'
+complete -c ill -n '__ill_at 2 act loan note slip send shelf-act shelf-loan shelf-note shelf-slip shelf-send' -a '(__ill_loans)'
 complete -c ill -n '__ill_at 3 act shelf-act' -a '(__ill_words)'
-complete -c ill -n "__ill_option any '' new act list news loan slip status report take send inbox outbox exchange verify show check simulate simulate-desks shelf shelf-new shelf-act shelf-loan shelf-slip shelf-status shelf-take shelf-send shelf-inbox shelf-outbox shelf-exchange shelf-retire" -l explain -d 'Say more of what is wrong'
-complete -c ill -n "__ill_option any '' new act list news loan slip status report take send inbox outbox exchange verify show check simulate simulate-desks shelf shelf-new shelf-act shelf-loan shelf-slip shelf-status shelf-take shelf-send shelf-inbox shelf-outbox shelf-exchange shelf-retire" -s h -l help -d 'Print help'
+complete -c ill -n "__ill_option any '' new act list news loan note slip status report take send inbox outbox exchange verify show check simulate simulate-desks shelf shelf-new shelf-act shelf-loan shelf-note shelf-slip shelf-status shelf-take shelf-send shelf-inbox shelf-outbox shelf-exchange shelf-retire" -l explain -d 'Say more of what is wrong'
+complete -c ill -n "__ill_option any '' new act list news loan note slip status report take send inbox outbox exchange verify show check simulate simulate-desks shelf shelf-new shelf-act shelf-loan shelf-note shelf-slip shelf-status shelf-take shelf-send shelf-inbox shelf-outbox shelf-exchange shelf-retire" -s h -l help -d 'Print help'
 complete -c ill -n "__ill_option any ''" -s V -l version -d 'Print the version'
 complete -c ill -n '__ill_option day act shelf-act' -l today -x -d 'The day of the action, as 20250301; a responder needs it'
 complete -c ill -n '__ill_option text act shelf-act' -l seen -x -d 'Act only if this is what was shown of the loan'
 complete -c ill -n '__ill_option any act shelf-act' -l dry-run -d 'Tell what would come, and save nothing'
+complete -c ill -n '__ill_option any act shelf-act' -l long -d 'Write the item of the loan below the line'
 complete -c ill -n '__ill_option any list' -l open -d 'Leave out the loans that are over'
 complete -c ill -n '__ill_option any list' -l mine -d 'List only the loans that want a hand'
 complete -c ill -n '__ill_option day list' -l today -x -d 'The day of the work, as 20250301'
 complete -c ill -n '__ill_option count list' -l ahead -x -d 'Days within which a due date is soon, or 7'
 complete -c ill -n '__ill_option day list' -l due-before -x -d 'List only the loans that are due before this day'
 complete -c ill -n '__ill_option state list' -l state -x -a 'IDLE PENDING IN-PROCESS CONDITIONAL CANCEL-PENDING CANCELLED NOT-SUPPLIED SHIPPED RECEIVED RENEW/PENDING OVERDUE RENEW/OVERDUE NOT-RECEIVED/OVERDUE RECALL RETURNED CHECKED-IN' -d 'List only the loans in this state, as SHIPPED'
+complete -c ill -n '__ill_option text list' -l find -x -d 'List only the loans with these words in a text'
 complete -c ill -n '__ill_option any list' -l actions -d 'Show the actions that are possible in each loan'
+complete -c ill -n '__ill_option any list' -l notes -d 'Show the note on each loan below it'
 complete -c ill -n '__ill_option any list news loan status show shelf-loan shelf-status' -l json -d 'Write objects of JSON, one on a line'
 complete -c ill -n '__ill_option count news' -l last -x -d 'Tell only the last N messages, 1 to 255'
 complete -c ill -n '__ill_option any loan shelf-loan' -l picture -d 'Draw the messages of the loan, for Mermaid'

@@ -292,8 +292,8 @@ class Offers:
         self.offers("ill status my", "my desk")
         self.offers(r"ill status my\ d", "my desk")
         self.all_offer([f"list {flag}" for flag in (
-            "--open", "--mine", "--actions", "--today 20250301", "--ahead 3", "--due-before=20250301", "--state SHIPPED",
-            "--state=RENEW/PENDING", "one", "one -- two")], *self.files)
+            "--open", "--mine", "--actions", "--notes", "--find Maps", "--find=Maps", "--today 20250301", "--ahead 3",
+            "--due-before=20250301", "--state SHIPPED", "--state=RENEW/PENDING", "one", "one -- two")], *self.files)
         self.all_offer([f"news {flag}" for flag in ("--last 7", "--last=7", "one", "one --last 7 two")], *self.files)
         self.all_offer(("list --today", "list one --ahead", "list one --due-before", "exchange one --today",
                         "news one --last"))
@@ -343,8 +343,8 @@ class Offers:
         for line in (f"{day}{file} G1 T1 ", f"{file} {day} G1 T1 ", f"{file} G1 T1 {day}", f"{day}-- {file} G1 T1 ",
                      f"{file} {day}-- G1 T1 "):
             self.offers(f"ill act {line}", *words)
-        self.offers(f"ill act {day}{file} -", EXPLAIN, "--help", "--today", "--seen", "--dry-run")
-        self.offers(f"ill act {day}{file} G1 T1 -", EXPLAIN, "--help", "--today", "--seen", "--dry-run")
+        self.offers(f"ill act {day}{file} -", EXPLAIN, "--help", "--today", "--seen", "--dry-run", "--long")
+        self.offers(f"ill act {day}{file} G1 T1 -", EXPLAIN, "--help", "--today", "--seen", "--dry-run", "--long")
         self.offers(f"ill act {day}{file} -- G1 T1 --")
 
     def compare(self, shell, told):

@@ -158,6 +158,7 @@ def loan_lines(loan):
     for label in "held", "accepted", "last-cancel", "last-renew":
         if label in loan:
             lines.append(f"{label} {or_dash(loan[label])}")
+    lines += note_lines("note", loan)
     for apdu in loan["messages"]:
         lines += ["", *message_lines(apdu, shown)]
     for apdu in loan["came"]:
@@ -165,7 +166,12 @@ def loan_lines(loan):
     return lines
 
 
-def list_lines(has_actions):
+def note_lines(label, loan):
+    """The line of a note, if there is one."""
+    return [] if loan["note"] is None else [f"{label} {shown(loan['note'])}"]
+
+
+def list_lines(has_actions, has_notes=False):
     """The lines of what is listed of desks, where the objects have the paths of the desks and where not."""
     def lines_of(objects):
         lines, rows = [], []
@@ -177,7 +183,7 @@ def list_lines(has_actions):
                 lines += [""] * bool(lines) + [f"{shown(value['file'])}:"]
             if any(row.get("file") != value.get("file") for row in rows):
                 faults.append(f"the path of a loan is not that of its counts, {value}")
-            lines += row_lines(rows, has_actions)
+            lines += row_lines(rows, has_actions, has_notes)
             counts = (value[label] for label in ("loans", "open", "todo", "room"))
             lines.append("loans {}, open {}, to do {}, room for {}".format(*counts))
             rows = []
@@ -185,7 +191,7 @@ def list_lines(has_actions):
     return lines_of
 
 
-def row_lines(rows, has_actions):
+def row_lines(rows, has_actions, has_notes):
     """The lines of the loans of a desk, under a heading for each kind of work."""
     cells = [[row["state"], day(row["due"]).ljust(8), row["group"], row["transaction"], *[",".join(row["now"])] * has_actions]
              for row in rows]
@@ -196,6 +202,7 @@ def row_lines(rows, has_actions):
             lines.append(f"{row['work']} ({works.count(row['work'])}):")
         columns = "".join(f"{text:<{width}}  " for text, width in zip(texts, widths))
         lines.append(f"  {columns}{shown(or_dash(row['item']))}")
+        lines += note_lines("    note", row) if has_notes else []
     return lines
 
 
@@ -294,7 +301,10 @@ def compare_desks():
     for name, course in COURSES.items():
         txns.append(["Group of this", name])
         play(txns[-1], course)
+    for txn, title in zip(txns, TITLES.values()):
+        run(["note", "here", *txn, title])
     compare("list", ["list", "here"], list_lines(False))
+    compare("list", ["list", "here", "--notes"], list_lines(False, True))
     compare("list", ["list", "here", "--mine", "--actions"], list_lines(True))
     compare("list", ["list", "here", "--open", "--state", "PENDING"], list_lines(False))
     os.mkdir("folder")

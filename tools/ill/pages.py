@@ -57,8 +57,9 @@ TITLES = [
 ]
 EXPIRIES = ["none", "20250301", "20250318", "20250401"]
 GROUP = "<b>&\"'"
+NOTE = "</small></th> & \u202Efor <i>Noether</i>"
 
-ELEMENTS = set("html head meta title style body h1 h2 h3 p strong section table thead tbody tr th td bdi time code".split())
+ELEMENTS = set("html head meta title style body h1 h2 h3 p strong section table thead tbody tr th td bdi small time code".split())
 EMPTY = {"meta"}
 ATTRIBUTES = set("lang charset name content http-equiv dir scope class".split())
 HEAD = ["Title", "Loan", "State", "Date", "Actions"]
@@ -105,7 +106,7 @@ class Page(html.parser.HTMLParser):
             self.tables.setdefault(self.file, []).append(["", attributes == [("class", "task")], 0, []])
         elif name == "tr":
             self.cells = []
-        elif name in ("th", "td", "bdi", "code") and self.cells is not None:
+        elif name in ("th", "td", "bdi", "small", "code") and self.cells is not None:
             self.cells.append([name, ""])
 
     def handle_startendtag(self, name, attributes):
@@ -124,14 +125,15 @@ class Page(html.parser.HTMLParser):
 
     def end_row(self, cells):
         """Keeps the row that these cells make up, if it is not the head of its table."""
-        shape = [name for name, _ in cells if name != "code"]
+        shape = [name for name, _ in cells if name not in ("small", "code")]
         if shape == ["th"] * len(HEAD):
             self.faults += [] if [text for _, text in cells] == HEAD else [f"the head {cells}"]
             return
         self.faults += [] if shape == ["th", "td", "bdi", "bdi", "td", "td", "td"] else [f"the row {cells}"]
-        texts = [text for name, text in cells if name != "code"]
+        texts = [text for name, text in cells if name not in ("small", "code")]
+        notes = [text for name, text in cells if name == "small"]
         verbs = [text for name, text in cells if name == "code"]
-        self.tables[self.file][-1][3].append([texts[0], *texts[2:6], verbs])
+        self.tables[self.file][-1][3].append([texts[0], notes, *texts[2:6], verbs])
 
     def handle_data(self, data):
         within = self.open[-1] if self.open else None
@@ -145,7 +147,7 @@ class Page(html.parser.HTMLParser):
             self.unread[self.file] = self.unread.get(self.file, "") + data
         elif within == "h3":
             self.tables[self.file][-1][0] += data
-        elif within in ("th", "td", "bdi", "code", "time") and self.cells:
+        elif within in ("th", "td", "bdi", "small", "code", "time") and self.cells:
             self.cells[-1][1] += data if data.strip() or within != "td" else ""
         elif data.strip() and within not in ("title", "h1", "time"):
             self.faults.append(f"{data!r} in <{within}>")
@@ -162,7 +164,7 @@ class Page(html.parser.HTMLParser):
 
 
 def begin():
-    """Two desks with a loan in each state: the titles, by the transaction."""
+    """Two desks with a loan in each state: the titles, by the transaction. In the first, each third loan has a note."""
     lines("new", "here", "requester")
     lines("new", "there", "responder")
     titles = {}
@@ -179,6 +181,8 @@ def begin():
             if is_delivered:
                 message = ill("send", desk, GROUP, txn, str(issued[who])).stdout
                 ill("take", other, given=message)
+    for txn in list(titles)[::3]:
+        lines("note", "here", GROUP, txn, "--", NOTE)
     return titles
 
 
@@ -199,7 +203,8 @@ def loans_of(desk, titles, morning):
         loan = Loan(told["role"], told["state"], told["marks"].split(), due, expiry)
         date = f"due {iso(due)}" if due else f"expires {iso(expiry)}" if expiry else ""
         verbs = [verb for verb in told["now"].split() if verb != "-" and morning.allows(loan, verb)]
-        yield loan, [shown(titles[txn]), GROUP, txn, morning.state(loan), date, verbs]
+        notes = [shown(NOTE)] if "note" in told else []
+        yield loan, [shown(titles[txn]), notes, GROUP, txn, morning.state(loan), date, verbs]
 
 
 def check_desk(page, desk, titles, today):

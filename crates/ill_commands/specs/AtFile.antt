@@ -1,12 +1,13 @@
 -- The effect of each command. A desk here was loaded from a file, so nothing is known of its content.
-use Rattle.std.specs.Prelude.{◌≡◌, ◌⊎◌, ℕ, Bool, nat_lt, List, ◌++◌, length, codes, Option, Result, Ok}
+use Rattle.std.specs.Prelude.{◌≡◌, ◌⊎◌, ℕ, Bool, true, nat_lt, List, ◌++◌, length, codes, Option, option_map, Result, Ok}
 use Rattle.std.specs.Prelude.{Err, IfErr}
 use Rattle.ill_values.specs.Day.{Date}
 use Rattle.ill_values.specs.TxnId.{Qualifiers}
 use Rattle.ill_saved.specs.declared.side.Side.{Side}
 use Rattle.ill_store.specs.declared.store.StoreFault.{StoreFault}
 use Rattle.ill_saved.specs.Holdings.{DeskEntry}
-use Rattle.ill_saved.specs.ManySides.{DeskContents, found_by, txn_held, many_sides}
+use Rattle.ill_saved.specs.ManySides.{DeskContents, found_by, txn_held, many_sides, sides_held}
+use Rattle.ill_saved.specs.Sides.{side_with}
 use Rattle.ill_text.specs.declared.fault.ToolFault.{ToolFault}
 use Rattle.ill_text.specs.declared.fault.ToolFault.TheVariants.{OutOfMemory}
 use Rattle.ill_files.specs.Opening.{GoesWell, FailsToOpen, names_answer}
@@ -25,7 +26,8 @@ use Rattle.ill_slip.specs.Slip.{RunsSlip}
 use Rattle.ill_show.specs.Verify.{VerifiesLoaded}
 use Rattle.ill_show.specs.declared.wanted.Wanted.{Wanted}
 use Rattle.ill_show.specs.Listing.{between, listed_desk}
-use Rattle.ill_show.specs.News.{WritesNews, news_text}
+use Rattle.ill_show.specs.ItemLine.{item_line}
+use Rattle.ill_show.specs.News.{WritesNews, item_of, news_text}
 use Rattle.ill_show.specs.Report.{Part, gravest_part, report_page}
 use Rattle.ill_text.specs.declared.form.Form.{Form}
 use Rattle.ill_show.specs.Objects.{status_of_desk}
@@ -38,12 +40,27 @@ abbrev pub NewAtFile : Option (List ℕ) → Option (List ℕ) → Result Bool T
 NewAtFile before after result =
     FailsToOpen before after result ⊎ GoesWell (RunsNew (codes "done\n") before after) result
 
--- The action for which a person asks was performed at a desk, or tried. Or its file could not be opened.
-abbrev pub ActsAtFile : Asking → Option (List ℕ) → Option (List ℕ) → Result Bool ToolFault → Type 0
-ActsAtFile asked before after result =
+-- Returns `answer` if the output was written, else the fault.
+abbrev pub after_writing : Result (Unit {0}) ToolFault → Result Bool ToolFault → Result Bool ToolFault
+after_writing (Ok done) answer = answer
+after_writing (Err fault) answer = Err fault
+
+-- After an action with the answer `acted`, the item of its loan was written, if `is_long` is true and there is no fault.
+abbrev pub TellsItem : (is_long : Bool) → (item : Option (List ℕ)) → (acted : Result Bool ToolFault) → Option (List ℕ) →
+    Option (List ℕ) → Result Bool ToolFault → Type 0
+TellsItem true item (Ok is_well) before after result =
+    (written : Result (Unit {0}) ToolFault) × WritesText before after (item_line item) written
+    × (result ≡ after_writing written (Ok is_well))
+TellsItem is_long item acted before after result = (result ≡ acted) × (after ≡ before)
+
+-- The action for which a person asks was performed at a desk, or tried. If `is_long` is true, the item of the loan was
+-- told after it. Or its file could not be opened.
+abbrev pub ActsAtFile : Asking → (is_long : Bool) → Option (List ℕ) → Option (List ℕ) → Result Bool ToolFault → Type 0
+ActsAtFile asked is_long before after result =
     FailsToOpen before after result
-    ⊎ ((old : HeldAndLanded DeskContents) × (new : HeldAndLanded DeskContents)
-    × RunsActAs asked (command_state old before) result (command_state new after))
+    ⊎ ((old : HeldAndLanded DeskContents) × (new : HeldAndLanded DeskContents) × (between : Option (List ℕ))
+    × (acted : Result Bool ToolFault) × RunsActAs asked (command_state old before) acted (command_state new between)
+    × TellsItem is_long (item_of (side_with asked.txn (sides_held new.live).sides)) acted between after result)
 
 -- The APDUs of the input were taken at a desk, in this form. Or its file could not be opened.
 abbrev pub TakesAtFile : TakeForm → Option (List ℕ) → Option (List ℕ) → Option (List ℕ) → Option (List ℕ) →
@@ -66,14 +83,15 @@ ShowsFile form before after result =
     FailsToOpen before after result
     ⊎ ((held : List DeskEntry) × GoesWell (WritesText before after (status_of_desk form held)) result)
 
--- The wanted sides of a desk were listed in a visit. If `is_first`, no desk is before it. If `is_headed`, the
--- path is written first. Or its file could not be opened, and nothing was written.
-abbrev pub ListsDesk : Form → Wanted → (is_headed is_first : Bool) → Stop → Type 0
-ListsDesk form wanted is_headed is_first stop =
+-- Those of the wanted sides of a desk that have the words `find`, if there are any, were listed in a visit. If `is_first`,
+-- no desk is before it. If `is_headed`, the path is written first. Or a file could not be opened, and nothing was written.
+abbrev pub ListsDesk : Form → Wanted → (find : Option (List ℕ)) → (is_headed is_first : Bool) → Stop → Type 0
+ListsDesk form wanted find is_headed is_first stop =
     FailsToOpen stop.before stop.after stop.answer
-    ⊎ ((sides : List Side)
+    ⊎ ((sides : List Side) × (notes : List (List ℕ))
     × GoesWell (WritesText stop.before stop.after
-    (between form is_first ++ listed_desk form is_headed wanted stop.path sides)) stop.answer)
+    (between form is_first ++ listed_desk form is_headed wanted (record { find = find; notes = notes }) stop.path sides))
+    stop.answer)
 
 -- What came to a desk was told in a visit, as `news_text` does. Or a file could not be opened, and nothing was written.
 abbrev pub TellsDesk : Form → Option ℕ → (is_headed is_first : Bool) → Stop → Type 0
@@ -84,7 +102,7 @@ TellsDesk form last is_headed is_first stop =
 
 -- A visit has the effect of its command at one desk.
 abbrev pub RunsVisit : Visit → Form → (is_headed is_first : Bool) → Stop → Type 0
-RunsVisit (visits.List wanted) form = ListsDesk form wanted.now
+RunsVisit (visits.List wanted find) form = ListsDesk form wanted.now (option_map (λ words. words.now) find)
 RunsVisit (visits.News last) form = TellsDesk form last
 
 -- Returns true if there are several desks to visit.
@@ -104,21 +122,22 @@ VisitsPaths Runs before after result =
     ⊎ ((files : List (List ℕ)) × (are_texts : Bool) × (answer : Result Bool ToolFault)
     × VisitsFiles Runs files before after answer × (result ≡ graver answer (names_answer are_texts)))
 
--- The wanted loans of the desks at the paths were listed.
-abbrev pub ListsPaths : Form → Wanted → Option (List ℕ) → Option (List ℕ) → Result Bool ToolFault → Type 0
-ListsPaths form wanted before after result = VisitsPaths (ListsDesk form wanted) before after result
+-- Those of the wanted loans of the desks at the paths that have the words `find`, if there are any, were listed.
+abbrev pub ListsPaths : Form → Wanted → (find : Option (List ℕ)) → Option (List ℕ) → Option (List ℕ) → Result Bool ToolFault →
+    Type 0
+ListsPaths form wanted find before after result = VisitsPaths (ListsDesk form wanted find) before after result
 
 -- What came to the desks at the paths was told.
 abbrev pub TellsPaths : Form → Option ℕ → Option (List ℕ) → Option (List ℕ) → Result Bool ToolFault → Type 0
 TellsPaths form last before after result = VisitsPaths (TellsDesk form last) before after result
 
--- The transaction `txn` at a desk was shown or drawn, with the messages that came. Or a file could not be
+-- The transaction `txn` at a desk was shown or drawn, with its note and the messages that came. Or a file could not be
 -- opened.
 abbrev pub LoanAtFile : LoanForm → Qualifiers → Option (List ℕ) → Option (List ℕ) → Result Bool ToolFault → Type 0
 LoanAtFile form txn before after result =
     FailsToOpen before after result
-    ⊎ ((held : List DeskEntry) × (came : List ℕ)
-    × GoesWell (RunsLoan form (found_by txn_held txn held) came before after) result)
+    ⊎ ((held : List DeskEntry) × (notes : List (List ℕ)) × (came : List ℕ)
+    × GoesWell (RunsLoan form notes (found_by txn_held txn held) came before after) result)
 
 -- The slip of the transaction `txn` at a desk was written. Or its file could not be opened.
 abbrev pub SlipAtFile : Qualifiers → Option (List ℕ) → Option (List ℕ) → Result Bool ToolFault → Type 0
@@ -131,11 +150,6 @@ abbrev pub VerifiesFile : Option (List ℕ) → Option (List ℕ) → Result Boo
 VerifiesFile before after result =
     FailsToOpen before after result
     ⊎ ((loaded : Result (Option (List ℕ)) StoreFault) × GoesWell (VerifiesLoaded loaded before after) result)
-
--- Returns `answer` if the output was written, else the fault.
-abbrev pub after_writing : Result (Unit {0}) ToolFault → Result Bool ToolFault → Result Bool ToolFault
-after_writing (Ok done) answer = answer
-after_writing (Err fault) answer = Err fault
 
 -- A page of the desks at the paths was written, with a part for each. The result is the gravest of the faults of
 -- desks that could not be opened, and of that about the names in the folders. Or memory ran out before the page.

@@ -1,1 +1,2 @@
 pub mod AtFile
+pub mod Note

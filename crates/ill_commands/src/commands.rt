@@ -1,9 +1,10 @@
 //! The commands that keep a desk in a file. Their arguments are values that were read before, except the words of an
 //! action. A command that may change the file holds its lock from before the load to its end.
 
-ghost use Rattle.std.specs.Prelude.{◌≡◌, map, string_bytes, IfErr, IfOk};
+ghost use Rattle.std.specs.Prelude.{◌≡◌, map, option_copied, option_map, string_bytes, IfErr, IfOk};
+ghost use Rattle.ill_show.specs.News.{item_of};
 ghost use Rattle.ill_show.specs.Report.{AddsPart, AddsParts};
-ghost use Rattle.ill_commands.specs.AtFile.{ActsAtFile, ListsDesk, ListsPaths, LoanAtFile, NewAtFile, ReportsPaths, SendsAtFile, ShowsFile, SlipAtFile, TakesAtFile, VerifiesFile, after_writing};
+ghost use Rattle.ill_commands.specs.AtFile.{ActsAtFile, ListsDesk, ListsPaths, LoanAtFile, NewAtFile, ReportsPaths, SendsAtFile, ShowsFile, SlipAtFile, TakesAtFile, TellsItem, VerifiesFile, after_writing};
 ghost use Rattle.ill_desk.specs.ActAs.{asking_of};
 ghost use Rattle.ill_files.specs.Opening.{all_well};
 ghost use Rattle.ill_text.specs.Fault.{IsOpenFault};
@@ -16,13 +17,17 @@ use ill_desk::take::{TakeForm, run_desk_take_as};
 use ill_files::came::{came_bytes, open_came};
 use ill_files::folder::{desk_paths, warn_of_names};
 use ill_files::machine::Machine;
+use ill_files::notes::notes_bytes;
 use ill_files::open::{all_well, end, lock, open, open_locked};
 use ill_saved::{
-    Desk, FileStore, LockFiles, LockedDesk, RECORD_LIMIT, Role, SIDES_LIMIT, Sides, Store,
+    Desk, FileStore, LockFiles, LockedDesk, RECORD_LIMIT, Role, SIDES_LIMIT, Side, Sides, Store,
 };
+use ill_show::finding::Sought;
+use ill_show::item_line::write_item;
 use ill_show::list::{count_left_out, run_desk_list};
 use ill_show::listed::{Listed, left_out_line, warning};
 use ill_show::loan::{LoanView, run_desk_loan};
+use ill_show::notes::Notes;
 use ill_show::numbers::{numbers_lines, push_told};
 use ill_show::report::{end_page, push_desk, push_fault, push_head};
 use ill_show::status::run_desk_status_as;
@@ -54,16 +59,17 @@ pub fn new<T: LockFiles, W: Write, E: Write>(
     end(begun)
 }
 
-/// `ill act`: performs the action of `view`, or tries it.
+/// `ill act`: performs the action of `view`, or tries it. If `is_long` is set, the item of the loan is written too.
 pub fn act<T: LockFiles, W: Write, E: Write>(
     machine: &mut Machine<'_, T, W, E>,
     file: &str,
     view: &ActionView<'_>,
+    is_long: bool,
 ) -> Result<bool, ToolFault>
-    ensures { ActsAtFile (asking_of view.now) (W.contents machine.old.writer) (W.contents machine.new.writer) result }
+    ensures { ActsAtFile (asking_of view.now) is_long (W.contents machine.old.writer) (W.contents machine.new.writer) result }
 {
     let locked = open_locked(machine.rt, machine.alloc, file)?;
-    act_at(machine, file, locked, view)
+    act_at(machine, file, locked, view, is_long)
 }
 
 /// Performs or tries the action of `view` at `locked`, the desk in `file`, and then lets the desk and its lock go. Writes a line to
@@ -73,10 +79,18 @@ pub fn act_at<T: LockFiles, W: Write, E: Write>(
     file: &str,
     mut locked: LockedDesk<'_, T>,
     view: &ActionView<'_>,
+    is_long: bool,
 ) -> Result<bool, ToolFault>
-    ensures { ActsAtFile (asking_of view.now) (W.contents machine.old.writer) (W.contents machine.new.writer) result }
+    ensures { ActsAtFile (asking_of view.now) is_long (W.contents machine.old.writer) (W.contents machine.new.writer) result }
 {
     let acted = run_desk_act_as(machine.alloc, &mut locked.desk, view, &mut machine.writer);
+    let told = tell_item(
+        machine.alloc,
+        locked.desk.sides().get(view.txn),
+        is_long,
+        acted,
+        &mut machine.writer,
+    );
     if acted.is_ok() {
         tell_numbers_of(
             machine.alloc,
@@ -87,7 +101,24 @@ pub fn act_at<T: LockFiles, W: Write, E: Write>(
         );
     }
     drop(locked);
-    acted
+    told
+}
+
+/// Writes the item of the loan of `side` after the line of an action, if `is_long` is set and the answer `acted` is no
+/// fault. Returns that answer, or the fault of the writing.
+fn tell_item<W: Write>(
+    alloc: Global,
+    side: Option<&Side>,
+    is_long: bool,
+    acted: Result<bool, ToolFault>,
+    writer: &mut W,
+) -> Result<bool, ToolFault>
+    ensures { TellsItem is_long (item_of (option_copied side.entry)) acted (W.contents writer.old) (W.contents writer.new) result }
+{
+    if acted.is_err() || !is_long {
+        return acted;
+    }
+    after_writing(write_item(alloc, side, writer), acted)
 }
 
 /// Writes to `errors` how many numbers the loan `txn` has left, if these are few.
@@ -169,16 +200,19 @@ pub fn send<T: Files, W: Write, E: Write>(
     all_well(sent)
 }
 
-/// `ill list`: lists the wanted loans of the desks at `paths`. After a failure at one desk, the others are still listed.
+/// `ill list`: lists the wanted loans of the desks at `paths`, or those that have the words `find`. After a failure at one
+/// desk, the others are still listed.
 pub fn list<T: Files, W: Write, E: Write>(
     machine: &mut Machine<'_, T, W, E>,
     paths: &[&str],
     wanted: &Wanted,
+    find: Option<&str>,
     form: Form,
 ) -> Result<bool, ToolFault>
-    ensures { ListsPaths form wanted.now (W.contents machine.old.writer) (W.contents machine.new.writer) result }
+    ensures { ListsPaths form wanted.now (option_map (λ words. words.now) find.entry) (W.contents machine.old.writer)
+        (W.contents machine.new.writer) result }
 {
-    visit_paths(machine, paths, &Visit::List(wanted), form)
+    visit_paths(machine, paths, &Visit::List(wanted, find), form)
 }
 
 /// Lists the desk in a file, and tells which loans have few numbers left, its room and what is left out.
@@ -186,16 +220,29 @@ pub(crate) fn list_file<T: Files, W: Write, E: Write>(
     machine: &mut Machine<'_, T, W, E>,
     listed: &Listed<'_>,
     wanted: &Wanted,
+    find: Option<&str>,
 ) -> Result<bool, ToolFault>
-    ensures { ListsDesk listed.now.form wanted.now listed.now.is_headed listed.now.is_first (record {
+    ensures { ListsDesk listed.now.form wanted.now (option_map (λ words. words.now) find.entry) listed.now.is_headed listed.now.is_first (record {
       path = listed.now.path.now;
       before = W.contents machine.old.writer;
       after = W.contents machine.new.writer;
       answer = result;
     }) }
 {
+    let notes = read_notes(machine.rt, machine.alloc, listed.path)?;
     let desk = open(machine.rt, machine.alloc, listed.path)?;
-    let answer = run_desk_list(machine.alloc, &desk, listed, wanted, &mut machine.writer);
+    let sought = Sought {
+        find,
+        notes: &notes,
+    };
+    let answer = run_desk_list(
+        machine.alloc,
+        &desk,
+        listed,
+        wanted,
+        &sought,
+        &mut machine.writer,
+    );
     tell_numbers(
         machine.alloc,
         listed.path,
@@ -217,6 +264,27 @@ pub(crate) fn list_file<T: Files, W: Write, E: Write>(
     );
     drop(desk);
     all_well(answer)
+}
+
+/// Opens the desk in `file`, and reads the notes beside it.
+fn open_with_notes<'a, T: Files>(
+    rt: &'a T,
+    alloc: Global,
+    file: &str,
+) -> Result<(Desk<FileStore<'a, T>>, Notes), ToolFault>
+    ensures { IfErr result IsOpenFault }
+{
+    let notes = read_notes(rt, alloc, file)?;
+    let desk = open(rt, alloc, file)?;
+    Ok((desk, notes))
+}
+
+/// Reads the notes beside the desk in `file`.
+fn read_notes<T: Files>(rt: &T, alloc: Global, file: &str) -> Result<Notes, ToolFault>
+    ensures { IfErr result IsOpenFault }
+{
+    let bytes = notes_bytes(rt, alloc, file)?;
+    Ok(Notes::read(alloc, &bytes)?)
 }
 
 /// Writes to `errors` which loans of a desk have few numbers left, and how many.
@@ -275,9 +343,17 @@ pub fn loan<T: Files, W: Write, E: Write>(
 ) -> Result<bool, ToolFault>
     ensures { LoanAtFile view.now.form view.now.txn.now (W.contents machine.old.writer) (W.contents machine.new.writer) result }
 {
+    let notes = read_notes(machine.rt, machine.alloc, file)?;
     let desk = open(machine.rt, machine.alloc, file)?;
     let came = came_bytes(machine.rt, machine.alloc, file)?;
-    let shown = run_desk_loan(machine.alloc, &desk, view, &came, &mut machine.writer);
+    let shown = run_desk_loan(
+        machine.alloc,
+        &desk,
+        view,
+        &notes,
+        &came,
+        &mut machine.writer,
+    );
     drop(desk);
     all_well(shown)
 }
@@ -372,9 +448,9 @@ fn push_file<T: Files, W: Write, E: Write>(
     ensures fault { IfOk result (λ answer. IfErr answer IsOpenFault) }
     ensures silent { machine.new.writer ≡ machine.old.writer }
 {
-    match open(machine.rt, machine.alloc, file) {
-        Ok(desk) => {
-            let told = push_desk(page, today, file, desk.sides());
+    match open_with_notes(machine.rt, machine.alloc, file) {
+        Ok((desk, notes)) => {
+            let told = push_desk(page, today, file, desk.sides(), &notes);
             drop(desk);
             told?;
             Ok(Ok(true))

@@ -2,5 +2,6 @@
 #![tactic(auto)]
 
 pub mod commands;
+pub mod note;
 pub mod telling;
 mod visit;

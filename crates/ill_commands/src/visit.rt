@@ -19,8 +19,8 @@ use std::rt::Files;
 /// A visit of a command to a desk in a file.
 #[derive(Clone, Copy)]
 pub(crate) enum Visit<'a> {
-    /// Its wanted loans are listed.
-    List(&'a Wanted),
+    /// Those of its wanted loans are listed that have the words, if there are any.
+    List(&'a Wanted, Option<&'a str>),
     /// The last of the messages that came to it are told, or all of them.
     News(Option<Number>),
 }
@@ -110,7 +110,7 @@ fn visit_file<T: Files, W: Write, E: Write>(
     }) }
 {
     match visit {
-        Visit::List(wanted) => list_file(machine, listed, wanted),
+        Visit::List(wanted, find) => list_file(machine, listed, wanted, *find),
         Visit::News(last) => tell_file(machine, listed, *last),
     }
 }

@@ -163,7 +163,7 @@ fn tell_part(
         Parts::Item if *first != "none" && Day::read(first.as_bytes()).is_err() => {
             tell_no_wish(text, form, first)
         }
-        Parts::Item => tell_item(alloc, text, others),
+        Parts::Item => tell_text(alloc, text, "item", others),
     }
 }
 
@@ -252,28 +252,48 @@ fn tell_grant(
     }
 }
 
-/// Appends the reason why `words` are no item.
-fn tell_item(alloc: Global, text: &mut String, words: &[&str]) -> Result<(), OutOfMemory> {
+/// Appends the reason why the words of `ill note` are no note.
+pub fn tell_note(
+    alloc: Global,
+    text: &mut String,
+    matches: &ArgMatches<'_>,
+) -> Result<(), OutOfMemory> {
+    let words = matches.get_strs(Argument::NoteWords.id());
+    tell_text(alloc, text, "note", words.unwrap_or_default())
+}
+
+/// Appends the reason why `words` are no text of this name: no item, or no note.
+fn tell_text(
+    alloc: Global,
+    text: &mut String,
+    name: &str,
+    words: &[&str],
+) -> Result<(), OutOfMemory> {
     let item = words.join(alloc, " ")?;
     match Item::new(alloc, item.as_bytes()) {
         Ok(_) | Err(TextFault::Empty) => Ok(()),
-        Err(TextFault::TooLong) => {
-            let size = item.len();
-            writeln!(text, "  The item has {size} bytes: it has 200 at most.")
-        }
-        Err(TextFault::BadByte) => tell_control(text, item.as_str()),
+        Err(TextFault::TooLong) => tell_too_long(text, name, item.len()),
+        Err(TextFault::BadByte) => tell_control(text, name, item.as_str()),
         Err(TextFault::OutOfMemory) => Err(OutOfMemory),
     }
 }
 
-/// Appends the place of the first byte of `item` that is a control character.
-fn tell_control(text: &mut String, item: &str) -> Result<(), OutOfMemory> {
+/// Appends the size of a text of this name, which has too many bytes.
+fn tell_too_long(text: &mut String, name: &str, size: usize) -> Result<(), OutOfMemory> {
+    match name {
+        "note" => writeln!(text, "  The note has {size} bytes: it has 200 at most."),
+        _ => writeln!(text, "  The item has {size} bytes: it has 200 at most."),
+    }
+}
+
+/// Appends the place of the first byte of `item`, a text of this name, that is a control character.
+fn tell_control(text: &mut String, name: &str, item: &str) -> Result<(), OutOfMemory> {
     let shown = Shown::of(item);
     for (place, byte) in (1_u64..).zip(item.bytes()) {
         if byte.is_ascii_control() {
             return writeln!(
                 text,
-                "  Byte {place} of the item {shown} is a control character."
+                "  Byte {place} of the {name} {shown} is a control character."
             );
         }
     }

@@ -1,6 +1,6 @@
 //! The lines about wrong arguments, with the right form of each.
 
-use crate::action::tell_action;
+use crate::action::{tell_action, tell_note};
 use crate::day::tell_day;
 use crate::file::tell_reserved;
 use crate::shown::Shown;
@@ -43,6 +43,7 @@ fn tell_together<T: LockFiles>(
 ) -> Result<(), OutOfMemory> {
     match name {
         Name::Act => tell_action(rt, alloc, text, matches),
+        Name::Note => tell_note(alloc, text, matches),
         Name::Outbox => writeln!(
             text,
             "  Say where the messages go: a folder, or --stream, and not both."

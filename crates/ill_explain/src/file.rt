@@ -4,7 +4,7 @@ use crate::shown::Shown;
 use clap::ArgMatches;
 use ill_files::folder::desk_paths;
 use ill_files::open::open;
-use ill_files::paths::{BESIDE, CAME, folder_of};
+use ill_files::paths::{BESIDE, CAME, NOTES, folder_of};
 use ill_line::command_line::Argument;
 use ill_saved::{DeskFault, LockFiles, RECORD_LIMIT, RecordFault, StoreFault};
 use ill_values::OutOfMemory;
@@ -124,23 +124,29 @@ fn failed_at<T: LockFiles>(rt: &T, alloc: Global, path: &str) -> Option<String> 
         .find(|file| open(rt, alloc, file.as_str()).is_err())
 }
 
-/// Appends the file that has too many bytes: the file of the desk, or of the messages that came.
+/// Appends the file that has too many bytes: the file of the desk, of the messages that came, or of the notes.
 fn tell_too_large<T: LockFiles>(
     rt: &T,
     alloc: Global,
     text: &mut String,
     path: &str,
 ) -> Result<(), OutOfMemory> {
-    let came = format!(in alloc; "{path}{CAME}")?;
-    match fs::symlink_metadata(rt, came.as_str()) {
-        Ok(found) if found.len() > u64::from(RECORD_LIMIT) => {
-            let shown = Shown::of(came.as_str());
-            writeln!(text, "  {shown} has grown too long: put it away.")
+    for ending in [CAME, NOTES] {
+        let kept = format!(in alloc; "{path}{ending}")?;
+        if is_too_large(rt, kept.as_str()) {
+            let shown = Shown::of(kept.as_str());
+            return writeln!(text, "  {shown} has grown too long: put it away.");
         }
-        _ => {
-            let shown = Shown::of(path);
-            writeln!(text, "  {shown} has more bytes than the record of a desk.")
-        }
+    }
+    let shown = Shown::of(path);
+    writeln!(text, "  {shown} has more bytes than the record of a desk.")
+}
+
+/// Returns true if the file at `path` has more bytes than the record of a desk may have.
+fn is_too_large<T: LockFiles>(rt: &T, path: &str) -> bool {
+    match fs::symlink_metadata(rt, path) {
+        Ok(found) => found.len() > u64::from(RECORD_LIMIT),
+        Err(_) => false,
     }
 }
 
@@ -291,25 +297,25 @@ fn tell_unsaved<T: LockFiles>(
         text,
         "  Look at the permissions of both, and at the room on the disk."
     )?;
-    tell_came(rt, alloc, text, path)
+    tell_kept(rt, alloc, text, path, CAME, ", or has more than messages")?;
+    tell_kept(rt, alloc, text, path, NOTES, "")
 }
 
-/// Appends that the file of the messages that came may be the cause, if it exists.
-fn tell_came<T: LockFiles>(
+/// Appends that the file with `ending` beside that at `path` may be the cause, if it exists. `more` may say more of it.
+fn tell_kept<T: LockFiles>(
     rt: &T,
     alloc: Global,
     text: &mut String,
     path: &str,
+    ending: &str,
+    more: &str,
 ) -> Result<(), OutOfMemory> {
-    let came = format!(in alloc; "{path}{CAME}")?;
-    if fs::symlink_metadata(rt, came.as_str()).is_err() {
+    let kept = format!(in alloc; "{path}{ending}")?;
+    if fs::symlink_metadata(rt, kept.as_str()).is_err() {
         return Ok(());
     }
-    let shown = Shown::of(came.as_str());
-    writeln!(
-        text,
-        "  Or {shown} cannot be read or written, or has more than messages."
-    )
+    let shown = Shown::of(kept.as_str());
+    writeln!(text, "  Or {shown} cannot be read or written{more}.")
 }
 
 /// Returns true if another command holds the lock at the path `lock`.

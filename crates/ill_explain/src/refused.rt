@@ -10,7 +10,7 @@ use ill_values::OutOfMemory;
 use std::alloc::Global;
 use std::rt::Files;
 
-/// Appends the lines about an option among the words of an action, or about a desk of a shelf.
+/// Appends the lines about an option among the words of an action or a note, or about a desk of a shelf.
 pub fn tell_refused<T: Files>(
     rt: &T,
     text: &mut String,
@@ -21,7 +21,7 @@ pub fn tell_refused<T: Files>(
     let alloc = *text.allocator();
     let action = matches.get_strs(Argument::Words.id()).unwrap_or_default();
     if has_option(words, action) {
-        return tell_options(text, action);
+        return tell_options(text, name, action);
     }
     match read_words(alloc, words) {
         Ok(call) => tell_guarded(rt, alloc, text, name, &call),
@@ -45,17 +45,21 @@ fn tell_guarded<T: Files>(
     }
 }
 
-/// Appends that the first option in `action` stands among its words, and how it becomes part of a title.
-fn tell_options(text: &mut String, action: &[&str]) -> Result<(), OutOfMemory> {
+/// Appends that the first option in `action` stands among its words, and how it becomes part of a title or a note.
+fn tell_options(text: &mut String, name: Name, action: &[&str]) -> Result<(), OutOfMemory> {
     let option = action.iter().find(|word| is_option(word));
     let shown = Shown::of(option.copied().unwrap_or_default());
+    let (whole, part) = match name {
+        Name::Note => ("note", "note"),
+        _ => ("action", "title"),
+    };
     writeln!(
         text,
-        "  {shown} is an option, and stands among the words of the action: type it before them."
+        "  {shown} is an option, and stands among the words of the {whole}: type it before them."
     )?;
     writeln!(
         text,
-        "  If it is part of the title, type `--` right before the words."
+        "  If it is part of the {part}, type `--` right before the words."
     )
 }
 

@@ -1,51 +1,16 @@
 //! The file that keeps the messages that came to a desk. It lies beside the desk's file, and has these APDUs one after
-//! another. No decision of a command depends on it.
+//! another.
 
 ghost use Rattle.std.specs.Prelude.{IfErr};
 ghost use Rattle.ill_text.specs.Fault.{IsOpenFault};
 
-use crate::paths::CAME;
-use ill_der::{DerFault, Feed};
-use ill_saved::{DeskFault, FileStore, RECORD_LIMIT, Store};
-use ill_text::fault::{STORE_FAILED, ToolFault};
-use ill_values::OutOfMemory;
+pub use crate::kept::KeptFile as CameFile;
+use crate::kept::{Kept, kept_bytes, open_kept};
+use ill_text::fault::ToolFault;
 use std::alloc::Global;
-use std::fs::{OpenFile, OpenOptions};
-use std::io::Write;
-use std::os::unix::fs::{MetadataExt, OpenOptionsExt, lchown};
 use std::rt::Files;
-use std::{fs, io};
 
-/// The open file. A write appends to it, and a flush makes it durable.
-#[derive(Drop)]
-pub struct CameFile<F> {
-    file: F,
-    has_failed: bool,
-}
-
-impl<F> CameFile<F> {
-    /// Returns true if a write or a flush of the file has failed.
-    pub fn has_failed(&self) -> bool {
-        self.has_failed
-    }
-}
-
-impl<F: Write + OpenFile> Write for CameFile<F> {
-    fn write(&mut self, bytes: &[u8]) -> io::Result<usize> {
-        let written = self.file.write(bytes);
-        self.has_failed |= written.is_err();
-        written
-    }
-
-    fn flush(&mut self) -> io::Result<()> {
-        let flushed = self.file.sync_all();
-        self.has_failed |= flushed.is_err();
-        flushed
-    }
-}
-
-/// Opens the file beside the file of `desk`, and makes it if it does not exist. It cuts off the part of a message that
-/// a crash has left at the end. Other bytes that are no message are a failure, and are not cut off.
+/// Opens the file beside the file of `desk`, as `open_kept` does.
 pub fn open_came<T: Files>(
     rt: &T,
     alloc: Global,
@@ -53,86 +18,12 @@ pub fn open_came<T: Files>(
 ) -> Result<CameFile<T::File>, ToolFault>
     ensures { IfErr result IsOpenFault }
 {
-    let path = path(alloc, desk)?;
-    let path = path.as_str();
-    if load(rt, alloc, path)?.is_none() && make(rt, path, desk).is_err() {
-        return Err(STORE_FAILED);
-    }
-    let bytes = load(rt, alloc, path)?.unwrap_or(Vec::new(alloc));
-    let torn = torn(alloc, &bytes)?;
-    match append(rt, path, bytes.len().saturating_sub(torn)) {
-        Ok(file) => Ok(CameFile {
-            file,
-            has_failed: false,
-        }),
-        Err(_) => Err(STORE_FAILED),
-    }
+    open_kept(rt, alloc, desk, Kept::Came)
 }
 
 /// Returns the bytes of the file beside the file of `desk`. There are none without a file.
 pub fn came_bytes<T: Files>(rt: &T, alloc: Global, desk: &str) -> Result<Vec<u8>, ToolFault>
     ensures { IfErr result IsOpenFault }
 {
-    let path = path(alloc, desk)?;
-    Ok(load(rt, alloc, path.as_str())?.unwrap_or(Vec::new(alloc)))
-}
-
-/// Returns the path of the file beside the file of `desk`.
-fn path(alloc: Global, desk: &str) -> Result<String, OutOfMemory> {
-    let mut path = String::from_str(alloc, desk)?;
-    path.push_str(CAME)?;
-    Ok(path)
-}
-
-/// Loads the file at `path` as a desk loads its record, so that its bytes and its name are durable.
-fn load<T: Files>(rt: &T, alloc: Global, path: &str) -> Result<Option<Vec<u8>>, ToolFault>
-    ensures { IfErr result IsOpenFault }
-{
-    let mut store = FileStore::at(rt, alloc, path, RECORD_LIMIT)?;
-    match store.load(alloc) {
-        Ok(bytes) => Ok(bytes),
-        Err(fault) => Err(DeskFault::from(fault).into()),
-    }
-}
-
-/// Makes the file at `path`, with the group and the permissions of the file `desk`. It gets the owner of that file too,
-/// if the system allows that. If the group cannot be set, only the owner may read or write the new file.
-fn make<T: Files>(rt: &T, path: &str, desk: &str) -> io::Result<()> {
-    let other = fs::symlink_metadata(rt, desk)?;
-    let mut options = OpenOptions::new();
-    options.write(true);
-    options.create_new(true);
-    options.mode(0o600);
-    let file = options.open(rt, path)?;
-    if lchown(rt, path, None, Some(other.gid())).is_ok() {
-        file.set_permissions(other.permissions())?;
-        let _ = lchown(rt, path, Some(other.uid()), None);
-    }
-    Ok(())
-}
-
-/// Returns the number of bytes of an incomplete APDU at the end of `bytes`.
-fn torn(alloc: Global, bytes: &[u8]) -> Result<usize, ToolFault>
-    ensures { IfErr result IsOpenFault }
-{
-    let mut feed = Feed::new(alloc);
-    drop(feed.push(bytes)?);
-    match feed.end() {
-        Ok(()) => Ok(0),
-        Err(DerFault::Short(size)) => Ok(usize::from(size)),
-        Err(_) => Err(STORE_FAILED),
-    }
-}
-
-/// Opens the file at `path` to append to its first `size` bytes, and cuts off the others.
-fn append<T: Files>(rt: &T, path: &str, size: usize) -> io::Result<T::File> {
-    let size = size as u64;
-    let mut options = OpenOptions::new();
-    options.append(true);
-    let file = options.open(rt, path)?;
-    if file.metadata()?.len() > size {
-        file.set_len(size)?;
-        file.sync_all()?;
-    }
-    Ok(file)
+    kept_bytes(rt, alloc, desk, Kept::Came)
 }

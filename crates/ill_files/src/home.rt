@@ -3,7 +3,7 @@
 ghost use Rattle.std.specs.Prelude.{IfErr};
 ghost use Rattle.ill_text.specs.Fault.{IsOpenFault};
 
-use crate::paths::{CAME, MAIL, is_there};
+use crate::paths::{CAME, MAIL, NOTES, is_there};
 use crate::shelf::is_retired;
 use ill_saved::DeskFault;
 use ill_text::fault::ToolFault;
@@ -41,9 +41,13 @@ pub fn home_at<T: Files>(rt: &T, alloc: Global, desk: &str) -> io::Result<Home> 
 
 /// Returns true if a file that may outlive `desk` lies beside it, so that its group was begun before.
 fn is_lost<T: Files>(rt: &T, alloc: Global, desk: &str) -> io::Result<bool> {
-    let came = format!(in alloc; "{desk}{CAME}")?;
-    let mail = format!(in alloc; "{desk}{MAIL}")?;
-    Ok(is_there(rt, came.as_str())? || is_there(rt, mail.as_str())?)
+    for ending in [CAME, NOTES, MAIL] {
+        let path = format!(in alloc; "{desk}{ending}")?;
+        if is_there(rt, path.as_str())? {
+            return Ok(true);
+        }
+    }
+    Ok(false)
 }
 
 /// Returns the refusal of a group whose desk is lost: it has no record.

@@ -13,11 +13,14 @@ use std::path::Path;
 use std::rt::Files;
 use std::{fs, io};
 
-/// The ending of the name of this file, after the name of the desk's file.
+/// The ending of the name of the file of messages that came, after the name of the desk's file.
 pub const CAME: &str = ".came";
 
+/// The ending of the name of the file of notes, after the name of the desk's file.
+pub const NOTES: &str = ".notes";
+
 /// The endings of the names of the files, and of the folder, that lie beside the file of a desk.
-pub const BESIDE: [&str; 5] = [".new", ".lck", CAME, MAIL, RETIRED];
+pub const BESIDE: [&str; 6] = [".new", ".lck", CAME, NOTES, MAIL, RETIRED];
 
 /// The number of bytes of names that are read from a folder at once. Any name fits.
 const NAMES: usize = 4096;

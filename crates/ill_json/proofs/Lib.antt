@@ -6,6 +6,7 @@ pub mod Values
 pub mod Fields
 pub mod Found
 pub mod Names
+pub mod NoteLemmas
 pub mod Sides
 pub mod LineLemmas
 pub mod NewsLines

@@ -13,6 +13,7 @@ use Rattle.ill_saved.specs.declared.side.Side.{Side}
 use Rattle.ill_saved.specs.Holdings.{DeskEntry, whole}
 use Rattle.ill_saved.specs.Ranges.{Each, IsSide}
 use Rattle.ill_saved.specs.RecordsV2.{AreSides}
+use Rattle.ill_saved.specs.Side.{txn_of}
 use Rattle.ill_saved.specs.Sides.{SidesOf, most_sides}
 use Rattle.ill_text.specs.declared.form.Form.TheVariants as forms
 use Rattle.ill_text.specs.ApduObject.{object_line, apdu_fields, apdu_text}
@@ -24,10 +25,13 @@ use Rattle.ill_show.specs.declared.wanted.Wanted.{Wanted}
 use Rattle.ill_work.specs.declared.work.Work.{Work}
 use Rattle.ill_work.specs.Work.{all_work}
 use Rattle.ill_show.specs.List.{counts_of, has_work, is_listed, listed_of}
-use Rattle.ill_show.specs.Listing.{between, file_told, list_objects, listed, listed_desk, section, sections, work_objects}
+use Rattle.ill_show.specs.Finding.{Seeking, is_found}
+use Rattle.ill_show.specs.Listing.{between, chosen_of, file_told, list_objects, listed, listed_desk, section, sections}
+use Rattle.ill_show.specs.Listing.{work_objects}
+use Rattle.ill_show.specs.Notes.{note_fields, note_of}
 use Rattle.ill_show.specs.Loan.{loan_text}
-use Rattle.ill_show.specs.Objects.{came_fields, counts_fields, counts_object, file_fields, loan_fields, message_object}
-use Rattle.ill_show.specs.Objects.{names_of, row_fields, row_object, status_of_desk}
+use Rattle.ill_show.specs.Objects.{came_fields, counts_fields, counts_object, file_fields, kept_fields, loan_fields}
+use Rattle.ill_show.specs.Objects.{message_object, names_of, noted_fields, row_fields, row_object, status_of_desk}
 use Rattle.ill_json.specs.Lines.{IsEntry, fields_of_list, fields_of_loan, fields_of_message, fields_in_order, fields_of_row}
 use Rattle.ill_json.specs.Lines.{fields_of_status, fields_of_work}
 use Rattle.ill_json.specs.Objects.{AreObjectLines, IsObject, IsObjectLine, items_of, strings}
@@ -38,7 +42,8 @@ use Rattle.ill_json.proofs.Values.{string_reads, number_reads, flag_reads, null_
 use Rattle.ill_json.proofs.Fields.{day_utf8}
 use Rattle.ill_json.proofs.Sides.{each_append, apdu_apart, apdu_reads, counts_apart, loan_apart, message_apart, message_reads}
 use Rattle.ill_json.proofs.Sides.{messages_values, row_apart, status_reads, loan_reads, came_reads, file_reads, row_reads}
-use Rattle.ill_json.proofs.Sides.{counts_reads}
+use Rattle.ill_json.proofs.Sides.{counts_reads, note_reads}
+use Rattle.ill_json.proofs.NoteLemmas.{note_utf8}
 
 -- ---- lines
 
@@ -141,46 +146,57 @@ kept_each P Q keeps (x ∷ xs) so each = go (keeps x) (kept_each P Q keeps xs so
     go false rest = rest
 
 -- The line of a listed loan is an object line.
-row_is : (file : Option (List ℕ)) (today : Option Date) (work : Work) (side : Side) → IfSome file IsUtf8 → IsSide side
-    → IsObjectLine (row_object file today work side) (fields_of_row file today work side)
-row_is file today work side u is =
-    line_is (fields_of_row file today work side)
-    (each_append (FieldReads 2) (row_fields work side (names_of today side)) (file_fields file)
-    (row_reads today work side is.1) (file_reads file u)) (row_apart file today work side)
+row_is : (file : Option (List ℕ)) (notes : List (List ℕ)) (today : Option Date) (work : Work) (side : Side)
+    → IfSome file IsUtf8 → IsSide side
+    → IsObjectLine (row_object file notes today work side) (fields_of_row file notes today work side)
+row_is file notes today work side u is =
+    line_is (fields_of_row file notes today work side)
+    (each_append (FieldReads 2) (noted_fields notes today work side) (file_fields file)
+    (each_append (FieldReads 2) (row_fields work side (names_of today side)) (note_fields (note_of notes (txn_of side)))
+    (row_reads today work side is.1) (note_reads _ (note_utf8 notes (txn_of side)))) (file_reads file u))
+    (row_apart file notes today work side)
 
 -- The rows of one kind of work are object lines.
-rows_are : (file : Option (List ℕ)) (wanted : Wanted) (shown : List Side) → IfSome file IsUtf8 → Each IsSide shown → (work : Work)
-    → AreObjectLines (section (work_objects file) wanted shown work) (fields_of_work file wanted shown work)
-rows_are file wanted shown u each work =
-    lines_each (fields_of_row file wanted.today work) (filter (has_work wanted work) shown)
-    (kept_each IsSide (λ side. IsObjectLine (row_object file wanted.today work side) (fields_of_row file wanted.today work side))
-    (has_work wanted work) shown (λ side is. row_is file wanted.today work side u is) each)
+rows_are : (file : Option (List ℕ)) (notes : List (List ℕ)) (wanted : Wanted) (shown : List Side) → IfSome file IsUtf8
+    → Each IsSide shown → (work : Work)
+    → AreObjectLines (section (work_objects file notes) wanted shown work) (fields_of_work file notes wanted shown work)
+rows_are file notes wanted shown u each work =
+    lines_each (fields_of_row file notes wanted.today work) (filter (has_work wanted work) shown)
+    (kept_each IsSide
+    (λ side. IsObjectLine (row_object file notes wanted.today work side) (fields_of_row file notes wanted.today work side))
+    (has_work wanted work) shown (λ side is. row_is file notes wanted.today work side u is) each)
 
 -- A list in order is object lines.
-ordered_are : (file : Option (List ℕ)) (wanted : Wanted) (held : List Side) → IfSome file IsUtf8 → Each IsSide held
-    → length held ≤ most_sides
-    → AreObjectLines (listed (work_objects file) (counts_object file) wanted held) (fields_in_order file wanted held)
-ordered_are file wanted held u each few =
-    let shown = listed_of wanted held in
-    lines_append (sections (work_objects file) wanted shown) _ (flat_map (fields_of_work file wanted shown) all_work) _
-    (lines_flat (section (work_objects file) wanted shown) (fields_of_work file wanted shown) all_work
-    (rows_are file wanted shown u (kept_each IsSide IsSide (is_listed wanted) held (λ side is. is) each)))
+ordered_are : (file : Option (List ℕ)) (wanted : Wanted) (seeking : Seeking) (held : List Side) → IfSome file IsUtf8
+    → Each IsSide held → length held ≤ most_sides
+    → AreObjectLines (listed (work_objects file seeking.notes) (counts_object file) wanted seeking held)
+    (fields_in_order file wanted seeking held)
+ordered_are file wanted seeking held u each few =
+    let shown = chosen_of wanted seeking held in
+    let objects = work_objects file seeking.notes in
+    let fields = fields_of_work file seeking.notes wanted shown in
+    let listed_each = kept_each IsSide IsSide (is_listed wanted) held (λ side is. is) each in
+    lines_append (sections objects wanted shown) _ (flat_map fields all_work) _
+    (lines_flat (section objects wanted shown) fields all_work
+    (rows_are file seeking.notes wanted shown u
+    (kept_each IsSide IsSide (is_found seeking.find seeking.notes) (listed_of wanted held) (λ side is. is) listed_each)))
     (lines_one _ (line_is _ (each_append (FieldReads 2) (counts_fields (counts_of wanted held)) (file_fields file)
     (counts_reads wanted held few) (file_reads file u)) (counts_apart file wanted held)))
 
 -- The objects of a desk are object lines.
-objects_are : (file : Option (List ℕ)) (wanted : Wanted) (held : SidesOf) → IfSome file IsUtf8 → AreSides held
-    → AreObjectLines (list_objects file wanted held.sides) (fields_of_list file wanted held.sides)
-objects_are file wanted held u are =
-    ordered_are file wanted (most_urgent_first held.sides) u (ordered_each IsSide is_more_urgent held.sides are.each)
+objects_are : (file : Option (List ℕ)) (wanted : Wanted) (seeking : Seeking) (held : SidesOf) → IfSome file IsUtf8 → AreSides held
+    → AreObjectLines (list_objects file wanted seeking held.sides) (fields_of_list file wanted seeking held.sides)
+objects_are file wanted seeking held u are =
+    ordered_are file wanted seeking (most_urgent_first held.sides) u (ordered_each IsSide is_more_urgent held.sides are.each)
     (subst (λ n. n ≤ most_sides) (sym (ordered_length is_more_urgent held.sides)) are.few)
 
 -- The text of `list` is object lines, at the first desk and at others, with its path and without it.
-pub list_are : (is_first is_headed : Bool) (wanted : Wanted) (path : List ℕ) (held : SidesOf) → IsUtf8 path → AreSides held
-    → AreObjectLines (between forms.Json is_first ++ listed_desk forms.Json is_headed wanted path held.sides)
-    (fields_of_list (file_told is_headed path) wanted held.sides)
-list_are is_first false wanted path held u are = objects_are None wanted held tt are
-list_are is_first true wanted path held u are = objects_are (Some path) wanted held u are
+pub list_are : (is_first is_headed : Bool) (wanted : Wanted) (seeking : Seeking) (path : List ℕ) (held : SidesOf) → IsUtf8 path
+    → AreSides held
+    → AreObjectLines (between forms.Json is_first ++ listed_desk forms.Json is_headed wanted seeking path held.sides)
+    (fields_of_list (file_told is_headed path) wanted seeking held.sides)
+list_are is_first false wanted seeking path held u are = objects_are None wanted seeking held tt are
+list_are is_first true wanted seeking path held u are = objects_are (Some path) wanted seeking held u are
 
 -- ---- other commands
 
@@ -199,13 +215,17 @@ status_are entries each = lines_each fields_of_status entries (each_line entries
     )
 
 -- The text of `loan` is an object line.
-pub loan_is : (entry : DeskEntry) (came : List Apdu) → IsEntry entry → Each IsApdu came
-    → IsObjectLine (loan_text Object entry came) (fields_of_loan entry came)
-loan_is entry came is each =
-    line_is (fields_of_loan entry came)
+pub loan_is : (notes : List (List ℕ)) (entry : DeskEntry) (came : List Apdu) → IsEntry entry → Each IsApdu came
+    → IsObjectLine (loan_text Object (note_of notes (txn_of entry.side)) entry came)
+    (fields_of_loan (note_of notes (txn_of entry.side)) entry came)
+loan_is notes entry came is each =
+    let words = note_of notes (txn_of entry.side) in
+    line_is (fields_of_loan words entry came)
+    (each_append (FieldReads 2) (kept_fields entry came) (note_fields words)
     (each_append (FieldReads 2) (loan_fields entry.side entry.released) (came_fields came)
     (loan_reads entry.side entry.released is.side.1 is.released) (came_reads came each))
-    (loan_apart entry.side entry.released came)
+    (note_reads words (note_utf8 notes (txn_of entry.side))))
+    (loan_apart words entry.side entry.released came)
 
 -- The texts of APDUs are object lines.
 pub apdus_are : (apdus : List Apdu) → Each IsApdu apdus

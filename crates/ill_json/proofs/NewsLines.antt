@@ -18,7 +18,6 @@ use Rattle.ill_saved.specs.RecordsV2.{AreSides}
 use Rattle.ill_saved.specs.Sides.{SidesOf, found_by, side_with}
 use Rattle.ill_text.specs.declared.form.Form.TheVariants as forms
 use Rattle.ill_text.specs.ApduObject.{object_line}
-use Rattle.ill_text.specs.Json.{Field}
 use Rattle.ill_show.specs.Listing.{file_told}
 use Rattle.ill_show.specs.News.{heard_at, is_told, last_of, news_fields, news_of, news_objects, news_text, with_news, words_at}
 use Rattle.ill_show.specs.NewsWords.{news_words}

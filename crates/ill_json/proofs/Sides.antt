@@ -31,6 +31,7 @@ use Rattle.ill_text.specs.ApduObject.{head_fields, optional_date_fields, body_fi
 use Rattle.ill_text.specs.Json.{flag, optional, quoted}
 use Rattle.ill_show.specs.declared.wanted.Wanted.{Wanted}
 use Rattle.ill_show.specs.List.{counts_of, is_to_do}
+use Rattle.ill_show.specs.Notes.{note_fields}
 use Rattle.ill_show.specs.Objects.{counts_fields, file_fields, leaves_fields, loan_fields, message_object, messages_fields}
 use Rattle.ill_show.specs.Objects.{names_of}
 use Rattle.ill_show.specs.Objects.{came_fields, row_fields, status_fields, taken_fields, turn_fields}
@@ -323,24 +324,30 @@ loan_reads side released is few =
     (messages_reads (codes "messages") (Some released) (issued_of side) refl is.issued)
 
 -- The labels of `loan` differ.
-pub loan_apart : (side : Side) (released : ℕ) (came : List Apdu)
-    → are_apart (labels (fields_of_loan (record { side = side; released = released }) came)) ≡ true
-loan_apart (sides.Requester x) released came = refl
-loan_apart (sides.Responder y) released came = refl
+pub loan_apart : (words : Option (List ℕ)) (side : Side) (released : ℕ) (came : List Apdu)
+    → are_apart (labels (fields_of_loan words (record { side = side; released = released }) came)) ≡ true
+loan_apart words (sides.Requester x) released came = refl
+loan_apart words (sides.Responder y) released came = refl
 
 -- ---- lists
 
 -- The labels of the line of a loan differ.
-pub row_apart : (file : Option (List ℕ)) (today : Option Date) (work : Work) (side : Side)
-    → are_apart (labels (fields_of_row file today work side)) ≡ true
-row_apart None today work side = refl
-row_apart (Some path) today work side = refl
+pub row_apart : (file : Option (List ℕ)) (notes : List (List ℕ)) (today : Option Date) (work : Work) (side : Side)
+    → are_apart (labels (fields_of_row file notes today work side)) ≡ true
+row_apart None notes today work side = refl
+row_apart (Some path) notes today work side = refl
 
 -- The labels of the line of the counts differ.
 pub counts_apart : (file : Option (List ℕ)) (wanted : Wanted) (held : List Side)
     → are_apart (labels (fields_of_counts file wanted held)) ≡ true
 counts_apart None wanted held = refl
 counts_apart (Some path) wanted held = refl
+
+-- The field of a note is read.
+pub note_reads : (words : Option (List ℕ)) → IfSome words IsUtf8 → Each (FieldReads 2) (note_fields words)
+unfolding Each
+note_reads None utf8 = (field_reads 2 _ _ refl (optional_value 2 quoted None tt), tt)
+note_reads (Some words) utf8 = (field_reads 2 _ _ refl (text_value 2 words utf8), tt)
 
 -- The field of a path is read.
 pub file_reads : (file : Option (List ℕ)) → IfSome file IsUtf8 → Each (FieldReads 2) (file_fields file)

@@ -12,34 +12,38 @@ use Rattle.ill_words.specs.Waiting.{most_urgent_first}
 use Rattle.ill_show.specs.declared.wanted.Wanted.{Wanted}
 use Rattle.ill_work.specs.declared.work.Work.{Work}
 use Rattle.ill_work.specs.Work.{all_work}
-use Rattle.ill_show.specs.List.{has_work, listed_of, counts_of}
+use Rattle.ill_show.specs.Finding.{Seeking}
+use Rattle.ill_show.specs.List.{has_work, counts_of}
+use Rattle.ill_show.specs.Listing.{chosen_of}
+use Rattle.ill_show.specs.Notes.{note_fields}
 use Rattle.ill_show.specs.News.{news_fields}
-use Rattle.ill_show.specs.Objects.{names_of, row_fields, counts_fields, file_fields, status_fields, loan_fields, came_fields}
+use Rattle.ill_show.specs.Objects.{noted_fields, counts_fields, file_fields, status_fields, kept_fields}
 use Rattle.ill_show.specs.Objects.{leaves_fields}
 
 -- ---- `list`
 
 -- Returns the fields in the line of a listed loan with this work.
-abbrev pub fields_of_row : Option (List ℕ) → Option Date → Work → Side → List Field
-fields_of_row file today work side = row_fields work side (names_of today side) ++ file_fields file
+abbrev pub fields_of_row : Option (List ℕ) → (notes : List (List ℕ)) → Option Date → Work → Side → List Field
+fields_of_row file notes today work side = noted_fields notes today work side ++ file_fields file
 
 -- Returns the fields in the line of each of the `listed` loans that have this work.
-abbrev pub fields_of_work : Option (List ℕ) → Wanted → List Side → Work → List (List Field)
-fields_of_work file wanted listed work =
-    map (fields_of_row file wanted.today work) (filter (has_work wanted work) listed)
+abbrev pub fields_of_work : Option (List ℕ) → (notes : List (List ℕ)) → Wanted → List Side → Work → List (List Field)
+fields_of_work file notes wanted listed work =
+    map (fields_of_row file notes wanted.today work) (filter (has_work wanted work) listed)
 
 -- Returns the fields in the line of the counts.
 abbrev pub fields_of_counts : Option (List ℕ) → Wanted → List Side → List Field
 fields_of_counts file wanted sides = counts_fields (counts_of wanted sides) ++ file_fields file
 
 -- Returns the fields in each line of a list of `sides`, kind of work by kind of work. The counts come last.
-abbrev pub fields_in_order : Option (List ℕ) → Wanted → List Side → List (List Field)
-fields_in_order file wanted sides =
-    flat_map (fields_of_work file wanted (listed_of wanted sides)) all_work ++ fields_of_counts file wanted sides ∷ []
+abbrev pub fields_in_order : Option (List ℕ) → Wanted → Seeking → List Side → List (List Field)
+fields_in_order file wanted seeking sides =
+    flat_map (fields_of_work file seeking.notes wanted (chosen_of wanted seeking sides)) all_work
+    ++ fields_of_counts file wanted sides ∷ []
 
 -- Returns the fields in each line of `list`. Loans with one kind of work are in the order of their deadlines.
-abbrev pub fields_of_list : Option (List ℕ) → Wanted → List Side → List (List Field)
-fields_of_list file wanted sides = fields_in_order file wanted (most_urgent_first sides)
+abbrev pub fields_of_list : Option (List ℕ) → Wanted → Seeking → List Side → List (List Field)
+fields_of_list file wanted seeking sides = fields_in_order file wanted seeking (most_urgent_first sides)
 
 -- ---- `news`
 
@@ -58,9 +62,9 @@ pub record IsEntry (entry : DeskEntry) : Type 0 where
 abbrev pub fields_of_status : DeskEntry → List Field
 fields_of_status entry = status_fields entry.side entry.released
 
--- Returns the fields in the line of `loan`. `came` are the messages that came.
-abbrev pub fields_of_loan : DeskEntry → List Apdu → List Field
-fields_of_loan entry came = loan_fields entry.side entry.released ++ came_fields came
+-- Returns the fields in the line of `loan` with a note. `came` are the messages that came.
+abbrev pub fields_of_loan : (words : Option (List ℕ)) → DeskEntry → List Apdu → List Field
+fields_of_loan words entry came = kept_fields entry came ++ note_fields words
 
 -- Returns the fields of a message within the line of `loan`.
 abbrev pub fields_of_message : Option ℕ → Apdu → List Field

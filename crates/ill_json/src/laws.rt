@@ -19,7 +19,10 @@ ghost use Rattle.ill_text.specs.Json.{Field, flag, quoted};
 ghost use Rattle.ill_show.specs.declared.loan.LoanForm.TheVariants.{Object};
 ghost use Rattle.ill_show.specs.declared.wanted.Wanted.{Wanted};
 ghost use Rattle.ill_show.specs.Listing.{between, file_told, listed_desk};
+ghost use Rattle.ill_show.specs.Finding.{Seeking};
 ghost use Rattle.ill_show.specs.Loan.{loan_text};
+ghost use Rattle.ill_show.specs.Notes.{note_of};
+ghost use Rattle.ill_saved.specs.Side.{txn_of};
 ghost use Rattle.ill_show.specs.News.{last_of, news_of, news_text};
 ghost use Rattle.ill_show.specs.Objects.{message_object, status_of_desk};
 ghost use Rattle.ill_json.specs.BadLines.{AreBadLines, IsBadLine, broken_texts};
@@ -29,10 +32,10 @@ ghost use Rattle.ill_json.specs.Objects.{AreObjectLines, IsObject, IsObjectLine,
 /// Each line of `list` is an object of JSON with the fields of a loan. The last line of a desk has the counts. The path
 /// of the desk is UTF-8.
 pub fn list_is_json()
-    ensures { (is_first is_headed : Bool) (wanted : Wanted) (path : List ℕ) (held : SidesOf) →
+    ensures { (is_first is_headed : Bool) (wanted : Wanted) (seeking : Seeking) (path : List ℕ) (held : SidesOf) →
         IsUtf8 path → AreSides held →
-        AreObjectLines (between forms.Json is_first ++ listed_desk forms.Json is_headed wanted path held.sides)
-        (fields_of_list (file_told is_headed path) wanted held.sides) }
+        AreObjectLines (between forms.Json is_first ++ listed_desk forms.Json is_headed wanted seeking path held.sides)
+        (fields_of_list (file_told is_headed path) wanted seeking held.sides) }
 {}
 
 /// Each line of `news` is an object of JSON with the fields of a message that came. The path of the desk is UTF-8.
@@ -50,11 +53,11 @@ pub fn status_is_json()
         AreObjectLines (status_of_desk forms.Json entries) (map fields_of_status entries) }
 {}
 
-/// The line of `loan` is an object of JSON with the fields of a side. It has the messages that came, too.
-#[tactic(auto, using(crate::proofs::LineLemmas::loan_is))]
+/// The line of `loan` is an object of JSON with the fields of a side. It has the messages that came, and the note, too.
 pub fn loan_is_json()
-    ensures { (entry : DeskEntry) (came : List Apdu) → IsEntry entry → Each IsApdu came →
-        IsObjectLine (loan_text Object entry came) (fields_of_loan entry came) }
+    ensures { (notes : List (List ℕ)) (entry : DeskEntry) (came : List Apdu) → IsEntry entry → Each IsApdu came →
+        IsObjectLine (loan_text Object (note_of notes (txn_of entry.side)) entry came)
+        (fields_of_loan (note_of notes (txn_of entry.side)) entry came) }
 {}
 
 /// Each line of `show` is an object of JSON with the fields of an APDU.

@@ -22,7 +22,7 @@ use Rattle.ill_line.specs.declared.request.Refusal.TheVariants.{Usage, Fault}
 use Rattle.ill_line.specs.declared.command_line.Argument.{Argument}
 use Rattle.ill_line.specs.CommandLine.{id_of, is_option}
 use Rattle.ill_line.specs.declared.command_line.Argument.TheVariants.{Ahead, DueBefore, InState, Last}
-use Rattle.ill_line.specs.Asked.{Asked, Act, IsRefusal, text_of, texts_of, day_in, day_said, state_in, state_said}
+use Rattle.ill_line.specs.Asked.{Asked, Act, Note, IsRefusal, text_of, texts_of, day_in, day_said, state_in, state_said}
 use Rattle.ill_line.specs.Asked.{ReadsValue, ahead_in, days_said, day_or_days, due_in, due_said, last_in, number_said}
 use Rattle.ill_line.specs.Asked.{end_with_dashes, has_option, said_free, unless_option}
 use Rattle.ill_core.specs.State.{state_named}
@@ -170,15 +170,18 @@ options_met words action first met is ends =
     ap (λ (met : Bool). not met && list_any is_option (map text action)) (dashes_met words action first met is ends)
     ∙ ap (λ (any : Bool). not met && any) (any_text is_option action)
 
+-- A request that is returned unless `has` is true is the request that it was given.
+let_if : (has : Bool) (asked : Asked) → is_none (if has then None else Some asked) ≡ false
+    → (if has then None else Some asked) ≡ Some asked
+let_if true asked is = absurd (true≢false is)
+let_if false asked is = refl
+
 -- A request that `unless_option` returns is the request that it was given.
 let_through : (words : List (List ℕ)) (asked : Asked) → is_none (unless_option words asked) ≡ false
     → unless_option words asked ≡ Some asked
-let_through words (Act file asking is_new_group) is = go (has_option words asking.words) is
-  where
-    go : (has : Bool) → is_none (if has then None else Some (Act file asking is_new_group)) ≡ false
-        → (if has then None else Some (Act file asking is_new_group)) ≡ Some (Act file asking is_new_group)
-    go true is = absurd (true≢false is)
-    go false is = refl
+let_through words (Act file asking is_long is_new_group) is =
+    let_if (has_option words asking.words) (Act file asking is_long is_new_group) is
+let_through words (Note file txn note) is = let_if (has_option words note) (Note file txn note) is
 let_through words other is = refl
 
 -- If no option is among the words of an action, the request is read as it is.

@@ -18,6 +18,7 @@ use Rattle.ill_text.specs.declared.fault.ToolFault.TheVariants.{Arguments, OutOf
 use Rattle.ill_desk.specs.ActAs.{Asking}
 use Rattle.ill_desk.specs.declared.take.TakeForm.{TakeForm}
 use Rattle.ill_show.specs.Loan.{loan_form}
+use Rattle.ill_show.specs.Notes.{is_note, note_text}
 use Rattle.ill_show.specs.declared.loan.LoanForm.{LoanForm}
 use Rattle.ill_text.specs.declared.form.Form.{Form}
 use Rattle.ill_text.specs.declared.form.Form.TheVariants as forms
@@ -39,7 +40,7 @@ use Rattle.ill_line.specs.declared.command_line.Argument.TheVariants.{Words, Num
 use Rattle.ill_line.specs.declared.command_line.Argument.TheVariants.{OnDay, DueBefore, InState, ReportDay, OutFolder, Stream, In}
 use Rattle.ill_line.specs.declared.command_line.Argument.TheVariants.{Out, NightDay, Overdue, Expire, Copy, Beat, NewGroup, Ahead}
 use Rattle.ill_line.specs.declared.command_line.Argument.TheVariants.{DryRun, Seen}
-use Rattle.ill_line.specs.declared.command_line.Argument.TheVariants.{Actions, Last}
+use Rattle.ill_line.specs.declared.command_line.Argument.TheVariants.{Actions, Last, Title, NoteWords, Find, Notes}
 use Rattle.ill_line.specs.CommandLine.{name_read, id_of, is_option}
 use Rattle.ill_files.specs.Paths.{is_beside}
 use Rattle.ill_core.specs.State.{state_named}
@@ -81,6 +82,15 @@ new_file_of found = text_of NewFile found >>= λ file. text_if (not (is_beside f
 -- Returns the texts of an argument that may have several.
 abbrev pub texts_of : Argument → Found → Option (List (List ℕ))
 texts_of argument found = all_of (id_of argument) found
+
+-- Returns `words` if the Bool is true.
+abbrev pub words_if : Bool → List (List ℕ) → Option (List (List ℕ))
+words_if true words = Some words
+words_if false words = None
+
+-- Returns the words of a note in the arguments, if a note may have them.
+abbrev pub note_words_of : Found → Option (List (List ℕ))
+note_words_of found = texts_of NoteWords found >>= λ words. words_if (is_note (note_text words)) words
 
 -- Returns the day that an optional word spells. It is Some None without a word, and None if the word is no
 -- day.
@@ -177,6 +187,7 @@ wanted_on today found = do
     due_before = due_before;
     state = state;
     has_actions = is_set Actions found;
+    has_notes = is_set Notes found;
   })
 
 -- Returns the conditions on the loans to list, on the day that is given, if one is.
@@ -221,16 +232,17 @@ pub data Asked : Type 0 where
   Simulate : (group transaction : List ℕ) → Asked
   SimulateDesks : Asked
   New : (file : List ℕ) → (role : Role) → Asked
-  Act : (file : List ℕ) → (asking : Asking) → (is_new_group : Bool) → Asked
+  Act : (file : List ℕ) → (asking : Asking) → (is_long is_new_group : Bool) → Asked
   Take : (file : List ℕ) → (form : TakeForm) → Asked
   Inbox : (file folder : List ℕ) → Asked
   Outbox : (file : List ℕ) → (folder : Option (List ℕ)) → Asked
   Exchange : (file incoming outgoing : List ℕ) → (dates : Option (Date × Dates)) → (copy beat : Option (List ℕ)) → Asked
   Send : (file : List ℕ) → (txn : Qualifiers) → (number : ℕ) → Asked
-  Listing : (paths : List (List ℕ)) → (wanted : Wanted) → (form : Form) → Asked
+  Listing : (paths : List (List ℕ)) → (wanted : Wanted) → (find : Option (List ℕ)) → (form : Form) → Asked
   News : (paths : List (List ℕ)) → (last : Option ℕ) → (form : Form) → Asked
   Status : (file : List ℕ) → (form : Form) → Asked
   Loan : (file : List ℕ) → (txn : Qualifiers) → (form : LoanForm) → Asked
+  Note : (file : List ℕ) → (txn : Qualifiers) → (words : List (List ℕ)) → Asked
   Slip : (file : List ℕ) → (txn : Qualifiers) → Asked
   Report : (paths : List (List ℕ)) → (today : Date) → Asked
   Retire : (file group : List ℕ) → Asked
@@ -243,14 +255,14 @@ asked requests.Check = Check
 asked (requests.Simulate group transaction) = Simulate group.now transaction.now
 asked requests.SimulateDesks = SimulateDesks
 asked (requests.New file role) = New file.now role
-asked (requests.Act file txn today seen is_trial is_new_group words) =
+asked (requests.Act file txn today seen is_trial is_long is_new_group words) =
     Act file.now (record {
       txn = txn;
       today = today;
       words = map (λ word. word.now) words.items;
       seen = option_map (λ text. text.now) seen;
       is_trial = is_trial;
-    }) is_new_group
+    }) is_long is_new_group
 asked (requests.Take file form) = Take file.now form
 asked (requests.Inbox file folder) = Inbox file.now folder.now
 asked (requests.Outbox file folder) = Outbox file.now (option_map (λ text. text.now) folder)
@@ -258,24 +270,27 @@ asked (requests.Exchange file night) =
     Exchange file.now night.incoming.now night.outgoing.now night.dates (option_map (λ text. text.now) night.copy)
     (option_map (λ text. text.now) night.beat)
 asked (requests.Send file txn number) = Send file.now txn number
-asked (requests.List paths wanted form) = Listing (map (λ path. path.now) paths.items) wanted form
+asked (requests.List paths wanted find form) =
+    Listing (map (λ path. path.now) paths.items) wanted (option_map (λ text. text.now) find) form
 asked (requests.News paths last form) = News (map (λ path. path.now) paths.items) last form
 asked (requests.Status file form) = Status file.now form
 asked (requests.Loan file txn form) = Loan file.now txn form
+asked (requests.Note file txn words) = Note file.now txn (map (λ word. word.now) words.items)
 asked (requests.Slip file txn) = Slip file.now txn
 asked (requests.Report paths today) = Report (map (λ path. path.now) paths.items) today
 asked (requests.Retire file group) = Retire file.now group.now
 asked (requests.Verify file) = Verify file.now
 
--- Returns the file of the desk that a request may change, or from which it sends.
+-- Returns the file of the desk that a request may change, from which it sends, or beside which it keeps a note.
 abbrev pub desk_at_stake : Asked → Option (List ℕ)
 desk_at_stake (New file role) = Some file
-desk_at_stake (Act file asking is_new_group) = Some file
+desk_at_stake (Act file asking is_long is_new_group) = Some file
 desk_at_stake (Take file form) = Some file
 desk_at_stake (Inbox file folder) = Some file
 desk_at_stake (Outbox file folder) = Some file
 desk_at_stake (Exchange file incoming outgoing dates copy beat) = Some file
 desk_at_stake (Send file txn number) = Some file
+desk_at_stake (Note file txn words) = Some file
 desk_at_stake other = None
 
 -- Returns the request of the command with these arguments, if each of them is valid.
@@ -302,7 +317,7 @@ asked_of names.Act found = do
     words = words;
     seen = text_of Seen found;
     is_trial = is_set DryRun found;
-  }) (is_set NewGroup found))
+  }) (is_set Title found) (is_set NewGroup found))
 asked_of names.Take found = do
   file ← text_of File found
   Some (Take file (record { is_long = is_set Long found; is_kept = is_set Keep found }))
@@ -328,7 +343,7 @@ asked_of names.Send found = do
 asked_of names.List found = do
   paths ← texts_of Paths found
   wanted ← wanted_of found
-  Some (Listing paths wanted (form_of found))
+  Some (Listing paths wanted (text_of Find found) (form_of found))
 asked_of names.News found = do
   paths ← texts_of Paths found
   last ← last_in found
@@ -340,6 +355,11 @@ asked_of names.Loan found = do
   file ← text_of File found
   txn ← loan_of found
   Some (Loan file txn (loan_form (form_of found) (is_set Picture found)))
+asked_of names.Note found = do
+  file ← text_of File found
+  txn ← loan_of found
+  words ← note_words_of found
+  Some (Note file txn words)
 asked_of names.Slip found = do
   file ← text_of File found
   txn ← loan_of found
@@ -365,7 +385,7 @@ abbrev pub asked_in : Option (Text × Found) → Option Asked
 asked_in None = None
 asked_in (Some said) = asked_by said.0 said.1
 
--- ---- options among the words of an action
+-- ---- options among the words of an action or of a note
 
 -- Returns true if `word` is `--`, after which no word is an option.
 abbrev pub is_dashes : Option (List ℕ) → Bool
@@ -376,19 +396,20 @@ is_dashes (Some word) = bytes_eq word (codes "--")
 abbrev pub end_with_dashes : List (List ℕ) → Bool
 end_with_dashes words = is_dashes (slice_get words (length words - 1))
 
--- Returns true if an option of the program is among the words of an action, with which the command line `words` ends.
+-- Returns true if an option of the program is among `action`, the words with which the command line `words` ends.
 -- If `--` stands right before them, none is an option.
 abbrev pub has_option : (words action : List (List ℕ)) → Bool
 has_option words action =
     not (end_with_dashes (take (length words - length action) words)) && list_any is_option action
 
--- Returns the request of the command line `words`, unless an option is among the words of its action.
+-- Returns the request of the command line `words`, unless an option is among the words of its action or its note.
 abbrev pub unless_option : (words : List (List ℕ)) → Asked → Option Asked
-unless_option words (Act file asking is_new_group) =
-    if has_option words asking.words then None else Some (Act file asking is_new_group)
+unless_option words (Act file asking is_long is_new_group) =
+    if has_option words asking.words then None else Some (Act file asking is_long is_new_group)
+unless_option words (Note file txn note) = if has_option words note then None else Some (Note file txn note)
 unless_option words other = Some other
 
--- Returns the request `said`, if there is one, unless an option is among the words of its action.
+-- Returns the request `said`, if there is one, unless an option is among the words of its action or its note.
 abbrev pub said_free : (words : List (List ℕ)) → Option Asked → Option Asked
 said_free words said = said >>= unless_option words
 

@@ -4,7 +4,7 @@ use Rattle.std.specs.List.{before_first, list_any}
 use Rattle.ill_line.specs.declared.command_line.Name.{Name}
 use Rattle.ill_line.specs.declared.command_line.Name.TheVariants.{New, Act, Take, Inbox, Outbox, Exchange, Send, Status, Loan}
 use Rattle.ill_line.specs.declared.command_line.Name.TheVariants.{Slip, Report, Retire, Verify, Show, Check, Simulate, News}
-use Rattle.ill_line.specs.declared.command_line.Name.TheVariants.{SimulateDesks}
+use Rattle.ill_line.specs.declared.command_line.Name.TheVariants.{SimulateDesks, Note}
 use Rattle.ill_line.specs.declared.command_line.Name.TheVariants as names
 use Rattle.ill_line.specs.declared.command_line.Argument.{Argument}
 use Rattle.ill_line.specs.declared.command_line.Argument.TheVariants.{NewFile, File, Folder, Role, Group, Transaction, Today}
@@ -12,7 +12,7 @@ use Rattle.ill_line.specs.declared.command_line.Argument.TheVariants.{Words, Num
 use Rattle.ill_line.specs.declared.command_line.Argument.TheVariants.{OnDay, DueBefore, InState, ReportDay, OutFolder, Stream, In}
 use Rattle.ill_line.specs.declared.command_line.Argument.TheVariants.{Out, NightDay, Overdue, Expire, Copy, Beat, NewGroup, Ahead}
 use Rattle.ill_line.specs.declared.command_line.Argument.TheVariants.{DryRun, Seen}
-use Rattle.ill_line.specs.declared.command_line.Argument.TheVariants.{Actions, Last}
+use Rattle.ill_line.specs.declared.command_line.Argument.TheVariants.{Actions, Last, Title, NoteWords, Find, Notes}
 
 -- Returns the word of a command on the command line.
 abbrev pub word_of : Name → List ℕ
@@ -27,6 +27,7 @@ word_of names.List = codes "list"
 word_of News = codes "news"
 word_of Status = codes "status"
 word_of Loan = codes "loan"
+word_of Note = codes "note"
 word_of Slip = codes "slip"
 word_of Report = codes "report"
 word_of Retire = codes "retire"
@@ -39,7 +40,8 @@ word_of SimulateDesks = codes "simulate-desks"
 -- Returns the command that has the word `word`.
 abbrev pub name_read : List ℕ → Option Name
 name_read word = find (λ name. bytes_eq (word_of name) word)
-    (New ∷ Act ∷ names.List ∷ News ∷ Loan ∷ Slip ∷ Status ∷ Report ∷ Take ∷ Send ∷ Inbox ∷ Outbox ∷ Exchange ∷ Verify ∷ Show
+    (New ∷ Act ∷ names.List ∷ News ∷ Loan ∷ Note ∷ Slip ∷ Status ∷ Report ∷ Take ∷ Send ∷ Inbox ∷ Outbox ∷ Exchange ∷ Verify
+    ∷ Show
     ∷ Check ∷ Simulate ∷ SimulateDesks ∷ Retire ∷ [])
 
 -- Returns the name that `clap` has for an argument.
@@ -52,8 +54,10 @@ id_of Group = codes "GROUP"
 id_of Transaction = codes "TRANSACTION"
 id_of Today = codes "today"
 id_of Words = codes "WORDS"
+id_of NoteWords = codes "WORDS"
 id_of Number = codes "NUMBER"
 id_of Long = codes "long"
+id_of Title = codes "long"
 id_of Keep = codes "keep"
 id_of Picture = codes "picture"
 id_of Open = codes "open"
@@ -77,16 +81,20 @@ id_of NewGroup = codes "new-group"
 id_of Seen = codes "seen"
 id_of DryRun = codes "dry-run"
 id_of Ahead = codes "ahead"
+id_of Find = codes "find"
 id_of Actions = codes "actions"
+id_of Notes = codes "notes"
 id_of Last = codes "last"
 
 -- All options of the program.
 abbrev pub options : List (List ℕ)
 options =
     codes "--today" ∷ codes "--seen" ∷ codes "--dry-run" ∷ codes "--ahead" ∷ codes "--due-before" ∷ codes "--state"
+    ∷ codes "--find"
     ∷ codes "--copy" ∷ codes "--beat"
     ∷ codes "--stream" ∷ codes "--overdue" ∷ codes "--expire" ∷ codes "--long" ∷ codes "--keep" ∷ codes "--picture"
-    ∷ codes "--open" ∷ codes "--mine" ∷ codes "--actions" ∷ codes "--json" ∷ codes "--new-group" ∷ codes "--last"
+    ∷ codes "--open" ∷ codes "--mine" ∷ codes "--actions" ∷ codes "--notes" ∷ codes "--json" ∷ codes "--new-group"
+    ∷ codes "--last"
     ∷ codes "--explain" ∷ codes "--help" ∷ codes "--version" ∷ codes "-h" ∷ codes "-V" ∷ []
 
 -- Returns `word` before its first `=`, which is the byte 61.

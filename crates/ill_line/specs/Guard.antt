@@ -13,7 +13,7 @@ abbrev pub IsGuardedAt : List ℕ → ToolFault → Type 0
 IsGuardedAt file Arguments = IsSomeAnd (path_file_name file) IsNamedOnShelf
 IsGuardedAt file fault = IsOpenFault fault
 
--- The guard may answer a request with the fault. It lets each request through that changes no desk, and sends from
--- none.
+-- The guard may answer a request with the fault. It lets each request through that changes no desk, sends from none,
+-- and keeps no note.
 abbrev pub IsGuarded : Asked → ToolFault → Type 0
 IsGuarded asked fault = IsSomeAnd (desk_at_stake asked) (λ file. IsGuardedAt file fault)

@@ -22,6 +22,7 @@ pub enum Name {
     News,
     Status,
     Loan,
+    Note,
     Slip,
     Report,
     Retire,
@@ -37,12 +38,13 @@ pub const SHELF: &str = "shelf";
 
 /// All commands, in the order of the help. First come the commands for staff, then the commands for the exchange with
 /// other libraries. The last are for looking inside, and one is for shelves alone. `clap` has these and no others.
-const NAMES: [Name; 19] = [
+const NAMES: [Name; 20] = [
     Name::New,
     Name::Act,
     Name::List,
     Name::News,
     Name::Loan,
+    Name::Note,
     Name::Slip,
     Name::Status,
     Name::Report,
@@ -60,10 +62,11 @@ const NAMES: [Name; 19] = [
 ];
 
 /// The commands on a shelf.
-const SHELF_NAMES: [Name; 11] = [
+const SHELF_NAMES: [Name; 12] = [
     Name::New,
     Name::Act,
     Name::Loan,
+    Name::Note,
     Name::Slip,
     Name::Status,
     Name::Take,
@@ -91,6 +94,7 @@ impl Name {
             Name::News => "news",
             Name::Status => "status",
             Name::Loan => "loan",
+            Name::Note => "note",
             Name::Slip => "slip",
             Name::Report => "report",
             Name::Retire => "retire",
@@ -116,6 +120,7 @@ impl Name {
             Name::News => "Tell what came to desks, in the order in which it came",
             Name::Status => "Show how each loan in a file stands",
             Name::Loan => "Show all of one loan: request, messages, what may be done",
+            Name::Note => "Keep a note on one loan, for staff alone",
             Name::Slip => "Write a slip of one loan, to print and to lay in its item",
             Name::Report => "Write a page for a browser of the loans of desks",
             Name::Retire => "Replace a desk whose loans are over by a mark of its group",
@@ -141,6 +146,7 @@ impl Name {
             Name::News => help::NEWS,
             Name::Status => help::STATUS,
             Name::Loan => help::LOAN,
+            Name::Note => help::NOTE,
             Name::Slip => help::SLIP,
             Name::Report => help::REPORT,
             Name::Retire => help::RETIRE,
@@ -166,6 +172,7 @@ impl Name {
             Name::News => help::NEWS_EXAMPLE,
             Name::Status => help::STATUS_EXAMPLE,
             Name::Loan => help::LOAN_EXAMPLE,
+            Name::Note => help::NOTE_EXAMPLE,
             Name::Slip => help::SLIP_EXAMPLE,
             Name::Report => help::REPORT_EXAMPLE,
             Name::Retire => help::RETIRE_EXAMPLE,
@@ -188,6 +195,7 @@ impl Name {
                 Argument::Today,
                 Argument::Seen,
                 Argument::DryRun,
+                Argument::Title,
                 Argument::Words,
             ],
             Name::Take => &[Argument::File, Argument::Long, Argument::Keep],
@@ -219,6 +227,12 @@ impl Name {
                 Argument::Picture,
                 Argument::Json,
             ],
+            Name::Note => &[
+                Argument::File,
+                Argument::Group,
+                Argument::Transaction,
+                Argument::NoteWords,
+            ],
             Name::Slip => &[Argument::File, Argument::Group, Argument::Transaction],
             Name::Report => &[Argument::Paths, Argument::ReportDay],
             Name::List => &[
@@ -229,7 +243,9 @@ impl Name {
                 Argument::Ahead,
                 Argument::DueBefore,
                 Argument::InState,
+                Argument::Find,
                 Argument::Actions,
+                Argument::Notes,
                 Argument::Json,
             ],
             Name::News => &[Argument::Paths, Argument::Last, Argument::Json],
@@ -249,6 +265,7 @@ impl Name {
         match self {
             Name::New => "Begin a shelf of one role, in a folder",
             Name::Act => "Perform one action in a loan, at the desk of its group",
+            Name::Note => "Keep a note on one loan, beside the desk of its group",
             Name::Take => "Take the APDUs on standard input, each at the desk of its group",
             Name::Status => "Show how each loan stands, desk by desk",
             Name::Inbox => "Take the mails of a folder, each at the desk of its group",
@@ -264,6 +281,7 @@ impl Name {
             Name::New => help::SHELF_NEW,
             Name::Act => help::SHELF_ACT,
             Name::Loan => help::SHELF_LOAN,
+            Name::Note => help::SHELF_NOTE,
             Name::Slip => help::SHELF_SLIP,
             Name::Status => help::SHELF_STATUS,
             Name::Take => help::SHELF_TAKE,
@@ -319,8 +337,12 @@ pub enum Argument {
     Seen,
     /// Set if an action is only tried.
     DryRun,
+    /// Set if `act` writes the item of the loan too.
+    Title,
     /// The words of an action.
     Words,
+    /// The words of a note.
+    NoteWords,
     /// The number of a message.
     Number,
     /// Set if `take` writes the fields of each message too.
@@ -333,8 +355,12 @@ pub enum Argument {
     Open,
     /// Set if the loans that want no hand are left out too.
     Mine,
+    /// The words that the listed loans have.
+    Find,
     /// Set if a list has the actions of each loan.
     Actions,
+    /// Set if a list has the notes on loans.
+    Notes,
     /// Set if objects of JSON are written.
     Json,
     /// The paths of desks, or of folders of them.
@@ -376,14 +402,16 @@ impl Argument {
             Argument::Today | Argument::OnDay | Argument::ReportDay | Argument::NightDay => "today",
             Argument::Seen => "seen",
             Argument::DryRun => "dry-run",
-            Argument::Words => "WORDS",
+            Argument::Words | Argument::NoteWords => "WORDS",
             Argument::Number => "NUMBER",
-            Argument::Long => "long",
+            Argument::Long | Argument::Title => "long",
             Argument::Keep => "keep",
             Argument::Picture => "picture",
             Argument::Open => "open",
             Argument::Mine => "mine",
+            Argument::Find => "find",
             Argument::Actions => "actions",
+            Argument::Notes => "notes",
             Argument::Json => "json",
             Argument::Paths => "PATH",
             Argument::Ahead => "ahead",
@@ -414,14 +442,18 @@ impl Argument {
             Argument::Today => "The day of the action, as 20250301; a responder needs it",
             Argument::Seen => "Act only if this is what was shown of the loan",
             Argument::DryRun => "Tell what would come, and save nothing",
+            Argument::Title => "Write the item of the loan below the line",
             Argument::Words => "The words of the action",
+            Argument::NoteWords => "The words of the note; '' removes it",
             Argument::Number => "The number of the message, 1 to 255",
             Argument::Long => "Tell which message each was, and what it said",
             Argument::Keep => "Keep each message that is taken, in FILE.came",
             Argument::Picture => "Draw the messages of the loan, for Mermaid",
             Argument::Open => "Leave out the loans that are over",
             Argument::Mine => "List only the loans that want a hand",
+            Argument::Find => "List only the loans with these words in a text",
             Argument::Actions => "Show the actions that are possible in each loan",
+            Argument::Notes => "Show the note on each loan below it",
             Argument::Json => "Write objects of JSON, one on a line",
             Argument::Paths => "The file of a desk, or a folder of them",
             Argument::OnDay => "The day of the work, as 20250301",
@@ -450,22 +482,24 @@ impl Argument {
             Argument::Ahead => valued(arg, "ahead", "DAYS"),
             Argument::DueBefore => valued(arg, "due-before", "DAY"),
             Argument::InState => valued(arg, "state", "STATE"),
+            Argument::Find => valued(arg, "find", "WORDS"),
             Argument::Last => valued(arg, "last", "N"),
             Argument::ReportDay => valued(arg, "today", "DAY").required(true),
             Argument::Paths => arg.required(true).action(ArgAction::Append).num_args(1..),
-            Argument::Words => arg
+            Argument::Words | Argument::NoteWords => arg
                 .required(true)
                 .action(ArgAction::Append)
                 .num_args(1..)
                 .allow_hyphen_values(true)
                 .trailing_var_arg(true),
             Argument::Number => arg.required(true).allow_hyphen_values(true),
-            Argument::Long => arg.long("long").action(ArgAction::SetTrue),
+            Argument::Long | Argument::Title => arg.long("long").action(ArgAction::SetTrue),
             Argument::Keep => arg.long("keep").action(ArgAction::SetTrue),
             Argument::Picture => arg.long("picture").action(ArgAction::SetTrue),
             Argument::Open => arg.long("open").action(ArgAction::SetTrue),
             Argument::Mine => arg.long("mine").action(ArgAction::SetTrue),
             Argument::Actions => arg.long("actions").action(ArgAction::SetTrue),
+            Argument::Notes => arg.long("notes").action(ArgAction::SetTrue),
             Argument::Json => arg.long("json").action(ArgAction::SetTrue),
             Argument::NewGroup => arg.long("new-group").action(ArgAction::SetTrue),
             _ => arg.required(true),
@@ -500,13 +534,14 @@ fn valued<'a>(arg: Arg<'a>, name: &'a str, value: &'a str) -> Arg<'a> {
 }
 
 /// All options of the program, also those that `clap` adds.
-const OPTIONS: [&str; 25] = [
+const OPTIONS: [&str; 27] = [
     "--today",
     "--seen",
     "--dry-run",
     "--ahead",
     "--due-before",
     "--state",
+    "--find",
     "--copy",
     "--beat",
     "--stream",
@@ -518,6 +553,7 @@ const OPTIONS: [&str; 25] = [
     "--open",
     "--mine",
     "--actions",
+    "--notes",
     "--json",
     "--new-group",
     "--last",

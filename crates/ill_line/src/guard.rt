@@ -1,5 +1,5 @@
-//! The guard of a shelf's desks: only the commands of the shelf change one, or send from it. So a loan of the shelf has
-//! one home, the desk of its group.
+//! The guard of a shelf's desks: only the commands of the shelf change one, send from it, or keep notes beside it. So a
+//! loan of the shelf has one home, the desk of its group.
 
 ghost use Rattle.std.specs.Prelude.{IfErr};
 ghost use Rattle.ill_line.specs.Asked.{asked, desk_at_stake};
@@ -14,7 +14,7 @@ use std::alloc::Global;
 use std::path::Path;
 use std::rt::Files;
 
-/// Refuses a request that would change a desk of a shelf, or send from it. Opens nothing.
+/// Refuses a request that would change a desk of a shelf, send from it, or keep a note beside it. Opens nothing.
 pub fn refuse_desk_of_shelf<T: Files>(
     rt: &T,
     alloc: Global,

@@ -4,10 +4,10 @@ pub const VERSION: &str = "0.2.0";
 
 pub const ILL: &str = "\
 The commands stand in groups:
-  for staff                  new, act, list, news, loan, slip, status, report
-  for the exchange           take, send, inbox, outbox, exchange
-  for more than 1,000 loans  shelf, which has commands of its own
-  to look inside             verify, show, check, simulate, simulate-desks
+  for staff             new, act, list, news, loan, note, slip, status, report
+  for the exchange      take, send, inbox, outbox, exchange
+  for over 1,000 loans  shelf, which has commands of its own
+  to look inside        verify, show, check, simulate, simulate-desks
 
 A desk is the loans of one library in one role, and it is kept in a file. How
 messages are carried, by mail or by hand, is left to the libraries. `ill COMMAND
@@ -21,11 +21,11 @@ FILE has at most 67,108,864 bytes. Only `new`, `act`, `take`, `inbox` and
 `exchange` change it. `show`, `check`, `simulate` and `simulate-desks` read and
 write no file.
 
-Several commands may be started at once on one file. `new`, `act`, `take`,
-`inbox`, `outbox` and `exchange` wait for each other: ten seconds, and then they
-end with `store failed`. Each holds the file until it ends, `take` until its
-input ends. `list`, `news`, `loan`, `slip`, `status`, `report`, `send` and
-`verify` wait for nobody.
+Several commands may be started at once on one file. `new`, `act`, `note`,
+`take`, `inbox`, `outbox` and `exchange` wait for each other: ten seconds, and
+then they end with `store failed`. Each holds the file until it ends, `take`
+until its input ends. `list`, `news`, `loan`, `slip`, `status`, `report`, `send`
+and `verify` wait for nobody.
 
 PATH is the file of a desk, or a folder of desks. A folder's desks come in the
 order of their names: all regular files, but for those that begin with a dot or
@@ -51,8 +51,8 @@ the text and with its labels. Of several desks each object has its PATH in
 
 With --explain, lines after that of a fault tell which word, file or message is
 wrong, and what would be right. It stands before the command, or after it before
-the words of an action. The lines begin with spaces, and no program may rest on
-them.
+the words of an action or a note. The lines begin with spaces, and no program
+may rest on them.
 
 The start of a loan, with the requester's desk in the file `here` and the
 responder's in the file `there`:
@@ -90,7 +90,8 @@ The exit status, and the line of a fault on standard error after `ill: `:
   2  record inconsistent  FILE has a record that no desk can have
   3  store failed         FILE is no regular file, or cannot be read or written,
                           or another command held FILE for ten seconds
-  3  store too-large      FILE or FILE.came has more than 67,108,864 bytes
+  3  store too-large      FILE, FILE.came or FILE.notes has more than
+                          67,108,864 bytes
   3  left                 `inbox` or `exchange` has left mails for the next run
   3  read                 the input cannot be read
   3  write                the output cannot be written; a closed pipe too
@@ -108,9 +109,9 @@ The desk has no loan yet. A library that both asks and is asked has two desks,
 one as requester and one as responder, in two files.
 
 FILE must not be there yet, and its folder must. Its name may not end in .new,
-.lck, .came, .mail or .retired: what lies beside a desk has such names, and is
-the program's. A record is written by way of FILE.new. One line, `done`, is
-written to standard output.
+.lck, .came, .notes, .mail or .retired: what lies beside a desk has such names,
+and is the program's. A record is written by way of FILE.new. One line, `done`,
+is written to standard output.
 
 The exit status is 0 if the desk is saved, and 1 with `exists`.";
 
@@ -155,6 +156,9 @@ title has no quotes round it: `request none War and Peace`.
 A responder's action needs --today; a requester's has no use for it. Options
 stand before the words. Among them an option of any command is `arguments`; if
 `--` stands right before the words, it is one of them, as of a title.
+
+With --long the item of the loan stands on a line below that of the action,
+after `item`, if the loan has one.
 
 With --seen the action is done only on a loan that is shown as its value, which
 is what stands after the OUTCOME of an earlier command. Else nothing is done,
@@ -481,6 +485,11 @@ These options say which loans are listed; all that are given hold:
   --due-before DAY       only those that are due before this day. With --today
                          it may be `+N`, N days after that day, 1 to 255
   --state STATE          only those in this state, as SHIPPED
+  --find WORDS           only those that have WORDS in a text, in capitals or
+                         not: in GROUP and TRANSACTION, with a space between
+                         them, in the title or in the note
+
+With --notes the note on a loan stands on a line below it, after `note`.
 
 The last line counts all loans of the desk, whichever are listed. It says how
 many want a hand, to do, and for how many more there is room. From 900 loans on
@@ -490,8 +499,8 @@ at most 10 numbers left for its messages has such a line, whichever loans are
 listed.
 
 With --json a loan has `kind`, which is loan, `work`, `state`, `due`, `group`,
-`transaction`, `now` (what `act` takes now) and `item`. After them an object
-whose `kind` is counts has `loans`, `open`, `todo` and `room`.
+`transaction`, `now` (what `act` takes now), `item` and `note`. After them an
+object whose `kind` is counts has `loans`, `open`, `todo` and `room`.
 
 `ill --help` tells which desks a PATH has, and what comes of several.";
 
@@ -638,6 +647,9 @@ responder tells what it has taken, by the numbers of messages, each a number or
 A requester tells this in their place:
   held                   the conditions that stand, by their number, or `-`
 
+If `ill note` has kept a note on the loan, a line tells it:
+  note                   the note
+
 Then come the messages that the loan has issued, in order. An empty line stands
 before each. A message has the lines of `ill show`, and one more:
   leaves                 `yes` if `send` gives it, or `no` while it is not
@@ -653,7 +665,7 @@ answers a message; how both orders lay in time, nobody knows.
 
 With --json the loan also has the labels of `ill status --json`. Its `messages`
 are an array of those that it has issued, and its `came` one of those that were
-kept. With --picture too it is the object.
+kept. Without a note its `note` is null. With --picture too it is the object.
 
 The exit status is 0 if the loan is shown, and 1 with `no-such-transaction`.";
 
@@ -682,6 +694,46 @@ pub const LOAN_EXAMPLE: &str = "Example:
   number 1
   item Maps
   leaves yes";
+
+pub const NOTE: &str = "\
+Keep a note on one loan, for staff alone.
+
+A note says what no message says: for whom the book is, a shelf mark, a letter
+that was sent. It never leaves the library: no message, no date and no slip
+depends on it. A loan has one note, and a new one replaces it. `ill list
+--notes`, `ill loan` and `ill report` show it, and `ill list --find` looks for
+words in it.
+
+The note is all WORDS, the words that remain, of 200 bytes at most, without a
+control character. An empty one, '', removes the note of the loan. Among WORDS
+an option of any command is `arguments`; if `--` stands right before them, it is
+one of them.
+
+The note is kept in FILE.notes, a line for each: GROUP, TRANSACTION and WORDS.
+The last line of a loan counts. A space of GROUP or TRANSACTION is written by
+its number. So is a character of WORDS on which a terminal or an editor may act,
+as \\u{202e}. Nothing is decided by that file: it may be put away, and then there
+is no note. A part of a line that a crash has left at its end is cut off, and a
+line on standard error says so.
+
+One line, `done`, is written to standard output once the note is on the disk.
+FILE.notes has at most 67,108,864 bytes.
+
+The exit status is 0 if the note is kept, and 1 with `no-such-transaction`.
+After `store failed` the note may be kept or not: `ill loan` shows which.";
+
+pub const NOTE_EXAMPLE: &str = "Example:
+  $ ill new box requester
+  done
+  $ ill act box G1 T1 request none Maps
+  done PENDING - 1/1
+  $ ill note box G1 T1 for Prof. Noether, by Friday
+  done
+  $ ill list box --notes
+  wait for the other library (1):
+    PENDING  -         G1  T1  Maps
+      note for Prof. Noether, by Friday
+  loans 1, open 1, to do 0, room for 999";
 
 pub const SLIP: &str = "\
 Write a slip of one loan, to print and to lay in its item.
@@ -747,15 +799,15 @@ work, with the number of its loans. The work says what staff do next with a loan
 on DAY. The most pressing work stands first, and loans that are over stand last.
 A due date is soon if it is at most 7 days away.
 
-A row has the title of a loan, its group and transaction, and its state in plain
-words. It has the day on which the item is due, or else the day after which the
-request may expire. Last it has the verbs that `ill act` takes on DAY. In each
-table the earliest of these days stands first, and loans without one last. A day
-is written YYYY-MM-DD.
+A row has the title of a loan, the note on it, its group and transaction, and
+its state in plain words. It has the day on which the item is due, or else the
+day after which the request may expire. Last it has the verbs that `ill act`
+takes on DAY. In each table the earliest of these days stands first, and loans
+without one last. A day is written YYYY-MM-DD.
 
-What a person wrote, titles, groups, transactions and names of files, stands
-there as text, whatever its characters. A desk that cannot be read has its fault
-on the page too.";
+What a person wrote, titles, notes, groups, transactions and names of files,
+stands there as text, whatever its characters. A desk that cannot be read has
+its fault on the page too.";
 
 pub const REPORT_EXAMPLE: &str = "Example:
   $ ill new here requester
@@ -890,9 +942,9 @@ The group of a loan names its desk, so no loan can come to two of them. Begin a
 new group, such as a partner and a year, before a desk is full.
 
 The commands take the words of those for one desk, with DIR in place of FILE.
-They alone change a desk of the shelf, or send from it: with such a FILE `ill
-act`, `ill take` and their like are `arguments`. `ill list DIR` and `ill report
-DIR` take a shelf too.
+They alone change a desk of the shelf, send from it or keep notes: with such a
+FILE `ill act`, `ill take` and their like are `arguments`. `ill list DIR` and
+`ill report DIR` take a shelf too.
 
 The desk of GROUP is the file DIR/GROUP.requester or DIR/GROUP.responder. All
 bytes of the name but letters, digits, `-` and `_` are written as `%` and two
@@ -938,6 +990,12 @@ pub const SHELF_LOAN: &str = "\
 Show all of one loan: request, messages, what may be done.
 
 It shows what `ill loan` shows, of the desk of GROUP.";
+
+pub const SHELF_NOTE: &str = "\
+Keep a note on one loan, for staff alone.
+
+It keeps what `ill note` keeps, beside the desk of GROUP: in DESK.notes. To
+retire a group removes its notes.";
 
 pub const SHELF_SLIP: &str = "\
 Write a slip of one loan, to print and to lay in its item.

@@ -8,7 +8,7 @@ ghost use Rattle.ill_line.specs.CommandLine.{is_option};
 ghost use Rattle.ill_line.specs.declared.request.Refusal.TheVariants.{Usage, Fault};
 ghost use Rattle.ill_text.specs.declared.fault.ToolFault.TheVariants.{OutOfMemory};
 ghost use Rattle.ill_line.specs.declared.command_line.Name.TheVariants as names;
-ghost use Rattle.ill_line.specs.Asked.{GivesId, ReadsValue, IsRefusal, asked_by, asked_in, asked_of, text_of, texts_of, role_of, loan_of, group_of, new_file_of, day_in, last_in, state_in, number_of_message, dates_of, outlet_of, is_set, which_of, form_of, wanted_of, wanted_on, ahead_in, due_in, day_or_days, days_on, report_day_of, asked, desk_at_stake, end_with_dashes, has_option, said_free, unless_option};
+ghost use Rattle.ill_line.specs.Asked.{GivesId, ReadsValue, IsRefusal, asked_by, asked_in, asked_of, text_of, texts_of, role_of, loan_of, group_of, new_file_of, day_in, last_in, state_in, number_of_message, dates_of, outlet_of, is_set, which_of, form_of, wanted_of, wanted_on, ahead_in, due_in, day_or_days, days_on, report_day_of, asked, desk_at_stake, end_with_dashes, has_option, note_words_of, said_free, unless_option};
 
 use crate::command_line::{Argument, Name, SHELF, command, is_option};
 use clap::error::ErrorKind;
@@ -20,6 +20,7 @@ use ill_night::dates::Dates;
 use ill_night::night::Night;
 use ill_saved::Role;
 use ill_show::loan::LoanForm;
+use ill_show::notes::{is_note, note_text};
 use ill_show::soon::SOON;
 use ill_show::wanted::{Wanted, Which};
 use ill_text::fault::ToolFault;
@@ -66,6 +67,8 @@ pub enum Request<'a> {
         seen: Option<&'a str>,
         /// Set if the action is only tried.
         is_trial: bool,
+        /// Set if the item of the loan is written too.
+        is_long: bool,
         /// Set if a shelf may begin a desk for the group of the transaction.
         is_new_group: bool,
         /// The words of the action.
@@ -114,6 +117,8 @@ pub enum Request<'a> {
         paths: Vec<&'a str>,
         /// The loans that are listed.
         wanted: Wanted,
+        /// The words that these loans have, if any are sought.
+        find: Option<&'a str>,
         /// The form of the list.
         form: Form,
     },
@@ -141,6 +146,15 @@ pub enum Request<'a> {
         txn: TxnId,
         /// The form of the loan that is shown.
         form: LoanForm,
+    },
+    /// Keep a note on a loan: `ill note`.
+    Note {
+        /// The path of the file.
+        file: &'a str,
+        /// The transaction.
+        txn: TxnId,
+        /// The words of the note, which a note may have.
+        words: Vec<&'a str>,
     },
     /// Write a slip of a loan: `ill slip`.
     Slip {
@@ -171,7 +185,7 @@ pub enum Request<'a> {
 }
 
 impl<'a> Request<'a> {
-    /// Returns the file of the desk that the request may change, or from which it sends.
+    /// Returns the file of the desk that the request may change, from which it sends, or beside which it keeps a note.
     pub fn desk_at_stake(&self) -> Option<&'a str>
         ensures { option_map (λ file. file.now) result ≡ desk_at_stake (asked self.now) }
     {
@@ -182,7 +196,8 @@ impl<'a> Request<'a> {
             | Request::Inbox { file, .. }
             | Request::Outbox { file, .. }
             | Request::Exchange { file, .. }
-            | Request::Send { file, .. } => Some(*file),
+            | Request::Send { file, .. }
+            | Request::Note { file, .. } => Some(*file),
             _ => None,
         }
     }
@@ -242,8 +257,8 @@ pub fn read_words<'a>(alloc: Global, words: &'a [&'a str]) -> Result<Call<'a>, R
     }
 }
 
-/// Returns the request of the command in `matches`. `words` are the whole command line. An action may have no option of
-/// the program among its words.
+/// Returns the request of the command in `matches`. `words` are the whole command line. An action and a note may have no
+/// option of the program among their words.
 fn read<'a>(alloc: Global, words: &[&str], matches: &ArgMatches<'a>) -> Result<Request<'a>, Refusal>
     ensures { ReadsValue asked (said_free (map (λ word. word.now) words.now) (asked_in (subcommand_rows_of matches.now))) result }
 {
@@ -257,12 +272,13 @@ fn read<'a>(alloc: Global, words: &[&str], matches: &ArgMatches<'a>) -> Result<R
     Ok(request)
 }
 
-/// Returns true if an option of the program is among the words of an action, with which `words` end.
+/// Returns true if an option of the program is among the words of an action or of a note, with which `words` end.
 fn has_option_of(words: &[&str], request: &Request<'_>) -> bool
     ensures { result ≡ is_none (unless_option (map (λ word. word.now) words.now) (asked request.now)) }
 {
     match request {
         Request::Act { words: action, .. } => has_option(words, action),
+        Request::Note { words: note, .. } => has_option(words, note),
         _ => false,
     }
 }
@@ -333,6 +349,7 @@ fn requested<'a>(
         Name::News => news_request(alloc, matches),
         Name::Status => status_request(alloc, matches),
         Name::Loan => loan_request(alloc, matches),
+        Name::Note => note_request(alloc, matches),
         Name::Slip => slip_request(alloc, matches),
         Name::Retire => retire_request(alloc, matches),
         Name::Verify => verify_request(alloc, matches),
@@ -378,6 +395,7 @@ fn act_request<'a>(alloc: Global, matches: &ArgMatches<'a>) -> Result<Request<'a
     let txn = loan(alloc, matches)?;
     let seen = said(matches, Argument::Seen);
     let is_trial = is_set(matches, Argument::DryRun);
+    let is_long = is_set(matches, Argument::Title);
     let is_new_group = is_set(matches, Argument::NewGroup);
     let words = texts(alloc, matches, Argument::Words)?;
     Ok(Request::Act {
@@ -386,6 +404,7 @@ fn act_request<'a>(alloc: Global, matches: &ArgMatches<'a>) -> Result<Request<'a
         today,
         seen,
         is_trial,
+        is_long,
         is_new_group,
         words,
     })
@@ -505,6 +524,7 @@ fn list_request<'a>(alloc: Global, matches: &ArgMatches<'a>) -> Result<Request<'
     Ok(Request::List {
         paths,
         wanted,
+        find: said(matches, Argument::Find),
         form: form(matches),
     })
 }
@@ -542,6 +562,29 @@ fn loan_request<'a>(alloc: Global, matches: &ArgMatches<'a>) -> Result<Request<'
     let txn = loan(alloc, matches)?;
     let form = LoanForm::of(form(matches), is_set(matches, Argument::Picture));
     Ok(Request::Loan { file, txn, form })
+}
+
+/// Returns the request of `ill note`.
+fn note_request<'a>(alloc: Global, matches: &ArgMatches<'a>) -> Result<Request<'a>, Refusal>
+    ensures { ReadsValue asked (asked_of names.Note (rows_of (found_of matches.now))) result }
+{
+    let file = text(alloc, matches, Argument::File)?;
+    let txn = loan(alloc, matches)?;
+    let words = note_words(alloc, matches)?;
+    Ok(Request::Note { file, txn, words })
+}
+
+/// Returns the words of a note in the arguments, if a note may have them.
+fn note_words<'a>(alloc: Global, matches: &ArgMatches<'a>) -> Result<Vec<&'a str>, Refusal>
+    ensures { ReadsValue (λ texts. map (λ text. text.now) texts.items) (note_words_of (rows_of (found_of matches.now))) result }
+{
+    let words = texts(alloc, matches, Argument::NoteWords)?;
+    let note = note_text(alloc, &words)?;
+    if is_note(note.as_str()) {
+        Ok(words)
+    } else {
+        Err(Refusal::Fault(ToolFault::Arguments))
+    }
 }
 
 /// Returns the request of `ill slip`.
@@ -655,6 +698,7 @@ fn wanted_on(matches: &ArgMatches<'_>, today: &Option<Day>) -> Result<Wanted, Re
         due_before,
         state,
         has_actions: is_set(matches, Argument::Actions),
+        has_notes: is_set(matches, Argument::Notes),
     })
 }
 

@@ -2,6 +2,7 @@
 
 ghost use Rattle.std.specs.Prelude.{◌≡◌, true, is_some, IfErr};
 ghost use Rattle.ill_commands.specs.AtFile.{ActsAtFile, LoanAtFile, NewAtFile, SendsAtFile, ShowsFile, SlipAtFile};
+ghost use Rattle.ill_commands.specs.Note.{NotesAtFile, text_of};
 ghost use Rattle.ill_desk.specs.ActAs.{asking_of};
 ghost use Rattle.ill_mail.specs.Nights.{ExchangesAtFile, InboxAtFile, OutboxAtFile};
 ghost use Rattle.ill_shelf.specs.Shelf.{IsFurther, RetiresAtFile, VisitsShelf, is_lines, retired_line, told_with};
@@ -11,12 +12,13 @@ use crate::last_words::{load_mark, send_last_words};
 use crate::sorting::sort_mails;
 use crate::visit::{Visit, visit_all};
 use ill_commands::commands::{act_at, loan, new, send, slip};
+use ill_commands::note::{NoteView, note};
 use ill_desk::act_as::ActionView;
 use ill_files::durable::error_of_store;
 use ill_files::home::refuse_lost;
 use ill_files::machine::Machine;
 use ill_files::open::{lock, open};
-use ill_files::paths::{CAME, MAIL, RETIRED, is_there, path_of};
+use ill_files::paths::{CAME, MAIL, NOTES, RETIRED, is_there, path_of};
 use ill_files::shelf::{Shelf, is_retired, names_of_desks, own_path, refuse_retired, retired_path};
 use ill_mail::backup::beat;
 use ill_mail::mail::names_in;
@@ -62,21 +64,22 @@ fn make_shelf_folder<T: Files>(rt: &T, folder: &str) -> Result<(), ToolFault>
     }
 }
 
-/// `ill shelf act`: performs the action of `view`, at the desk of its group. A new group is begun only if
-/// `is_new_group` is set.
+/// `ill shelf act`: performs the action of `view`, at the desk of its group. If `is_long` is set, the item of the loan is
+/// written too. A new group is begun only if `is_new_group` is set.
 pub fn act_on_shelf<T: LockFiles, W: Write, E: Write>(
     machine: &mut Machine<'_, T, W, E>,
     folder: &str,
     view: &ActionView<'_>,
+    is_long: bool,
     is_new_group: bool,
 ) -> Result<bool, ToolFault>
-    ensures { ActsAtFile (asking_of view.now) (W.contents machine.old.writer) (W.contents machine.new.writer) result }
+    ensures { ActsAtFile (asking_of view.now) is_long (W.contents machine.old.writer) (W.contents machine.new.writer) result }
 {
     let shelf = Shelf::open(machine.rt, machine.alloc, folder)?;
     let file = shelf.desk_of(machine.alloc, view.txn.group())?;
     let role = if is_new_group { Some(shelf.role) } else { None };
     let locked = open_or_begin(machine.rt, machine.alloc, file.as_str(), role)?;
-    act_at(machine, file.as_str(), locked, view)
+    act_at(machine, file.as_str(), locked, view, is_long)
 }
 
 /// Opens the desk in `file` under the lock of the file. If the file is not there and `role` is one, it begins a desk of
@@ -122,6 +125,18 @@ pub fn loan_on_shelf<T: Files, W: Write, E: Write>(
 {
     let file = home_of(machine.rt, machine.alloc, folder, view.txn)?;
     loan(machine, file.as_str(), view)
+}
+
+/// `ill shelf note`: keeps a note on a transaction, beside the desk of its group.
+pub fn note_on_shelf<T: LockFiles, W: Write, E: Write>(
+    machine: &mut Machine<'_, T, W, E>,
+    folder: &str,
+    view: &NoteView<'_>,
+) -> Result<bool, ToolFault>
+    ensures { NotesAtFile view.now.txn.now (text_of view.now) (W.contents machine.old.writer) (W.contents machine.new.writer) result }
+{
+    let file = home_of(machine.rt, machine.alloc, folder, view.txn)?;
+    note(machine, file.as_str(), view)
 }
 
 /// `ill shelf slip`: writes a slip of a transaction.
@@ -414,9 +429,11 @@ fn retire_desk<S: Store, C: Store>(
 /// Removes the file of a desk and the files beside it, and makes that durable. Mails that were put aside stay in their
 /// folder.
 fn clear<T: Files>(rt: &T, alloc: Global, file: &str) -> io::Result<()> {
-    let came = format!(in alloc; "{file}{CAME}")?;
+    for ending in [CAME, NOTES] {
+        let kept = format!(in alloc; "{file}{ending}")?;
+        remove_if_there(rt, kept.as_str())?;
+    }
     let mail = format!(in alloc; "{file}{MAIL}")?;
-    remove_if_there(rt, came.as_str())?;
     clear_mail(rt, alloc, mail.as_str())?;
     remove_if_there(rt, file)?;
     save_mark(rt, alloc, file, load_mark(rt, alloc, file)?)

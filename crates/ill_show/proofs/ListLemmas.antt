@@ -1,10 +1,12 @@
--- Proves how the command `list` fills a column with spaces, joins words and selects loans.
+-- Proves how the command `list` fills a column with spaces, joins words, selects loans and writes its text.
 use Rattle.std.proofs.Common.{◌≡◌, ℕ, suc, ◌+◌, ◌-◌, ◌<◌, ◌++◌, Bool, true, false, cond, List, [], ◌∷◌, map, replicate, refl, ap}
-use Rattle.std.proofs.Common.{sym, subst, ◌∙◌, arith, append_assoc, ◌||◌, ◌==◌}
+use Rattle.std.proofs.Common.{sym, subst, ◌∙◌, arith, append_assoc, ◌||◌, ◌==◌, Option, Result, Ok, Err}
 use Rattle.std.specs.Prelude.{filter}
 use Rattle.std.specs.List.{flat_map, join_by}
 use Rattle.std.proofs.lemmas.List.{append-nil}
 use Rattle.std.proofs.lemmas.List.Folds.{flat_map-map}
+use Rattle.ill_text.specs.declared.fault.ToolFault.{ToolFault}
+use Rattle.ill_text.specs.Output.{WritesPrefix, WritesText}
 use Rattle.ill_show.specs.List.{column_byte, column_rest, is_end}
 
 -- If `place` is less than `width`, one more space is left at `place` than at `place + 1`.
@@ -61,3 +63,10 @@ pub column_ends : (shown all : List ℕ) (is_edge : Bool) (rest : List ℕ) → 
 unfolding column_rest
 column_ends shown all is_edge rest left none =
     sym (append-nil shown) ∙ subst (λ (rest : List ℕ). shown ++ column_rest is_edge rest ≡ all) none left
+
+-- If `WritesPrefix` holds of a text, `WritesText` does.
+pub text_written : (before after : Option (List ℕ)) (bytes : List ℕ) (result : Result (Unit {0}) ToolFault)
+    → WritesPrefix before after bytes result → WritesText before after bytes result
+text_written before after bytes (Ok done) written = written
+text_written before after bytes (Err fault) (is, prefix) =
+    subst (λ (fault : ToolFault). WritesText before after bytes (Err fault)) (sym is) prefix

@@ -1,5 +1,5 @@
 -- The messages that came in a transaction and were kept, each once.
-use Rattle.std.specs.Prelude.{ℕ, Bool, true, not, ◌&&◌, if◌then◌else◌, List, [], ◌∷◌, ◌++◌, fold, codes}
+use Rattle.std.specs.Prelude.{ℕ, Bool, true, not, ◌&&◌, if◌then◌else◌, List, [], ◌∷◌, ◌++◌, fold, codes, Option}
 use Rattle.std.specs.List.{flat_map, list_any}
 use Rattle.std.specs.Str.{bytes_eq}
 use Rattle.ill_values.specs.TxnId.{Qualifiers}
@@ -29,6 +29,6 @@ kept_of txn came = fold (with_new txn) [] came
 
 -- ---- the texts
 
--- Returns all lines of a loan, and after them the lines of the messages `kept` that came.
-abbrev pub kept_lines : DeskEntry → List Apdu → List ℕ
-kept_lines held kept = loan_lines held.side held.released ++ flat_map (marked_lines (codes "came") true) kept
+-- Returns all lines of a loan with this note, and after them the lines of the messages `kept` that came.
+abbrev pub kept_lines : Option (List ℕ) → DeskEntry → List Apdu → List ℕ
+kept_lines note held kept = loan_lines note held.side held.released ++ flat_map (marked_lines (codes "came") true) kept

@@ -1,4 +1,7 @@
+pub mod BadNotes
+pub mod Finding
 pub mod Heard
+pub mod ItemLine
 pub mod Kept
 pub mod List
 pub mod Listing
@@ -6,6 +9,7 @@ pub mod Loan
 pub mod LoanLines
 pub mod News
 pub mod NewsWords
+pub mod Notes
 pub mod Numbers
 pub mod Objects
 pub mod Picture

@@ -1,10 +1,11 @@
 -- The texts of `list`, in lines or in objects of JSON.
-use Rattle.std.specs.Prelude.{ℕ, Bool, true, false, nat_eq, List, [], ◌∷◌, ◌++◌, length, filter, Option, None, Some}
+use Rattle.std.specs.Prelude.{ℕ, Bool, true, false, if◌then◌else◌, nat_eq, List, [], ◌∷◌, ◌++◌, length, filter, Option, None}
+use Rattle.std.specs.Prelude.{Some}
 use Rattle.std.specs.Prelude.{option_map, codes}
 use Rattle.std.specs.List.{flat_map}
 use Rattle.std.specs.Fmt.{decimal}
-use Rattle.ill_values.specs.Day.{Date}
 use Rattle.ill_saved.specs.declared.side.Side.{Side}
+use Rattle.ill_saved.specs.Side.{txn_of}
 use Rattle.ill_text.specs.declared.form.Form.{Form}
 use Rattle.ill_text.specs.declared.form.Form.TheVariants.{Lines, Json}
 use Rattle.ill_show.specs.declared.wanted.Wanted.{Wanted}
@@ -18,6 +19,8 @@ use Rattle.ill_work.specs.declared.work.Work.{Work}
 use Rattle.ill_work.specs.Work.{all_work, work_words}
 use Rattle.ill_show.specs.List.{columns_of, row, has_work, listed_of, counts_of, counts_line}
 use Rattle.ill_show.specs.Objects.{row_object, counts_object}
+use Rattle.ill_show.specs.Finding.{Seeking, found_of}
+use Rattle.ill_show.specs.Notes.{lines_of, listed_note, note_of}
 
 -- ---- one kind of work
 
@@ -25,53 +28,68 @@ use Rattle.ill_show.specs.Objects.{row_object, counts_object}
 abbrev pub work_heading : Work → ℕ → List ℕ
 work_heading work count = work_words work ++ (codes " (" ++ (decimal count ++ codes "):\n"))
 
--- Returns the lines of the loans with this work: a heading, and a line for each. Without a loan there is no line.
-abbrev pub work_lines : Columns → Option Date → Work → List Side → List ℕ
-work_lines columns today work [] = []
-work_lines columns today work (first ∷ others) =
-    work_heading work (length (first ∷ others)) ++ flat_map (row columns today) (first ∷ others)
+-- Returns the line of the note of a loan, if the list has notes and there is one.
+abbrev pub note_shown : (notes : List (List ℕ)) → Wanted → Side → List ℕ
+note_shown notes wanted side = if wanted.has_notes then listed_note (note_of notes (txn_of side)) else []
+
+-- Returns the line of a loan, and the line of its note below it.
+abbrev pub noted_row : Columns → (notes : List (List ℕ)) → Wanted → Side → List ℕ
+noted_row columns notes wanted side = row columns wanted.today side ++ note_shown notes wanted side
+
+-- Returns the lines of the loans with this work: a heading, and those of each. Without a loan there is no line.
+abbrev pub work_lines : Columns → (notes : List (List ℕ)) → Wanted → Work → List Side → List ℕ
+work_lines columns notes wanted work [] = []
+work_lines columns notes wanted work (first ∷ others) =
+    work_heading work (length (first ∷ others)) ++ flat_map (noted_row columns notes wanted) (first ∷ others)
 
 -- Returns the objects of the loans with this work.
-abbrev pub work_objects : Option (List ℕ) → Option Date → Work → List Side → List ℕ
-work_objects file today work sides = flat_map (row_object file today work) sides
+abbrev pub work_objects : Option (List ℕ) → (notes : List (List ℕ)) → Wanted → Work → List Side → List ℕ
+work_objects file notes wanted work sides = flat_map (row_object file notes wanted.today work) sides
 
 -- ---- one desk
 
 -- Returns the text of those of the listed loans that have this work, in their order.
-abbrev pub section : (Option Date → Work → List Side → List ℕ) → Wanted → List Side → Work → List ℕ
-section text wanted listed work = text wanted.today work (filter (has_work wanted work) listed)
+abbrev pub section : (Wanted → Work → List Side → List ℕ) → Wanted → List Side → Work → List ℕ
+section text wanted listed work = text wanted work (filter (has_work wanted work) listed)
 
 -- Returns the texts of the listed loans, kind by kind, the most pressing work first.
-abbrev pub sections : (Option Date → Work → List Side → List ℕ) → Wanted → List Side → List ℕ
+abbrev pub sections : (Wanted → Work → List Side → List ℕ) → Wanted → List Side → List ℕ
 sections text wanted listed = flat_map (section text wanted listed) all_work
 
--- Returns the texts of the listed loans, and then the counts of all loans. Loans with one kind of work are in the order of
+-- Returns the loans of `sides` that are listed, and have the words that are sought.
+abbrev pub chosen_of : Wanted → Seeking → List Side → List Side
+chosen_of wanted seeking sides = found_of seeking (listed_of wanted sides)
+
+-- Returns the texts of the chosen loans, and then the counts of all loans. Loans with one kind of work are in the order of
 -- `sides`.
-abbrev pub listed : (Option Date → Work → List Side → List ℕ) → (Counts → List ℕ) → Wanted → List Side → List ℕ
-listed text counts_text wanted sides =
-    sections text wanted (listed_of wanted sides) ++ counts_text (counts_of wanted sides)
+abbrev pub listed : (Wanted → Work → List Side → List ℕ) → (Counts → List ℕ) → Wanted → Seeking → List Side → List ℕ
+listed text counts_text wanted seeking sides =
+    sections text wanted (chosen_of wanted seeking sides) ++ counts_text (counts_of wanted sides)
 
 -- Returns the text of the loans with one kind of work, in lines or in objects.
-abbrev pub work_text : Rows → Option Date → Work → List Side → List ℕ
-work_text (rows.Lines columns) = work_lines columns
-work_text (rows.Objects file) = work_objects (option_map (λ path. path.now) file)
+abbrev pub work_text : Rows → Wanted → Work → List Side → List ℕ
+work_text (rows.Lines columns notes) = work_lines columns (lines_of notes.now)
+work_text (rows.Objects file notes) = work_objects (option_map (λ path. path.now) file) (lines_of notes.now)
 
 -- Returns the counts as a line or an object.
 abbrev pub counts_text : Rows → Counts → List ℕ
-counts_text (rows.Lines columns) = counts_line
-counts_text (rows.Objects file) = counts_object (option_map (λ path. path.now) file)
+counts_text (rows.Lines columns notes) = counts_line
+counts_text (rows.Objects file notes) = counts_object (option_map (λ path. path.now) file)
 
--- Returns the lines of a list of `sides`. Its columns are wide enough for the listed loans.
-abbrev pub ordered_lines : Wanted → List Side → List ℕ
-ordered_lines wanted sides = listed (work_lines (columns_of wanted (listed_of wanted sides))) counts_line wanted sides
+-- Returns the lines of a list of `sides`. Its columns are wide enough for the chosen loans.
+abbrev pub ordered_lines : Wanted → Seeking → List Side → List ℕ
+ordered_lines wanted seeking sides =
+    listed (work_lines (columns_of wanted (chosen_of wanted seeking sides)) (seeking.notes)) counts_line
+    wanted seeking sides
 
 -- Returns the lines of a desk. Loans with one kind of work are in the order of their deadlines.
-abbrev pub list_lines : Wanted → List Side → List ℕ
-list_lines wanted sides = ordered_lines wanted (most_urgent_first sides)
+abbrev pub list_lines : Wanted → Seeking → List Side → List ℕ
+list_lines wanted seeking sides = ordered_lines wanted seeking (most_urgent_first sides)
 
 -- Returns the objects of a desk, in the order of `list_lines`.
-abbrev pub list_objects : Option (List ℕ) → Wanted → List Side → List ℕ
-list_objects file wanted sides = listed (work_objects file) (counts_object file) wanted (most_urgent_first sides)
+abbrev pub list_objects : Option (List ℕ) → Wanted → Seeking → List Side → List ℕ
+list_objects file wanted seeking sides =
+    listed (work_objects file (seeking.notes)) (counts_object file) wanted seeking (most_urgent_first sides)
 
 -- ---- several desks
 
@@ -91,9 +109,9 @@ file_told false path = None
 file_told true path = Some path
 
 -- Returns the text of one listed desk.
-abbrev pub listed_desk : Form → Bool → Wanted → List ℕ → List Side → List ℕ
-listed_desk Lines is_headed wanted path sides = heading is_headed path ++ list_lines wanted sides
-listed_desk Json is_headed wanted path sides = list_objects (file_told is_headed path) wanted sides
+abbrev pub listed_desk : Form → Bool → Wanted → Seeking → List ℕ → List Side → List ℕ
+listed_desk Lines is_headed wanted seeking path sides = heading is_headed path ++ list_lines wanted seeking sides
+listed_desk Json is_headed wanted seeking path sides = list_objects (file_told is_headed path) wanted seeking sides
 
 -- Returns the text before a desk: in lines an empty line, if another desk is before it.
 abbrev pub between : Form → Bool → List ℕ

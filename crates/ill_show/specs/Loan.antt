@@ -16,7 +16,8 @@ use Rattle.ill_text.specs.Output.{WritesText}
 use Rattle.ill_show.specs.declared.loan.LoanForm.{LoanForm}
 use Rattle.ill_show.specs.declared.loan.LoanForm.TheVariants.{Lines, Object, Picture}
 use Rattle.ill_show.specs.Kept.{kept_lines, kept_of}
-use Rattle.ill_show.specs.Objects.{loan_fields, came_fields}
+use Rattle.ill_show.specs.Notes.{note_fields, note_of}
+use Rattle.ill_show.specs.Objects.{kept_fields}
 use Rattle.ill_show.specs.Picture.{picture}
 
 -- Returns the form in which a loan is shown. A picture takes the place of lines alone.
@@ -25,11 +26,11 @@ loan_form forms.Json is_picture = Object
 loan_form forms.Lines true = Picture
 loan_form forms.Lines false = Lines
 
--- Returns the text of a loan and of the messages that came in it.
-abbrev pub loan_text : LoanForm → DeskEntry → List Apdu → List ℕ
-loan_text Lines = kept_lines
-loan_text Object = λ held kept. object_line (loan_fields held.side held.released ++ came_fields kept)
-loan_text Picture = picture
+-- Returns the text of a loan with this note, and of the messages that came in it. A picture has no note.
+abbrev pub loan_text : LoanForm → Option (List ℕ) → DeskEntry → List Apdu → List ℕ
+loan_text Lines words = kept_lines words
+loan_text Object words = λ held kept. object_line (kept_fields held kept ++ note_fields words)
+loan_text Picture words = picture
 
 -- `written` is the text of the messages of `txn` in `bytes`.
 abbrev pub IsTextOf : (List Apdu → List ℕ) → Qualifiers → List ℕ → List ℕ → Type 0
@@ -43,10 +44,10 @@ WritesLoan text txn bytes before after (Err OutOfMemory) = Appends before after 
 WritesLoan text txn bytes before after result =
     (came : List Apdu) × AreIn bytes came × WritesText before after (text (kept_of txn came)) result
 
--- The command: it writes the text of the side and of the messages of its transaction in `bytes`. If the side
--- is not held, the fault is `NoSuchTransaction`, and nothing is written.
-abbrev pub RunsLoan : LoanForm → Option DeskEntry → List ℕ → Option (List ℕ) → Option (List ℕ) →
+-- The command: it writes the text of the side and of its note, and of the messages of its transaction in `bytes`. If the
+-- side is not held, the fault is `NoSuchTransaction`, and nothing is written.
+abbrev pub RunsLoan : LoanForm → (notes : List (List ℕ)) → Option DeskEntry → List ℕ → Option (List ℕ) → Option (List ℕ) →
     Result (Unit {0}) ToolFault → Type 0
-RunsLoan form None bytes before after result = (result ≡ Err (Desk NoSuchTransaction)) × Appends before after []
-RunsLoan form (Some held) bytes before after result =
-    WritesLoan (loan_text form held) (txn_of held.side) bytes before after result
+RunsLoan form notes None bytes before after result = (result ≡ Err (Desk NoSuchTransaction)) × Appends before after []
+RunsLoan form notes (Some held) bytes before after result =
+    WritesLoan (loan_text form (note_of notes (txn_of held.side)) held) (txn_of held.side) bytes before after result

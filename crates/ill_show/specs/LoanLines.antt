@@ -14,6 +14,7 @@ use Rattle.ill_words.specs.Shown.{due_text}
 use Rattle.ill_text.specs.Escape.{escaped}
 use Rattle.ill_text.specs.Lines.{line, reply_word, shown_lines}
 use Rattle.ill_words.specs.Possible.{possible_on, request_of}
+use Rattle.ill_show.specs.Notes.{note_lines}
 use Rattle.ill_show.specs.Status.{status_lines, spaced_or_dash}
 use Rattle.ill_core.specs.Words.{turn_name}
 
@@ -63,7 +64,7 @@ marked_lines label is_so apdu = codes "\n" ++ (shown_lines apdu ++ line label (r
 abbrev pub message_lines : ℕ → Apdu → List ℕ
 message_lines released apdu = marked_lines (codes "leaves") (nat_le apdu.number released) apdu
 
--- Returns the lines of a side, and of all messages that it has issued, in their order.
-unfoldable pub loan_lines : Side → ℕ → List ℕ
-loan_lines side released =
-    side_lines side released ++ flat_map (message_lines released) (issued_of side)
+-- Returns the lines of a side and of its note, and of all messages that it has issued, in their order.
+unfoldable pub loan_lines : Option (List ℕ) → Side → ℕ → List ℕ
+loan_lines note side released =
+    side_lines side released ++ (note_lines note ++ flat_map (message_lines released) (issued_of side))

@@ -23,6 +23,7 @@ use Rattle.ill_work.specs.declared.work.Work.{Work}
 use Rattle.ill_work.specs.Work.{work_words}
 use Rattle.ill_words.specs.Possible.{possible_on, request_of, item_asked}
 use Rattle.ill_text.specs.ApduObject.{object_line, apdu_fields}
+use Rattle.ill_show.specs.Notes.{note_fields, note_of}
 
 -- ---- sides
 
@@ -105,6 +106,10 @@ loan_fields side released =
     status_fields side released ++ turn_fields side (names_of None side) ++ taken_fields side
     ++ sent_fields released (issued_of side)
 
+-- Returns the fields of `loan` for a side and the messages `kept` that came.
+abbrev pub kept_fields : DeskEntry → (kept : List Apdu) → List Field
+kept_fields held kept = loan_fields held.side held.released ++ came_fields kept
+
 -- ---- lists
 
 -- Returns the field of the path of a desk, if there is a path.
@@ -128,9 +133,13 @@ listed_fields side names =
 abbrev pub row_fields : Work → Side → List (List ℕ) → List Field
 row_fields work side names = kind_fields work ++ listed_fields side names
 
+-- Returns the fields of a listed loan with this work and its note, with the actions of the day `today`.
+abbrev pub noted_fields : (notes : List (List ℕ)) → Option Date → Work → Side → List Field
+noted_fields notes today work side = row_fields work side (names_of today side) ++ note_fields (note_of notes (txn_of side))
+
 -- Returns the object of a listed loan with this work, with the actions of the day `today`.
-abbrev pub row_object : Option (List ℕ) → Option Date → Work → Side → List ℕ
-row_object file today work side = object_line (row_fields work side (names_of today side) ++ file_fields file)
+abbrev pub row_object : Option (List ℕ) → (notes : List (List ℕ)) → Option Date → Work → Side → List ℕ
+row_object file notes today work side = object_line (noted_fields notes today work side ++ file_fields file)
 
 -- Returns the fields of the counts of a desk.
 abbrev pub counts_fields : Counts → List Field

@@ -1,6 +1,6 @@
 //! The messages that came in a loan and were kept.
 
-ghost use Rattle.std.specs.Prelude.{◌≡◌, ◌++◌, true, codes, IfOk, OnOk};
+ghost use Rattle.std.specs.Prelude.{◌≡◌, ◌++◌, true, codes, option_copied, IfOk, OnOk};
 ghost use Rattle.std.specs.List.{flat_map};
 ghost use Rattle.ill_show.specs.LoanLines.{marked_lines};
 ghost use Rattle.ill_show.specs.Kept.{is_among, kept_lines, kept_of, with_new};
@@ -11,17 +11,18 @@ use ill_saved::Side;
 use ill_values::{Apdu, OutOfMemory, TxnId};
 use std::alloc::Global;
 
-/// Appends the lines of `side`, and of the messages `kept` that came to it.
+/// Appends the lines of `side` and of its note, and of the messages `kept` that came to it.
 pub(crate) fn push_kept_lines(
     lines: &mut Vec<u8>,
+    note: Option<&str>,
     side: &Side,
     released: u8,
     kept: &[Apdu],
 ) -> Result<(), OutOfMemory>
     ensures { OnOk result (lines.new.items ≡ lines.old.items
-        ++ kept_lines (record { side = side.now; released = released }) kept.now) }
+        ++ kept_lines (option_copied note.entry) (record { side = side.now; released = released }) kept.now) }
 {
-    push_loan(lines, side, released)?;
+    push_loan(lines, note, side, released)?;
     push_kept(lines, kept)
 }
 

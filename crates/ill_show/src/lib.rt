@@ -3,7 +3,9 @@
 #![tactic(auto)]
 
 mod counts;
+pub mod finding;
 mod heard;
+pub mod item_line;
 mod kept;
 pub mod laws;
 pub mod list;
@@ -14,6 +16,7 @@ mod loan_lines;
 mod marks;
 pub mod news;
 mod news_words;
+pub mod notes;
 pub mod numbers;
 mod objects;
 mod picture;

@@ -4,12 +4,16 @@ ghost use Rattle.std.specs.Prelude.{◌≡◌, ◌++◌, map, count_by, filter, 
 ghost use Rattle.std.specs.List.{flat_map};
 ghost use Rattle.ill_saved.specs.ManySides.{sides_held};
 ghost use Rattle.ill_text.specs.Output.{WritesText};
-ghost use Rattle.ill_show.specs.List.{counts_line, counts_of, has_work, is_left_out, lacks_day, left_out, row};
-ghost use Rattle.ill_show.specs.Listing.{between, counts_text, file_told, gap, heading, list_lines, list_objects, listed_desk, ordered_lines, section, sections, work_heading, work_lines, work_objects, work_text};
+ghost use Rattle.ill_show.specs.List.{counts_line, counts_of, has_work, is_left_out, lacks_day, left_out};
+ghost use Rattle.ill_show.specs.Finding.{seeking_of};
+ghost use Rattle.ill_show.specs.Notes.{lines_of};
+ghost use Rattle.ill_show.specs.Listing.{between, chosen_of, counts_text, file_told, gap, heading, list_lines, list_objects, listed_desk, note_shown, noted_row, ordered_lines, section, sections, work_heading, work_lines, work_objects, work_text};
 
 use crate::counts::Counts;
+use crate::finding::{Sought, found_of};
 use crate::list_objects::{push_counts_object, push_row_object};
 use crate::listed::{Listed, heading};
+use crate::notes::{Notes, push_listed_note};
 use crate::row::{Columns, push_row};
 use crate::wanted::{Wanted, has_work, is_to_do, is_wanted, listed_of};
 use ill_saved::{Desk, Side, Sides, Store};
@@ -26,29 +30,31 @@ use std::io::Write;
 /// The form of a list.
 #[derive(Clone, Copy)]
 pub(crate) enum Rows<'a> {
-    /// A line for each loan, of these columns.
-    Lines(Columns),
-    /// An object for each loan, with the path of its desk, if it is given.
-    Objects(Option<&'a str>),
+    /// A line for each loan, of these columns, and of its note if the list has notes.
+    Lines(Columns, &'a Notes),
+    /// An object for each loan and its note, with the path of its desk, if it is given.
+    Objects(Option<&'a str>, &'a Notes),
 }
 
 /// Writes a line or an object of JSON for each wanted loan of `desk`, and one that counts all of its loans. Lines stand
 /// after a heading with the path of the desk, if that is written; each object has it. The most pressing work comes first.
-/// In lines each kind of work has a heading. Within a kind the loans are in the order of their deadlines.
+/// In lines each kind of work has a heading. Within a kind the loans are in the order of their deadlines. A loan is left out if it has not the
+/// words that are sought.
 pub fn run_desk_list<S: Store, W: Write>(
     alloc: Global,
     desk: &Desk<S>,
     listed: &Listed<'_>,
     wanted: &Wanted,
+    sought: &Sought<'_>,
     writer: &mut W,
 ) -> Result<(), ToolFault>
     ensures { WritesText (W.contents writer.old) (W.contents writer.new)
         (between listed.now.form listed.now.is_first ++ listed_desk listed.now.form listed.now.is_headed wanted.now
-        listed.now.path.now (sides_held desk.now.live).sides) result }
+        (seeking_of sought.now) listed.now.path.now (sides_held desk.now.live).sides) result }
 {
     match listed.form {
-        Form::Lines => write_lines(alloc, desk.sides(), listed, wanted, writer),
-        Form::Json => write_objects(alloc, desk.sides(), listed, wanted, writer),
+        Form::Lines => write_lines(alloc, desk.sides(), listed, wanted, sought, writer),
+        Form::Json => write_objects(alloc, desk.sides(), listed, wanted, sought, writer),
     }
 }
 
@@ -58,14 +64,15 @@ fn write_lines<W: Write>(
     sides: &Sides,
     listed: &Listed<'_>,
     wanted: &Wanted,
+    sought: &Sought<'_>,
     writer: &mut W,
 ) -> Result<(), ToolFault>
     ensures { WritesText (W.contents writer.old) (W.contents writer.new)
         (gap listed.now.is_first ++ (heading listed.now.is_headed listed.now.path.now
-        ++ list_lines wanted.now sides.now.sides)) result }
+        ++ list_lines wanted.now (seeking_of sought.now) sides.now.sides)) result }
 {
     let mut lines = heading(alloc, listed)?;
-    push_list(&mut lines, sides, wanted)?;
+    push_list(&mut lines, sides, wanted, sought)?;
     write_whole(writer, &lines)
 }
 
@@ -75,33 +82,50 @@ fn write_objects<W: Write>(
     sides: &Sides,
     listed: &Listed<'_>,
     wanted: &Wanted,
+    sought: &Sought<'_>,
     writer: &mut W,
 ) -> Result<(), ToolFault>
     ensures { WritesText (W.contents writer.old) (W.contents writer.new)
-        (list_objects (file_told listed.now.is_headed listed.now.path.now) wanted.now sides.now.sides) result }
+        (list_objects (file_told listed.now.is_headed listed.now.path.now) wanted.now (seeking_of sought.now) sides.now.sides) result }
 {
     let mut text = Vec::new(alloc);
-    push_list_objects(&mut text, listed.told(), sides, wanted)?;
+    push_list_objects(&mut text, listed.told(), sides, wanted, sought)?;
     write_whole(writer, &text)
 }
 
 /// Appends all lines of a list of `sides`.
-fn push_list(lines: &mut Vec<u8>, sides: &Sides, wanted: &Wanted) -> Result<(), OutOfMemory>
-    ensures { OnOk result (lines.new.items ≡ lines.old.items ++ list_lines wanted.now sides.now.sides) }
+fn push_list(
+    lines: &mut Vec<u8>,
+    sides: &Sides,
+    wanted: &Wanted,
+    sought: &Sought<'_>,
+) -> Result<(), OutOfMemory>
+    ensures { OnOk result (lines.new.items ≡ lines.old.items ++ list_lines wanted.now (seeking_of sought.now) sides.now.sides) }
 {
     let sides = most_urgent_first(*lines.allocator(), sides)?;
-    push_ordered(lines, &sides, wanted)
+    push_ordered(lines, &sides, wanted, sought)
 }
 
 /// Appends all lines of a list of `sides`, which are in the order of urgency.
-fn push_ordered(lines: &mut Vec<u8>, sides: &[&Side], wanted: &Wanted) -> Result<(), OutOfMemory>
+fn push_ordered(
+    lines: &mut Vec<u8>,
+    sides: &[&Side],
+    wanted: &Wanted,
+    sought: &Sought<'_>,
+) -> Result<(), OutOfMemory>
     ensures { OnOk result (lines.new.items ≡ lines.old.items
-        ++ ordered_lines wanted.now (map (λ side. side.now) sides.now)) }
+        ++ ordered_lines wanted.now (seeking_of sought.now) (map (λ side. side.now) sides.now)) }
 {
     let alloc = *lines.allocator();
-    let listed = listed_of(alloc, sides, wanted)?;
-    let columns = Columns::of(alloc, &listed, wanted)?;
-    push_listed(lines, &Rows::Lines(columns), wanted, sides, &listed)
+    let chosen = chosen_of(alloc, sides, wanted, sought)?;
+    let columns = Columns::of(alloc, &chosen, wanted)?;
+    push_listed(
+        lines,
+        &Rows::Lines(columns, sought.notes),
+        wanted,
+        sides,
+        &chosen,
+    )
 }
 
 /// Appends all objects of a list of `sides`.
@@ -110,14 +134,35 @@ fn push_list_objects(
     file: Option<&str>,
     sides: &Sides,
     wanted: &Wanted,
+    sought: &Sought<'_>,
 ) -> Result<(), OutOfMemory>
     ensures { OnOk result (text.new.items ≡ text.old.items
-        ++ list_objects (option_map (λ path. path.now) file.entry) wanted.now sides.now.sides) }
+        ++ list_objects (option_map (λ path. path.now) file.entry) wanted.now (seeking_of sought.now) sides.now.sides) }
 {
     let alloc = *text.allocator();
     let sides = most_urgent_first(alloc, sides)?;
-    let listed = listed_of(alloc, &sides, wanted)?;
-    push_listed(text, &Rows::Objects(file), wanted, &sides, &listed)
+    let chosen = chosen_of(alloc, &sides, wanted, sought)?;
+    push_listed(
+        text,
+        &Rows::Objects(file, sought.notes),
+        wanted,
+        &sides,
+        &chosen,
+    )
+}
+
+/// Returns the loans of `sides` that are listed, and have the words that are sought.
+fn chosen_of<'a>(
+    alloc: Global,
+    sides: &[&'a Side],
+    wanted: &Wanted,
+    sought: &Sought<'_>,
+) -> Result<Vec<&'a Side>, OutOfMemory>
+    ensures { IfOk result (λ chosen. map (λ side. side.now) chosen.items
+        ≡ chosen_of wanted.now (seeking_of sought.now) (map (λ side. side.now) sides.now)) }
+{
+    let listed = listed_of(alloc, sides, wanted)?;
+    found_of(alloc, &listed, sought)
 }
 
 /// Appends the `listed` loans, kind by kind, and the counts of all `sides`.
@@ -208,11 +253,11 @@ fn push_work(
     sides: &[&Side],
 ) -> Result<(), OutOfMemory>
     ensures { OnOk result (text.new.items ≡ text.old.items
-        ++ work_text rows.now wanted.now.today work (map (λ side. side.now) sides.now)) }
+        ++ work_text rows.now wanted.now work (map (λ side. side.now) sides.now)) }
 {
     match rows {
-        Rows::Lines(columns) => push_work_lines(text, columns, wanted, work, sides),
-        Rows::Objects(file) => push_work_objects(text, *file, wanted, work, sides),
+        Rows::Lines(columns, notes) => push_work_lines(text, columns, notes, wanted, work, sides),
+        Rows::Objects(file, notes) => push_work_objects(text, *file, notes, wanted, work, sides),
     }
 }
 
@@ -220,18 +265,19 @@ fn push_work(
 fn push_work_lines(
     lines: &mut Vec<u8>,
     columns: &Columns,
+    notes: &Notes,
     wanted: &Wanted,
     work: Work,
     sides: &[&Side],
 ) -> Result<(), OutOfMemory>
     ensures { OnOk result (lines.new.items ≡ lines.old.items
-        ++ work_lines columns.now wanted.now.today work (map (λ side. side.now) sides.now)) }
+        ++ work_lines columns.now (lines_of notes.now) wanted.now work (map (λ side. side.now) sides.now)) }
 {
     if sides.is_empty() {
         return Ok(());
     }
     push_work_heading(lines, work, sides.len())?;
-    push_rows(lines, columns, wanted, sides)
+    push_rows(lines, columns, notes, wanted, sides)
 }
 
 /// Appends the heading of a kind of work with `count` listed loans.
@@ -244,18 +290,49 @@ fn push_work_heading(lines: &mut Vec<u8>, work: Work, count: usize) -> Result<()
     Ok(())
 }
 
-/// Appends a line for each loan of `sides`.
+/// Appends a line for each loan of `sides`, and that of its note if the list has notes.
 fn push_rows(
     lines: &mut Vec<u8>,
     columns: &Columns,
+    notes: &Notes,
     wanted: &Wanted,
     sides: &[&Side],
 ) -> Result<(), OutOfMemory>
     ensures { OnOk result (lines.new.items ≡ lines.old.items
-        ++ flat_map (row columns.now wanted.now.today) (map (λ side. side.now) sides.now)) }
+        ++ flat_map (noted_row columns.now (lines_of notes.now) wanted.now) (map (λ side. side.now) sides.now)) }
 {
     for side in sides {
-        push_row(lines, columns, wanted.today, side)?;
+        push_noted_row(lines, columns, notes, wanted, side)?;
+    }
+    Ok(())
+}
+
+/// Appends the line of the loan of `side`, and that of its note if the list has notes.
+fn push_noted_row(
+    lines: &mut Vec<u8>,
+    columns: &Columns,
+    notes: &Notes,
+    wanted: &Wanted,
+    side: &Side,
+) -> Result<(), OutOfMemory>
+    ensures { OnOk result (lines.new.items ≡ lines.old.items
+        ++ noted_row columns.now (lines_of notes.now) wanted.now side.now) }
+{
+    push_row(lines, columns, wanted.today, side)?;
+    push_note_shown(lines, notes, wanted, side)
+}
+
+/// Appends the line of the note of the loan of `side`, if the list has notes and there is one.
+fn push_note_shown(
+    lines: &mut Vec<u8>,
+    notes: &Notes,
+    wanted: &Wanted,
+    side: &Side,
+) -> Result<(), OutOfMemory>
+    ensures { OnOk result (lines.new.items ≡ lines.old.items ++ note_shown (lines_of notes.now) wanted.now side.now) }
+{
+    if wanted.has_notes {
+        return push_listed_note(lines, notes.note_of(side.txn())?);
     }
     Ok(())
 }
@@ -264,15 +341,16 @@ fn push_rows(
 fn push_work_objects(
     text: &mut Vec<u8>,
     file: Option<&str>,
+    notes: &Notes,
     wanted: &Wanted,
     work: Work,
     sides: &[&Side],
 ) -> Result<(), OutOfMemory>
     ensures { OnOk result (text.new.items ≡ text.old.items
-        ++ work_objects (option_map (λ path. path.now) file.entry) wanted.now.today work (map (λ side. side.now) sides.now)) }
+        ++ work_objects (option_map (λ path. path.now) file.entry) (lines_of notes.now) wanted.now work (map (λ side. side.now) sides.now)) }
 {
     for side in sides {
-        push_row_object(text, file, wanted.today, work, side)?;
+        push_row_object(text, file, notes, wanted.today, work, side)?;
     }
     Ok(())
 }
@@ -317,8 +395,8 @@ fn push_counts(text: &mut Vec<u8>, rows: &Rows<'_>, counts: &Counts) -> Result<(
     ensures { OnOk result (text.new.items ≡ text.old.items ++ counts_text rows.now counts.now) }
 {
     match rows {
-        Rows::Lines(_) => push_counts_line(text, counts),
-        Rows::Objects(file) => push_counts_object(text, *file, counts),
+        Rows::Lines(_, _) => push_counts_line(text, counts),
+        Rows::Objects(file, _) => push_counts_object(text, *file, counts),
     }
 }
 

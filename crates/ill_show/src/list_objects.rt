@@ -2,9 +2,11 @@
 
 ghost use Rattle.std.specs.Prelude.{◌≡◌, [], ◌++◌, map, option_map, codes, OnOk};
 ghost use Rattle.ill_text.specs.Json.{joined, member};
-ghost use Rattle.ill_show.specs.Objects.{kind_fields, listed_fields, counts_fields, counts_object, file_fields, names_of, row_fields, row_object};
+ghost use Rattle.ill_show.specs.Objects.{kind_fields, listed_fields, counts_fields, counts_object, file_fields, names_of, noted_fields, row_fields, row_object};
+ghost use Rattle.ill_show.specs.Notes.{lines_of};
 
 use crate::counts::Counts;
+use crate::notes::{Notes, push_note_field};
 use crate::objects::title;
 use ill_saved::Side;
 use ill_text::json::{Value, push_members, push_plain};
@@ -13,20 +15,21 @@ use ill_words::names::names;
 use ill_words::possible::possible_on;
 use ill_work::Work;
 
-/// Appends the object of the loan of `side` with this work on the day `today`, on a line. It has the path `file` of the desk, if it
-/// is given.
+/// Appends the object of the loan of `side` with this work on the day `today`, and of its note, on a line. It has the path
+/// `file` of the desk, if it is given.
 pub(crate) fn push_row_object(
     text: &mut Vec<u8>,
     file: Option<&str>,
+    notes: &Notes,
     today: Option<Day>,
     work: Work,
     side: &Side,
 ) -> Result<(), OutOfMemory>
     ensures { OnOk result (text.new.items ≡ text.old.items
-        ++ row_object (option_map (λ path. path.now) file.entry) today work side.now) }
+        ++ row_object (option_map (λ path. path.now) file.entry) (lines_of notes.now) today work side.now) }
 {
     push_plain(text, "{")?;
-    push_row_and_file(text, file, today, work, side)?;
+    push_row_and_file(text, file, notes, today, work, side)?;
     push_plain(text, "}\n")
 }
 
@@ -34,15 +37,32 @@ pub(crate) fn push_row_object(
 fn push_row_and_file(
     text: &mut Vec<u8>,
     file: Option<&str>,
+    notes: &Notes,
     today: Option<Day>,
     work: Work,
     side: &Side,
 ) -> Result<(), OutOfMemory>
     ensures { OnOk result (text.new.items ≡ text.old.items
-        ++ joined member [] (row_fields work side.now (names_of today side.now) ++ file_fields (option_map (λ path. path.now) file.entry))) }
+        ++ joined member [] (noted_fields (lines_of notes.now) today work side.now ++ file_fields (option_map (λ path. path.now) file.entry))) }
 {
-    push_row_fields(text, today, work, side)?;
+    push_noted_fields(text, notes, today, work, side)?;
     push_file(text, file)
+}
+
+/// Appends the fields of the loan of `side`, and the field of its note.
+fn push_noted_fields(
+    text: &mut Vec<u8>,
+    notes: &Notes,
+    today: Option<Day>,
+    work: Work,
+    side: &Side,
+) -> Result<(), OutOfMemory>
+    ensures { OnOk result (text.new.items ≡ text.old.items
+        ++ joined member [] (noted_fields (lines_of notes.now) today work side.now)) }
+{
+    let note = notes.note_of(side.txn())?;
+    push_row_fields(text, today, work, side)?;
+    push_note_field(text, note)
 }
 
 /// Appends the fields of the loan of `side`.

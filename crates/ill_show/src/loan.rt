@@ -1,11 +1,13 @@
 //! The command `loan`.
 
-ghost use Rattle.std.specs.Prelude.{◌≡◌, IfOk};
+ghost use Rattle.std.specs.Prelude.{◌≡◌, option_copied, IfOk};
 ghost use Rattle.ill_saved.specs.Side.{txn_of};
 ghost use Rattle.ill_saved.specs.ManySides.{found_by, txn_held};
 ghost use Rattle.ill_show.specs.Loan.{IsTextOf, RunsLoan, loan_form, loan_text};
+ghost use Rattle.ill_show.specs.Notes.{lines_of, note_of};
 
 use crate::kept::{kept_of, push_kept_lines};
+use crate::notes::Notes;
 use crate::objects::push_kept_object;
 use crate::picture::picture_of;
 use ill_saved::{Desk, DeskFault, Side, Store};
@@ -50,8 +52,8 @@ pub struct LoanView<'a> {
     pub form: LoanForm,
 }
 
-/// Writes all that is known of the loan in `view` at `desk`, which must be held (else `NoSuchTransaction`). Then it
-/// writes each message of the transaction in `came`, once. A picture has the messages alone.
+/// Writes all that is known of the loan in `view` at `desk`, which must be held (else `NoSuchTransaction`). Its note in
+/// `notes` is among it. Then it writes each message of the transaction in `came`, once. A picture has the messages alone.
 ///
 /// The lines are the seven of `status`, the library that acts next, and the actions that this side may do now. After
 /// them come the request, the numbers of messages that were taken, and each message that the side has issued. `came`
@@ -60,15 +62,16 @@ pub fn run_desk_loan<S: Store, W: Write>(
     alloc: Global,
     desk: &Desk<S>,
     view: &LoanView<'_>,
+    notes: &Notes,
     came: &[u8],
     writer: &mut W,
 ) -> Result<(), ToolFault>
-    ensures { RunsLoan view.now.form (found_by txn_held view.now.txn.now desk.now.live.held) came.now
+    ensures { RunsLoan view.now.form (lines_of notes.now) (found_by txn_held view.now.txn.now desk.now.live.held) came.now
         (W.contents writer.old) (W.contents writer.new) result }
 {
     match desk.sides().get(view.txn) {
         Some(side) => {
-            match text_of_loan(alloc, view.form, side, desk.released(view.txn), came) {
+            match text_of_loan(alloc, view.form, side, desk.released(view.txn), notes, came) {
                 Ok(text) => write_whole(writer, &text),
                 Err(_) => Err(ToolFault::OutOfMemory),
             }
@@ -77,37 +80,40 @@ pub fn run_desk_loan<S: Store, W: Write>(
     }
 }
 
-/// Returns the text of all that is known of `side`, and of its messages in `came`.
+/// Returns the text of all that is known of `side`, of its note, and of its messages in `came`.
 fn text_of_loan(
     alloc: Global,
     form: LoanForm,
     side: &Side,
     released: u8,
+    notes: &Notes,
     came: &[u8],
 ) -> Result<Vec<u8>, OutOfMemory>
-    ensures { IfOk result (λ text. IsTextOf (loan_text form (record { side = side.now; released = released }))
-        (txn_of side.now) came.now text.items) }
+    ensures { IfOk result (λ text. IsTextOf (loan_text form (note_of (lines_of notes.now) (txn_of side.now))
+        (record { side = side.now; released = released })) (txn_of side.now) came.now text.items) }
 {
     let came = apdus_in(alloc, came)?;
     let kept = kept_of(alloc, side.txn(), &came)?;
-    loan_text(alloc, form, side, released, kept)
+    let note = notes.note_of(side.txn())?;
+    loan_text(alloc, form, note, side, released, kept)
 }
 
-/// Returns the text of `side` and of the messages `kept` that came to it.
+/// Returns the text of `side` and of its note, and of the messages `kept` that came to it.
 fn loan_text(
     alloc: Global,
     form: LoanForm,
+    note: Option<&str>,
     side: &Side,
     released: u8,
     kept: Vec<Apdu>,
 ) -> Result<Vec<u8>, OutOfMemory>
     ensures { IfOk result (λ text. text.items
-        ≡ loan_text form (record { side = side.now; released = released }) kept.items) }
+        ≡ loan_text form (option_copied note.entry) (record { side = side.now; released = released }) kept.items) }
 {
     let mut text = Vec::new(alloc);
     match form {
-        LoanForm::Lines => push_kept_lines(&mut text, side, released, &kept)?,
-        LoanForm::Object => push_kept_object(&mut text, side, released, &kept)?,
+        LoanForm::Lines => push_kept_lines(&mut text, note, side, released, &kept)?,
+        LoanForm::Object => push_kept_object(&mut text, note, side, released, &kept)?,
         LoanForm::Picture => return picture_of(alloc, side, kept),
     }
     Ok(text)

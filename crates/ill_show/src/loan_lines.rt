@@ -1,10 +1,11 @@
 //! The lines of a loan.
 
-ghost use Rattle.std.specs.Prelude.{◌≡◌, ◌++◌, OnOk};
+ghost use Rattle.std.specs.Prelude.{◌≡◌, ◌++◌, option_copied, OnOk};
 ghost use Rattle.std.specs.List.{flat_map};
 ghost use Rattle.ill_words.specs.Possible.{request_of};
 ghost use Rattle.ill_show.specs.LoanLines.{item_lines, loan_lines, marked_lines, message_lines, optional_number_line, request_lines, side_lines, taken_lines, turn_lines};
 
+use crate::notes::push_note_lines;
 use crate::status::{push_day_or_dash, push_status, push_words};
 use ill_saved::Side;
 use ill_text::lines::{push_item, push_line, push_number, push_shown, push_whether};
@@ -12,12 +13,18 @@ use ill_values::{Apdu, Body, Number, OutOfMemory};
 use ill_words::names::names;
 use ill_words::possible::{possible_on, request};
 
-/// Appends the lines of `side`, and of the messages that it has issued.
+/// Appends the lines of `side` and of its note, and of the messages that it has issued.
 #[tactic(auto, unfolding(crate::specs::LoanLines::loan_lines))]
-pub(crate) fn push_loan(lines: &mut Vec<u8>, side: &Side, released: u8) -> Result<(), OutOfMemory>
-    ensures { OnOk result (lines.new.items ≡ lines.old.items ++ loan_lines side.now released) }
+pub(crate) fn push_loan(
+    lines: &mut Vec<u8>,
+    note: Option<&str>,
+    side: &Side,
+    released: u8,
+) -> Result<(), OutOfMemory>
+    ensures { OnOk result (lines.new.items ≡ lines.old.items ++ loan_lines (option_copied note.entry) side.now released) }
 {
     push_side(lines, side, released)?;
+    push_note_lines(lines, note)?;
     push_messages(lines, side.all_issued(), released)
 }
 

@@ -1,12 +1,14 @@
 //! The objects that the commands write with `--json`.
 
-ghost use Rattle.std.specs.Prelude.{◌≡◌, [], ◌++◌, map, codes, OnOk};
+ghost use Rattle.std.specs.Prelude.{◌≡◌, [], ◌++◌, map, codes, option_copied, OnOk};
 ghost use Rattle.ill_text.specs.Json.{joined, member, optional, quoted, value_text};
 ghost use Rattle.ill_words.specs.Possible.{item_asked, request_of};
 ghost use Rattle.ill_text.specs.ApduObject.{apdu_fields, object_line};
-ghost use Rattle.ill_show.specs.Objects.{came_fields, leaves_fields, loan_fields, message_object, messages_fields, names_of, standing_fields, status_fields, taken_fields, turn_fields};
+ghost use Rattle.ill_show.specs.Notes.{note_fields};
+ghost use Rattle.ill_show.specs.Objects.{came_fields, kept_fields, leaves_fields, loan_fields, message_object, messages_fields, names_of, standing_fields, status_fields, taken_fields, turn_fields};
 
 use crate::marks::marks;
+use crate::notes::push_note_field;
 use ill_saved::Side;
 use ill_text::apdu_object::push_apdu;
 use ill_text::json::{ItemForm, Value, push_array, push_label, push_members, push_plain};
@@ -75,19 +77,37 @@ fn push_loan(text: &mut Vec<u8>, side: &Side, released: u8) -> Result<(), OutOfM
     push_messages(text, "messages", side.all_issued(), Some(released))
 }
 
-/// Appends the object of `loan` for `side` and the messages `came`, on a line.
+/// Appends the object of `loan` for `side` and its note, and the messages `came`, on a line.
 pub(crate) fn push_kept_object(
     text: &mut Vec<u8>,
+    note: Option<&str>,
     side: &Side,
     released: u8,
     came: &[Apdu],
 ) -> Result<(), OutOfMemory>
     ensures { OnOk result (text.new.items ≡ text.old.items
-        ++ object_line (loan_fields side.now released ++ came_fields came.now)) }
+        ++ object_line (kept_fields (record { side = side.now; released = released }) came.now
+        ++ note_fields (option_copied note.entry))) }
 {
     push_plain(text, "{")?;
-    push_loan_and_came(text, side, released, came)?;
+    push_kept_and_note(text, note, side, released, came)?;
     push_plain(text, "}\n")
+}
+
+/// Appends the fields of `loan` for `side` and the messages `came`, and the field of its note.
+fn push_kept_and_note(
+    text: &mut Vec<u8>,
+    note: Option<&str>,
+    side: &Side,
+    released: u8,
+    came: &[Apdu],
+) -> Result<(), OutOfMemory>
+    ensures { OnOk result (text.new.items ≡ text.old.items
+        ++ joined member [] (kept_fields (record { side = side.now; released = released }) came.now
+        ++ note_fields (option_copied note.entry))) }
+{
+    push_loan_and_came(text, side, released, came)?;
+    push_note_field(text, note)
 }
 
 /// Appends the fields of `loan` for `side`, and the messages `came`.

@@ -1,19 +1,22 @@
 //! The command `report`: a page of HTML of the loans of desks.
 
-ghost use Rattle.std.specs.Prelude.{◌≡◌, ◌++◌, ℕ, List, [], ◌∷◌, Some, map, count_by, codes, OnOk};
+ghost use Rattle.std.specs.Prelude.{◌≡◌, ◌++◌, ℕ, List, [], ◌∷◌, Some, map, count_by, codes, option_copied, OnOk};
 ghost use Rattle.std.specs.List.{flat_map};
 ghost use Rattle.ill_values.specs.Day.{iso_text};
 ghost use Rattle.ill_text.specs.Output.{WritesText};
+ghost use Rattle.ill_saved.specs.Side.{txn_of};
 ghost use Rattle.ill_text.specs.Html.{html_escaped};
 ghost use Rattle.ill_words.specs.Possible.{possible_on, request_of, item_asked};
 ghost use Rattle.ill_work.specs.Order.{has_work};
 ghost use Rattle.ill_show.specs.declared.report_parts.TheConstants.{TIME_END};
 ghost use Rattle.ill_show.specs.List.{title_text};
-ghost use Rattle.ill_show.specs.Report.{action_text, counted, counts_text, deadline_text, desk_text, field_text, is_to_do, loans_text, page_end, page_head, row_text, rows_text, table_head, table_text, unread_text, value_text, work_text};
+ghost use Rattle.ill_show.specs.Notes.{lines_of, note_of};
+ghost use Rattle.ill_show.specs.Report.{action_text, counted, counts_text, deadline_text, desk_text, field_text, is_to_do, loans_text, noted_text, page_end, page_head, row_text, rows_text, table_head, table_text, unread_text, value_text, work_text};
 
+use crate::notes::Notes;
 use crate::report_parts::{
-    COUNT, COUNTS_END, DESK, DESK_END, DESKS, END, Field, LOANS, OPEN, PAGE, ROOM, ROW, TABLE,
-    TABLE_END, TIME_END, TO_DO, UNREAD, UNREAD_END, heading,
+    COUNT, COUNTS_END, DESK, DESK_END, DESKS, END, Field, LOANS, NOTE, NOTE_END, OPEN, PAGE, ROOM,
+    ROW, TABLE, TABLE_END, TIME_END, TO_DO, UNREAD, UNREAD_END, heading,
 };
 use crate::row::push_title;
 use crate::soon::SOON;
@@ -49,21 +52,22 @@ pub fn end_page<W: Write>(mut page: Vec<u8>, writer: &mut W) -> Result<(), ToolF
     write_whole(writer, &page)
 }
 
-/// Appends the part of the desk in `file`.
+/// Appends the part of the desk in `file`, with the notes on its loans.
 #[tactic(auto, unfolding(crate::specs::Report::desk_text))]
 pub fn push_desk(
     page: &mut Vec<u8>,
     today: Day,
     file: &str,
     sides: &Sides,
+    notes: &Notes,
 ) -> Result<(), OutOfMemory>
     ensures { OnOk result (page.new.items ≡ page.old.items
-        ++ desk_text today (file.now, sides.now.sides)) }
+        ++ desk_text today file.now sides.now.sides (lines_of notes.now)) }
 {
     let sides = most_urgent_first(*page.allocator(), sides)?;
     page.extend_from_slice(DESK.as_bytes())?;
     push_text(page, file.as_bytes())?;
-    push_loans(page, today, &sides)?;
+    push_loans(page, today, &sides, notes)?;
     page.extend_from_slice(DESK_END.as_bytes())?;
     Ok(())
 }
@@ -92,12 +96,17 @@ fn push_unread(page: &mut Vec<u8>, file: &str, words: &str) -> Result<(), OutOfM
 
 /// Appends the loans of a desk: their counts, and a table for each kind of work that a loan has.
 #[tactic(auto, unfolding(crate::specs::Report::loans_text))]
-fn push_loans(page: &mut Vec<u8>, today: Day, sides: &[&Side]) -> Result<(), OutOfMemory>
+fn push_loans(
+    page: &mut Vec<u8>,
+    today: Day,
+    sides: &[&Side],
+    notes: &Notes,
+) -> Result<(), OutOfMemory>
     ensures { OnOk result (page.new.items ≡ page.old.items
-        ++ loans_text today (map (λ side. side.now) sides.now)) }
+        ++ loans_text today (lines_of notes.now) (map (λ side. side.now) sides.now)) }
 {
     push_counts(page, today, sides)?;
-    push_works(page, today, sides, Work::all())
+    push_works(page, today, sides, notes, Work::all())
 }
 
 /// Appends the counts of a desk: loans that want a hand, open loans, all loans, and the room for further ones.
@@ -143,26 +152,33 @@ fn push_works(
     page: &mut Vec<u8>,
     today: Day,
     sides: &[&Side],
+    notes: &Notes,
     works: &[Work],
 ) -> Result<(), OutOfMemory>
     ensures { OnOk result (page.new.items ≡ page.old.items
-        ++ flat_map (work_text today (map (λ side. side.now) sides.now)) works.now) }
+        ++ flat_map (work_text today (lines_of notes.now) (map (λ side. side.now) sides.now)) works.now) }
 {
     for work in works {
-        push_work(page, today, sides, *work)?;
+        push_work(page, today, sides, notes, *work)?;
     }
     Ok(())
 }
 
 /// Appends the table of the loans with the work `work`, if there is such a loan.
-fn push_work(page: &mut Vec<u8>, today: Day, sides: &[&Side], work: Work) -> Result<(), OutOfMemory>
+fn push_work(
+    page: &mut Vec<u8>,
+    today: Day,
+    sides: &[&Side],
+    notes: &Notes,
+    work: Work,
+) -> Result<(), OutOfMemory>
     ensures { OnOk result (page.new.items ≡ page.old.items
-        ++ work_text today (map (λ side. side.now) sides.now) work) }
+        ++ work_text today (lines_of notes.now) (map (λ side. side.now) sides.now) work) }
 {
     if count(sides, work, today, SOON) == 0 {
         return Ok(());
     }
-    push_table(page, today, sides, work)
+    push_table(page, today, sides, notes, work)
 }
 
 /// Appends the table of the loans with the work `work`: the words for it, their number, and a row for each.
@@ -171,13 +187,14 @@ fn push_table(
     page: &mut Vec<u8>,
     today: Day,
     sides: &[&Side],
+    notes: &Notes,
     work: Work,
 ) -> Result<(), OutOfMemory>
     ensures { OnOk result (page.new.items ≡ page.old.items
-        ++ table_text today (map (λ side. side.now) sides.now) work) }
+        ++ table_text today (lines_of notes.now) (map (λ side. side.now) sides.now) work) }
 {
     push_table_head(page, work, count(sides, work, today, SOON))?;
-    push_rows(page, today, sides, work)?;
+    push_rows(page, today, sides, notes, work)?;
     push_plain(page, TABLE_END)
 }
 
@@ -193,22 +210,35 @@ fn push_table_head(page: &mut Vec<u8>, work: Work, count: usize) -> Result<(), O
 }
 
 /// Appends the rows of the loans with the work `work`.
-fn push_rows(page: &mut Vec<u8>, today: Day, sides: &[&Side], work: Work) -> Result<(), OutOfMemory>
+fn push_rows(
+    page: &mut Vec<u8>,
+    today: Day,
+    sides: &[&Side],
+    notes: &Notes,
+    work: Work,
+) -> Result<(), OutOfMemory>
     ensures { OnOk result (page.new.items ≡ page.old.items
-        ++ rows_text today work (map (λ side. side.now) sides.now)) }
+        ++ rows_text today (lines_of notes.now) work (map (λ side. side.now) sides.now)) }
 {
     for side in sides {
-        push_row_of(page, today, side, work)?;
+        push_row_of(page, today, side, notes, work)?;
     }
     Ok(())
 }
 
 /// Appends the row of the loan of `side`, if it has the work `work`.
-fn push_row_of(page: &mut Vec<u8>, today: Day, side: &Side, work: Work) -> Result<(), OutOfMemory>
-    ensures { OnOk result (page.new.items ≡ page.old.items ++ rows_text today work (side.now ∷ [])) }
+fn push_row_of(
+    page: &mut Vec<u8>,
+    today: Day,
+    side: &Side,
+    notes: &Notes,
+    work: Work,
+) -> Result<(), OutOfMemory>
+    ensures { OnOk result (page.new.items ≡ page.old.items
+        ++ rows_text today (lines_of notes.now) work (side.now ∷ [])) }
 {
     if has_work(today, side, work) {
-        return push_row(page, today, side);
+        return push_row(page, today, side, notes);
     }
     Ok(())
 }
@@ -221,10 +251,10 @@ fn has_work(today: Day, side: &Side, work: Work) -> bool
 }
 
 /// Appends the row of the loan of `side`.
-fn push_row(page: &mut Vec<u8>, today: Day, side: &Side) -> Result<(), OutOfMemory>
-    ensures { OnOk result (page.new.items ≡ page.old.items ++ row_text today side.now) }
+fn push_row(page: &mut Vec<u8>, today: Day, side: &Side, notes: &Notes) -> Result<(), OutOfMemory>
+    ensures { OnOk result (page.new.items ≡ page.old.items ++ row_text today (lines_of notes.now) side.now) }
 {
-    push_fields(page, today, side, &ROW)
+    push_fields(page, today, side, notes, &ROW)
 }
 
 /// Appends `fields` of the loan of `side`, one after another.
@@ -232,37 +262,74 @@ fn push_fields(
     page: &mut Vec<u8>,
     today: Day,
     side: &Side,
+    notes: &Notes,
     fields: &[Field],
 ) -> Result<(), OutOfMemory>
-    ensures { OnOk result (page.new.items ≡ page.old.items ++ flat_map (field_text today side.now) fields.now) }
+    ensures { OnOk result (page.new.items ≡ page.old.items
+        ++ flat_map (field_text today (lines_of notes.now) side.now) fields.now) }
 {
     for field in fields {
-        push_field(page, today, side, *field)?;
+        push_field(page, today, side, notes, *field)?;
     }
     Ok(())
 }
 
 /// Appends `field` of the loan of `side`, between the texts before and after it.
-fn push_field(page: &mut Vec<u8>, today: Day, side: &Side, field: Field) -> Result<(), OutOfMemory>
-    ensures { OnOk result (page.new.items ≡ page.old.items ++ field_text today side.now field) }
+fn push_field(
+    page: &mut Vec<u8>,
+    today: Day,
+    side: &Side,
+    notes: &Notes,
+    field: Field,
+) -> Result<(), OutOfMemory>
+    ensures { OnOk result (page.new.items ≡ page.old.items ++ field_text today (lines_of notes.now) side.now field) }
 {
     page.extend_from_slice(field.before().as_bytes())?;
-    push_value(page, today, side, field)?;
+    push_value(page, today, side, notes, field)?;
     page.extend_from_slice(field.after().as_bytes())
 }
 
 /// Appends the value of `field` of the loan of `side`.
-fn push_value(page: &mut Vec<u8>, today: Day, side: &Side, field: Field) -> Result<(), OutOfMemory>
-    ensures { OnOk result (page.new.items ≡ page.old.items ++ value_text today side.now field) }
+fn push_value(
+    page: &mut Vec<u8>,
+    today: Day,
+    side: &Side,
+    notes: &Notes,
+    field: Field,
+) -> Result<(), OutOfMemory>
+    ensures { OnOk result (page.new.items ≡ page.old.items ++ value_text today (lines_of notes.now) side.now field) }
 {
     match field {
-        Field::Title => push_html_title(page, side),
+        Field::Title => push_noted_title(page, side, notes),
         Field::Group => push_text(page, side.txn().group()),
         Field::Transaction => push_text(page, side.txn().transaction()),
         Field::State => page.extend_from_slice(words_of(side).as_bytes()),
         Field::Deadline => push_deadline(page, side.due(), expiry(side)),
         Field::Actions => push_possible(page, today, side),
     }
+}
+
+/// Appends the title of the loan of `side`, and the note on it.
+fn push_noted_title(page: &mut Vec<u8>, side: &Side, notes: &Notes) -> Result<(), OutOfMemory>
+    ensures { OnOk result (page.new.items ≡ page.old.items
+        ++ (html_escaped (title_text (item_asked (request_of side.now)))
+        ++ noted_text (note_of (lines_of notes.now) (txn_of side.now)))) }
+{
+    push_html_title(page, side)?;
+    push_html_note(page, notes.note_of(side.txn())?)
+}
+
+/// Appends a note on a loan, if there is one.
+fn push_html_note(page: &mut Vec<u8>, note: Option<&str>) -> Result<(), OutOfMemory>
+    ensures { OnOk result (page.new.items ≡ page.old.items ++ noted_text (option_copied note.entry)) }
+{
+    let Some(words) = note else {
+        return Ok(());
+    };
+    page.extend_from_slice(NOTE.as_bytes())?;
+    push_text(page, words.as_bytes())?;
+    page.extend_from_slice(NOTE_END.as_bytes())?;
+    Ok(())
 }
 
 /// Appends the title of the loan of `side`.

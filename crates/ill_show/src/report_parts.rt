@@ -9,7 +9,7 @@ use ill_work::Work;
 /// A field of a loan. The group and the transaction share a cell of its row.
 #[derive(Clone, Copy)]
 pub(crate) enum Field {
-    /// The item that is asked for.
+    /// The item that is asked for, and below it the note on the loan.
     Title,
     /// The group qualifier.
     Group,
@@ -101,6 +101,7 @@ thead th:nth-child(1) { width: 26% }
 thead th:nth-child(2) { width: 15% }
 thead th:nth-child(3) { width: 32% }
 thead th:nth-child(4) { width: 14% }
+small { display: block; font-weight: normal }
 bdi:first-child { margin-right: .25rem }
 bdi + bdi { font-weight: bold }
 time { white-space: nowrap }
@@ -167,6 +168,12 @@ pub(crate) const TABLE: &str = "\
 <thead><tr><th>Title</th><th>Loan</th><th>State</th><th>Date</th><th>Actions</th></tr></thead>
 <tbody>
 ";
+
+/// The text before the note on a loan.
+pub(crate) const NOTE: &str = "<small dir=\"auto\">";
+
+/// The text after the note on a loan.
+pub(crate) const NOTE_END: &str = "</small>";
 
 /// The text after the rows of the loans of a kind of work.
 pub(crate) const TABLE_END: &str = "</tbody>\n</table>\n";

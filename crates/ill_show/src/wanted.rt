@@ -36,6 +36,8 @@ pub struct Wanted {
     pub state: Option<State>,
     /// Set if lines have the actions that are possible.
     pub has_actions: bool,
+    /// Set if each line has the note of its loan below it.
+    pub has_notes: bool,
 }
 
 impl Which {

@@ -16,7 +16,9 @@ use Rattle.ill_line.specs.declared.request.Refusal.TheVariants.{Usage, Fault}
 use Rattle.ill_tool.specs.ExitStatus.{IsFlushed, TellsKind, exit_status, status_of}
 use Rattle.ill_commands.specs.AtFile.{NewAtFile, ActsAtFile, TakesAtFile, SendsAtFile, ShowsFile, ListsPaths, LoanAtFile}
 use Rattle.ill_commands.specs.AtFile.{SlipAtFile, TellsPaths}
+use Rattle.ill_commands.specs.Note.{NotesAtFile}
 use Rattle.ill_files.specs.Opening.{GoesWell}
+use Rattle.ill_show.specs.Notes.{note_text}
 use Rattle.ill_commands.specs.AtFile.{VerifiesFile, ReportsPaths}
 use Rattle.ill_mail.specs.Nights.{InboxAtFile, OutboxAtFile, ExchangesAtFile}
 use Rattle.ill_line.specs.Guard.{IsGuarded}
@@ -32,8 +34,8 @@ Runs (asks.Simulate group transaction) left rest before after result =
     GoesWell (Performs (txn_id_of group transaction) left rest before after) result
 Runs asks.SimulateDesks left rest before after result = GoesWell (PerformsDesks left rest before after) result
 Runs (asks.New file role) left rest before after result = (rest ≡ left) × NewAtFile before after result
-Runs (asks.Act file asking is_new_group) left rest before after result =
-    (rest ≡ left) × ActsAtFile asking before after result
+Runs (asks.Act file asking is_long is_new_group) left rest before after result =
+    (rest ≡ left) × ActsAtFile asking is_long before after result
 Runs (asks.Take file form) left rest before after result = TakesAtFile form left rest before after result
 Runs (asks.Inbox file folder) left rest before after result = (rest ≡ left) × InboxAtFile before after result
 Runs (asks.Outbox file folder) left rest before after result =
@@ -42,13 +44,15 @@ Runs (asks.Exchange file incoming outgoing dates copy beat) left rest before aft
     (rest ≡ left) × ExchangesAtFile dates before after result
 Runs (asks.Send file txn number) left rest before after result =
     (rest ≡ left) × SendsAtFile txn number before after result
-Runs (asks.Listing paths wanted form) left rest before after result =
-    (rest ≡ left) × ListsPaths form wanted before after result
+Runs (asks.Listing paths wanted find form) left rest before after result =
+    (rest ≡ left) × ListsPaths form wanted find before after result
 Runs (asks.News paths last form) left rest before after result =
     (rest ≡ left) × TellsPaths form last before after result
 Runs (asks.Status file form) left rest before after result = (rest ≡ left) × ShowsFile form before after result
 Runs (asks.Loan file txn form) left rest before after result =
     (rest ≡ left) × LoanAtFile form txn before after result
+Runs (asks.Note file txn words) left rest before after result =
+    (rest ≡ left) × NotesAtFile txn (note_text words) before after result
 Runs (asks.Slip file txn) left rest before after result = (rest ≡ left) × SlipAtFile txn before after result
 Runs (asks.Report paths today) left rest before after result = (rest ≡ left) × ReportsPaths today before after result
 Runs (asks.Verify file) left rest before after result = (rest ≡ left) × VerifiesFile before after result
@@ -66,13 +70,15 @@ RunsGuarded asked left rest before after result =
 abbrev pub RunsShelf : Asked → Option (List ℕ) → Option (List ℕ) → Option (List ℕ) → Option (List ℕ) →
     Result Bool ToolFault → Type 0
 RunsShelf (asks.New folder role) left rest before after result = (rest ≡ left) × NewAtFile before after result
-RunsShelf (asks.Act folder asking is_new_group) left rest before after result =
-    (rest ≡ left) × ActsAtFile asking before after result
+RunsShelf (asks.Act folder asking is_long is_new_group) left rest before after result =
+    (rest ≡ left) × ActsAtFile asking is_long before after result
 RunsShelf (asks.Take folder form) left rest before after result = TakesAtShelf form left rest before after result
 RunsShelf (asks.Send folder txn number) left rest before after result =
     (rest ≡ left) × SendsAtFile txn number before after result
 RunsShelf (asks.Loan folder txn form) left rest before after result =
     (rest ≡ left) × LoanAtFile form txn before after result
+RunsShelf (asks.Note folder txn words) left rest before after result =
+    (rest ≡ left) × NotesAtFile txn (note_text words) before after result
 RunsShelf (asks.Slip folder txn) left rest before after result = (rest ≡ left) × SlipAtFile txn before after result
 RunsShelf (asks.Status folder form) left rest before after result =
     (rest ≡ left) × VisitsShelf (is_lines form) (ShowsFile form) before after result

@@ -11,6 +11,7 @@ use crate::simulate::{run_simulate, run_simulate_desks};
 use clap::Error;
 use clap::error::ErrorKind;
 use ill_commands::commands::{act, list, loan, new, report, send, slip, status, take, verify};
+use ill_commands::note::{NoteView, note};
 use ill_commands::telling::news;
 use ill_desk::act_as::ActionView;
 use ill_explain::{Passed, Watched, explain, is_asked};
@@ -22,8 +23,8 @@ use ill_mail::exchange::{exchange, inbox, outbox};
 use ill_mail::mail::Incoming;
 use ill_saved::{DeskFault, LockFiles};
 use ill_shelf::on_shelf::{
-    act_on_shelf, exchange_of_shelf, inbox_of_shelf, loan_on_shelf, new_shelf, outbox_of_shelf,
-    retire, send_on_shelf, slip_on_shelf, status_of_shelf,
+    act_on_shelf, exchange_of_shelf, inbox_of_shelf, loan_on_shelf, new_shelf, note_on_shelf,
+    outbox_of_shelf, retire, send_on_shelf, slip_on_shelf, status_of_shelf,
 };
 use ill_shelf::take_home::take_on_shelf;
 use ill_show::loan::LoanView;
@@ -264,6 +265,7 @@ fn run<T: LockFiles, R: Read, W: Write, E: Write>(
             today,
             seen,
             is_trial,
+            is_long,
             words,
             ..
         } => act(
@@ -276,6 +278,7 @@ fn run<T: LockFiles, R: Read, W: Write, E: Write>(
                 seen: *seen,
                 is_trial: *is_trial,
             },
+            *is_long,
         ),
         Request::Take { file, form } => take(machine, file, *form, reader),
         Request::Inbox { file, folder } => { inbox(machine, file, unsorted(folder)) }
@@ -285,11 +288,13 @@ fn run<T: LockFiles, R: Read, W: Write, E: Write>(
         Request::List {
             paths,
             wanted,
+            find,
             form,
-        } => list(machine, paths, wanted, *form),
+        } => list(machine, paths, wanted, *find, *form),
         Request::News { paths, last, form } => news(machine, paths, *last, *form),
         Request::Status { file, form } => status(machine, file, *form),
         Request::Loan { file, txn, form } => loan(machine, file, &LoanView { txn, form: *form }),
+        Request::Note { file, txn, words } => note(machine, file, &NoteView { txn, words }),
         Request::Slip { file, txn } => slip(machine, file, txn),
         Request::Retire { .. } => Err(ToolFault::Arguments),
         Request::Verify { file } => verify(machine, file),
@@ -322,6 +327,7 @@ fn run_on_shelf<T: LockFiles, R: Read, W: Write, E: Write>(
             today,
             seen,
             is_trial,
+            is_long,
             is_new_group,
             words,
         } => act_on_shelf(
@@ -334,12 +340,16 @@ fn run_on_shelf<T: LockFiles, R: Read, W: Write, E: Write>(
                 seen: *seen,
                 is_trial: *is_trial,
             },
+            *is_long,
             *is_new_group,
         ),
         Request::Take { file, form } => take_on_shelf(machine, file, *form, reader),
         Request::Send { file, txn, number } => { send_on_shelf(machine, file, txn, *number) }
         Request::Loan { file, txn, form } => {
             loan_on_shelf(machine, file, &LoanView { txn, form: *form })
+        }
+        Request::Note { file, txn, words } => {
+            note_on_shelf(machine, file, &NoteView { txn, words })
         }
         Request::Slip { file, txn } => slip_on_shelf(machine, file, txn),
         Request::Status { file, form } => status_of_shelf(machine, file, *form),

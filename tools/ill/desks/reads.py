@@ -7,6 +7,7 @@ same courses must have the same bytes. Of each desk the program writes
 
 - `list` and its objects with each combination of its options, in the order, with the columns and counts of the model;
 - `loan`, its picture and its object, and `slip`, of each loan or, on the large desks, of some;
+- what shows the notes that are written beside the desk, and what is found in them, and the notes that `note` keeps,
 - `news` and its objects of what came, which is written beside the desk once, twice and torn, with `--last` too;
 - `status`, its objects, `report` and `verify`;
 
@@ -32,6 +33,7 @@ from ill.der import ASKED, shipped, spelled
 from ill.harness import CLOSED, FULL, read, write
 from ill.model import REQUESTER, RESPONDER, ROLES, FORMS, Fault, Side
 from ill.morning import AHEAD, Loan, Morning, work_with, works
+from ill.notes import is_found, kept, note_line, notes_of
 from ill.records import desk_record
 from ill.screen import ACTING, shown
 from ill.slips import Slip
@@ -94,11 +96,11 @@ def taken(side):
         "accepted": side.accepted, "last-cancel": side.cancelled, "last-renew": side.renewed}
 
 
-def loan_lines(side):
-    """Returns all lines of a loan."""
+def loan_lines(side, note=None):
+    """Returns all lines of a loan, with its note."""
     return [*status_lines(side), f"next {side.turn()}", f"now {' '.join(side.possible()) or '-'}",
             f"item {shown(side.asked()['item'])}", f"expiry {side.expiry() or '-'}",
-            *(f"{label} {number or '-'}" for label, number in taken(side).items()),
+            *(f"{label} {number or '-'}" for label, number in taken(side).items()), *([f"note {note}"] if note else []),
             *(line for apdu in side.issued for line in message_lines(side.txn, apdu))]
 
 
@@ -115,11 +117,11 @@ def message_object(side, apdu):
     return {"apdu": fields.pop("apdu"), "group": side.txn[0], "transaction": side.txn[1], **fields, "leaves": True}
 
 
-def loan_object(side):
-    """Returns the object of all of a loan."""
+def loan_object(side, note=None):
+    """Returns the object of all of a loan, with its note."""
     return {**status_object(side), "next": side.turn(), "now": side.possible(), "item": side.asked()["item"],
             "expiry": iso(side.expiry()), **taken(side), "messages": [message_object(side, it) for it in side.issued],
-            "came": []}
+            "came": [], "note": note}
 
 
 def slip_parts(side):
@@ -161,12 +163,13 @@ OVER = [*WORKS][-1]
 LISTED = {"": WORKS, "--open": [name for name in WORKS if name != OVER], "--mine": HANDS}
 
 
-def listed(sides, flag, today=None, due_before=None, state=None, ahead=AHEAD):
-    """Yields the loans that `list` lists, each with its work, in their order."""
+def listed(sides, flag, today=None, due_before=None, state=None, ahead=AHEAD, find=None, notes=None):
+    """Yields the loans that `list` lists, each with its work, in their order. `notes` has the notes of loans."""
     for name in LISTED[flag]:
         for side in by_deadline(sides):
             is_due = due_before is None or side.due is not None and side.due < due_before
-            if work_with(side, today, ahead) == name and is_due and state in (None, side.state):
+            is_wanted = is_due and state in (None, side.state) and is_found(find, side, notes or {})
+            if work_with(side, today, ahead) == name and is_wanted:
                 yield name, side
 
 
@@ -189,9 +192,10 @@ def counts(sides, today=None, ahead=AHEAD):
             "room": 1000 - len(sides)}
 
 
-def list_lines(sides, flag, today=None, due_before=None, state=None, ahead=AHEAD, has_actions=False):
+def list_lines(sides, flag, today=None, due_before=None, state=None, ahead=AHEAD, has_actions=False, find=None,
+               notes=None, has_notes=False):
     """Returns the lines of `list`."""
-    rows = list(listed(sides, flag, today, due_before, state, ahead))
+    rows = list(listed(sides, flag, today, due_before, state, ahead, find, notes))
     cells = [[side.state, side.due or "-", column(side.txn[0]), column(side.txn[1]),
               *([",".join(side.possible(today))] if has_actions else [])] for _, side in rows]
     widths = [max(map(len, texts)) for texts in zip(*cells)]
@@ -202,15 +206,18 @@ def list_lines(sides, flag, today=None, due_before=None, state=None, ahead=AHEAD
             lines.append(f"{name} ({sum(other == name for other, _ in rows)}):")
             headed = name
         lines.append("  " + "".join(map(padded, texts, widths)) + shown(side.asked()["item"]))
+        if has_notes and tuple(side.txn) in notes:
+            lines.append(f"    note {notes[tuple(side.txn)]}")
     told = counts(sides, today, ahead)
     return [*lines, "loans {loans}, open {open}, to do {todo}, room for {room}".format(**told)]
 
 
-def list_objects(sides, flag, today=None, due_before=None, state=None, ahead=AHEAD):
+def list_objects(sides, flag, today=None, due_before=None, state=None, ahead=AHEAD, find=None, notes=None):
     """Returns the objects of `list`."""
     return [{"kind": "loan", "work": name, "state": side.state, "due": iso(side.due), "group": side.txn[0],
-             "transaction": side.txn[1], "now": side.possible(today), "item": side.asked()["item"]}
-            for name, side in listed(sides, flag, today, due_before, state, ahead)
+             "transaction": side.txn[1], "now": side.possible(today), "item": side.asked()["item"],
+             "note": (notes or {}).get(tuple(side.txn))}
+            for name, side in listed(sides, flag, today, due_before, state, ahead, find, notes)
             ] + [{"kind": "counts", **counts(sides, today, ahead)}]
 
 
@@ -446,6 +453,35 @@ def check_news(judge, path, sides):
     judge.objects(["news", path, "--json"], [])
 
 
+# Words of notes, some of which a terminal would act on, and words that are sought.
+NOTES = ["for Prof. Noether, by Friday", "STRASSE 12 \u202e", "shelf 7\\3", "\\u{20}", "G1 T1 nobody", "ﬃ", "-"]
+SOUGHT = ["strasse", "Straße", "NOETHER", "FFI", "maps", "g1 t", "u{202e}", " ", "nobody has this"]
+
+
+def check_notes(judge, path, sides):
+    """Compares what shows notes, and what is found by words. The file has notes that others replace and remove, one of no
+    loan, and a part of a line at its end. `note` appends to it, and cuts that part off."""
+    notes = [(tuple(side.txn), NOTES[place % len(NOTES)]) for place, side in enumerate(sides) if place % 3]
+    notes += [(txn, "") for txn, _ in notes[::4]] + [(txn, NOTES[0]) for txn, _ in notes[::5]]
+    write(f"{path}.notes", notes_of(notes) + note_line(("no", "loan"), "x") + b"G1 T1 torn")
+    has = {txn: shown(words) for txn, words in kept(notes).items()}
+    judge.lines(["list", path, "--notes"], list_lines(sides, "", notes=has, has_notes=True))
+    for find in SOUGHT:
+        words = ["list", path, "--find", find]
+        judge.lines(words, list_lines(sides, "", find=find, notes=has))
+        judge.objects([*words, "--json"], list_objects(sides, "", find=find, notes=has))
+    for side in sides[:9]:
+        note = has.get(tuple(side.txn))
+        judge.lines(["loan", path, *side.txn], loan_lines(side, note))
+        judge.objects(["loan", path, *side.txn, "--json"], [loan_object(side, note)])
+    for side, words in zip(sides, [*NOTES, ""]):
+        judge.lines(["note", path, *side.txn, "--", words], ["done"])
+    added = [(tuple(side.txn), words) for side, words in zip(sides, [*NOTES, ""])]
+    judge.same(f"the notes of {path}", read(f"{path}.notes").endswith(notes_of(added)), True)
+    judge.same(f"the part of a line at the end of those of {path}", b"torn" in read(f"{path}.notes"), not sides)
+    os.remove(f"{path}.notes")
+
+
 def check_rest(judge, path, role, sides):
     """Compares `status`, `report` and `verify`."""
     judge.lines(["status", path], [line for side in sides for line in status_lines(side)])
@@ -651,7 +687,7 @@ def check_folder(judge, desks):
     for name, (_, sides) in desks.items():
         if len(sides) < 100:
             os.link(name, f"shelf/{name}")
-    for stray in (".hidden", "kinds.new", "kinds.lck", "kinds.came"):
+    for stray in (".hidden", "kinds.new", "kinds.lck", "kinds.came", "kinds.notes"):
         write(f"shelf/{stray}", b"no desk")
     blocks = []
     for name in sorted(name for name in os.listdir("shelf") if name in desks):
@@ -706,6 +742,8 @@ def check_desks(judge):
         check_list(judge, name, sides)
         check_loans(judge, name, sides)
         check_news(judge, name, sides)
+        if not is_longest(sides):
+            check_notes(judge, name, sides)
         check_rest(judge, name, role, sides)
         if len(sides) < 900 or is_longest(sides):
             check_streams(judge, name, sides)

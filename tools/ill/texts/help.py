@@ -26,7 +26,7 @@ WORLD, WORDS, TEXT, SHOW, SLIP, DESK, NIGHT, FILES, COMMANDS, MAIL, SHELF = (
 FILE_KINDS = {"File", "NewFile", "Paths", "Folder"}
 FLAGS = {"Long", "Keep", "Picture", "Open", "Mine", "Actions", "Json"}
 # The sources of the commands on a file: what locks it is told by their bodies.
-FILED = (f"{COMMANDS}/commands.rt", f"{COMMANDS}/telling.rt", f"{MAIL}/exchange.rt")
+FILED = (f"{COMMANDS}/commands.rt", f"{COMMANDS}/telling.rt", f"{COMMANDS}/note.rt", f"{MAIL}/exchange.rt")
 FIGURES = ("one two three four five six seven eight nine ten eleven twelve thirteen fourteen fifteen sixteen "
            "seventeen eighteen nineteen twenty").split()
 NUMBER = r"(?<![\w.])(?:\d+(?:,\d{3})*|" + "|".join(FIGURES) + r")(?![\w])"
@@ -65,7 +65,7 @@ ISSUED has risen by one then, as from {first}/{first} to {second}/{second}
 ill send FILE G1 T1 {first} > message; `ill send FILE G1 T1 {second}`
 A loan that the desk does not have is IDLE - {zero}/{zero}
 it has {first} to {qualifier} characters; has bytes: it has {qualifier} at most
-The item has bytes: it has {item} at most
+The item has bytes: it has {item} at most; The note has bytes: it has {item} at most
 a day has {day_digits} digits, as {day}; the years are {first_year} to {last_year}; last day of the calendar, {last_day}
 no number of a message: it is {first} to {last}; stand one to {days_digits} digits; counted from {zero}
 makes {made} desks at most; mail of one run makes {made} desks at most
@@ -85,7 +85,7 @@ CAUSES = {
     "the desk is saved": "ok", "all mails are done": "ok", "one was put aside or in conflict": "refused",
     "the action is done": "ok", "each was taken, a repeat or stale": "ok", "the message is written": "ok",
     "the loan is shown": "ok", "the slip is written": "ok", "all messages are there": "ok",
-    "nothing wants a person": "ok",
+    "the note is kept": "ok", "nothing wants a person": "ok",
     "all of them are shown": "ok", "they are counted": "ok", "the whole script was performed": "ok",
     "it is refused": "refused", "one was anything else": "refused", "something does": "refused",
     "a mail stays for the next run": "left",

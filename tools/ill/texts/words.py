@@ -27,8 +27,9 @@ CAPITALS = {"DUE", "EXPIRY", "ITEM", "N", "RESULT", "WISHED"}
 OTHERS = {"error:", "ill help", "ill --version", ".unsorted.mail"}
 # The kinds of arguments that the completions know, by their variants, and those of the values of options.
 KINDS = {"File": "file", "NewFile": "file", "Paths": "files", "Folder": "folder", "OutFolder": "folder", "In": "folder",
-         "Out": "folder", "Role": "role", "Group": "loan", "Transaction": "loan", "Words": "words", "Number": "none"}
-VALUES = {"DAY": "day", "DAYS": "count", "N": "count", "TEXT": "text", "STATE": "state", "FILE": "file",
+         "Out": "folder", "Role": "role", "Group": "loan", "Transaction": "loan", "Words": "words", "NoteWords": "none",
+         "Number": "none"}
+VALUES = {"DAY": "day", "DAYS": "count", "N": "count", "TEXT": "text", "WORDS": "text", "STATE": "state", "FILE": "file",
           "FOLDER": "file"}
 
 # An argument has the label that stands for it; an option has its name, the label of its value, and perhaps a letter.
@@ -594,15 +595,15 @@ _ill_parts() {
 }
 
 # Sets `arguments` to those that stand between the command and the cursor, options left out, and `wanted` to
-# the kind of what may come next: `any` (an option too), `argument` (no option any more), `day`, `count`, `state` or
-# `file` (the value of an option).
+# the kind of what may come next: `any` (an option too), `argument` (no option any more), `day`, `count`, `text`,
+# `state` or `file` (the value of an option).
 _ill_read() {
   local at word
   for ((at = 2; at < COMP_CWORD; at++)); do
     word=${COMP_WORDS[at]}
     case $wanted-$word in
-      day-= | count-= | state-= | file-=) ;;     # bash takes --today=DAY for three words
-      day-* | count-* | state-* | file-*) wanted=any ;;
+      day-= | count-= | text-= | state-= | file-=) ;;     # bash takes --today=DAY for three words
+      day-* | count-* | text-* | state-* | file-*) wanted=any ;;
       any---) wanted=argument ;;
 @values@
       any--*) ;;
@@ -717,14 +718,15 @@ case ${shelf:+shelf-}$command in
 esac
 
 # The arguments between the command and the cursor, options left out, and the kind of what may come next: `any` (an
-# option too), `argument` (no option any more), `day`, `count`, `state` or `file` (the value of an option).
+# option too), `argument` (no option any more), `day`, `count`, `text`, `state` or `file` (the value of
+# an option).
 local -a arguments
 local wanted=any word kind
 integer at
 for ((at = 3; at < CURRENT; at++)); do
   word=${(Q)words[at]}
   case $wanted-$word in
-    day-*|count-*|state-*|file-*) wanted=any ;;
+    day-*|count-*|text-*|state-*|file-*) wanted=any ;;
     any---) wanted=argument ;;
 @values@
     any--*) ;;
@@ -779,14 +781,14 @@ end
 
 # The kind of what may come next, a line, the command, a line, and the arguments that stand between the command and the
 # cursor, options left out, a line each. The kind is `any` (an option too), `argument` (no option any more), `day`,
-# `count`, `state` or `file` (the value of an option).
+# `count`, `text`, `state` or `file` (the value of an option).
 function __ill_read
     set -l words (__ill_typed)
     set -l wanted any
     set -l arguments
     for word in $words[3..-1]
         switch $wanted-$word
-            case 'day-*' 'count-*' 'state-*' 'file-*'
+            case 'day-*' 'count-*' 'text-*' 'state-*' 'file-*'
                 set wanted any
             case any---
                 set wanted argument
@@ -805,14 +807,14 @@ end
 # __ill_at COUNT COMMAND..: whether an argument of one of these commands comes next, after COUNT others.
 function __ill_at
     set -l read (__ill_read)
-    not contains -- $read[1] day count state file; and test (count $read[3..-1]) = $argv[1]
+    not contains -- $read[1] day count text state file; and test (count $read[3..-1]) = $argv[1]
     and contains -- "$read[2]" $argv[2..-1]
 end
 
 # __ill_any COMMAND..: whether an argument of one of these commands comes next, after any number.
 function __ill_any
     set -l read (__ill_read)
-    not contains -- $read[1] day count state file
+    not contains -- $read[1] day count text state file
     and contains -- "$read[2]" $argv
 end
 

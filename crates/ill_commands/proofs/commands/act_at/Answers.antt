@@ -1,11 +1,21 @@
 -- Answers the contract of `act_at` (`src/commands.rt`).
-use Rattle.std.proofs.Common.{inr}
+use Rattle.std.proofs.Common.{Option, inr, ap, subst, ◌∙◌}
+use Rattle.ill_saved.specs.declared.side.Side.{Side}
+use Rattle.ill_saved.specs.Sides.{SidesOf, side_with}
+use Rattle.ill_show.specs.News.{item_of}
+use Rattle.ill_commands.specs.AtFile.{TellsItem}
 use Rattle.ill_commands.proofs.commands.act_at.Goals as goal
 use Rattle.ill_commands.proofs.commands.act_at.Goals.{then-is_ok, else-is_ok}
 
--- Proves the contract of `act_at`. Telling how many numbers are left leaves the writer as it is.
+-- Proves the contract of `act_at`. The item is that of the side after the action. Telling how many numbers are left leaves
+-- the writer as it is.
 pub returns : goal.returns
-returns g c = elim c.if-is_ok.branch [
-  | then-is_ok w ↦ rw w.machine-is (inr (_, _, c.run_desk_act_as-acted.ensures.runs))
-  | else-is_ok w ↦ rw w.machine-is (inr (_, _, c.run_desk_act_as-acted.ensures.runs))
-]
+returns g c =
+    let found = c.get.ensures ∙ ap (λ (sides : SidesOf). side_with c.args.view.now.txn.now sides.sides) c.sides.ensures.value in
+    let told = subst (λ (side : Option Side). TellsItem c.args.is_long (item_of side) c.run_desk_act_as-acted.result
+    (g.W.Write.contents c.run_desk_act_as-acted.new.writer) (g.W.Write.contents c.tell_item-told.new.writer)
+    c.tell_item-told.result) found c.tell_item-told.ensures in
+    elim c.if-is_ok.branch [
+      | then-is_ok w ↦ rw w.machine-is (inr (_, _, _, _, c.run_desk_act_as-acted.ensures.runs, told))
+      | else-is_ok w ↦ rw w.machine-is (inr (_, _, _, _, c.run_desk_act_as-acted.ensures.runs, told))
+    ]

@@ -4,6 +4,7 @@ use Rattle.std.specs.List.{flat_map}
 use Rattle.std.proofs.lemmas.List.{take_all}
 use Rattle.std.proofs.lemmas.List.Folds.{flat_map-map}
 use Rattle.ill_saved.specs.declared.side.Side.{Side}
+use Rattle.ill_show.specs.Notes.{lines_of}
 use Rattle.ill_show.specs.Objects.{row_object}
 use Rattle.ill_show.proofs.list.push_work_objects.Goals as goal
 
@@ -12,7 +13,8 @@ pub returns : goal.returns
 returns c =
     let sides = c.args.sides.now in
     let old = c.args.text.now.items in
-    let text = row_object (option_map (λ path. path.now) c.args.file) c.args.wanted.now.today c.args.work in
+    let text = row_object (option_map (λ path. path.now) c.args.file) (lines_of c.args.notes.now) c.args.wanted.now.today
+    c.args.work in
     c.loop-side.invariant.listed
     ∙ ap (λ (shown : _). old ++ flat_map (λ (side : Bor Side). text side.now) shown)
     (take_all c.loop-side.side-index sides c.loop-side-test.false)

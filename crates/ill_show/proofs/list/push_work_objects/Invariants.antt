@@ -2,6 +2,7 @@
 use Rattle.std.proofs.Common.{◌≡◌, ◌++◌, take, Bor, option_map}
 use Rattle.std.specs.List.{flat_map}
 use Rattle.ill_saved.specs.declared.side.Side.{Side}
+use Rattle.ill_show.specs.Notes.{lines_of}
 use Rattle.ill_show.specs.Objects.{row_object}
 use Rattle.ill_show.proofs.list.push_work_objects.Given as goal
 
@@ -9,6 +10,7 @@ use Rattle.ill_show.proofs.list.push_work_objects.Given as goal
 abbrev pub invariant-loop-side : goal.invariant-loop-side
 invariant-loop-side l = record {
   listed : l.text.items ≡ l.initial.text.items
-      ++ flat_map (λ (side : Bor Side). row_object (option_map (λ path. path.now) l.file) l.wanted.today l.work side.now)
+      ++ flat_map (λ (side : Bor Side).
+      row_object (option_map (λ path. path.now) l.file) (lines_of l.notes) l.wanted.today l.work side.now)
       (take l.side-index l.sides);
 }

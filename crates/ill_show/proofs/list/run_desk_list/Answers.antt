@@ -4,6 +4,7 @@ use Rattle.ill_saved.specs.Sides.{SidesOf}
 use Rattle.ill_saved.specs.ManySides.{sides_held}
 use Rattle.ill_text.specs.Output.{WritesText}
 use Rattle.ill_text.specs.declared.form.Form.{Form}
+use Rattle.ill_show.specs.Finding.{seeking_of}
 use Rattle.ill_show.specs.Listing.{between, gap, heading, list_lines, list_objects, listed_desk, file_told}
 use Rattle.ill_show.proofs.list.run_desk_list.Goals as goal
 
@@ -12,25 +13,30 @@ pub returns-in-Lines : goal.returns-in-Lines
 returns-in-Lines g c =
     let listed = c.args.listed.now in
     let wanted = c.args.wanted.now in
+    let seeking = seeking_of c.args.sought.now in
     let held = sides_held c.args.desk.now.live in
     let before = g.W.Write.contents c.args.writer.now in
     let after = g.W.Write.contents c.write_lines.new.writer in
     let written = subst (λ (sides : SidesOf). WritesText before after (gap listed.is_first
-    ++ (heading listed.is_headed listed.path.now ++ list_lines wanted sides.sides)) c.write_lines.result) c.sides.ensures.value
+    ++ (heading listed.is_headed listed.path.now ++ list_lines wanted seeking sides.sides)) c.write_lines.result)
+    c.sides.ensures.value
     c.write_lines.ensures in
     subst (λ (form : Form). WritesText before after (between form listed.is_first
-    ++ listed_desk form listed.is_headed wanted listed.path.now held.sides) c.write_lines.result) (sym c.in-Lines.is) written
+    ++ listed_desk form listed.is_headed wanted seeking listed.path.now held.sides) c.write_lines.result) (sym c.in-Lines.is)
+    written
 
 -- Proves the contract of `run_desk_list` in objects. `write_objects` lists the sides of the desk.
 pub returns-in-Json : goal.returns-in-Json
 returns-in-Json g c =
     let listed = c.args.listed.now in
     let wanted = c.args.wanted.now in
+    let seeking = seeking_of c.args.sought.now in
     let held = sides_held c.args.desk.now.live in
     let before = g.W.Write.contents c.args.writer.now in
     let after = g.W.Write.contents c.write_objects.new.writer in
     let written = subst (λ (sides : SidesOf). WritesText before after
-    (list_objects (file_told listed.is_headed listed.path.now) wanted sides.sides) c.write_objects.result)
+    (list_objects (file_told listed.is_headed listed.path.now) wanted seeking sides.sides) c.write_objects.result)
     c.sides-in-Json.ensures.value c.write_objects.ensures in
     subst (λ (form : Form). WritesText before after (between form listed.is_first
-    ++ listed_desk form listed.is_headed wanted listed.path.now held.sides) c.write_objects.result) (sym c.in-Json.is) written
+    ++ listed_desk form listed.is_headed wanted seeking listed.path.now held.sides) c.write_objects.result) (sym c.in-Json.is)
+    written

@@ -1,22 +1,16 @@
 -- Answers the contract of `write_lines` (`src/list.rt`).
-use Rattle.std.proofs.Common.{ℕ, ◌++◌, List, Option, Result, Ok, Err, ap, sym, subst, ◌∙◌, append_assoc}
-use Rattle.ill_text.specs.declared.fault.ToolFault.{ToolFault}
-use Rattle.ill_text.specs.Output.{WritesPrefix, WritesText}
+use Rattle.std.proofs.Common.{◌++◌, ap, subst, ◌∙◌, append_assoc}
+use Rattle.ill_text.specs.Output.{WritesText}
+use Rattle.ill_show.specs.Finding.{seeking_of}
 use Rattle.ill_show.specs.Listing.{gap, heading, list_lines}
+use Rattle.ill_show.proofs.ListLemmas.{text_written}
 use Rattle.ill_show.proofs.list.write_lines.Goals as goal
-
--- If `WritesPrefix` holds of a text, `WritesText` does.
-text_written : (before after : Option (List ℕ)) (bytes : List ℕ) (result : Result (Unit {0}) ToolFault)
-    → WritesPrefix before after bytes result → WritesText before after bytes result
-text_written before after bytes (Ok done) written = written
-text_written before after bytes (Err fault) (is, prefix) =
-    subst (λ (fault : ToolFault). WritesText before after bytes (Err fault)) (sym is) prefix
 
 -- Proves the contract of `write_lines`. It writes the gap, the heading and then the lines of the loans.
 pub returns : goal.returns
 returns g c =
     let listed = c.args.listed.now in
-    let lines = list_lines c.args.wanted.now c.args.sides.now.sides in
+    let lines = list_lines c.args.wanted.now (seeking_of c.args.sought.now) c.args.sides.now.sides in
     let before = g.W.Write.contents c.args.writer.now in
     let after = g.W.Write.contents c.write_whole.new.writer in
     let text = c.deref.ensures.value ∙ c.in_ok-push_list.ensures ∙ ap (λ heading. heading ++ lines) c.in_ok-lines.ensures

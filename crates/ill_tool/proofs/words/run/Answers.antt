@@ -28,3 +28,11 @@ returns-in-Slip g c =
     subst (λ (request : Request). Runs (asked request) left left (g.W.Write.contents c.args.machine.now.writer)
     (g.W.Write.contents c.slip.new.machine.writer) c.slip.result)
     (sym c.in-Slip.is) (refl, c.slip.ensures)
+
+-- Proves the contract of `run` for the request `List`. It is the contract of `list`, which reads no input.
+pub returns-in-List : goal.returns-in-List
+returns-in-List g c =
+    let left = g.R.Read.remaining c.args.reader.now in
+    subst (λ (request : Request). Runs (asked request) left left (g.W.Write.contents c.args.machine.now.writer)
+    (g.W.Write.contents c.list.new.machine.writer) c.list.result)
+    (sym c.in-List.is) (refl, c.list.ensures)

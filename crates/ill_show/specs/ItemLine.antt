@@ -1,0 +1,9 @@
+-- The line of the item of a loan, below the line of an outcome.
+use Rattle.std.specs.Prelude.{ℕ, List, [], ◌++◌, codes, Option, None, Some}
+use Rattle.ill_text.specs.Escape.{escaped}
+use Rattle.ill_text.specs.Lines.{line}
+
+-- Returns the line of an item, with two spaces before it. Without an item there is no line.
+abbrev pub item_line : Option (List ℕ) → List ℕ
+item_line None = []
+item_line (Some item) = codes "  " ++ line (codes "item") (escaped item)

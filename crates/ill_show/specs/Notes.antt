@@ -1,0 +1,97 @@
+-- The notes of staff on loans, in a file of lines: a line a note. The last note of a loan counts.
+use Rattle.std.specs.Prelude.{ℕ, Bool, ◌&&◌, ◌||◌, ◌==◌, if◌then◌else◌, nat_eq, List, [], ◌∷◌, ◌++◌, length, drop, fold, map}
+use Rattle.std.specs.Prelude.{codes}
+use Rattle.std.specs.Prelude.{Option, Some, None, is_ok}
+use Rattle.std.specs.List.{flat_map, join_by, starts_with}
+use Rattle.std.specs.Option.{option_or}
+use Rattle.std.specs.Str.{is_utf8}
+use Rattle.ill_values.specs.Text.{item_check}
+use Rattle.ill_values.specs.TxnId.{Qualifiers}
+use Rattle.ill_text.specs.Escape.{escaped}
+use Rattle.ill_text.specs.Json.{Field, optional, quoted}
+use Rattle.ill_text.specs.Lines.{line}
+use Rattle.ill_show.specs.declared.notes.Notes.{Notes}
+
+-- ---- the words of a note
+
+-- Returns the note with these words: a space stands between two of them.
+abbrev pub note_text : List (List ℕ) → List ℕ
+note_text words = join_by (λ word. word) (codes " ") words
+
+-- Returns true if a note may have this text: it is empty, or could be an item.
+abbrev pub is_note : List ℕ → Bool
+is_note text = length text == 0 || is_ok (item_check text)
+
+-- ---- the line of a note
+
+-- Returns a byte of a qualifier. A space and a backslash are escapes, so a space ends the qualifier.
+abbrev pub key_byte : ℕ → List ℕ
+key_byte byte =
+    if byte == 0x20 then codes "\\u{20}" else (if byte == 0x5C then codes "\\u{5c}" else byte ∷ [])
+
+-- Returns a qualifier in the line of a note.
+abbrev pub key : List ℕ → List ℕ
+key text = flat_map key_byte text
+
+-- Returns the text with which each line of a loan begins: both qualifiers, with a space after each.
+abbrev pub loan_key : Qualifiers → List ℕ
+loan_key txn = key txn.group ++ (codes " " ++ (key txn.transaction ++ codes " "))
+
+-- Returns a line of a loan, without its end.
+abbrev pub line_of : Qualifiers → (words : List ℕ) → List ℕ
+line_of txn words = loan_key txn ++ words
+
+-- Returns the line of a note. A line without words removes the note of its loan.
+abbrev pub kept_line : Qualifiers → (words : List ℕ) → List ℕ
+kept_line txn words = loan_key txn ++ (escaped words ++ codes "\n")
+
+-- ---- the lines of a file
+
+-- Returns the lines so far and the bytes of the next one, with one byte more. A line feed ends a line.
+abbrev pub with_byte : List (List ℕ) × List ℕ → ℕ → List (List ℕ) × List ℕ
+with_byte (lines, next) byte = if byte == 0x0A then (lines ++ next ∷ [], []) else (lines, next ++ byte ∷ [])
+
+-- Returns the lines in `bytes`, without their ends. A part of a line, as a crash leaves it at the end, is no line.
+abbrev pub lines_in : List ℕ → List (List ℕ)
+lines_in bytes = (fold with_byte ([], []) bytes).0
+
+-- Returns the lines of a file that was read.
+abbrev pub lines_of : Notes → List (List ℕ)
+lines_of notes = map (λ line. line.items) notes.lines.items
+
+-- ---- the note of a loan
+
+-- Returns the words of a line, if it begins with `begin` and they are UTF-8.
+abbrev pub words_after : (begin line : List ℕ) → Option (List ℕ)
+words_after begin line =
+    if starts_with nat_eq line begin && is_utf8 (drop (length begin) line) then Some (drop (length begin) line) else None
+
+-- Returns the words of the last of `lines` that begins with `begin`.
+abbrev pub last_words : (begin : List ℕ) → (lines : List (List ℕ)) → Option (List ℕ)
+last_words begin lines = fold (λ found line. option_or (words_after begin line) found) None lines
+
+-- Returns the words, unless there are none.
+abbrev pub unless_empty : Option (List ℕ) → Option (List ℕ)
+unless_empty None = None
+unless_empty (Some []) = None
+unless_empty (Some words) = Some words
+
+-- Returns the note of a loan, if there is one: the words of its last line.
+abbrev pub note_of : (lines : List (List ℕ)) → Qualifiers → Option (List ℕ)
+note_of lines txn = unless_empty (last_words (loan_key txn) lines)
+
+-- ---- the texts
+
+-- Returns the line of a note in `list`, below that of its loan.
+abbrev pub listed_note : Option (List ℕ) → List ℕ
+listed_note None = []
+listed_note (Some words) = codes "    note " ++ (escaped words ++ codes "\n")
+
+-- Returns the line of a note in `loan`.
+abbrev pub note_lines : Option (List ℕ) → List ℕ
+note_lines None = []
+note_lines (Some words) = line (codes "note") (escaped words)
+
+-- Returns the field of a note, which is `null` if there is none.
+abbrev pub note_fields : Option (List ℕ) → List Field
+note_fields note = (codes "note", optional quoted note) ∷ []

@@ -67,11 +67,12 @@ _ill_parts() {
     slip) parts=(file loan loan) options='--explain --help' ;;
     status) parts=(file) options='--json --explain --help' ;;
     report) parts=(files) options='--today --explain --help' ;;
-    take) parts=(file) options='--long --keep --explain --help' ;;
-    send) parts=(file loan loan none) options='--explain --help' ;;
+    take) parts=(file) options='--long --keep --key --explain --help' ;;
+    send) parts=(file loan loan none) options='--key --explain --help' ;;
     inbox) parts=(file folder) options='--explain --help' ;;
     outbox) parts=(file folder) options='--stream --explain --help' ;;
     exchange) parts=(file folder folder) options='--today --overdue --expire --copy --beat --explain --help' ;;
+    key) parts=(file) options='--show --read --explain --help' ;;
     verify) parts=(file) options='--explain --help' ;;
     show) parts=() options='--json --explain --help' ;;
     check) parts=() options='--explain --help' ;;
@@ -85,8 +86,8 @@ _ill_parts() {
     shelf-note) parts=(folder loan loan none) options='--explain --help' ;;
     shelf-slip) parts=(folder loan loan) options='--explain --help' ;;
     shelf-status) parts=(folder) options='--json --explain --help' ;;
-    shelf-take) parts=(folder) options='--long --keep --explain --help' ;;
-    shelf-send) parts=(folder loan loan none) options='--explain --help' ;;
+    shelf-take) parts=(folder) options='--long --keep --key --explain --help' ;;
+    shelf-send) parts=(folder loan loan none) options='--key --explain --help' ;;
     shelf-inbox) parts=(folder folder) options='--explain --help' ;;
     shelf-outbox) parts=(folder folder) options='--stream --explain --help' ;;
     shelf-exchange) parts=(folder folder folder) options='--today --overdue --expire --copy --beat --explain --help' ;;
@@ -109,7 +110,7 @@ _ill_read() {
       any---seen | any---find) wanted=text ;;
       any---ahead | any---last) wanted=count ;;
       any---state) wanted=state ;;
-      any---copy | any---beat) wanted=file ;;
+      any---key | any---copy | any---beat) wanted=file ;;
       any--*) ;;
       *)
         if [ "${parts[${#arguments[@]}]}" = words ]; then wanted=argument; fi
@@ -147,8 +148,8 @@ _ill() {
     state) offered='IDLE PENDING IN-PROCESS CONDITIONAL CANCEL-PENDING CANCELLED NOT-SUPPLIED SHIPPED RECEIVED
       RENEW/PENDING OVERDUE RENEW/OVERDUE NOT-RECEIVED/OVERDUE RECALL RETURNED CHECKED-IN' ;;
     role) offered='requester responder' ;;
-    command) offered='new act list news loan note slip status report take send inbox outbox exchange verify show check
-      simulate simulate-desks shelf help' ;;
+    command) offered='new act list news loan note slip status report take send inbox outbox exchange key verify show
+      check simulate simulate-desks shelf help' ;;
     shelf-command) offered='new act loan note slip status take send inbox outbox exchange retire help' ;;
     words) offered=$(_ill_words "${arguments[0]}") ;;
     loan)

@@ -39,7 +39,7 @@ function __ill_read
                 set wanted count
             case any---state
                 set wanted state
-            case any---copy any---beat
+            case any---key any---copy any---beat
                 set wanted file
             case 'any--*'
             case '*'
@@ -127,6 +127,7 @@ complete -c ill -n "__ill_at 0 ''" -a send -d 'Write the bytes of one message of
 complete -c ill -n "__ill_at 0 ''" -a inbox -d 'Take the mails of a folder, and save what they change once'
 complete -c ill -n "__ill_at 0 ''" -a outbox -d 'Put the messages that want sending into a folder of mails'
 complete -c ill -n "__ill_at 0 ''" -a exchange -d 'Take the mails of a folder, and send into another'
+complete -c ill -n "__ill_at 0 ''" -a key -d 'Make, show or read a key, which two libraries hold'
 complete -c ill -n "__ill_at 0 ''" -a verify -d 'Read a desk, and tell what it has or what is wrong with it'
 complete -c ill -n "__ill_at 0 ''" -a show -d 'Show each APDU on standard input'
 complete -c ill -n "__ill_at 0 ''" -a check -d 'Check the APDUs on standard input and count them'
@@ -134,7 +135,7 @@ complete -c ill -n "__ill_at 0 ''" -a simulate -d 'Perform a script of both side
 complete -c ill -n "__ill_at 0 ''" -a simulate-desks -d 'Perform a script of two desks, from standard input'
 complete -c ill -n "__ill_at 0 ''" -a shelf -d 'Keep a folder of desks, one for each group of loans'
 complete -c ill -n "__ill_at 0 ''" -a help -d 'Print the help of a command'
-complete -c ill -n '__ill_at 0 help' -a 'new act list news loan note slip status report take send inbox outbox exchange verify show check simulate simulate-desks shelf help'
+complete -c ill -n '__ill_at 0 help' -a 'new act list news loan note slip status report take send inbox outbox exchange key verify show check simulate simulate-desks shelf help'
 complete -c ill -n '__ill_at 0 shelf' -a new -d 'Begin a shelf of one role, in a folder'
 complete -c ill -n '__ill_at 0 shelf' -a act -d 'Perform one action in a loan, at the desk of its group'
 complete -c ill -n '__ill_at 0 shelf' -a loan -d 'Show all of one loan: request, messages, what may be done'
@@ -149,7 +150,7 @@ complete -c ill -n '__ill_at 0 shelf' -a exchange -d 'Take the mails of a folder
 complete -c ill -n '__ill_at 0 shelf' -a retire -d 'Replace a desk whose loans are over by a mark of its group'
 complete -c ill -n '__ill_at 0 shelf' -a help -d 'Print the help of a command'
 complete -c ill -n '__ill_at 0 shelf-help' -a 'new act loan note slip status take send inbox outbox exchange retire help'
-complete -c ill -n '__ill_at 0 new act loan note slip status take send inbox outbox exchange verify' -F
+complete -c ill -n '__ill_at 0 new act loan note slip status take send inbox outbox exchange key verify' -F
 complete -c ill -n '__ill_any list news report' -F
 complete -c ill -n '__ill_at 0 shelf-new shelf-act shelf-loan shelf-note shelf-slip shelf-status shelf-take shelf-send shelf-inbox shelf-outbox shelf-exchange shelf-retire' -x -a '(__fish_complete_directories)'
 complete -c ill -n '__ill_at 1 inbox outbox exchange shelf-inbox shelf-outbox shelf-exchange' -x -a '(__fish_complete_directories)'
@@ -158,8 +159,8 @@ complete -c ill -n '__ill_at 1 new shelf-new' -a 'requester responder'
 complete -c ill -n '__ill_at 1 act loan note slip send shelf-act shelf-loan shelf-note shelf-slip shelf-send shelf-retire' -a '(__ill_loans)'
 complete -c ill -n '__ill_at 2 act loan note slip send shelf-act shelf-loan shelf-note shelf-slip shelf-send' -a '(__ill_loans)'
 complete -c ill -n '__ill_at 3 act shelf-act' -a '(__ill_words)'
-complete -c ill -n "__ill_option any '' new act list news loan note slip status report take send inbox outbox exchange verify show check simulate simulate-desks shelf shelf-new shelf-act shelf-loan shelf-note shelf-slip shelf-status shelf-take shelf-send shelf-inbox shelf-outbox shelf-exchange shelf-retire" -l explain -d 'Say more of what is wrong'
-complete -c ill -n "__ill_option any '' new act list news loan note slip status report take send inbox outbox exchange verify show check simulate simulate-desks shelf shelf-new shelf-act shelf-loan shelf-note shelf-slip shelf-status shelf-take shelf-send shelf-inbox shelf-outbox shelf-exchange shelf-retire" -s h -l help -d 'Print help'
+complete -c ill -n "__ill_option any '' new act list news loan note slip status report take send inbox outbox exchange key verify show check simulate simulate-desks shelf shelf-new shelf-act shelf-loan shelf-note shelf-slip shelf-status shelf-take shelf-send shelf-inbox shelf-outbox shelf-exchange shelf-retire" -l explain -d 'Say more of what is wrong'
+complete -c ill -n "__ill_option any '' new act list news loan note slip status report take send inbox outbox exchange key verify show check simulate simulate-desks shelf shelf-new shelf-act shelf-loan shelf-note shelf-slip shelf-status shelf-take shelf-send shelf-inbox shelf-outbox shelf-exchange shelf-retire" -s h -l help -d 'Print help'
 complete -c ill -n "__ill_option any ''" -s V -l version -d 'Print the version'
 complete -c ill -n '__ill_option day act shelf-act' -l today -x -d 'The day of the action, as 20250301; a responder needs it'
 complete -c ill -n '__ill_option text act shelf-act' -l seen -x -d 'Act only if this is what was shown of the loan'
@@ -180,11 +181,14 @@ complete -c ill -n '__ill_option any loan shelf-loan' -l picture -d 'Draw the me
 complete -c ill -n '__ill_option day report' -l today -x -d 'The day of the report, as 20250301'
 complete -c ill -n '__ill_option any take shelf-take' -l long -d 'Tell which message each was, and what it said'
 complete -c ill -n '__ill_option any take shelf-take' -l keep -d 'Keep each message that is taken, in FILE.came'
+complete -c ill -n '__ill_option file take send shelf-take shelf-send' -l key -r -F -d 'Open or seal a letter with the key in this file'
 complete -c ill -n '__ill_option any outbox shelf-outbox' -l stream -d 'Write the messages to standard output'
 complete -c ill -n '__ill_option day exchange shelf-exchange' -l today -x -d 'The day of the run, as 20250301'
 complete -c ill -n '__ill_option any exchange shelf-exchange' -l overdue -d 'Say of each loan that is past its due date that it is'
 complete -c ill -n '__ill_option any exchange shelf-exchange' -l expire -d 'End each request that is past its last day'
 complete -c ill -n '__ill_option file exchange' -l copy -r -F -d 'Copy the desk to this file before anything is sent'
 complete -c ill -n '__ill_option file exchange shelf-exchange' -l beat -r -F -d 'Make this file anew when the run has ended'
+complete -c ill -n '__ill_option any key' -l show -d 'Write the key in groups, for the other library'
+complete -c ill -n '__ill_option any key' -l read -d 'Read the key in groups on standard input'
 complete -c ill -n '__ill_option any shelf-act' -l new-group -d 'Begin the group of the loan, if the shelf has none'
 complete -c ill -n '__ill_option file shelf-exchange' -l copy -r -F -d 'Copy each desk into this folder before it sends'

@@ -1,5 +1,6 @@
-"""Messages in the short form, written and read as docs/FORMATS.md says."""
+"""Messages in the short form, written and read as docs/FORMATS.md says, and sealed letters of them."""
 import hashlib
+import hmac
 
 # The types of messages, with their first octets, and those of the requester.
 TYPES = {"ILL-Request": 0x61, "Shipped": 0x63, "ILL-Answer": 0x64, "Conditional-Reply": 0x65, "Cancel": 0x66,
@@ -39,6 +40,15 @@ def spell(tag, transaction, number, *fields, group=b"G1"):
 def request(transaction, *fields, item=b"Maps"):
     """Returns an ILL-Request. The fields stand before the item."""
     return spell(0x61, transaction, 1, *fields, element(0x86, item))
+
+
+REQUESTER, RESPONDER = 0, 1  # the senders of letters
+
+
+def sealed(key, sender, text):
+    """Returns the letter in which a sender has sealed messages."""
+    body = b"ILLS" + bytes([sender]) + text
+    return body + hmac.new(key, body, hashlib.sha256).digest()
 
 
 def cancel(transaction):

@@ -91,7 +91,7 @@ class Help:
 
     def has_file(self, name):
         """Returns True if files stand after a command."""
-        return bool(found(r"^Usage:.* <(FILE|PATH)>", self.lines(name)))
+        return bool(found(r"^Usage:.* <(FILE|KEYFILE|PATH)>", self.lines(name)))
 
     def words_of(self, role):
         """Returns the first word of each action of a role."""
@@ -305,6 +305,7 @@ class Offers:
         states = [match[1] for match in found(r'^ *State::.* => "(.*)",$', text_of(STATES).splitlines())]
         self.offers("ill list one --state ", *states)
         self.offers("ill take --long ", *self.files)
+        self.all_offer(("take --key", "take one --key", "send one G1 T1 1 --key", "key --show"), *self.files)
 
     def of_folders(self):
         """Adds lines for folders of mail."""

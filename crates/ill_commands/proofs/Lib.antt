@@ -1,2 +1,3 @@
+pub mod LetterLemmas
 pub mod PageLemmas
 pub mod VisitLemmas

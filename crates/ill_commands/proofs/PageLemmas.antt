@@ -9,8 +9,8 @@ use Rattle.std.proofs.lemmas.List.Sums.{fold-append}
 use Rattle.std.proofs.lemmas.Grind.{flat_map-append}
 use Rattle.ill_values.specs.Day.{Date}
 use Rattle.ill_text.specs.declared.fault.ToolFault.{ToolFault}
-use Rattle.ill_text.specs.declared.fault.ToolFault.TheVariants.{Arguments, Der, TooMany, Script, Desk, Left, Read, Write}
-use Rattle.ill_text.specs.declared.fault.ToolFault.TheVariants.{OutOfMemory}
+use Rattle.ill_text.specs.declared.fault.ToolFault.TheVariants.{Arguments, Der, TooMany, Script, Desk, Key, Left, Read, Write}
+use Rattle.ill_text.specs.declared.fault.ToolFault.TheVariants.{NotSealed, OutOfMemory}
 use Rattle.ill_show.specs.Report.{AddsPart, AddsParts, Part, gravest_part, part_answer, part_text}
 use Rattle.ill_text.specs.Visits.{graver}
 use Rattle.ill_text.specs.Fault.{IsOpenFault}
@@ -64,6 +64,8 @@ open_graver (Err (Der fault)) other first second = absurd first
 open_graver (Err TooMany) other first second = absurd first
 open_graver (Err (Script line)) other first second = absurd first
 open_graver (Err (Desk fault)) other first second = tt
+open_graver (Err (Key fault)) other first second = absurd first
+open_graver (Err NotSealed) other first second = absurd first
 open_graver (Err Left) other first second = absurd first
 open_graver (Err Read) other first second = absurd first
 open_graver (Err Write) other first second = absurd first

@@ -1,2 +1,3 @@
 pub mod AtFile
+pub mod Letters
 pub mod Note

@@ -154,7 +154,7 @@ pub fn take<T: LockFiles, R: Read, W: Write, E: Write>(
 }
 
 /// Takes the APDUs of the input at `desk`. Those that are kept go to the file beside `file`, if that can be opened.
-fn take_at<T: Files, S: Store, R: Read, W: Write, E: Write>(
+pub(crate) fn take_at<T: Files, S: Store, R: Read, W: Write, E: Write>(
     machine: &mut Machine<'_, T, W, E>,
     file: &str,
     desk: &mut Desk<S>,

@@ -2,6 +2,7 @@
 #![tactic(auto)]
 
 pub mod commands;
+pub mod letters;
 pub mod note;
 pub mod telling;
 mod visit;

@@ -11,19 +11,24 @@ use Rattle.ill_text.specs.declared.fault.ToolFault.{ToolFault}
 use Rattle.ill_text.specs.declared.fault.ToolFault.TheVariants.{Desk}
 use Rattle.ill_text.specs.Output.{WritesText}
 
--- The message was written, if there is one and it is released. Else the fault is `NoSuchMessage` or
--- `NotSaved`, and nothing was written.
-abbrev pub WritesMessage : Option Apdu → Bool → Option (List ℕ) → Option (List ℕ) →
+-- The message was written as `text` makes it of its bytes, if there is one and it is released. Else the fault is
+-- `NoSuchMessage` or `NotSaved`, and nothing was written.
+abbrev pub WritesMessage : (text : List ℕ → List ℕ) → Option Apdu → Bool → Option (List ℕ) → Option (List ℕ) →
     Result (Unit {0}) ToolFault → Type 0
-WritesMessage None is_released before after result =
+WritesMessage text None is_released before after result =
     (result ≡ Err (Desk NoSuchMessage)) × Appends before after []
-WritesMessage (Some a) false before after result = (result ≡ Err (Desk NotSaved)) × Appends before after []
-WritesMessage (Some a) true before after result = WritesText before after (spelling a) result
+WritesMessage text (Some a) false before after result = (result ≡ Err (Desk NotSaved)) × Appends before after []
+WritesMessage text (Some a) true before after result = WritesText before after (text (spelling a)) result
 
--- The command: the message `number` of the side was written, if the side is held.
+-- The message `number` of the side was written as `text` makes it of its bytes, if the side is held.
+abbrev pub RunsSendAs : (text : List ℕ → List ℕ) → Option DeskEntry → ℕ → Option (List ℕ) → Option (List ℕ) →
+    Result (Unit {0}) ToolFault → Type 0
+RunsSendAs text None number before after result =
+    (result ≡ Err (Desk NoSuchTransaction)) × Appends before after []
+RunsSendAs text (Some held) number before after result =
+    WritesMessage text (message (issued_of held.side) number) (nat_le number held.released) before after result
+
+-- The command: the bytes of the message `number` of the side were written, if the side is held.
 abbrev pub RunsSend : Option DeskEntry → ℕ → Option (List ℕ) → Option (List ℕ) → Result (Unit {0}) ToolFault →
     Type 0
-RunsSend None number before after result =
-    (result ≡ Err (Desk NoSuchTransaction)) × Appends before after []
-RunsSend (Some held) number before after result =
-    WritesMessage (message (issued_of held.side) number) (nat_le number held.released) before after result
+RunsSend held number before after result = RunsSendAs (λ bytes. bytes) held number before after result

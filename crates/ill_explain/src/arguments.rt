@@ -48,6 +48,10 @@ fn tell_together<T: LockFiles>(
             text,
             "  Say where the messages go: a folder, or --stream, and not both."
         ),
+        Name::Key => writeln!(
+            text,
+            "  A key is shown or read: --show or --read, and not both."
+        ),
         Name::Exchange => writeln!(
             text,
             "  --overdue and --expire want the day: `--today 20250301`."
@@ -64,7 +68,7 @@ fn tell_argument(
     word: &str,
 ) -> Result<(), OutOfMemory> {
     match argument {
-        Argument::NewFile => tell_reserved(text, word).map(|_| ()),
+        Argument::NewFile | Argument::KeyFile => tell_reserved(text, word).map(|_| ()),
         Argument::Role => tell_role(text, word),
         Argument::Group => tell_qualifier(alloc, text, "group", word),
         Argument::Transaction => tell_qualifier(alloc, text, "transaction", word),

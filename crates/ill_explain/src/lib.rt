@@ -9,6 +9,7 @@ mod arguments;
 mod day;
 mod file;
 mod input;
+mod key;
 mod reasons;
 mod refused;
 mod shelf;

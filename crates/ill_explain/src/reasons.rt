@@ -3,11 +3,12 @@
 use crate::arguments::tell_arguments;
 use crate::file::tell_desk_fault;
 use crate::input::{Passed, tell_bad_bytes, tell_bad_line};
+use crate::key::{tell_bad_key, tell_key_not_made};
 use crate::refused::tell_refused;
 use crate::shelf::tell_shelf_fault;
 use clap::ArgMatches;
 use ill_files::machine::Machine;
-use ill_line::command_line::{Name, SHELF, command};
+use ill_line::command_line::{Argument, Name, SHELF, command};
 use ill_line::request::DASHES;
 use ill_saved::LockFiles;
 use ill_text::fault::ToolFault;
@@ -39,6 +40,16 @@ struct Failed<'a, 'b> {
     fault: ToolFault,
     /// The place in the input at which the command stopped.
     passed: Option<Passed>,
+}
+
+impl Failed<'_, '_> {
+    /// Returns the place in the messages at which the command stopped. Those in a sealed letter have no known place.
+    fn passed_on(&self) -> Option<Passed> {
+        match self.matches.get_str(Argument::Key.id()) {
+            Some(_) => None,
+            None => self.passed,
+        }
+    }
 }
 
 /// Writes the reasons for `fault` of a command line, if its words ask for them.
@@ -122,9 +133,17 @@ fn tell_fault<T: LockFiles>(
     let alloc = *text.allocator();
     match failed.fault {
         ToolFault::Arguments => tell_arguments(rt, alloc, text, failed.name, failed.matches),
-        ToolFault::Der(fault) => tell_bad_bytes(text, fault, failed.passed),
+        ToolFault::Der(fault) => tell_bad_bytes(text, fault, failed.passed_on()),
         ToolFault::Script(line) => tell_bad_line(text, failed.name, line),
+        ToolFault::Desk(fault) if matches!(failed.name, Name::Key) => {
+            tell_key_not_made(text, failed.matches, fault)
+        }
         ToolFault::Desk(fault) => tell_desk_fault(rt, alloc, text, failed.matches, fault),
+        ToolFault::Key(bad) => tell_bad_key(text, failed.matches, bad),
+        ToolFault::NotSealed => writeln!(
+            text,
+            "  The input is no letter of the other library, sealed with this key, or it was changed on its way."
+        ),
         ToolFault::TooMany => writeln!(text, "  Divide the input, and give its parts one by one."),
         ToolFault::Left => writeln!(
             text,

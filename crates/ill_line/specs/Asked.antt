@@ -17,6 +17,8 @@ use Rattle.ill_text.specs.declared.fault.ToolFault.{ToolFault}
 use Rattle.ill_text.specs.declared.fault.ToolFault.TheVariants.{Arguments, OutOfMemory}
 use Rattle.ill_desk.specs.ActAs.{Asking}
 use Rattle.ill_desk.specs.declared.take.TakeForm.{TakeForm}
+use Rattle.ill_key.specs.declared.key.KeyDeed.{KeyDeed}
+use Rattle.ill_key.specs.declared.key.KeyDeed.TheVariants as deeds
 use Rattle.ill_show.specs.Loan.{loan_form}
 use Rattle.ill_show.specs.Notes.{is_note, note_text}
 use Rattle.ill_show.specs.declared.loan.LoanForm.{LoanForm}
@@ -41,6 +43,7 @@ use Rattle.ill_line.specs.declared.command_line.Argument.TheVariants.{OnDay, Due
 use Rattle.ill_line.specs.declared.command_line.Argument.TheVariants.{Out, NightDay, Overdue, Expire, Copy, Beat, NewGroup, Ahead}
 use Rattle.ill_line.specs.declared.command_line.Argument.TheVariants.{DryRun, Seen}
 use Rattle.ill_line.specs.declared.command_line.Argument.TheVariants.{Actions, Last, Title, NoteWords, Find, Notes}
+use Rattle.ill_line.specs.declared.command_line.Argument.TheVariants.{KeyFile, ShowKey, ReadKey}
 use Rattle.ill_line.specs.CommandLine.{name_read, id_of, is_option}
 use Rattle.ill_files.specs.Paths.{is_beside}
 use Rattle.ill_core.specs.State.{state_named}
@@ -75,9 +78,9 @@ text_if false text = None
 abbrev pub group_of : Found → Option (List ℕ)
 group_of found = text_of Group found >>= λ group. text_if (is_ok (qualifier_check group)) group
 
--- Returns the path of a new desk or shelf, if it has no ending of a file beside a desk.
-abbrev pub new_file_of : Found → Option (List ℕ)
-new_file_of found = text_of NewFile found >>= λ file. text_if (not (is_beside file)) file
+-- Returns the path of a new desk or shelf, or of a key, if it has no ending of a file beside a desk.
+abbrev pub new_file_of : Argument → Found → Option (List ℕ)
+new_file_of argument found = text_of argument found >>= λ file. text_if (not (is_beside file)) file
 
 -- Returns the texts of an argument that may have several.
 abbrev pub texts_of : Argument → Found → Option (List (List ℕ))
@@ -223,6 +226,17 @@ dates_on dates (Some today) = if dates.overdue || dates.expire then Some (Some (
 abbrev pub dates_of : Found → Option (Option (Date × Dates))
 dates_of found = day_in NightDay found >>= dates_on (wanted_dates found)
 
+-- Returns what `key` does, by its flags. It is None if both are set.
+abbrev pub deed_by : (is_shown is_read : Bool) → Option KeyDeed
+deed_by true true = None
+deed_by true false = Some deeds.Show
+deed_by false true = Some deeds.Read
+deed_by false false = Some deeds.Make
+
+-- Returns what the arguments ask of `key`, as `deed_by` does.
+abbrev pub deed_of : Found → Option KeyDeed
+deed_of found = deed_by (is_set ShowKey found) (is_set ReadKey found)
+
 -- ---- the commands
 
 -- The request of a command line, with its arguments as texts and values.
@@ -233,11 +247,12 @@ pub data Asked : Type 0 where
   SimulateDesks : Asked
   New : (file : List ℕ) → (role : Role) → Asked
   Act : (file : List ℕ) → (asking : Asking) → (is_long is_new_group : Bool) → Asked
-  Take : (file : List ℕ) → (form : TakeForm) → Asked
+  Take : (file : List ℕ) → (form : TakeForm) → (key : Option (List ℕ)) → Asked
   Inbox : (file folder : List ℕ) → Asked
   Outbox : (file : List ℕ) → (folder : Option (List ℕ)) → Asked
   Exchange : (file incoming outgoing : List ℕ) → (dates : Option (Date × Dates)) → (copy beat : Option (List ℕ)) → Asked
-  Send : (file : List ℕ) → (txn : Qualifiers) → (number : ℕ) → Asked
+  Key : (file : List ℕ) → (deed : KeyDeed) → Asked
+  Send : (file : List ℕ) → (txn : Qualifiers) → (number : ℕ) → (key : Option (List ℕ)) → Asked
   Listing : (paths : List (List ℕ)) → (wanted : Wanted) → (find : Option (List ℕ)) → (form : Form) → Asked
   News : (paths : List (List ℕ)) → (last : Option ℕ) → (form : Form) → Asked
   Status : (file : List ℕ) → (form : Form) → Asked
@@ -263,13 +278,14 @@ asked (requests.Act file txn today seen is_trial is_long is_new_group words) =
       seen = option_map (λ text. text.now) seen;
       is_trial = is_trial;
     }) is_long is_new_group
-asked (requests.Take file form) = Take file.now form
+asked (requests.Take file form key) = Take file.now form (option_map (λ text. text.now) key)
 asked (requests.Inbox file folder) = Inbox file.now folder.now
 asked (requests.Outbox file folder) = Outbox file.now (option_map (λ text. text.now) folder)
 asked (requests.Exchange file night) =
     Exchange file.now night.incoming.now night.outgoing.now night.dates (option_map (λ text. text.now) night.copy)
     (option_map (λ text. text.now) night.beat)
-asked (requests.Send file txn number) = Send file.now txn number
+asked (requests.Key file deed) = Key file.now deed
+asked (requests.Send file txn number key) = Send file.now txn number (option_map (λ text. text.now) key)
 asked (requests.List paths wanted find form) =
     Listing (map (λ path. path.now) paths.items) wanted (option_map (λ text. text.now) find) form
 asked (requests.News paths last form) = News (map (λ path. path.now) paths.items) last form
@@ -281,15 +297,17 @@ asked (requests.Report paths today) = Report (map (λ path. path.now) paths.item
 asked (requests.Retire file group) = Retire file.now group.now
 asked (requests.Verify file) = Verify file.now
 
--- Returns the file of the desk that a request may change, from which it sends, or beside which it keeps a note.
+-- Returns the file of the desk that a request may change, from which it sends, or beside which it keeps a note. Or it
+-- returns the file of a key.
 abbrev pub desk_at_stake : Asked → Option (List ℕ)
 desk_at_stake (New file role) = Some file
 desk_at_stake (Act file asking is_long is_new_group) = Some file
-desk_at_stake (Take file form) = Some file
+desk_at_stake (Take file form key) = Some file
 desk_at_stake (Inbox file folder) = Some file
 desk_at_stake (Outbox file folder) = Some file
 desk_at_stake (Exchange file incoming outgoing dates copy beat) = Some file
-desk_at_stake (Send file txn number) = Some file
+desk_at_stake (Key file deed) = Some file
+desk_at_stake (Send file txn number key) = Some file
 desk_at_stake (Note file txn words) = Some file
 desk_at_stake other = None
 
@@ -303,7 +321,7 @@ asked_of names.Simulate found = do
   Some (Simulate group transaction)
 asked_of names.SimulateDesks found = Some SimulateDesks
 asked_of names.New found = do
-  file ← new_file_of found
+  file ← new_file_of NewFile found
   role ← role_of found
   Some (New file role)
 asked_of names.Act found = do
@@ -320,7 +338,7 @@ asked_of names.Act found = do
   }) (is_set Title found) (is_set NewGroup found))
 asked_of names.Take found = do
   file ← text_of File found
-  Some (Take file (record { is_long = is_set Long found; is_kept = is_set Keep found }))
+  Some (Take file (record { is_long = is_set Long found; is_kept = is_set Keep found }) (text_of arguments.Key found))
 asked_of names.Inbox found = do
   file ← text_of File found
   folder ← text_of Folder found
@@ -335,11 +353,15 @@ asked_of names.Exchange found = do
   outgoing ← text_of Out found
   dates ← dates_of found
   Some (Exchange file incoming outgoing dates (text_of Copy found) (text_of Beat found))
+asked_of names.Key found = do
+  file ← new_file_of KeyFile found
+  deed ← deed_of found
+  Some (Key file deed)
 asked_of names.Send found = do
   file ← text_of File found
   txn ← loan_of found
   number ← number_of_message found
-  Some (Send file txn number)
+  Some (Send file txn number (text_of arguments.Key found))
 asked_of names.List found = do
   paths ← texts_of Paths found
   wanted ← wanted_of found

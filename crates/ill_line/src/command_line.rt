@@ -17,6 +17,7 @@ pub enum Name {
     Inbox,
     Outbox,
     Exchange,
+    Key,
     Send,
     List,
     News,
@@ -38,7 +39,7 @@ pub const SHELF: &str = "shelf";
 
 /// All commands, in the order of the help. First come the commands for staff, then the commands for the exchange with
 /// other libraries. The last are for looking inside, and one is for shelves alone. `clap` has these and no others.
-const NAMES: [Name; 20] = [
+const NAMES: [Name; 21] = [
     Name::New,
     Name::Act,
     Name::List,
@@ -53,6 +54,7 @@ const NAMES: [Name; 20] = [
     Name::Inbox,
     Name::Outbox,
     Name::Exchange,
+    Name::Key,
     Name::Verify,
     Name::Show,
     Name::Check,
@@ -89,6 +91,7 @@ impl Name {
             Name::Inbox => "inbox",
             Name::Outbox => "outbox",
             Name::Exchange => "exchange",
+            Name::Key => "key",
             Name::Send => "send",
             Name::List => "list",
             Name::News => "news",
@@ -115,6 +118,7 @@ impl Name {
             Name::Inbox => "Take the mails of a folder, and save what they change once",
             Name::Outbox => "Put the messages that want sending into a folder of mails",
             Name::Exchange => "Take the mails of a folder, and send into another",
+            Name::Key => "Make, show or read a key, which two libraries hold",
             Name::Send => "Write the bytes of one message of a loan",
             Name::List => "List the loans of desks by the work of the day",
             Name::News => "Tell what came to desks, in the order in which it came",
@@ -141,6 +145,7 @@ impl Name {
             Name::Inbox => help::INBOX,
             Name::Outbox => help::OUTBOX,
             Name::Exchange => help::EXCHANGE,
+            Name::Key => help::KEY,
             Name::Send => help::SEND,
             Name::List => help::LIST,
             Name::News => help::NEWS,
@@ -167,6 +172,7 @@ impl Name {
             Name::Inbox => help::INBOX_EXAMPLE,
             Name::Outbox => help::OUTBOX_EXAMPLE,
             Name::Exchange => help::EXCHANGE_EXAMPLE,
+            Name::Key => help::KEY_EXAMPLE,
             Name::Send => help::SEND_EXAMPLE,
             Name::List => help::LIST_EXAMPLE,
             Name::News => help::NEWS_EXAMPLE,
@@ -198,7 +204,12 @@ impl Name {
                 Argument::Title,
                 Argument::Words,
             ],
-            Name::Take => &[Argument::File, Argument::Long, Argument::Keep],
+            Name::Take => &[
+                Argument::File,
+                Argument::Long,
+                Argument::Keep,
+                Argument::Key,
+            ],
             Name::Inbox => &[Argument::File, Argument::Folder],
             Name::Outbox => &[Argument::File, Argument::OutFolder, Argument::Stream],
             Name::Exchange => &[
@@ -211,6 +222,7 @@ impl Name {
                 Argument::Copy,
                 Argument::Beat,
             ],
+            Name::Key => &[Argument::KeyFile, Argument::ShowKey, Argument::ReadKey],
             Name::Status => &[Argument::File, Argument::Json],
             Name::Retire => &[Argument::File, Argument::Group],
             Name::Verify => &[Argument::File],
@@ -219,6 +231,7 @@ impl Name {
                 Argument::Group,
                 Argument::Transaction,
                 Argument::Number,
+                Argument::Key,
             ],
             Name::Loan => &[
                 Argument::File,
@@ -379,6 +392,14 @@ pub enum Argument {
     Last,
     /// Set if a shelf may begin a desk for the group of a loan.
     NewGroup,
+    /// The file of the key of sealed letters.
+    Key,
+    /// The file of a key that is made, shown or read.
+    KeyFile,
+    /// Set if a key is shown.
+    ShowKey,
+    /// Set if a key is read from the input.
+    ReadKey,
 }
 
 impl Argument {
@@ -419,6 +440,10 @@ impl Argument {
             Argument::InState => "state",
             Argument::NewGroup => "new-group",
             Argument::Last => "last",
+            Argument::Key => "key",
+            Argument::KeyFile => "KEYFILE",
+            Argument::ShowKey => "show",
+            Argument::ReadKey => "read",
         }
     }
 
@@ -463,6 +488,10 @@ impl Argument {
             Argument::ReportDay => "The day of the report, as 20250301",
             Argument::Last => "Tell only the last N messages, 1 to 255",
             Argument::NewGroup => "Begin the group of the loan, if the shelf has none",
+            Argument::Key => "Open or seal a letter with the key in this file",
+            Argument::KeyFile => "The file of the key",
+            Argument::ShowKey => "Write the key in groups, for the other library",
+            Argument::ReadKey => "Read the key in groups on standard input",
         }
     }
 
@@ -502,6 +531,9 @@ impl Argument {
             Argument::Notes => arg.long("notes").action(ArgAction::SetTrue),
             Argument::Json => arg.long("json").action(ArgAction::SetTrue),
             Argument::NewGroup => arg.long("new-group").action(ArgAction::SetTrue),
+            Argument::Key => arg.long("key").value_name("KEYFILE"),
+            Argument::ShowKey => arg.long("show").action(ArgAction::SetTrue),
+            Argument::ReadKey => arg.long("read").action(ArgAction::SetTrue),
             _ => arg.required(true),
         }
     }
@@ -534,7 +566,7 @@ fn valued<'a>(arg: Arg<'a>, name: &'a str, value: &'a str) -> Arg<'a> {
 }
 
 /// All options of the program, also those that `clap` adds.
-const OPTIONS: [&str; 27] = [
+const OPTIONS: [&str; 30] = [
     "--today",
     "--seen",
     "--dry-run",
@@ -557,6 +589,9 @@ const OPTIONS: [&str; 27] = [
     "--json",
     "--new-group",
     "--last",
+    "--key",
+    "--show",
+    "--read",
     "--explain",
     "--help",
     "--version",

@@ -5,7 +5,7 @@ pub const VERSION: &str = "0.2.0";
 pub const ILL: &str = "\
 The commands stand in groups:
   for staff             new, act, list, news, loan, note, slip, status, report
-  for the exchange      take, send, inbox, outbox, exchange
+  for the exchange      take, send, inbox, outbox, exchange, key
   for over 1,000 loans  shelf, which has commands of its own
   to look inside        verify, show, check, simulate, simulate-desks
 
@@ -19,7 +19,7 @@ arguments. A day is eight digits, as 20250315, of the years 1900 to 9999.
 
 FILE has at most 67,108,864 bytes. Only `new`, `act`, `take`, `inbox` and
 `exchange` change it. `show`, `check`, `simulate` and `simulate-desks` read and
-write no file.
+write no file. `key` makes or reads KEYFILE, the file of a key, and no other.
 
 Several commands may be started at once on one file. `new`, `act`, `note`,
 `take`, `inbox`, `outbox` and `exchange` wait for each other: ten seconds, and
@@ -36,9 +36,9 @@ before each but the first. A desk that cannot be read is told on standard error,
 and the others come. So is a name in a folder that is no UTF-8, which counts as
 `store failed`. The exit status is that of the first desk that fails.
 
-Only `take`, `show`, `check`, `simulate` and `simulate-desks` read standard
-input. `take`, `show` and `check` read APDUs, in the short form, one after
-another up to its end: at most 100,000 of them, each of 359 bytes at most.
+Only `take`, `key`, `show`, `check`, `simulate` and `simulate-desks` read
+standard input. `take`, `show` and `check` read APDUs, in the short form, one
+after another up to its end: at most 100,000 of them, each of 359 bytes at most.
 
 A character on which a terminal or an editor may act is shown by its number, as
 \\u{202e}. So is a space of a group or transaction at an edge, or after another
@@ -71,7 +71,7 @@ responder's in the file `there`:
 The exit status, and the line of a fault on standard error after `ill: `:
   0  -                    all went well; help and the version too
   1  -                    refused, or in conflict; standard output says why
-  1  exists               FILE is there already
+  1  exists               FILE or KEYFILE is there already
   1  no-record            FILE is not there
   1  no-such-transaction  FILE has no loan with this GROUP and TRANSACTION
   1  no-such-message      no message with this number was issued in the loan
@@ -88,8 +88,16 @@ The exit status, and the line of a fault on standard error after `ill: `:
   2  record bad at N      FILE has a record with a wrong byte, at N
   2  record digest        FILE was damaged: its digest is not that of its bytes
   2  record inconsistent  FILE has a record that no desk can have
+  2  key missing          KEYFILE is not there
+  2  key unreadable       KEYFILE cannot be read
+  2  key open             KEYFILE is open to others than its owner
+  2  key size             KEYFILE is no file of a key, which has 32 bytes
+  2  key digits           the input is no key in groups of digits
+  2  key check            a slip in the groups: the last one does not fit
+  2  not-sealed           the input is no letter that is sealed with the key
   3  store failed         FILE is no regular file, or cannot be read or written,
-                          or another command held FILE for ten seconds
+                          or another command held FILE for ten seconds; or
+                          KEYFILE cannot be made
   3  store too-large      FILE, FILE.came or FILE.notes has more than
                           67,108,864 bytes
   3  left                 `inbox` or `exchange` has left mails for the next run
@@ -99,8 +107,9 @@ The exit status, and the line of a fault on standard error after `ill: `:
 
 Any command may end with `arguments`, `write` or `memory`. One on a FILE, PATH
 or DIR may also end with `store failed` or `store too-large`, and each of these
-but `new` with `no-record` or for a bad record. The help of a command tells its
-other ends.";
+but `new` with `no-record` or for a bad record. One with a KEYFILE may also end
+with `key missing`, `key unreadable`, `key open` or `key size`. The help of a
+command tells its other ends.";
 
 pub const NEW: &str = "\
 Begin a desk of one role, in a file.
@@ -242,9 +251,15 @@ Conditional-Reply no, by which the requester declines its conditions, issues an
 ILL-Answer unfilled. ISSUED has risen by one then, as from 1/1 to 2/2, and that
 message has to be sent, like one of an action: `ill send FILE G1 T1 2`.
 
+With --key the input is one sealed letter of the other library, as its `ill send
+--key` gives it. Its messages are taken in their order. An input that is no such
+letter, was sealed with another key or was changed on its way is `not-sealed`,
+and changes nothing. So is a letter of this library itself. An old letter that
+comes again does no harm: each of its messages is a repeat.
+
 The exit status is 0 if each was taken, a repeat or stale, and 1 if one was
-anything else. It is 2 if the input has a faulty message or too many, and 3 with
-`read`. The messages before a fault stay taken.";
+anything else. It is 2 if the input has a faulty message or too many, or with
+`not-sealed`, and 3 with `read`. The messages before a fault stay taken.";
 
 pub const TAKE_EXAMPLE: &str = "Example:
   $ ill new here requester
@@ -439,6 +454,9 @@ which are not for a terminal. Give them to a file or another program, as in
 `ill send FILE G1 T1 1 > message`. FILE is not changed, so nothing tells what
 was sent. A message may be sent again at any time, and has the same bytes then.
 
+With --key a sealed letter with the message is written in its place, for `ill
+take --key` of the other library. It has 37 bytes more.
+
 The exit status is 0 if the message is written, and 1 with
 `no-such-transaction`, `no-such-message` or `not-saved`.";
 
@@ -456,6 +474,38 @@ pub const SEND_EXAMPLE: &str = "Example:
   item Maps
   $ ill send box G1 T1 2
   ill: no-such-message";
+
+pub const KEY: &str = "\
+Make, show or read a key, which two libraries hold.
+
+The key seals letters: with --key the messages of `ill send` leave in a letter
+that `ill take` opens at the other library alone.
+
+With neither --show nor --read a new key is made in KEYFILE, of the randomness
+of the system, and `done` is written. KEYFILE must not be there yet. It has 32
+bytes, and nobody but its owner may read or write it, or else it is `key open`.
+Its name may not have an ending that `ill new --help` names.
+
+With --show the key in KEYFILE is written, for the other library: 17 groups of
+four digits or letters from a to f, with spaces between them. The last group
+checks the others. Tell it by telephone or by a letter on paper, and never by
+the way on which the messages go. Who knows the key can write messages in the
+name of both libraries. Each pair of desks wants a key of its own.
+
+With --read the other library makes its KEYFILE of such groups on standard
+input. Spaces and ends of lines may stand anywhere in them, and letters may be
+capitals.
+
+The exit status is 0 if the key is made, shown or read, and 1 with `exists`. It
+is 2 with `key digits` or `key check`, and 3 with `store failed` or `read`.";
+
+pub const KEY_EXAMPLE: &str = "Example:
+  $ ill key here.key
+  done
+  $ ill key here.key --show | ill key there.key --read
+  done
+  $ ill key here.key
+  ill: exists";
 
 pub const LIST: &str = "\
 List the loans of desks by the work of the day, a line for each.

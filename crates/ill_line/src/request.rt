@@ -8,7 +8,7 @@ ghost use Rattle.ill_line.specs.CommandLine.{is_option};
 ghost use Rattle.ill_line.specs.declared.request.Refusal.TheVariants.{Usage, Fault};
 ghost use Rattle.ill_text.specs.declared.fault.ToolFault.TheVariants.{OutOfMemory};
 ghost use Rattle.ill_line.specs.declared.command_line.Name.TheVariants as names;
-ghost use Rattle.ill_line.specs.Asked.{GivesId, ReadsValue, IsRefusal, asked_by, asked_in, asked_of, text_of, texts_of, role_of, loan_of, group_of, new_file_of, day_in, last_in, state_in, number_of_message, dates_of, outlet_of, is_set, which_of, form_of, wanted_of, wanted_on, ahead_in, due_in, day_or_days, days_on, report_day_of, asked, desk_at_stake, end_with_dashes, has_option, note_words_of, said_free, unless_option};
+ghost use Rattle.ill_line.specs.Asked.{GivesId, ReadsValue, IsRefusal, asked_by, asked_in, asked_of, text_of, texts_of, role_of, loan_of, group_of, new_file_of, day_in, last_in, state_in, number_of_message, dates_of, outlet_of, is_set, which_of, form_of, deed_by, deed_of, wanted_of, wanted_on, ahead_in, due_in, day_or_days, days_on, report_day_of, asked, desk_at_stake, end_with_dashes, has_option, note_words_of, said_free, unless_option};
 
 use crate::command_line::{Argument, Name, SHELF, command, is_option};
 use clap::error::ErrorKind;
@@ -16,6 +16,7 @@ use clap::{ArgMatches, Command, Error};
 use ill_core::State;
 use ill_desk::take::TakeForm;
 use ill_files::paths::is_beside;
+use ill_key::key::KeyDeed;
 use ill_night::dates::Dates;
 use ill_night::night::Night;
 use ill_saved::Role;
@@ -80,6 +81,8 @@ pub enum Request<'a> {
         file: &'a str,
         /// The form of the command.
         form: TakeForm,
+        /// The path of the key, if the input is a sealed letter.
+        key: Option<&'a str>,
     },
     /// Take the mails of a folder: `ill inbox`.
     Inbox {
@@ -102,6 +105,13 @@ pub enum Request<'a> {
         /// The arguments of the night.
         night: Night<'a>,
     },
+    /// Make, show or read a key: `ill key`.
+    Key {
+        /// The path of the file of the key.
+        file: &'a str,
+        /// What is done.
+        deed: KeyDeed,
+    },
     /// Give the bytes of a message: `ill send`.
     Send {
         /// The path of the file.
@@ -110,6 +120,8 @@ pub enum Request<'a> {
         txn: TxnId,
         /// The number of the message.
         number: Number,
+        /// The path of the key, if the message is sealed.
+        key: Option<&'a str>,
     },
     /// List the loans of desks: `ill list`.
     List {
@@ -185,7 +197,8 @@ pub enum Request<'a> {
 }
 
 impl<'a> Request<'a> {
-    /// Returns the file of the desk that the request may change, from which it sends, or beside which it keeps a note.
+    /// Returns the file of the desk that the request may change, from which it sends, or beside which it keeps a note. Or
+    /// it returns the file of a key.
     pub fn desk_at_stake(&self) -> Option<&'a str>
         ensures { option_map (λ file. file.now) result ≡ desk_at_stake (asked self.now) }
     {
@@ -196,6 +209,7 @@ impl<'a> Request<'a> {
             | Request::Inbox { file, .. }
             | Request::Outbox { file, .. }
             | Request::Exchange { file, .. }
+            | Request::Key { file, .. }
             | Request::Send { file, .. }
             | Request::Note { file, .. } => Some(*file),
             _ => None,
@@ -344,6 +358,7 @@ fn requested<'a>(
         Name::Inbox => inbox_request(alloc, matches),
         Name::Outbox => outbox_request(alloc, matches),
         Name::Exchange => exchange_request(alloc, matches),
+        Name::Key => key_request(alloc, matches),
         Name::Send => send_request(alloc, matches),
         Name::List => list_request(alloc, matches),
         Name::News => news_request(alloc, matches),
@@ -367,7 +382,7 @@ fn requested<'a>(
 fn new_request<'a>(alloc: Global, matches: &ArgMatches<'a>) -> Result<Request<'a>, Refusal>
     ensures { ReadsValue asked (asked_of names.New (rows_of (found_of matches.now))) result }
 {
-    let file = match new_file(alloc, matches) {
+    let file = match new_file(alloc, matches, Argument::NewFile) {
         Ok(file) => file,
         Err(refusal) => return Err(refusal),
     };
@@ -375,11 +390,15 @@ fn new_request<'a>(alloc: Global, matches: &ArgMatches<'a>) -> Result<Request<'a
     Ok(Request::New { file, role })
 }
 
-/// Returns the path of a new desk or shelf. None may have the ending of a file beside a desk.
-fn new_file<'a>(alloc: Global, matches: &ArgMatches<'a>) -> Result<&'a str, Refusal>
-    ensures { ReadsValue (λ file. file.now) (new_file_of (rows_of (found_of matches.now))) result }
+/// Returns the path of a new desk or shelf, or of a key. None may have the ending of a file beside a desk.
+fn new_file<'a>(
+    alloc: Global,
+    matches: &ArgMatches<'a>,
+    argument: Argument,
+) -> Result<&'a str, Refusal>
+    ensures { ReadsValue (λ file. file.now) (new_file_of argument (rows_of (found_of matches.now))) result }
 {
-    let file = text(alloc, matches, Argument::NewFile)?;
+    let file = text(alloc, matches, argument)?;
     if is_beside(file) {
         return Err(Refusal::Fault(ToolFault::Arguments));
     }
@@ -419,7 +438,8 @@ fn take_request<'a>(alloc: Global, matches: &ArgMatches<'a>) -> Result<Request<'
         is_long: is_set(matches, Argument::Long),
         is_kept: is_set(matches, Argument::Keep),
     };
-    Ok(Request::Take { file, form })
+    let key = said(matches, Argument::Key);
+    Ok(Request::Take { file, form, key })
 }
 
 /// Returns the request of `ill inbox`.
@@ -502,6 +522,35 @@ fn dates(matches: &ArgMatches<'_>) -> Result<Option<(Day, Dates)>, Refusal>
     }
 }
 
+/// Returns the request of `ill key`.
+fn key_request<'a>(alloc: Global, matches: &ArgMatches<'a>) -> Result<Request<'a>, Refusal>
+    ensures { ReadsValue asked (asked_of names.Key (rows_of (found_of matches.now))) result }
+{
+    let file = match new_file(alloc, matches, Argument::KeyFile) {
+        Ok(file) => file,
+        Err(refusal) => return Err(refusal),
+    };
+    match key_deed(
+        is_set(matches, Argument::ShowKey),
+        is_set(matches, Argument::ReadKey),
+    ) {
+        Some(deed) => Ok(Request::Key { file, deed }),
+        None => Err(Refusal::Fault(ToolFault::Arguments)),
+    }
+}
+
+/// Returns what `ill key` does, by its flags. They may not both be set.
+fn key_deed(is_shown: bool, is_read: bool) -> Option<KeyDeed>
+    ensures { result ≡ deed_by is_shown is_read }
+{
+    match (is_shown, is_read) {
+        (true, true) => None,
+        (true, false) => Some(KeyDeed::Show),
+        (false, true) => Some(KeyDeed::Read),
+        (false, false) => Some(KeyDeed::Make),
+    }
+}
+
 /// Returns the request of `ill send`.
 fn send_request<'a>(alloc: Global, matches: &ArgMatches<'a>) -> Result<Request<'a>, Refusal>
     ensures { ReadsValue asked (asked_of names.Send (rows_of (found_of matches.now))) result }
@@ -509,7 +558,13 @@ fn send_request<'a>(alloc: Global, matches: &ArgMatches<'a>) -> Result<Request<'
     let file = text(alloc, matches, Argument::File)?;
     let txn = loan(alloc, matches)?;
     let number = message_number(alloc, matches)?;
-    Ok(Request::Send { file, txn, number })
+    let key = said(matches, Argument::Key);
+    Ok(Request::Send {
+        file,
+        txn,
+        number,
+        key,
+    })
 }
 
 /// Returns the request of `ill list`.

@@ -1,7 +1,7 @@
 -- A shelf: a folder of desks of one role, one for each group of transactions. The group of a transaction
 -- gives the name of its desk (this profile's own).
 use Rattle.std.specs.Prelude.{◌≡◌, ◌⊎◌, ℕ, ◌-◌, Bool, true, false, ◌&&◌, List, codes, Option, Some, is_some, Result, Ok}
-use Rattle.std.specs.Prelude.{Err}
+use Rattle.std.specs.Prelude.{Err, None}
 use Rattle.ill_saved.specs.declared.role.Role.{Role}
 use Rattle.ill_saved.specs.declared.role.Role.TheVariants.{Responder}
 use Rattle.ill_text.specs.declared.fault.ToolFault.{ToolFault}
@@ -17,6 +17,7 @@ use Rattle.ill_shelf.specs.declared.visit.Visit.TheVariants as visits
 use Rattle.ill_der.specs.Handling.{Handles}
 use Rattle.ill_der.specs.ShortForm.{spelling}
 use Rattle.ill_commands.specs.AtFile.{ShowsFile, TakesAtFile}
+use Rattle.ill_commands.specs.Letters.{TakesSealed}
 use Rattle.ill_files.specs.Opening.{FailsToOpen}
 use Rattle.ill_mail.specs.Nights.{ExchangesAtFile, InboxAtFile, OutboxAtFile}
 use Rattle.ill_text.specs.Input.{ReadsInput}
@@ -144,3 +145,15 @@ TakesAtShelf form left rest before after result =
     ⊎ ((count : Result ℕ ToolFault) × (end : ShelfTaking)
     × ReadsInput TakesAtHome left rest (shelf_taking form before) count end
     × (after ≡ end.written) × (result ≡ answer_of count end.all_fine))
+
+-- The input was a letter of the other library, and its messages were taken, each at a desk. Or it was no such letter, and
+-- no desk changed. Or the key or the shelf could not be used.
+abbrev pub TakesLetterAtShelf : TakeForm → Option (List ℕ) → Option (List ℕ) → Option (List ℕ) → Option (List ℕ) →
+    Result Bool ToolFault → Type 0
+TakesLetterAtShelf form left rest before after result = TakesSealed (TakesAtShelf form) left rest before after result
+
+-- The command `take` on a shelf, with a key or without one.
+abbrev pub TakesWithAtShelf : (key : Option (List ℕ)) → TakeForm → Option (List ℕ) → Option (List ℕ) → Option (List ℕ) →
+    Option (List ℕ) → Result Bool ToolFault → Type 0
+TakesWithAtShelf None form left rest before after result = TakesAtShelf form left rest before after result
+TakesWithAtShelf (Some key) form left rest before after result = TakesLetterAtShelf form left rest before after result

@@ -1,8 +1,8 @@
 //! The command `take` on a shelf: each APDU of the input is taken at the desk of its group.
 
-ghost use Rattle.std.specs.Prelude.{◌≡◌, IfErr, IfOk};
+ghost use Rattle.std.specs.Prelude.{◌≡◌, IfErr, IfOk, option_map};
 ghost use Rattle.ill_der.specs.ShortForm.{spelling};
-ghost use Rattle.ill_shelf.specs.Shelf.{TakesAtShelf, TakesAtHome};
+ghost use Rattle.ill_shelf.specs.Shelf.{TakesAtShelf, TakesAtHome, TakesLetterAtShelf, TakesWithAtShelf};
 ghost use Rattle.ill_text.specs.Fault.{IsOpenFault};
 
 use crate::sorting::{Route, make_desk, route_of};
@@ -12,6 +12,9 @@ use ill_desk::take::TakeForm;
 use ill_files::home::home_at;
 use ill_files::machine::Machine;
 use ill_files::shelf::Shelf;
+use ill_key::key_file::read_key;
+use ill_key::letter::open_letter;
+use ill_key::role::other_sender;
 use ill_saved::{DeskFault, LockFiles};
 use ill_text::fault::ToolFault;
 use ill_text::input::{Counted, handle_input};
@@ -20,7 +23,7 @@ use std::alloc::Global;
 use std::io::{Read, Write};
 
 /// `ill shelf take`: takes the APDUs of the input, each at the desk of its group.
-pub fn take_on_shelf<T: LockFiles, R: Read, W: Write, E: Write>(
+fn take_on_shelf<T: LockFiles, R: Read, W: Write, E: Write>(
     machine: &mut Machine<'_, T, W, E>,
     folder: &str,
     form: TakeForm,
@@ -37,6 +40,43 @@ pub fn take_on_shelf<T: LockFiles, R: Read, W: Write, E: Write>(
     });
     match handle_input(machine.alloc, reader, machine, &mut taken) {
         Ok(_) => Ok(taken.handler.all_fine),
+        Err(fault) => Err(fault),
+    }
+}
+
+/// `ill shelf take`: takes the messages of the input, or those of the letter on it if there is a file of a key.
+pub fn take_on_shelf_with<T: LockFiles, R: Read, W: Write, E: Write>(
+    machine: &mut Machine<'_, T, W, E>,
+    folder: &str,
+    key_file: Option<&str>,
+    form: TakeForm,
+    reader: &mut R,
+) -> Result<bool, ToolFault>
+    ensures { TakesWithAtShelf (option_map (λ file. file.now) key_file.entry) form (R.remaining reader.old)
+        (R.remaining reader.new) (W.contents machine.old.writer) (W.contents machine.new.writer) result }
+{
+    match key_file {
+        Some(key_file) => take_letter_on_shelf(machine, folder, key_file, form, reader),
+        None => take_on_shelf(machine, folder, form, reader),
+    }
+}
+
+/// `ill shelf take --key`: opens the letter on the input, and takes its messages, each at the desk of its group.
+fn take_letter_on_shelf<T: LockFiles, R: Read, W: Write, E: Write>(
+    machine: &mut Machine<'_, T, W, E>,
+    folder: &str,
+    key_file: &str,
+    form: TakeForm,
+    reader: &mut R,
+) -> Result<bool, ToolFault>
+    ensures { TakesLetterAtShelf form (R.remaining reader.old) (R.remaining reader.new)
+        (W.contents machine.old.writer) (W.contents machine.new.writer) result }
+{
+    let key = read_key(machine.rt, key_file)?;
+    let shelf = Shelf::open(machine.rt, machine.alloc, folder)?;
+    let sender = other_sender(shelf.role);
+    match open_letter(machine.alloc, &key, sender, reader) {
+        Ok(text) => take_on_shelf(machine, folder, form, &mut text.as_slice()),
         Err(fault) => Err(fault),
     }
 }

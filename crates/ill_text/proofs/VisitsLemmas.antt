@@ -2,8 +2,8 @@
 use Rattle.std.proofs.Common.{◌≡◌, ◌-◌, Bool, true, false, Result, Ok, Err, refl, arith, ℕ, zero, suc, ◌+◌, ◌<◌, ◌++◌, List, []}
 use Rattle.std.proofs.Common.{◌∷◌, length, map, fold, take, get_or, Option, ap, sym, subst, ◌∙◌, add-one}
 use Rattle.ill_text.specs.declared.fault.ToolFault.{ToolFault}
-use Rattle.ill_text.specs.declared.fault.ToolFault.TheVariants.{Arguments, Der, TooMany, Script, Desk, Left, Read, Write}
-use Rattle.ill_text.specs.declared.fault.ToolFault.TheVariants.{OutOfMemory}
+use Rattle.ill_text.specs.declared.fault.ToolFault.TheVariants.{Arguments, Der, TooMany, Script, Desk, Key, Left, Read, Write}
+use Rattle.ill_text.specs.declared.fault.ToolFault.TheVariants.{NotSealed, OutOfMemory}
 use Rattle.ill_text.specs.Visits.{graver, AreConsecutive, RunAtEach, Stop, VisitsEach, gravest}
 use Rattle.std.specs.Prelude.{◌==◌}
 use Rattle.std.proofs.Math.Seq.{take-suc}
@@ -20,6 +20,8 @@ graver_well (Err (Der fault)) = refl
 graver_well (Err TooMany) = refl
 graver_well (Err (Script line)) = refl
 graver_well (Err (Desk fault)) = refl
+graver_well (Err (Key fault)) = refl
+graver_well (Err NotSealed) = refl
 graver_well (Err Left) = refl
 graver_well (Err Read) = refl
 graver_well (Err Write) = refl

@@ -9,7 +9,7 @@ use Rattle.ill_der.specs.ShortForm.{spelling, apdu_at}
 use Rattle.ill_der.specs.Stream.{IsUnfinished, SpellsOne, IfShort}
 use Rattle.ill_der.specs.Handling.{Handles, Handled}
 use Rattle.ill_text.specs.declared.fault.ToolFault.{ToolFault}
-use Rattle.ill_text.specs.declared.fault.ToolFault.TheVariants.{Der, TooMany, Read}
+use Rattle.ill_text.specs.declared.fault.ToolFault.TheVariants.{Der, TooMany, Read, OutOfMemory}
 use Rattle.ill_der.specs.Feed as feeds
 
 -- Returns the encodings of `apdus`, one after another.
@@ -88,6 +88,18 @@ CountsOn handles old apdu (Ok done) new =
 CountsOn handles old apdu (Err fault) new =
     ((100000 ≤ old.0) × (fault ≡ TooMany) × (new.1 ≡ old.1))
     ⊎ ((old.0 < 100000) × handles old.1 apdu (Err fault) new.1)
+
+-- ---- an input that is read as a whole
+
+-- The input had these bytes, at most `limit` of them, and is at its end.
+abbrev pub IsWhole : (limit : ℕ) → (old new : Option (List ℕ)) → List ℕ → Type 0
+IsWhole limit old new bytes = Consumes old new bytes × IsAtEnd new × (length bytes ≤ limit)
+
+-- The input has more than `limit` bytes, and the fault is `too_long`. Or the reader failed, or memory ran out.
+abbrev pub StopsWhole : (limit : ℕ) → (too_long : ToolFault) → (old new : Option (List ℕ)) → ToolFault → Type 0
+StopsWhole limit too_long old new fault =
+    ((fault ≡ too_long) × ((bytes : List ℕ) × Consumes old new bytes × (limit < length bytes)))
+    ⊎ ((fault ≡ Read) ⊎ (fault ≡ OutOfMemory))
 
 -- The messages `came` begin `bytes`, one after another. The rest of `bytes` begins with no message.
 abbrev pub AreIn : List ℕ → List Apdu → Type 0

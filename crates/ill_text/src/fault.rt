@@ -17,6 +17,29 @@ use thiserror::Error;
 /// The fault of a file that cannot be read or written.
 pub const STORE_FAILED: ToolFault = ToolFault::Desk(DeskFault::Store(StoreFault::Failed));
 
+/// The reason why a key cannot be used.
+#[derive(Clone, Copy, Debug, PartialEq, Eq, Hash, Error)]
+pub enum BadKey {
+    /// There is no file of the key.
+    #[error("missing")]
+    Missing,
+    /// The file of the key cannot be read.
+    #[error("unreadable")]
+    Unreadable,
+    /// Others than its owner may read or write the file.
+    #[error("open")]
+    Open,
+    /// The file has not exactly 32 bytes, or is no regular file.
+    #[error("size")]
+    Size,
+    /// The text of the key has anything but 68 hexadecimal digits, besides white space.
+    #[error("digits")]
+    Digits,
+    /// The last group of the text does not fit the others.
+    #[error("check")]
+    Check,
+}
+
 /// The fault that stopped a command. Lines that were written before it remain.
 #[derive(Clone, Copy, Debug, PartialEq, Eq, Hash, Error)]
 pub enum ToolFault {
@@ -37,6 +60,12 @@ pub enum ToolFault {
     /// The side refused, its store failed, or its record is invalid. This is never `DeskFault::OutOfMemory`.
     #[error("{0}")]
     Desk(DeskFault),
+    /// A key cannot be used.
+    #[error("key {0}")]
+    Key(BadKey),
+    /// The input is no letter of the other library that is sealed with the key.
+    #[error("not-sealed")]
+    NotSealed,
     /// Mails of a folder wait for the next run. All else was done.
     #[error("left")]
     Left,

@@ -1,8 +1,8 @@
 //! Reads the APDUs of an input, for all commands that do so.
 
-ghost use Rattle.std.specs.Prelude.{◌≡◌, IfOk};
+ghost use Rattle.std.specs.Prelude.{◌≡◌, IfOk, IfErr};
 ghost use Rattle.ill_der.specs.Feed.{end_of};
-ghost use Rattle.ill_text.specs.Input.{answer_at_end, CountsOn, ReadsInput, AreIn};
+ghost use Rattle.ill_text.specs.Input.{answer_at_end, CountsOn, ReadsInput, AreIn, IsWhole, StopsWhole};
 
 use crate::fault::ToolFault;
 use ill_der::{ApduView, Feed, Handler};
@@ -97,6 +97,33 @@ fn end(feed: &Feed, count: u32) -> Result<u32, ToolFault>
     match feed.end() {
         Ok(()) => Ok(count),
         Err(fault) => Err(ToolFault::Der(fault)),
+    }
+}
+
+/// Returns all bytes of the input. If they are more than `limit`, the fault is `too_long`. It reads at most 4,096 bytes
+/// at a time, and less than a piece after the limit.
+pub fn read_whole<R: Read>(
+    alloc: Global,
+    reader: &mut R,
+    limit: usize,
+    too_long: ToolFault,
+) -> Result<Vec<u8>, ToolFault>
+    ensures whole { IfOk result (λ bytes. IsWhole limit (R.remaining reader.old) (R.remaining reader.new) bytes.items) }
+    ensures fault { IfErr result (StopsWhole limit too_long (R.remaining reader.old) (R.remaining reader.new)) }
+{
+    let mut bytes = Vec::new(alloc);
+    let mut piece = [0; PIECE];
+    loop {
+        match reader.read(&mut piece) {
+            Ok(0) => return Ok(bytes),
+            Ok(size) => {
+                if size > limit.saturating_sub(bytes.len()) {
+                    return Err(too_long);
+                }
+                bytes.extend_from_slice(&piece[..size])?;
+            }
+            Err(_) => return Err(ToolFault::Read),
+        }
     }
 }
 

@@ -8,8 +8,8 @@ use Rattle.clap.specs.declared.error.kind.ErrorKind.TheVariants as kinds
 use Rattle.ill_saved.specs.declared.fault.DeskFault.{DeskFault}
 use Rattle.ill_saved.specs.declared.fault.DeskFault.TheVariants as desks
 use Rattle.ill_text.specs.declared.fault.ToolFault.{ToolFault}
-use Rattle.ill_text.specs.declared.fault.ToolFault.TheVariants.{Arguments, Der, TooMany, Script, Desk, Left, Read, Write}
-use Rattle.ill_text.specs.declared.fault.ToolFault.TheVariants.{OutOfMemory}
+use Rattle.ill_text.specs.declared.fault.ToolFault.TheVariants.{Arguments, Der, TooMany, Script, Desk, Key, Left, Read, Write}
+use Rattle.ill_text.specs.declared.fault.ToolFault.TheVariants.{NotSealed, OutOfMemory}
 
 -- Returns the exit status for a fault of a desk.
 abbrev pub desk_status : DeskFault → ℕ
@@ -33,6 +33,8 @@ status_of (Der fault) = 2
 status_of TooMany = 2
 status_of (Script line) = 2
 status_of (Desk fault) = desk_status fault
+status_of (Key fault) = 2
+status_of NotSealed = 2
 status_of Left = 3
 status_of Read = 3
 status_of Write = 3

@@ -14,15 +14,17 @@ use Rattle.ill_line.specs.declared.request.Call.TheVariants as calls
 use Rattle.ill_line.specs.declared.request.Refusal.{Refusal}
 use Rattle.ill_line.specs.declared.request.Refusal.TheVariants.{Usage, Fault}
 use Rattle.ill_tool.specs.ExitStatus.{IsFlushed, TellsKind, exit_status, status_of}
-use Rattle.ill_commands.specs.AtFile.{NewAtFile, ActsAtFile, TakesAtFile, SendsAtFile, ShowsFile, ListsPaths, LoanAtFile}
+use Rattle.ill_commands.specs.AtFile.{NewAtFile, ActsAtFile, ShowsFile, ListsPaths, LoanAtFile}
 use Rattle.ill_commands.specs.AtFile.{SlipAtFile, TellsPaths}
+use Rattle.ill_commands.specs.Letters.{SendsWith, TakesWith}
 use Rattle.ill_commands.specs.Note.{NotesAtFile}
+use Rattle.ill_key.specs.KeyCommand.{RunsKey}
 use Rattle.ill_files.specs.Opening.{GoesWell}
 use Rattle.ill_show.specs.Notes.{note_text}
 use Rattle.ill_commands.specs.AtFile.{VerifiesFile, ReportsPaths}
 use Rattle.ill_mail.specs.Nights.{InboxAtFile, OutboxAtFile, ExchangesAtFile}
 use Rattle.ill_line.specs.Guard.{IsGuarded}
-use Rattle.ill_shelf.specs.Shelf.{is_lines, VisitsShelf, RetiresAtFile, TakesAtShelf}
+use Rattle.ill_shelf.specs.Shelf.{is_lines, VisitsShelf, RetiresAtFile, TakesWithAtShelf}
 
 -- A command has this result. The input went from `left` to `rest`, and the output from `before` to `after`.
 -- Only a shelf retires a group.
@@ -36,14 +38,15 @@ Runs asks.SimulateDesks left rest before after result = GoesWell (PerformsDesks 
 Runs (asks.New file role) left rest before after result = (rest ≡ left) × NewAtFile before after result
 Runs (asks.Act file asking is_long is_new_group) left rest before after result =
     (rest ≡ left) × ActsAtFile asking is_long before after result
-Runs (asks.Take file form) left rest before after result = TakesAtFile form left rest before after result
+Runs (asks.Take file form key) left rest before after result = TakesWith key form left rest before after result
 Runs (asks.Inbox file folder) left rest before after result = (rest ≡ left) × InboxAtFile before after result
 Runs (asks.Outbox file folder) left rest before after result =
     (rest ≡ left) × OutboxAtFile (is_some folder) before after result
 Runs (asks.Exchange file incoming outgoing dates copy beat) left rest before after result =
     (rest ≡ left) × ExchangesAtFile dates before after result
-Runs (asks.Send file txn number) left rest before after result =
-    (rest ≡ left) × SendsAtFile txn number before after result
+Runs (asks.Key file deed) left rest before after result = RunsKey deed left rest before after result
+Runs (asks.Send file txn number key) left rest before after result =
+    (rest ≡ left) × SendsWith key txn number before after result
 Runs (asks.Listing paths wanted find form) left rest before after result =
     (rest ≡ left) × ListsPaths form wanted find before after result
 Runs (asks.News paths last form) left rest before after result =
@@ -72,9 +75,9 @@ abbrev pub RunsShelf : Asked → Option (List ℕ) → Option (List ℕ) → Opt
 RunsShelf (asks.New folder role) left rest before after result = (rest ≡ left) × NewAtFile before after result
 RunsShelf (asks.Act folder asking is_long is_new_group) left rest before after result =
     (rest ≡ left) × ActsAtFile asking is_long before after result
-RunsShelf (asks.Take folder form) left rest before after result = TakesAtShelf form left rest before after result
-RunsShelf (asks.Send folder txn number) left rest before after result =
-    (rest ≡ left) × SendsAtFile txn number before after result
+RunsShelf (asks.Take folder form key) left rest before after result = TakesWithAtShelf key form left rest before after result
+RunsShelf (asks.Send folder txn number key) left rest before after result =
+    (rest ≡ left) × SendsWith key txn number before after result
 RunsShelf (asks.Loan folder txn form) left rest before after result =
     (rest ≡ left) × LoanAtFile form txn before after result
 RunsShelf (asks.Note folder txn words) left rest before after result =

@@ -10,13 +10,15 @@ ghost use Rattle.ill_tool.specs.ExitStatus.{IsFlushed, TellsKind, desk_status, e
 use crate::simulate::{run_simulate, run_simulate_desks};
 use clap::Error;
 use clap::error::ErrorKind;
-use ill_commands::commands::{act, list, loan, new, report, send, slip, status, take, verify};
+use ill_commands::commands::{act, list, loan, new, report, slip, status, verify};
+use ill_commands::letters::{send_with, take_with};
 use ill_commands::note::{NoteView, note};
 use ill_commands::telling::news;
 use ill_desk::act_as::ActionView;
 use ill_explain::{Passed, Watched, explain, is_asked};
 use ill_files::machine::Machine;
 use ill_files::open::all_well;
+use ill_key::key::key;
 use ill_line::guard::refuse_desk_of_shelf;
 use ill_line::request::{Call, Refusal, Request, read_words};
 use ill_mail::exchange::{exchange, inbox, outbox};
@@ -24,9 +26,9 @@ use ill_mail::mail::Incoming;
 use ill_saved::{DeskFault, LockFiles};
 use ill_shelf::on_shelf::{
     act_on_shelf, exchange_of_shelf, inbox_of_shelf, loan_on_shelf, new_shelf, note_on_shelf,
-    outbox_of_shelf, retire, send_on_shelf, slip_on_shelf, status_of_shelf,
+    outbox_of_shelf, retire, send_on_shelf_with, slip_on_shelf, status_of_shelf,
 };
-use ill_shelf::take_home::take_on_shelf;
+use ill_shelf::take_home::take_on_shelf_with;
 use ill_show::loan::LoanView;
 use ill_text::check::run_check;
 use ill_text::fault::ToolFault;
@@ -280,11 +282,17 @@ fn run<T: LockFiles, R: Read, W: Write, E: Write>(
             },
             *is_long,
         ),
-        Request::Take { file, form } => take(machine, file, *form, reader),
+        Request::Take { file, form, key } => take_with(machine, file, *key, *form, reader),
         Request::Inbox { file, folder } => { inbox(machine, file, unsorted(folder)) }
         Request::Outbox { file, folder } => outbox(machine, file, *folder),
         Request::Exchange { file, night } => exchange(machine, file, night),
-        Request::Send { file, txn, number } => send(machine, file, txn, *number),
+        Request::Key { file, deed } => key(machine, file, *deed, reader),
+        Request::Send {
+            file,
+            txn,
+            number,
+            key,
+        } => send_with(machine, file, *key, txn, *number),
         Request::List {
             paths,
             wanted,
@@ -343,8 +351,15 @@ fn run_on_shelf<T: LockFiles, R: Read, W: Write, E: Write>(
             *is_long,
             *is_new_group,
         ),
-        Request::Take { file, form } => take_on_shelf(machine, file, *form, reader),
-        Request::Send { file, txn, number } => { send_on_shelf(machine, file, txn, *number) }
+        Request::Take { file, form, key } => {
+            take_on_shelf_with(machine, file, *key, *form, reader)
+        }
+        Request::Send {
+            file,
+            txn,
+            number,
+            key,
+        } => send_on_shelf_with(machine, file, *key, txn, *number),
         Request::Loan { file, txn, form } => {
             loan_on_shelf(machine, file, &LoanView { txn, form: *form })
         }
@@ -428,7 +443,12 @@ fn status_after(fault: ToolFault) -> u8
     ensures most { result ≤ 3 }
 {
     match fault {
-        ToolFault::Arguments | ToolFault::Der(_) | ToolFault::TooMany | ToolFault::Script(_) => BAD,
+        ToolFault::Arguments
+        | ToolFault::Der(_)
+        | ToolFault::TooMany
+        | ToolFault::Script(_)
+        | ToolFault::Key(_)
+        | ToolFault::NotSealed => BAD,
         ToolFault::Desk(fault) => status_after_desk(fault),
         ToolFault::Left | ToolFault::Read | ToolFault::Write | ToolFault::OutOfMemory => FAILED,
     }

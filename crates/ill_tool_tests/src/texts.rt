@@ -7,7 +7,7 @@ use ill_tool::{DerFault, DeskFault, ToolFault};
 use std::fmt::{Debug, Display};
 
 /// The faults whose texts are printed.
-const FAULTS: [ToolFault; 25] = [
+const FAULTS: [ToolFault; 26] = [
     ToolFault::Arguments,
     ToolFault::Der(DerFault::Short(17)),
     ToolFault::Der(DerFault::Tag(15)),
@@ -29,6 +29,7 @@ const FAULTS: [ToolFault; 25] = [
     ToolFault::Desk(DeskFault::Saved(RecordFault::Bad(67_108_863))),
     ToolFault::Desk(DeskFault::Saved(RecordFault::Digest)),
     ToolFault::Desk(DeskFault::Saved(RecordFault::Inconsistent)),
+    ToolFault::NotSealed,
     ToolFault::Left,
     ToolFault::Read,
     ToolFault::Write,

@@ -20,10 +20,12 @@ from ill.texts import words as command_line
 from ill.texts.words import HELP, LINE, MAN, body, find, named
 
 EXPLAIN = "crates/ill_explain/src"
-WORLD, WORDS, TEXT, SHOW, SLIP, DESK, NIGHT, FILES, COMMANDS, MAIL, SHELF = (
+WORLD, WORDS, TEXT, SHOW, SLIP, DESK, NIGHT, FILES, KEY, COMMANDS, MAIL, SHELF = (
     f"crates/ill_{room}/src"
-    for room in ("world", "words", "text", "show", "slip", "desk", "night", "files", "commands", "mail", "shelf"))
+    for room in ("world", "words", "text", "show", "slip", "desk", "night", "files", "key", "commands", "mail",
+                 "shelf"))
 FILE_KINDS = {"File", "NewFile", "Paths", "Folder"}
+KEY_KINDS = {"KeyFile", "Key"}
 FLAGS = {"Long", "Keep", "Picture", "Open", "Mine", "Actions", "Json"}
 # The sources of the commands on a file: what locks it is told by their bodies.
 FILED = (f"{COMMANDS}/commands.rt", f"{COMMANDS}/telling.rt", f"{COMMANDS}/note.rt", f"{MAIL}/exchange.rt")
@@ -69,6 +71,9 @@ The item has bytes: it has {item} at most; The note has bytes: it has {item} at 
 a day has {day_digits} digits, as {day}; the years are {first_year} to {last_year}; last day of the calendar, {last_day}
 no number of a message: it is {first} to {last}; stand one to {days_digits} digits; counted from {zero}
 makes {made} desks at most; mail of one run makes {made} desks at most
+which {roles} libraries hold; {key_groups} groups of four digits; has {key_groups} groups of four
+It has {key} bytes, and nobody but its owner; a key, which has {key} bytes; no file of a key: that has {key} bytes
+It has {sealed} bytes more
 so no loan can come to {roles} of them; as `%` and {escaped} digits; with % and {escaped} digits
 is {well} after `done`, and {refused} after `not-now`; is {well} if the shelf is saved, and {refused} with `exists`
 If none fails, it is {failed} if mails are left, {refused} if one was put aside or in conflict, else {well}.
@@ -80,12 +85,16 @@ A due date is soon if it is at most {soon} days away
 NAMES = r"`\+14` is the day 14|UTF-8|Code 128|`[0-9a-f]{32}-\d{3}`|SHA-256|ISO \d+(?:-\d)?|X\.690|U\+00\d\d" \
         r"|ill 0\.1\b|\b0\.1 does|simple two-party profile"
 
+# The faults of a key.
+KEY_FAULTS = ["key missing", "key unreadable", "key open", "key size", "key digits", "key check"]
+
 # What the sentences on the exit status of a command name, by the keys of STATUS below.
 CAUSES = {
     "the desk is saved": "ok", "all mails are done": "ok", "one was put aside or in conflict": "refused",
     "the action is done": "ok", "each was taken, a repeat or stale": "ok", "the message is written": "ok",
     "the loan is shown": "ok", "the slip is written": "ok", "all messages are there": "ok",
     "the note is kept": "ok", "nothing wants a person": "ok",
+    "the key is made, shown or read": "ok",
     "all of them are shown": "ok", "they are counted": "ok", "the whole script was performed": "ok",
     "it is refused": "refused", "one was anything else": "refused", "something does": "refused",
     "a mail stays for the next run": "left",
@@ -101,6 +110,7 @@ STATUS = {
     "write": "ToolFault::Write", "memory": "ToolFault::OutOfMemory", "exists": "DeskFault::Exists",
     "no-record": "DeskFault::NoRecord", "no-such-transaction": "DeskFault::NoSuchTransaction",
     "no-such-message": "DeskFault::NoSuchMessage", "not-saved": "DeskFault::NotSaved",
+    **dict.fromkeys(KEY_FAULTS, "ToolFault::Key"), "not-sealed": "ToolFault::NotSealed",
     "store failed": "DeskFault::Store", "store too-large": "DeskFault::Store", "record": "DeskFault::Saved"}
 # Faults of a desk that no command tells as a fault: refusals are outcomes, and no command gives a desk bytes.
 UNTOLD = {"DeskFault::Core", "DeskFault::DeskFull", "DeskFault::Bytes", "DeskFault::Trailing"}
@@ -114,7 +124,7 @@ FORMS = {"yes": ["yes", "no"], "landed": ["old", "new"], "optional_day": ["WISHE
          "due": ["DUE"], "number": ["NUMBER"], "bytes": ["HEX"], "request": ["EXPIRY ITEM"], "bare": [""]}
 # Words in capitals that stand for others.
 CAPITALS = set("ACL APDU APDUs ASCII COMMAND DAY DAYS DER DESK DIGEST DIR DUE EXPIRY FILE FOLDER GROUP HEX HTML ILL IN "
-               "ISO ISSUED ITEM ITU JSON LOCK N NAME NUMBER OUT OUTCOME PATH REASON RELEASED RESULT ROLE SIDE STATE "
+               "ISO ISSUED ITEM ITU JSON KEYFILE LOCK N NAME NUMBER OUT OUTCOME PATH REASON RELEASED RESULT ROLE SIDE STATE "
                "TODAY SHA TRANSACTION TYPE U UTF VERB WISHED WORDS X".split())
 
 COMPARED = repository.Comparison()
@@ -166,6 +176,8 @@ def numbers_of():
         "number_digits": constant("NUMBER_DIGITS", f"{WORDS}/words.rt"),
         "status_lines": len(status_labels()), "side_fields": len(re.findall(r"\n    pub \w+:", shown)),
         "roles": len(roles), "desk_words": len(variants("DeskOutcome", f"{WORDS}/outcome.rt")) - 1,
+        "sealed": constant("TEXT", "crates/ill_seal/src/letter.rt") + constant("SEAL", "crates/ill_seal/src/letter.rt"),
+        "key": constant("SIZE", f"{KEY}/key_file.rt"), "key_groups": constant("DIGITS", "crates/ill_seal/src/key.rt") // 4,
         "made": constant("NEW_DESKS", f"{SHELF}/sorting.rt"), "escaped": 2,
         **{status: statuses()[STATUS[cause]] for status, cause in (("well", "ok"), ("refused", "refused"),
                                                                   ("failed", "left"))}}
@@ -215,7 +227,7 @@ def texts_of(kind, path):
 
 
 SOURCES = {"ToolFault": f"{TEXT}/fault.rt", "DeskFault": "crates/ill_saved/src/fault.rt",
-           "RecordFault": "crates/ill_saved/src/fault.rt", "StoreFault": "crates/ill_store/src/store.rt",
+           "BadKey": f"{TEXT}/fault.rt", "RecordFault": "crates/ill_saved/src/fault.rt", "StoreFault": "crates/ill_store/src/store.rt",
            "DerFault": "crates/ill_der/src/fault.rt"}
 
 
@@ -245,7 +257,7 @@ def statuses():
 
 def source_of(command):
     """Returns the path of the source of a command: it stands in one of the crates of the program."""
-    crates = (TEXT, SHOW, SLIP, DESK, NIGHT, FILES, COMMANDS, MAIL, SHELF, "crates/ill_tool/src")
+    crates = (TEXT, SHOW, SLIP, DESK, NIGHT, FILES, KEY, COMMANDS, MAIL, SHELF, "crates/ill_tool/src")
     found = [path for path in (f"{crate}/{command}.rt" for crate in crates) if os.path.exists(repository.full(path))]
     if len(found) != 1:
         raise Unread(f"{command}.rt: it stands {len(found)} times in {', '.join(crates)}")
@@ -256,13 +268,19 @@ def causes_of(command, arguments):
     """Returns what may become of a command, by its arguments and by what its source calls."""
     name = command.replace("-", "_")
     source = read(source_of(command.partition("-")[0]))
-    call = find(rf"=>[\s{{]*(?:all_well\()?(?:run_)?{name}(?:_as)?\((.*?)\)", "crates/ill_tool/src/words.rt")[1]
+    call = find(rf"=>[\s{{]*(?:all_well\()?(?:run_)?{name}(?:_as|_with)?\((.*?)\)", "crates/ill_tool/src/words.rt")[1]
     found = {"ok", "write", "memory"} | ({"read"} if "reader" in call else set())
     if FILE_KINDS & set(arguments):
         found |= {"store failed", "store too-large"}
         found |= {"exists"} if "NewFile" in arguments else {"no-record", "record"}
+    if KEY_KINDS & set(arguments):
+        found |= set(KEY_FAULTS[:4])
+    if "KeyFile" in arguments:
+        found |= {"exists", "store failed", *KEY_FAULTS}
     if set(arguments) - FILE_KINDS - FLAGS:
         found.add("arguments")
+    if "Key" in arguments and "read" in found:
+        found.add("not-sealed")
     called = {"handle_input(": {"der", "too-many"}, "refused(": {"refused"}, "wants_person(": {"refused"},
               "push_tally(": {"left"}, "Err(ToolFault::Left)": {"left"}, f" {name}(alloc": {"script"},
               "DeskFault::NoSuchTransaction)": {"no-such-transaction"},
@@ -435,10 +453,10 @@ def compare_status(name, text, wanted, known):
 
 
 def told_of_all(text):
-    """Returns what `ill --help` tells that any command may end with, any command on a desk, and any of these but
-    `new`."""
+    """Returns what `ill --help` tells that any command may end with, any command on a desk, any of these but `new`, and
+    any command with a key."""
     said = re.search(r"Any command may end with (.*?)\. One on a FILE, PATH or DIR may also end with (.*?), and each of "
-                     r"these but `new` with (.*?)\.", joined(text))
+                     r"these but `new` with (.*?)\. One with a KEYFILE may also end with (.*?)\.", joined(text))
     if said is None:
         raise Unread("ILL: it does not tell what any command may end with")
     return [set(causes_in(part, "ILL")) for part in said.groups()]
@@ -446,9 +464,10 @@ def told_of_all(text):
 
 def ends_of_all(text, own):
     """Returns what `ill --help` tells that a command may end with, by the arguments of the command."""
-    of_any, of_desks, of_old_desks = told_of_all(text)
+    of_any, of_desks, of_old_desks, of_keys = told_of_all(text)
     return of_any | (of_desks if FILE_KINDS & set(own) else set()) \
-        | (of_old_desks if FILE_KINDS & set(own) and "NewFile" not in own else set())
+        | (of_old_desks if FILE_KINDS & set(own) and "NewFile" not in own else set()) \
+        | (of_keys if KEY_KINDS & set(own) else set())
 
 
 def causes_in(part, name):
@@ -510,7 +529,8 @@ def lists_of(arguments):
     words = refusals | named("Taking", read(f"{core}/taking.rt")) | at_desks
     return [("ILL", r"on one file\. (.*?) wait for each other", locking),
             ("ILL", r"until its input ends\. (.*?) wait for nobody", [it for it in filed if it not in locking]),
-            ("ILL", r"change it\. (.*?) read and write no file", [it for it in arguments if it not in filed]),
+            ("ILL", r"change it\. (.*?) read and write no file",
+             [it for it, own in arguments.items() if it not in filed and "KeyFile" not in own]),
             ("ILL", r"Only ([^.]*?) read standard input", reading),
             ("NEW", r"name may not end in (.*?): what lies", beside()),
             ("NEW", r"two desks, one as (\w+) and one", roles[:1]), ("NEW", r"and one as (\w+), in", roles[1:]),

@@ -5,13 +5,13 @@ use Rattle.ill_line.specs.Asked.{asked}
 use Rattle.ill_tool.specs.Runs.{Runs}
 use Rattle.ill_tool.proofs.words.run.Goals as goal
 
--- Proves the contract of `run` for the request `Send`. It is the contract of `send`, which reads no input.
+-- Proves the contract of `run` for the request `Send`. It is the contract of `send_with`, which reads no input.
 pub returns-in-Send : goal.returns-in-Send
 returns-in-Send g c =
     let left = g.R.Read.remaining c.args.reader.now in
     subst (λ (request : Request). Runs (asked request) left left (g.W.Write.contents c.args.machine.now.writer)
-    (g.W.Write.contents c.send.new.machine.writer) c.send.result)
-    (sym c.in-Send.is) (refl, c.send.ensures)
+    (g.W.Write.contents c.send_with.new.machine.writer) c.send_with.result)
+    (sym c.in-Send.is) (refl, c.send_with.ensures)
 
 -- Proves the contract of `run` for the request `Loan`. It is the contract of `loan`, which reads no input.
 pub returns-in-Loan : goal.returns-in-Loan

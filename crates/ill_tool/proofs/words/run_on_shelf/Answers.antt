@@ -13,14 +13,14 @@ is_there : {X Y : Type 0} (text : X → Y) (folder : Option X) → is_some folde
 is_there text (Some folder) = refl
 is_there text None = refl
 
--- Proves the contract of `run_on_shelf` for the request `Send`. It is the contract of `send_on_shelf`, which reads no
+-- Proves the contract of `run_on_shelf` for the request `Send`. It is the contract of `send_on_shelf_with`, which reads no
 -- input.
 pub returns-in-Send : goal.returns-in-Send
 returns-in-Send g c =
     let left = g.R.Read.remaining c.args.reader.now in
     subst (λ (request : Request). RunsShelf (asked request) left left (g.W.Write.contents c.args.machine.now.writer)
-    (g.W.Write.contents c.send_on_shelf.new.machine.writer) c.send_on_shelf.result)
-    (sym c.in-Send.is) (refl, c.send_on_shelf.ensures)
+    (g.W.Write.contents c.send_on_shelf_with.new.machine.writer) c.send_on_shelf_with.result)
+    (sym c.in-Send.is) (refl, c.send_on_shelf_with.ensures)
 
 -- Proves the contract of `run_on_shelf` for the request `Status`. It is the contract of `status_of_shelf`, which reads
 -- no input.

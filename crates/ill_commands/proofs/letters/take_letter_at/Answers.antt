@@ -1,0 +1,31 @@
+-- Answers the contract of `take_letter_at` (`src/letters.rt`).
+use Rattle.std.proofs.Common.{refl, ap, ◌∙◌}
+use Rattle.ill_key.specs.Letter.{other_sender}
+use Rattle.ill_commands.specs.AtFile.{TakesAtFile}
+use Rattle.ill_commands.proofs.LetterLemmas.{left_sealed, opened, stays, took}
+use Rattle.ill_commands.proofs.letters.take_letter_at.Goals as goal
+
+-- Proves that the messages are taken, if the letter opens.
+pub returns-in-Ok-clause-taken : goal.returns-in-Ok-clause-taken
+returns-in-Ok-clause-taken g c =
+    took c.args.letter.now.key.now (other_sender c.args.desk.now.live.role) c.other_sender-sender.result
+    (TakesAtFile c.args.letter.now.form) _ _ _ _ c.in-Ok.text.items c.as_slice.result.now _ c.take_at.result
+    (c.other_sender-sender.ensures ∙ ap other_sender c.role.ensures) c.in-Ok.ensures.opens c.as_slice.ensures.value
+    c.take_at.ensures
+
+pub returns-in-Ok-clause-unchanged : goal.returns-in-Ok-clause-unchanged
+returns-in-Ok-clause-unchanged g c =
+    opened c.args.letter.now.key.now (other_sender c.args.desk.now.live.role) c.other_sender-sender.result _ _ _
+    c.in-Ok.text.items (c.other_sender-sender.ensures ∙ ap other_sender c.role.ensures) c.in-Ok.ensures.opens
+
+-- Proves that nothing is taken, if it does not.
+pub returns-in-Err-clause-taken : goal.returns-in-Err-clause-taken
+returns-in-Err-clause-taken g c =
+    left_sealed c.args.letter.now.key.now (other_sender c.args.desk.now.live.role) c.other_sender-sender.result
+    (TakesAtFile c.args.letter.now.form) _ _ _ c.in-Err.fault
+    (c.other_sender-sender.ensures ∙ ap other_sender c.role.ensures) c.in-Err.ensures.fault
+
+pub returns-in-Err-clause-unchanged : goal.returns-in-Err-clause-unchanged
+returns-in-Err-clause-unchanged g c =
+    stays c.args.letter.now.key.now (other_sender c.args.desk.now.live.role) c.other_sender-sender.result _ _ _
+    c.in-Err.fault (c.other_sender-sender.ensures ∙ ap other_sender c.role.ensures) c.in-Err.ensures.fault refl

@@ -1,0 +1,143 @@
+//! The commands `take` and `send` with a key, at a desk in a file: the messages come and go in sealed letters.
+
+ghost use Rattle.std.specs.Prelude.{◌≡◌, option_map};
+ghost use Rattle.ill_saved.specs.ManySides.{found_by, many_sides, txn_held};
+ghost use Rattle.ill_seal.specs.Letter.{sealed};
+ghost use Rattle.ill_key.specs.Letter.{other_sender, own_sender};
+ghost use Rattle.ill_desk.specs.Performing.{view_of};
+ghost use Rattle.ill_desk.specs.Send.{RunsSendAs};
+ghost use Rattle.ill_commands.specs.AtFile.{TakesAtFile};
+ghost use Rattle.ill_commands.specs.Letters.{OpensOrStays, SendsLetterAtFile, SendsWith, TakesLetter, TakesLetterAtFile, TakesWith};
+
+use crate::commands::{send, take, take_at};
+use ill_desk::take::TakeForm;
+use ill_files::machine::Machine;
+use ill_files::open::{all_well, open, open_locked};
+use ill_key::Key;
+use ill_key::key_file::read_key;
+use ill_key::letter::{open_letter, write_letter};
+use ill_key::role::{other_sender, own_sender};
+use ill_saved::{Desk, LockFiles, Store};
+use ill_text::fault::ToolFault;
+use ill_values::{Number, TxnId};
+use std::io::{Read, Write};
+use std::rt::Files;
+
+/// How a letter is taken: the key that opens it, and the form of `take`.
+#[derive(Clone, Copy)]
+struct LetterForm<'a> {
+    key: &'a Key,
+    form: TakeForm,
+}
+
+/// `ill take`: takes the messages of the input, or those of the letter on it if there is a file of a key.
+pub fn take_with<T: LockFiles, R: Read, W: Write, E: Write>(
+    machine: &mut Machine<'_, T, W, E>,
+    file: &str,
+    key_file: Option<&str>,
+    form: TakeForm,
+    reader: &mut R,
+) -> Result<bool, ToolFault>
+    ensures { TakesWith (option_map (λ file. file.now) key_file.entry) form (R.remaining reader.old) (R.remaining reader.new)
+        (W.contents machine.old.writer) (W.contents machine.new.writer) result }
+{
+    match key_file {
+        Some(key_file) => take_letter(machine, file, key_file, form, reader),
+        None => take(machine, file, form, reader),
+    }
+}
+
+/// `ill send`: writes the bytes of one message, or its letter if there is a file of a key.
+pub fn send_with<T: Files, W: Write, E: Write>(
+    machine: &mut Machine<'_, T, W, E>,
+    file: &str,
+    key_file: Option<&str>,
+    txn: &TxnId,
+    number: Number,
+) -> Result<bool, ToolFault>
+    ensures { SendsWith (option_map (λ file. file.now) key_file.entry) txn.now number (W.contents machine.old.writer)
+        (W.contents machine.new.writer) result }
+{
+    match key_file {
+        Some(key_file) => send_letter(machine, file, key_file, txn, number),
+        None => send(machine, file, txn, number),
+    }
+}
+
+/// `ill take --key`: opens the letter on the input with the key in `key_file`, and takes its messages in their order. All
+/// of the input must be one letter of the other library (else `NotSealed`). Then nothing changes.
+fn take_letter<T: LockFiles, R: Read, W: Write, E: Write>(
+    machine: &mut Machine<'_, T, W, E>,
+    file: &str,
+    key_file: &str,
+    form: TakeForm,
+    reader: &mut R,
+) -> Result<bool, ToolFault>
+    ensures { TakesLetterAtFile form (R.remaining reader.old) (R.remaining reader.new)
+        (W.contents machine.old.writer) (W.contents machine.new.writer) result }
+{
+    let key = read_key(machine.rt, key_file)?;
+    let mut locked = open_locked(machine.rt, machine.alloc, file)?;
+    let letter = LetterForm { key: &key, form };
+    let taken = take_letter_at(machine, file, &mut locked.desk, &letter, reader);
+    drop(locked);
+    taken
+}
+
+/// Opens the letter on the input, and takes its messages at `desk`. If it is no letter of the other role, `desk` is
+/// unchanged.
+fn take_letter_at<T: Files, S: Store, R: Read, W: Write, E: Write>(
+    machine: &mut Machine<'_, T, W, E>,
+    file: &str,
+    desk: &mut Desk<S>,
+    letter: &LetterForm<'_>,
+    reader: &mut R,
+) -> Result<bool, ToolFault>
+    ensures taken { TakesLetter letter.now.key.now (other_sender (many_sides.role desk.old.live))
+        (TakesAtFile letter.now.form) (R.remaining reader.old) (R.remaining reader.new)
+        (W.contents machine.old.writer) (W.contents machine.new.writer) result }
+    ensures unchanged { OpensOrStays letter.now.key.now (other_sender (many_sides.role desk.old.live))
+        (view_of S.state desk.new ≡ view_of S.state desk.old) (R.remaining reader.old) (R.remaining reader.new) }
+{
+    let sender = other_sender(desk.role());
+    match open_letter(machine.alloc, letter.key, sender, reader) {
+        Ok(text) => take_at(machine, file, desk, letter.form, &mut text.as_slice()),
+        Err(fault) => Err(fault),
+    }
+}
+
+/// `ill send --key`: writes the letter that has one message of a transaction, sealed with the key in `key_file`.
+pub fn send_letter<T: Files, W: Write, E: Write>(
+    machine: &mut Machine<'_, T, W, E>,
+    file: &str,
+    key_file: &str,
+    txn: &TxnId,
+    number: Number,
+) -> Result<bool, ToolFault>
+    ensures { SendsLetterAtFile txn.now number (W.contents machine.old.writer) (W.contents machine.new.writer) result }
+{
+    let key = read_key(machine.rt, key_file)?;
+    let desk = open(machine.rt, machine.alloc, file)?;
+    let sent = send_letter_of(machine, &desk, &key, txn, number);
+    drop(desk);
+    all_well(sent)
+}
+
+/// Writes the letter that has the message `number` of the side of `txn` at `desk`, sealed with `key`.
+fn send_letter_of<T, S: Store, W: Write, E: Write>(
+    machine: &mut Machine<'_, T, W, E>,
+    desk: &Desk<S>,
+    key: &Key,
+    txn: &TxnId,
+    number: Number,
+) -> Result<(), ToolFault>
+    ensures { RunsSendAs (sealed key.now (own_sender (many_sides.role desk.now.live)))
+        (found_by txn_held txn.now desk.now.live.held) number (W.contents machine.old.writer)
+        (W.contents machine.new.writer) result }
+{
+    let sender = own_sender(desk.role());
+    match desk.message_of(machine.alloc, txn, number) {
+        Ok(message) => write_letter(machine.alloc, key, sender, &message, &mut machine.writer),
+        Err(fault) => Err(fault.into()),
+    }
+}

@@ -1,0 +1,20 @@
+//! The laws of letters between desks are the contracts of functions that do nothing.
+
+ghost use Rattle.std.specs.Prelude.{◌≡◌, ℕ, List, Ok, Err};
+ghost use Rattle.ill_saved.specs.declared.role.Role.{Role};
+ghost use Rattle.ill_seal.specs.declared.fault.SealFault.TheVariants as faults;
+ghost use Rattle.ill_seal.specs.Letter.{sealed, opened};
+ghost use Rattle.ill_key.specs.Letter.{own_sender, other_sender};
+
+use ill_seal::laws::{no_letter_is_turned_round, what_opens_was_sealed};
+
+/// A desk opens each letter that a desk of the other role has sealed with its key. No key opens one of its own role.
+pub fn desks_open_letters_of_the_other_role()
+    ensures other { (key text : List ℕ) (role other : Role) → own_sender other ≡ other_sender role →
+        opened key (other_sender role) (sealed key (own_sender other) text) ≡ Ok text }
+    ensures own { (key other text : List ℕ) (role : Role) →
+        opened key (other_sender role) (sealed other (own_sender role) text) ≡ Err faults.Sender }
+{
+    what_opens_was_sealed();
+    no_letter_is_turned_round();
+}

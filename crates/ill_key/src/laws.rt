@@ -1,10 +1,12 @@
 //! The laws of letters between desks are the contracts of functions that do nothing.
 
-ghost use Rattle.std.specs.Prelude.{◌≡◌, ℕ, List, Ok, Err};
+ghost use Rattle.std.specs.Prelude.{◌≡◌, ◌≤◌, ℕ, length, List, [], Some, Ok, Err, IsErr};
 ghost use Rattle.ill_saved.specs.declared.role.Role.{Role};
 ghost use Rattle.ill_seal.specs.declared.fault.SealFault.TheVariants as faults;
+ghost use Rattle.ill_seal.specs.declared.sender.Sender.{Sender};
 ghost use Rattle.ill_seal.specs.Letter.{sealed, opened};
-ghost use Rattle.ill_key.specs.Letter.{own_sender, other_sender};
+ghost use Rattle.ill_key.specs.Letter.{LeavesSealed, OpensLetter, own_sender, other_sender};
+ghost use Rattle.ill_text.specs.declared.fault.ToolFault.TheVariants.{NotSealed};
 
 use ill_seal::laws::{no_letter_is_turned_round, what_opens_was_sealed};
 
@@ -17,4 +19,15 @@ pub fn desks_open_letters_of_the_other_role()
 {
     what_opens_was_sealed();
     no_letter_is_turned_round();
+}
+
+/// If messages are taken from an input, all of it is one letter with just these. If it is `not-sealed`, it is no letter,
+/// or is longer than any.
+pub fn an_input_is_one_letter()
+    ensures opens { (key bytes text : List ℕ) (sender : Sender) → OpensLetter key sender (Some bytes) (Some []) text →
+        opened key sender bytes ≡ Ok text }
+    ensures left { (key bytes : List ℕ) (sender : Sender) → length bytes ≤ 1048613 →
+        LeavesSealed key sender (Some bytes) (Some []) NotSealed → IsErr (opened key sender bytes) }
+{
+    what_opens_was_sealed();
 }

@@ -1,1 +1,4 @@
 pub mod Nights
+pub mod Rooms
+pub mod BadRooms
+pub mod HostRooms

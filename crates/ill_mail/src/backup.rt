@@ -1,6 +1,7 @@
 //! The files that a night writes beside its mail: the copy of each desk, and a sign of life.
 
 ghost use Rattle.std.specs.Prelude.{◌≡◌, IfErr};
+ghost use Rattle.ill_mail.specs.HostRooms.{host_backup};
 ghost use Rattle.ill_text.specs.Fault.{IsFileFault};
 
 use crate::sending::SentAll;
@@ -9,8 +10,10 @@ use ill_files::machine::Machine;
 use ill_files::paths::is_there;
 use ill_night::copy::{Copied, run_desk_copy_over};
 use ill_night::night::Night;
+use ill_room::backup::Backup;
 use ill_saved::{Desk, FileStore, RECORD_LIMIT, Store};
 use ill_text::fault::{STORE_FAILED, ToolFault};
+use ill_text::warning::warn;
 use ill_values::OutOfMemory;
 use std::alloc::Global;
 use std::fs::OpenOptions;
@@ -28,46 +31,81 @@ const NO_RECORD: &str = " is no record of a desk, and is not replaced: nothing i
 
 const NO_BEAT: &str = " is not made anew";
 
-/// The permit to put the messages of a desk into OUT: the copy of the desk was made, or none was asked for.
+/// The copy of a desk in a file, and a sign of life.
+///
+/// No contract says what a file of the host's has, so it is not honest.
 #[derive(Drop)]
-pub(crate) struct SendPermit {
-    /// Keeps other modules from making one.
-    seal: (),
+pub(crate) struct HostBackup<'r, 'a, T: Files> {
+    rt: &'r T,
+    alloc: Global,
+    /// The path of the desk's file.
+    file: &'a str,
+    night: &'a Night<'a>,
 }
 
-impl SendPermit {
-    /// Returns the permit of a command that nobody can ask for a copy.
-    pub(crate) fn without_copy() -> SendPermit {
-        SendPermit { seal: () }
+impl<'r, 'a, T: Files> HostBackup<'r, 'a, T> {
+    /// Returns the copy and the sign of life that `night` wants of the desk in `file`.
+    pub(crate) fn at(
+        rt: &'r T,
+        alloc: Global,
+        file: &'a str,
+        night: &'a Night<'a>,
+    ) -> HostBackup<'r, 'a, T> {
+        HostBackup {
+            rt,
+            alloc,
+            file,
+            night,
+        }
     }
 }
 
-/// Copies the desk in `file`, if `night` wants a copy, and returns the permit to send. A copy that the desk does not
-/// extend is not replaced, which is a failure.
-pub(crate) fn copy_desk<T: Files, S: Store, W: Write, E: Write>(
-    machine: &mut Machine<'_, T, W, E>,
-    file: &str,
-    night: &Night<'_>,
-    desk: &Desk<S>,
-) -> Result<SendPermit, ToolFault>
-    ensures faults { IfErr result IsFileFault }
-    ensures silent { machine.new.writer ≡ machine.old.writer }
+impl<'r, 'a, T: Files> Backup for HostBackup<'r, 'a, T> {
+    ghost state = { λ backup. host_backup };
+
+    fn copy<S: Store, E: Write>(
+        &mut self,
+        desk: &Desk<S>,
+        errors: &mut E,
+    ) -> Result<(), ToolFault> {
+        let Some(path) = copy_path(self.alloc, self.file, self.night)? else {
+            return Ok(());
+        };
+        let path = path.as_str();
+        let is_new = matches!(is_there(self.rt, path), Ok(false));
+        let copied = copy_to(self.rt, self.alloc, path, desk);
+        if is_new {
+            give_to_owner(self.rt, path, self.file);
+        }
+        tell_copied(self.alloc, path, copied, errors)
+    }
+
+    fn sign<E: Write>(&mut self, errors: &mut E) -> Result<(), ToolFault> {
+        match self.night.beat {
+            Some(path) => sign_at(self.rt, self.alloc, path, self.file, errors),
+            None => Ok(()),
+        }
+    }
+}
+
+/// Returns the answer of a copy to `path`. If nothing may be sent, a line to `errors` tells the reason.
+fn tell_copied<E: Write>(
+    alloc: Global,
+    path: &str,
+    copied: Result<Copied, ToolFault>,
+    errors: &mut E,
+) -> Result<(), ToolFault>
+    ensures { IfErr result IsFileFault }
 {
-    let Some(path) = copy_path(machine.alloc, file, night)? else {
-        return Ok(SendPermit { seal: () });
+    let text = match copied {
+        Ok(Copied::Done) => return Ok(()),
+        Ok(Copied::HasMore) => HAS_MORE,
+        Ok(Copied::NoRecord) => NO_RECORD,
+        Err(ToolFault::OutOfMemory) => return Err(ToolFault::OutOfMemory),
+        Err(_) => NO_COPY,
     };
-    let path = path.as_str();
-    let is_new = matches!(is_there(machine.rt, path), Ok(false));
-    let copied = copy_to(machine.rt, machine.alloc, path, desk);
-    if is_new {
-        give_to_owner(machine.rt, path, file);
-    }
-    match copied {
-        Ok(Copied::Done) => Ok(SendPermit { seal: () }),
-        Ok(Copied::HasMore) => machine.report_fault_at(Err(STORE_FAILED), path, HAS_MORE),
-        Ok(Copied::NoRecord) => machine.report_fault_at(Err(STORE_FAILED), path, NO_RECORD),
-        Err(fault) => machine.report_fault_at(Err(fault), path, NO_COPY),
-    }
+    warn(alloc, path.as_bytes(), text, errors);
+    Err(STORE_FAILED)
 }
 
 /// Copies `desk` to the file at `path`.
@@ -113,15 +151,31 @@ pub fn beat<T: Files, W: Write, E: Write>(
     ensures faults { IfErr result IsFileFault }
     ensures silent { machine.new.writer ≡ machine.old.writer }
 {
-    let Some(path) = path else {
-        return Ok(());
-    };
-    match make_anew(machine.rt, path) {
+    match path {
+        Some(path) => sign_at(machine.rt, machine.alloc, path, desk, &mut machine.errors),
+        None => Ok(()),
+    }
+}
+
+/// Writes the file at `path` anew, as the owner of the file `desk`. If that fails, a line to `errors` tells it.
+fn sign_at<T: Files, E: Write>(
+    rt: &T,
+    alloc: Global,
+    path: &str,
+    desk: &str,
+    errors: &mut E,
+) -> Result<(), ToolFault>
+    ensures { IfErr result IsFileFault }
+{
+    match make_anew(rt, path) {
         Ok(()) => {
-            give_to_owner(machine.rt, path, desk);
+            give_to_owner(rt, path, desk);
             Ok(())
         }
-        Err(_) => machine.report_fault_at(Err(STORE_FAILED), path, NO_BEAT),
+        Err(_) => {
+            warn(alloc, path.as_bytes(), NO_BEAT, errors);
+            Err(STORE_FAILED)
+        }
     }
 }
 

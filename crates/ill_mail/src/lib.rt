@@ -4,10 +4,12 @@
 pub mod backup;
 pub mod exchange;
 pub mod fault_lines;
+pub mod host_room;
+pub mod laws;
 pub mod mail;
 pub mod mail_box;
 pub mod mail_folder;
 pub mod places;
 pub mod reserved;
+pub mod rooms;
 pub mod sending;
-pub mod settle;

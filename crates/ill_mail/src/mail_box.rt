@@ -48,8 +48,6 @@ pub struct MailPaths<'a> {
     pub file: &'a str,
     pub folder: &'a str,
     pub mail_box: &'a MailBox,
-    /// Set if a line is written about each mail that wants a person.
-    pub is_telling: bool,
 }
 
 impl MailBox {

@@ -15,17 +15,17 @@ use std::{fs, io};
 
 /// A folder of mails, with one message in each file. Whoever moves the mails may put anything there at any moment.
 #[derive(Drop)]
-pub(crate) struct MailFolder<'a, R: Files> {
-    rt: &'a R,
+pub(crate) struct MailFolder<'r, 'a, R: Files> {
+    rt: &'r R,
     alloc: Global,
     path: &'a str,
     /// The name of a mail that could not be put there.
     failed: Option<Vec<u8>>,
 }
 
-impl<'a, R: Files> MailFolder<'a, R> {
+impl<'r, 'a, R: Files> MailFolder<'r, 'a, R> {
     /// Returns the folder at `path`.
-    pub fn at(rt: &'a R, alloc: Global, path: &'a str) -> MailFolder<'a, R> {
+    pub fn at(rt: &'r R, alloc: Global, path: &'a str) -> MailFolder<'r, 'a, R> {
         MailFolder {
             rt,
             alloc,
@@ -76,7 +76,7 @@ fn write_new<R: Files>(rt: &R, path: &str, bytes: &[u8]) -> io::Result<()> {
     flush(&file)
 }
 
-impl<'a, R: Files> Outgoing for MailFolder<'a, R> {
+impl<'r, 'a, R: Files> Outgoing for MailFolder<'r, 'a, R> {
     ghost Mails = { List Letter };
 
     ghost mails = { λ _. None };

@@ -2,19 +2,17 @@
 
 ghost use Rattle.std.specs.Prelude.{◌≡◌, IfErr};
 ghost use Rattle.ill_mail.specs.Nights.{SendsAsked};
-ghost use Rattle.ill_night.specs.Inbox.{answered_with};
 ghost use Rattle.ill_text.specs.Fault.{IsFileFault};
 
-use crate::backup::SendPermit;
 use crate::fault_lines::report_fault_of_mail;
 use crate::mail_folder::MailFolder;
+use crate::rooms::put_asked;
 use ill_der::encode;
 use ill_files::machine::Machine;
-use ill_night::outbox::{mail_name, run_desk_outbox};
+use ill_night::outbox::mail_name;
 use ill_night::outgoing::Outgoing;
 use ill_saved::{Desk, Role, Store};
 use ill_text::fault::ToolFault;
-use ill_text::output::write_and_flush;
 use ill_values::Apdu;
 use std::alloc::Global;
 use std::io::Write;
@@ -44,19 +42,12 @@ pub(crate) fn send_asked<T: Files, S: Store, W: Write, E: Write>(
     desk: &Desk<S>,
     asking: &[u8],
     folder: &str,
-    _permit: SendPermit,
-) -> Result<SentAll, ToolFault>
-    ensures { SendsAsked asking.now desk.now.live.held (W.contents machine.old.writer) (W.contents machine.new.writer)
-        (answered_with (λ sent. tt) result) }
+) -> Result<(), ToolFault>
+    ensures { SendsAsked asking.now desk.now.live.held (W.contents machine.old.writer) (W.contents machine.new.writer) result }
 {
     let mut out = MailFolder::at(machine.rt, machine.alloc, folder);
-    let sent = run_desk_outbox(machine.alloc, desk, asking, &mut out);
-    let sent = report_fault_of_mail(machine, sent, &out)?;
-    let line = format!(in machine.alloc; "sent {sent}\n")?;
-    match write_and_flush(&mut machine.writer, line.as_bytes()) {
-        Ok(()) => Ok(SentAll { seal: () }),
-        Err(fault) => Err(fault),
-    }
+    let sent = put_asked(machine, desk, asking, &mut out);
+    report_fault_of_mail(machine, sent, &out)
 }
 
 /// Puts `words`, the last words of retired groups, into `folder`.

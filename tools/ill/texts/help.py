@@ -28,7 +28,10 @@ FILE_KINDS = {"File", "NewFile", "Paths", "Folder"}
 KEY_KINDS = {"KeyFile", "Key"}
 FLAGS = {"Long", "Keep", "Picture", "Open", "Mine", "Actions", "Json"}
 # The sources of the commands on a file: what locks it is told by their bodies.
-FILED = (f"{COMMANDS}/commands.rt", f"{COMMANDS}/telling.rt", f"{COMMANDS}/note.rt", f"{MAIL}/exchange.rt")
+FILED = (f"{COMMANDS}/commands.rt", f"{COMMANDS}/telling.rt", f"{COMMANDS}/note.rt", f"{MAIL}/exchange.rt",
+         f"{MAIL}/rooms.rt")
+# The source of what a command does after it has opened what it works on.
+ENGINES = {"exchange": (f"{MAIL}/rooms.rt",)}
 FIGURES = ("one two three four five six seven eight nine ten eleven twelve thirteen fourteen fifteen sixteen "
            "seventeen eighteen nineteen twenty").split()
 NUMBER = r"(?<![\w.])(?:\d+(?:,\d{3})*|" + "|".join(FIGURES) + r")(?![\w])"
@@ -267,8 +270,9 @@ def source_of(command):
 def causes_of(command, arguments):
     """Returns what may become of a command, by its arguments and by what its source calls."""
     name = command.replace("-", "_")
-    source = read(source_of(command.partition("-")[0]))
-    call = find(rf"=>[\s{{]*(?:all_well\()?(?:run_)?{name}(?:_as|_with)?\((.*?)\)", "crates/ill_tool/src/words.rt")[1]
+    source = "".join(read(path) for path in (source_of(command.partition("-")[0]), *ENGINES.get(command, ())))
+    call = find(rf"=>[\s{{]*(?:all_well\()?(?:run_)?{name}(?:_as|_with)?\(((?:[^()]|\([^()]*\))*)\)",
+                "crates/ill_tool/src/words.rt")[1]
     found = {"ok", "write", "memory"} | ({"read"} if "reader" in call else set())
     if FILE_KINDS & set(arguments):
         found |= {"store failed", "store too-large"}
@@ -592,7 +596,7 @@ def compare_words(named_texts, words, arguments):
     labels = set(re.findall(r'(?:\(|\(text, )"([\w-]+)"(?:, |\)\?;)', objects))
     counted = set(re.findall(r"(\w+) \{\1\}", read(f"{NIGHT}/tally.rt")))
     staying = {f"NAME {word} REASON" for word in re.findall(r'b" (\w+) "', read(f"{NIGHT}/verdict.rt"))}
-    sent = {f"{word} N" for word in re.findall(r'"(\w+) \{\w+\}\\n"', read(f"{MAIL}/sending.rt"))}
+    sent = {f"{word} N" for word in re.findall(r'"(\w+) \{\w+\}\\n"', read(f"{MAIL}/rooms.rt"))}
     told = {text for text, _ in told_faults()}
     told |= set(re.findall(r'b"(changed) "', read("crates/ill_desk/src/act_as.rt")))
     known = words | labels | counted | staying | sent | verbs_known | set(arguments) | told | set(files) | {

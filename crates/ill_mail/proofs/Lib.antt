@@ -1,0 +1,2 @@
+pub mod RoomsLemmas
+pub mod BadRooms

@@ -1,0 +1,107 @@
+-- The copy of a desk, the sending of its messages and the sign of life, one after another.
+use Rattle.std.proofs.Common.{◌≡◌, ◌⊎◌, inl, inr, refl, sym, subst, ◌∙◌, ℕ, Bool, List, Option, None, Result, Ok, Err}
+use Rattle.ill_values.specs.Day.{Date}
+use Rattle.ill_saved.specs.ManySides.{DeskContents, sides_held}
+use Rattle.ill_text.specs.declared.fault.ToolFault.{ToolFault}
+use Rattle.ill_text.specs.Fault.{IsOpenFault}
+use Rattle.ill_desk.specs.Performing.{CommandState, HeldAndLanded, command_state}
+use Rattle.ill_night.specs.declared.dates.Dates.{Dates}
+use Rattle.ill_night.specs.declared.verdict.Mail.{Mail}
+use Rattle.ill_night.specs.Outbox.{Letter, RunsOutbox}
+use Rattle.ill_room.specs.Room.{Answers}
+use Rattle.ill_room.specs.Backup.{BackupState, CopiesDesk, HasCopy, IsSameWish, Signs, is_honest_backup}
+use Rattle.ill_mail.specs.Nights.{ExchangesAt, FinishesNight, Night, TakesMails}
+use Rattle.ill_mail.specs.Rooms.{NightOver, PutsAsked, SendsInRooms, SendsThenSigns, TakesFound}
+
+-- A copy that was there is there after what leaves it as it was.
+still_copied : (desk : DeskContents) (x y : BackupState) → y.copied ≡ x.copied → IsSameWish x y →
+    HasCopy (sides_held desk) x → HasCopy (sides_held desk) y
+still_copied desk x y same wish (inl none) = inl (wish.copy ∙ none)
+still_copied desk x y same wish (inr there) = inr (same ∙ there)
+
+-- A sign of life after a copy is one after the sending.
+signs_as_before : {M : Type 0} (put : M → Letter → M) (asked : List ℕ) (desk : DeskContents) (x y z : BackupState)
+    (before after : Option M) → y.signs ≡ x.signs →
+    (z.signs ≡ y.signs) ⊎ ((count : ℕ) × RunsOutbox put asked desk.held before after (Ok count)) →
+    (z.signs ≡ x.signs) ⊎ ((count : ℕ) × RunsOutbox put asked desk.held before after (Ok count))
+signs_as_before put asked desk x y z before after same (inl stays) = inl (stays ∙ same)
+signs_as_before put asked desk x y z before after same (inr all) = inr all
+
+-- After a copy the messages are sent.
+pub sends_copied : {M A : Type 0} (put : M → Letter → M) (asked : List ℕ) (desk : DeskContents) (x y z : BackupState)
+    (before after : Option M) (done : A) → Answers is_honest_backup (CopiesDesk (sides_held desk)) x (Ok done) y →
+    SendsThenSigns put asked desk y z before after → SendsInRooms put asked desk x z before after
+sends_copied put asked desk x y z before after done copy sending = record {
+  sends = sending.sends;
+  copy_first = λ honest. let there = copy.honest ∙ honest in
+      inr (still_copied desk y z (sending.copied there) (sending.wish there) (copy.done honest).has);
+  sign_last = λ honest. signs_as_before put asked desk x y z before after (copy.done honest).signs
+      (sending.sign_last (copy.honest ∙ honest));
+}
+
+-- If the copy fails, nothing is sent.
+pub sends_nothing : {M : Type 0} (put : M → Letter → M) (asked : List ℕ) (desk : DeskContents) (x y : BackupState)
+    (there : Option M) (fault : ToolFault)
+    → Answers is_honest_backup (CopiesDesk {A = Unit {0}} (sides_held desk)) x (Err fault) y →
+    SendsInRooms put asked desk x y there there
+sends_nothing put asked desk x y there fault copy = record {
+  sends = inl refl;
+  copy_first = λ honest. inl refl;
+  sign_last = λ honest. inl (copy.done honest).signs;
+}
+
+-- After all messages were sent, a sign of life is given, or that fails.
+pub signs_after : {M A : Type 0} (put : M → Letter → M) (asked : List ℕ) (desk : DeskContents) (x y : BackupState)
+    (before after : Option M) (done : A) → PutsAsked put asked desk before after (Ok done) →
+    ((answer : Result (Unit {0}) ToolFault) × Answers is_honest_backup Signs x answer y) →
+    SendsThenSigns put asked desk x y before after
+signs_after put asked desk x y before after done puts (answer, sign) = record {
+  sends = inr (Ok puts.0, puts.1);
+  sign_last = λ honest. inr puts;
+  copied = λ honest. (sign.done honest).copied;
+  wish = λ honest. (sign.done honest).wish;
+}
+
+-- If not all messages were sent, no sign of life is given.
+pub signs_never : {M : Type 0} (put : M → Letter → M) (asked : List ℕ) (desk : DeskContents) (x : BackupState)
+    (before after : Option M) (fault : ToolFault) → PutsAsked {A = Unit {0}} put asked desk before after (Err fault) →
+    SendsThenSigns put asked desk x x before after
+signs_never put asked desk x before after fault puts = record {
+  sends = inr puts;
+  sign_last = λ honest. inl refl;
+  copied = λ honest. refl;
+  wish = λ honest. record { copy = refl; sign = refl };
+}
+
+-- ---- the commands
+
+-- Mails that were found in a room are mails of a folder.
+pub found_taken : (mails : List Mail) (waiting : ℕ) (old new : CommandState DeskContents) (result : Result Night ToolFault) →
+    TakesFound mails waiting old result new → TakesMails old result new
+found_taken mails waiting old new result (answer, runs, settles) = inr (mails, waiting, answer, runs, settles)
+
+-- A night in rooms that keeps nothing is one of a desk. Before it and after it nothing was written.
+pub night_opened : (mails : List Mail) (waiting : ℕ) (dates : Option (Date × Dates)) (old new : HeldAndLanded DeskContents)
+    (before opened told after : Option (List ℕ)) (answer result : Result Bool ToolFault) →
+    NightOver mails waiting dates None None (command_state old opened) answer (command_state new told) →
+    opened ≡ before → after ≡ told → result ≡ answer →
+    ExchangesAt dates (command_state old before) result (command_state new after)
+night_opened mails waiting dates old new before opened told after answer result (met, written, taken, takes, finishes) quiet
+    ended same = (
+      command_state met written,
+      taken,
+      found_taken mails waiting (command_state old before) (command_state met written) taken
+          (subst (λ (start : Option (List ℕ)). TakesFound mails waiting (command_state old start) taken
+          (command_state met written)) quiet takes),
+      subst (λ (end : Option (List ℕ)). FinishesNight dates taken (command_state met written) result (command_state new end))
+          (sym ended)
+          (subst (λ (end : Result Bool ToolFault). FinishesNight dates taken (command_state met written) end
+          (command_state new told)) (sym same) finishes),
+    )
+
+-- If the mail of a desk cannot be opened, nothing is done.
+pub night_unopened : (dates : Option (Date × Dates)) (desk : HeldAndLanded DeskContents) (before after : Option (List ℕ))
+    (fault : ToolFault) → IsOpenFault fault → after ≡ before →
+    ExchangesAt dates (command_state desk before) (Err fault) (command_state desk after)
+night_unopened dates desk before after fault opens quiet =
+    (command_state desk after, Err fault, inl ((opens, quiet), refl), (refl, refl, refl))

@@ -1,0 +1,7 @@
+-- Proves the contract of `nothing_leaves_uncopied` (`src/laws.rt`).
+use Rattle.ill_mail.proofs.BadRooms.{none_sends}
+use Rattle.ill_mail.proofs.laws.nothing_leaves_uncopied.Goals as goal
+
+-- No sending into this outlet is bad.
+pub returns : goal.returns
+returns g c = none_sends g.O.Outgoing.after

@@ -1,0 +1,37 @@
+-- Answers the contract of `send_copied` (`src/rooms.rt`).
+use Rattle.std.proofs.Common.{ℕ, List, Option, Bool, Result, inr, Ok, ap, subst, sym, ◌∙◌}
+use Rattle.ill_text.specs.declared.fault.ToolFault.{ToolFault}
+use Rattle.ill_mail.specs.Nights.{EndsAfterSending, SendsAsked}
+use Rattle.ill_mail.specs.Rooms.{PutsAsked}
+use Rattle.ill_mail.proofs.RoomsLemmas.{signs_after}
+use Rattle.ill_mail.proofs.rooms.send_copied.Goals as goal
+
+-- All messages were sent. What was written is of `put_asked`, since the sign of life writes nothing.
+pub returns-in-Ok-put_asked-clause-all : goal.returns-in-Ok-put_asked-clause-all
+returns-in-Ok-put_asked-clause-all g c =
+    let desk = c.args.desk.now.live in
+    let sent = Ok c.in-Ok-put_asked.field-0 in
+    let before = g.W.Write.contents c.args.machine.now.writer in
+    let quiet = ap (λ writer. g.W.Write.contents writer) c.sign.ensures.silent in
+    let asks = c.deref.ensures.value ∙ c.in-Ok.ensures in
+    let told = subst (λ (after : Option (List ℕ)). SendsAsked c.deref.result.now desk.held before after sent) (sym quiet)
+    c.in-Ok-put_asked.ensures.sends in
+    inr (
+      sent,
+      subst (λ (bytes : List ℕ). SendsAsked bytes desk.held before (g.W.Write.contents c.sign.new.machine.writer) sent) asks
+          told,
+      subst (λ (ending : Result Bool ToolFault). EndsAfterSending ending sent c.sign.result) c.ending.ensures
+          c.sign.ensures.ends,
+    )
+
+-- All messages were sent, and then a sign of life was given, or that failed.
+pub returns-in-Ok-put_asked-clause-sends : goal.returns-in-Ok-put_asked-clause-sends
+returns-in-Ok-put_asked-clause-sends g c =
+    let desk = c.args.desk.now.live in
+    let before = g.O.Outgoing.mails c.args.rooms.now.out in
+    let after = g.O.Outgoing.mails c.put_asked.new.out in
+    let asks = c.deref.ensures.value ∙ c.in-Ok.ensures in
+    let puts = subst (λ (bytes : List ℕ). PutsAsked g.O.Outgoing.after bytes desk before after (Ok c.in-Ok-put_asked.field-0))
+    asks c.in-Ok-put_asked.ensures.puts in
+    signs_after g.O.Outgoing.after _ desk (g.B.Backup.state c.args.rooms.now.backup) (g.B.Backup.state c.sign.new.backup)
+    before after c.in-Ok-put_asked.field-0 puts c.sign.ensures.signs

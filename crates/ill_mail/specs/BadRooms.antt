@@ -1,0 +1,31 @@
+-- These are nights that no rooms may have. By the laws the definitions of `Rooms` exclude them all.
+use Rattle.std.specs.Prelude.{◌≡◌, ℕ, true, List, Option, Some, Result, Ok}
+use Rattle.ill_saved.specs.ManySides.{DeskContents, sides_held}
+use Rattle.ill_saved.specs.RecordsV2.{sides_spelling}
+use Rattle.ill_text.specs.declared.fault.ToolFault.{ToolFault}
+use Rattle.ill_desk.specs.Performing.{HeldAndLanded}
+use Rattle.ill_night.specs.declared.verdict.Mail.{Mail}
+use Rattle.ill_night.specs.declared.verdict.Verdict.{Verdict}
+use Rattle.ill_night.specs.Inbox.{EndedWell}
+use Rattle.ill_night.specs.Outbox.{Letter, RunsOutbox}
+use Rattle.ill_room.specs.Room.{RoomState}
+use Rattle.ill_room.specs.Backup.{BackupState}
+
+-- The mails of a room cannot be taken so: something was done in the room, and no run over them was saved.
+pub data IsBadTaking (mails : List Mail) (desk : HeldAndLanded DeskContents) (old new : RoomState) : Type 0 where
+  unsaved : ((verdicts : List Verdict) → EndedWell mails verdicts desk → ⊥) → (new ≡ old → ⊥) →
+      IsBadTaking mails desk old new
+
+-- The messages of a desk cannot leave so. A message left that the copy has not, a sign of life was given before all had
+-- left, or what left is no outbox of the desk.
+pub data IsBadSending {M : Type 0} (put : M → Letter → M) (asked : List ℕ) (desk : DeskContents) (old new : BackupState)
+    (before after : Option M) : Type 0 where
+  uncopied : old.is_honest ≡ true → new.keeps_copy ≡ true →
+      (new.copied ≡ Some (sides_spelling (sides_held desk)) → ⊥) → (after ≡ before → ⊥) →
+      IsBadSending put asked desk old new before after
+  signed_early : old.is_honest ≡ true → (new.signs ≡ old.signs → ⊥) →
+      ((count : ℕ) → RunsOutbox put asked desk.held before after (Ok count) → ⊥) →
+      IsBadSending put asked desk old new before after
+  no_outbox : (after ≡ before → ⊥) →
+      ((answer : Result ℕ ToolFault) → RunsOutbox put asked desk.held before after answer → ⊥) →
+      IsBadSending put asked desk old new before after

@@ -1,0 +1,12 @@
+-- The rooms of a night in folders of the host's. No contract says what these have, so they are not honest.
+use Rattle.std.specs.Prelude.{false, [], None}
+use Rattle.ill_room.specs.Room.{RoomState}
+use Rattle.ill_room.specs.Backup.{BackupState}
+
+-- The state of a room in folders.
+abbrev pub host_room : RoomState
+host_room = record { places = []; asked = []; is_honest = false }
+
+-- The state of a copy and of a sign of life in files.
+abbrev pub host_backup : BackupState
+host_backup = record { copied = None; signs = 0; keeps_copy = false; keeps_sign = false; is_honest = false }

@@ -1,0 +1,126 @@
+-- A night in its rooms: what of the mail is settled, kept, copied and sent, and in which order. Each relation holds
+-- whatever the answer was. So it holds too if all calls fail from some moment on, as after a loss of power.
+use Rattle.std.specs.Prelude.{◌≡◌, ◌⊎◌, ℕ, Bool, true, List, slice_get, Option, Some, Result, Ok, Err}
+use Rattle.std.specs.List.{zip}
+use Rattle.ill_values.specs.Day.{Date}
+use Rattle.ill_saved.specs.ManySides.{DeskContents, many_sides, sides_held}
+use Rattle.ill_text.specs.declared.fault.ToolFault.{ToolFault}
+use Rattle.ill_words.specs.declared.outcome.DeskOutcome.{DeskOutcome}
+use Rattle.ill_desk.specs.Performing.{HeldAndLanded, CommandState, command_state, with_kept}
+use Rattle.ill_night.specs.declared.dates.Dates.{Dates}
+use Rattle.ill_night.specs.declared.verdict.Mail.{Mail}
+use Rattle.ill_night.specs.declared.verdict.Verdict.{Verdict}
+use Rattle.ill_night.specs.declared.verdict.Verdict.TheVariants.{Done}
+use Rattle.ill_night.specs.Inbox.{EndedWell, RunsInbox}
+use Rattle.ill_night.specs.Outbox.{Letter, RunsOutbox, asked_by}
+use Rattle.ill_room.specs.Room.{RoomState, Answers, EndsRun, is_honest_room}
+use Rattle.ill_room.specs.Backup.{BackupState, HasCopy, IsSameWish}
+use Rattle.ill_mail.specs.declared.rooms.Rooms.{Rooms}
+use Rattle.ill_mail.specs.Nights.{Night, FinishesNight, SettlesRun}
+
+-- ---- the mails that come
+
+-- Returns the night of `mails` with these verdicts, and with `waiting` further mails.
+abbrev pub night_of : List Mail → ℕ → List Verdict → Night
+night_of mails waiting verdicts = record { verdicts = verdicts; mails = mails; waiting = waiting }
+
+-- `mails` were taken at a desk, and their files settled. `waiting` further mails wait.
+abbrev pub TakesFound : List Mail → ℕ → CommandState DeskContents → Result Night ToolFault → CommandState DeskContents → Type 0
+TakesFound mails waiting old result new =
+    (answer : Result (List Verdict) ToolFault) × RunsInbox many_sides mails waiting old answer new
+    × SettlesRun mails waiting answer result
+
+-- A run over `mails` ended well with these verdicts, at a desk that is `desk` then. So it is saved. After that the messages
+-- that ask were kept, and then the files of the mails settled.
+pub record SettlesSaved {A : Type 0} (mails : List Mail) (verdicts : List Verdict) (desk : HeldAndLanded DeskContents)
+    (old : RoomState) (answer : Result A ToolFault) (new : RoomState) : Type 0 where
+  pub saved : EndedWell mails verdicts desk
+  pub ends : Answers is_honest_room (EndsRun (asked_by desk.live (zip mails verdicts)) verdicts) old answer new
+
+-- The mails of a room were taken at a desk, which is `desk` then. After a fault nothing was done in the room, or the run
+-- was saved, and its files settled as far as they could be.
+abbrev pub TakesInRoom : List Mail → HeldAndLanded DeskContents → RoomState → Result (List Verdict) ToolFault → RoomState →
+    Type 0
+TakesInRoom mails desk old (Ok verdicts) new = SettlesSaved {A = Unit {0}} mails verdicts desk old (Ok tt) new
+TakesInRoom mails desk old (Err fault) new =
+    (new ≡ old) ⊎ ((verdicts : List Verdict) × SettlesSaved {A = Unit {0}} mails verdicts desk old (Err fault) new)
+
+-- The verdict of a mail is that it is done.
+abbrev pub IsDone : Option Verdict → Type 0
+IsDone verdict = (outcome : DeskOutcome) × (verdict ≡ Some (Done outcome))
+
+-- The mail with the number `mail` was done in a run over `mails` that is saved at the desk.
+abbrev pub IsDoneInSaved : List Mail → HeldAndLanded DeskContents → ℕ → Type 0
+IsDoneInSaved mails desk mail =
+    (verdicts : List Verdict) × EndedWell mails verdicts desk × IsDone (slice_get verdicts mail)
+
+-- ---- the messages that leave
+
+-- The messages of a desk that holds `desk` were put into an outlet, or some of them. They leave after the copy is made. A
+-- sign of life is given after all have left. `asked` has the messages that ask. The outlet goes from `before` to `after`.
+pub record SendsInRooms {M : Type 0} (put : M → Letter → M) (asked : List ℕ) (desk : DeskContents) (old new : BackupState)
+    (before after : Option M) : Type 0 where
+  pub sends : (after ≡ before)
+      ⊎ ((answer : Result ℕ ToolFault) × RunsOutbox put asked desk.held before after answer)
+  pub copy_first : old.is_honest ≡ true → (after ≡ before) ⊎ HasCopy (sides_held desk) new
+  pub sign_last : old.is_honest ≡ true → (new.signs ≡ old.signs)
+      ⊎ ((count : ℕ) × RunsOutbox put asked desk.held before after (Ok count))
+
+-- The messages of a desk that holds `desk` were put into an outlet. If that is done, all were. Else some were.
+abbrev pub PutsAsked : {M A : Type 0} → (M → Letter → M) → List ℕ → DeskContents → Option M → Option M → Result A ToolFault →
+    Type 0
+PutsAsked put asked desk before after (Ok done) = (count : ℕ) × RunsOutbox put asked desk.held before after (Ok count)
+PutsAsked put asked desk before after (Err fault) =
+    (answer : Result ℕ ToolFault) × RunsOutbox put asked desk.held before after answer
+
+-- The same messages leave, and then a sign of life is given. The copy stays.
+pub record SendsThenSigns {M : Type 0} (put : M → Letter → M) (asked : List ℕ) (desk : DeskContents)
+    (old new : BackupState) (before after : Option M) : Type 0 where
+  pub sends : (after ≡ before)
+      ⊎ ((answer : Result ℕ ToolFault) × RunsOutbox put asked desk.held before after answer)
+  pub sign_last : old.is_honest ≡ true → (new.signs ≡ old.signs)
+      ⊎ ((count : ℕ) × RunsOutbox put asked desk.held before after (Ok count))
+  pub copied : old.is_honest ≡ true → new.copied ≡ old.copied
+  pub wish : old.is_honest ≡ true → IsSameWish old new
+
+-- ---- the night
+
+-- The state of the rooms of a night: its mail, its copy and sign of life, and its outlet.
+pub record RoomsState (M : Type 0) : Type 0 where
+  pub mail : RoomState
+  pub backup : BackupState
+  pub out : Option M
+
+-- Returns the state of the rooms of the code.
+abbrev pub rooms_state : {R B O M : Type 0} → (R → RoomState) → (B → BackupState) → (O → Option M) → Rooms R B O →
+    RoomsState M
+rooms_state mail backup out rooms = record { mail = mail rooms.mail; backup = backup rooms.backup; out = out rooms.out }
+
+-- Nothing was copied, given as a sign, or sent.
+pub record IsSilent {M : Type 0} (old new : RoomsState M) : Type 0 where
+  pub backup : new.backup ≡ old.backup
+  pub out : new.out ≡ old.out
+
+-- After the mails were taken, the messages of a desk were sent, which is `desk` then. If they could not be taken, none was.
+abbrev pub SendsAfter : {M : Type 0} → (M → Letter → M) → List Mail → Result (List Verdict) ToolFault → DeskContents →
+    RoomsState M → RoomsState M → Type 0
+SendsAfter put mails (Ok verdicts) desk old new =
+    IsSilent old new
+    ⊎ SendsInRooms put (asked_by desk (zip mails verdicts)) desk old.backup new.backup old.out new.out
+SendsAfter put mails (Err fault) desk old new = IsSilent old new
+
+-- A night over `mails` in its rooms. The desk is `desk` at the end.
+abbrev pub NightInRooms : {M : Type 0} → (M → Letter → M) → List Mail → HeldAndLanded DeskContents → RoomsState M →
+    RoomsState M → Type 0
+NightInRooms put mails desk old new =
+    (met : HeldAndLanded DeskContents) × (taken : Result (List Verdict) ToolFault)
+    × TakesInRoom mails met old.mail taken new.mail × SendsAfter put mails taken desk.live old new
+
+-- The same night at its desk: `mails` were taken, with `waiting` further ones, and then the deeds of the day performed,
+-- and the messages of the desk sent. What the run keeps of the messages that came goes from `came` to `kept`.
+abbrev pub NightOver : List Mail → ℕ → Option (Date × Dates) → (came kept : Option (List ℕ)) → CommandState DeskContents →
+    Result Bool ToolFault → CommandState DeskContents → Type 0
+NightOver mails waiting dates came kept old result new =
+    (desk : HeldAndLanded DeskContents) × (written : Option (List ℕ)) × (taken : Result Night ToolFault)
+    × TakesFound mails waiting (with_kept came old) taken (with_kept kept (command_state desk written))
+    × FinishesNight dates taken (command_state desk written) result new

@@ -1,0 +1,40 @@
+//! The laws of nights in rooms are the contracts of functions that do nothing.
+
+ghost use Rattle.std.specs.Prelude.{◌≡◌, ℕ, true, List, Option, Some, Result};
+ghost use Rattle.ill_saved.specs.ManySides.{DeskContents};
+ghost use Rattle.ill_text.specs.declared.fault.ToolFault.{ToolFault};
+ghost use Rattle.ill_desk.specs.Performing.{HeldAndLanded};
+ghost use Rattle.ill_night.specs.declared.verdict.Mail.{Mail};
+ghost use Rattle.ill_night.specs.declared.verdict.Verdict.{Verdict};
+ghost use Rattle.ill_room.specs.declared.room.Place.TheVariants.{Claimed, Gone};
+ghost use Rattle.ill_room.specs.Room.{RoomState, place_of};
+ghost use Rattle.ill_room.specs.Backup.{BackupState};
+ghost use Rattle.ill_mail.specs.Rooms.{IsDoneInSaved, SendsInRooms, TakesInRoom};
+ghost use Rattle.ill_mail.specs.BadRooms.{IsBadSending, IsBadTaking};
+
+use ill_night::outgoing::Outgoing;
+
+/// A claimed mail that is gone was done, in a run that is saved at the desk. So no mail is lost, whatever the answer was.
+#[tactic(auto, using(crate::proofs::BadRooms::gone_has_landed))]
+pub fn what_is_gone_has_landed()
+    ensures { (mails : List Mail) (desk : HeldAndLanded DeskContents) (old new : RoomState)
+        (taken : Result (List Verdict) ToolFault) (mail : ℕ) → TakesInRoom mails desk old taken new →
+        old.is_honest ≡ true → place_of old mail ≡ Some Claimed → place_of new mail ≡ Some Gone →
+        IsDoneInSaved mails desk mail }
+{}
+
+/// Nothing is done in a room before a run over its mails is saved.
+#[tactic(auto, using(crate::proofs::BadRooms::none_takes))]
+pub fn no_mail_is_settled_unsaved()
+    ensures { (mails : List Mail) (desk : HeldAndLanded DeskContents) (old new : RoomState)
+        (taken : Result (List Verdict) ToolFault) → IsBadTaking mails desk old new →
+        TakesInRoom mails desk old taken new → ⊥ }
+{}
+
+/// No message leaves that a wanted copy has not. No sign of life comes before all have left. Only an outbox of the desk
+/// leaves.
+pub fn nothing_leaves_uncopied<O: Outgoing>(_out: &O)
+    ensures { (asked : List ℕ) (desk : DeskContents) (old new : BackupState) (before after : Option O.Mails) →
+        IsBadSending O.after asked desk old new before after →
+        SendsInRooms O.after asked desk old new before after → ⊥ }
+{}

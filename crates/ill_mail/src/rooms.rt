@@ -1,0 +1,269 @@
+//! A night in its rooms: mails are taken and settled, the desk is copied, and its messages are sent. No file is named
+//! here.
+
+ghost use Rattle.std.specs.Prelude.{◌≡◌, Ok, Result};
+ghost use Rattle.std.specs.List.{zip};
+ghost use Rattle.ill_desk.specs.Performing.{command_state, view_of, with_kept};
+ghost use Rattle.ill_mail.specs.Nights.{EndsAfterSending, FinishesNight, PerformsDueDeeds, SendsAll, SendsAsked, SettlesRun, night_ending};
+ghost use Rattle.ill_mail.specs.Rooms.{NightInRooms, NightOver, PutsAsked, SendsAfter, SendsInRooms, SendsThenSigns, TakesFound, TakesInRoom, night_of, rooms_state};
+ghost use Rattle.ill_night.specs.Inbox.{EndedWell, answered_with};
+ghost use Rattle.ill_night.specs.Outbox.{asked_by};
+ghost use Rattle.ill_room.specs.Room.{Answers};
+ghost use Rattle.ill_room.specs.Backup.{Signs, is_honest_backup};
+ghost use Rattle.ill_text.specs.declared.fault.ToolFault.{ToolFault};
+
+use ill_files::machine::Machine;
+use ill_night::asked::asked_by;
+use ill_night::dates::{Dates, run_desk_dates};
+use ill_night::inbox::run_desk_inbox;
+use ill_night::outbox::run_desk_outbox;
+use ill_night::outgoing::Outgoing;
+use ill_night::person::wants_person;
+use ill_night::tally::Tally;
+use ill_night::verdict::{Batch, Verdict};
+use ill_room::backup::Backup;
+use ill_room::room::Room;
+use ill_room::settle::{Judged, end_run};
+use ill_saved::{Desk, Store};
+use ill_text::fault::ToolFault;
+use ill_text::output::write_and_flush;
+use ill_values::Day;
+use std::alloc::Global;
+use std::io::Write;
+
+/// The rooms of a night.
+#[derive(Drop)]
+pub struct Rooms<R: Room, B: Backup, O: Outgoing> {
+    /// The mails that have come.
+    pub mail: R,
+    /// The copy of the desk, and the sign of life.
+    pub backup: B,
+    /// The outlet of the messages that leave.
+    pub out: O,
+}
+
+/// The work of a night.
+#[derive(Clone, Copy)]
+pub struct Plan<'a> {
+    /// The mails of the run. A room knows them by their places in this batch.
+    pub batch: Batch<'a>,
+    /// The day of the run, and the deeds that it makes a responder do.
+    pub dates: Option<(Day, Dates)>,
+}
+
+/// Performs a night of `desk` in `rooms`: takes the mails of `plan`, performs the deeds of its day, copies the desk, sends
+/// its messages, and gives a sign of life.
+///
+/// The file of a mail is removed, put aside or given back only after the desk is saved with all that the mails have
+/// brought. If the mails cannot be taken, nothing is sent. If the copy fails, nothing is sent. The sign of life is given
+/// only after all messages were sent. All this holds whichever call fails.
+pub fn night_in<T, S: Store, R: Room, B: Backup, O: Outgoing, F: Write, W: Write, E: Write>(
+    machine: &mut Machine<'_, T, W, E>,
+    desk: &mut Desk<S>,
+    rooms: &mut Rooms<R, B, O>,
+    plan: &Plan<'_>,
+    came: &mut F,
+) -> Result<bool, ToolFault>
+    ensures over { NightOver plan.now.batch.mails.now plan.now.batch.waiting plan.now.dates (F.contents came.old)
+        (F.contents came.new) (command_state (view_of S.state desk.old) (W.contents machine.old.writer)) result
+        (command_state (view_of S.state desk.new) (W.contents machine.new.writer)) }
+    ensures rooms { NightInRooms O.after plan.now.batch.mails.now (view_of S.state desk.new)
+        (rooms_state R.state B.state O.mails rooms.old) (rooms_state R.state B.state O.mails rooms.new) }
+{
+    match take_in(machine, desk, &mut rooms.mail, &plan.batch, came) {
+        Ok(verdicts) => finish_in(machine, desk, rooms, plan, &verdicts),
+        Err(fault) => Err(fault),
+    }
+}
+
+/// Takes the mails of `batch` at `desk`, and then settles their files in `room`. It settles them only after the desk is
+/// saved.
+pub fn take_in<T, S: Store, R: Room, F: Write, W: Write, E: Write>(
+    machine: &mut Machine<'_, T, W, E>,
+    desk: &mut Desk<S>,
+    room: &mut R,
+    batch: &Batch<'_>,
+    came: &mut F,
+) -> Result<Vec<Verdict>, ToolFault>
+    ensures takes { TakesFound batch.now.mails.now batch.now.waiting
+        (with_kept (F.contents came.old) (command_state (view_of S.state desk.old) (W.contents machine.old.writer)))
+        (answered_with (λ verdicts. night_of batch.now.mails.now batch.now.waiting verdicts.items) result)
+        (with_kept (F.contents came.new) (command_state (view_of S.state desk.new) (W.contents machine.new.writer))) }
+    ensures room { TakesInRoom batch.now.mails.now (view_of S.state desk.new) (R.state room.old)
+        (answered_with (λ verdicts. verdicts.items) result) (R.state room.new) }
+{
+    match run_desk_inbox(machine.alloc, desk, batch, came, &mut machine.writer) {
+        Ok(verdicts) => settle_run(machine, desk, room, batch, verdicts),
+        Err(fault) => Err(fault),
+    }
+}
+
+/// Settles the files of the mails of a run, after it has kept the messages that ask. First it tells a person of the mails
+/// that want one.
+fn settle_run<T, S: Store, R: Room, W: Write, E: Write>(
+    machine: &mut Machine<'_, T, W, E>,
+    desk: &Desk<S>,
+    room: &mut R,
+    batch: &Batch<'_>,
+    verdicts: Vec<Verdict>,
+) -> Result<Vec<Verdict>, ToolFault>
+    requires ended { EndedWell batch.now.mails.now verdicts.items (view_of S.state desk.now) }
+    ensures settles { SettlesRun batch.now.mails.now batch.now.waiting (Ok verdicts.items)
+        (answered_with (λ verdicts. night_of batch.now.mails.now batch.now.waiting verdicts.items) result) }
+    ensures room { TakesInRoom batch.now.mails.now (view_of S.state desk.now) (R.state room.old)
+        (answered_with (λ verdicts. verdicts.items) result) (R.state room.new) }
+    ensures silent { machine.new.writer ≡ machine.old.writer }
+{
+    room.tell_person(desk.sides().role(), &verdicts, &mut machine.errors);
+    let asked = match asked_by(machine.alloc, desk, batch.mails, &verdicts) {
+        Ok(asked) => asked,
+        Err(_) => return Err(ToolFault::OutOfMemory),
+    };
+    let judged = Judged {
+        mails: batch.mails,
+        verdicts: &verdicts,
+    };
+    match end_run(machine.alloc, room, judged, &asked, &mut machine.errors) {
+        Ok(()) => Ok(verdicts),
+        Err(fault) => Err(fault),
+    }
+}
+
+/// Performs the deeds of the day, copies the desk, and sends its messages. The mails were taken before.
+fn finish_in<T, S: Store, R: Room, B: Backup, O: Outgoing, W: Write, E: Write>(
+    machine: &mut Machine<'_, T, W, E>,
+    desk: &mut Desk<S>,
+    rooms: &mut Rooms<R, B, O>,
+    plan: &Plan<'_>,
+    verdicts: &[Verdict],
+) -> Result<bool, ToolFault>
+    ensures finishes { FinishesNight plan.now.dates (Ok (night_of plan.now.batch.mails.now plan.now.batch.waiting verdicts.now))
+        (command_state (view_of S.state desk.old) (W.contents machine.old.writer)) result
+        (command_state (view_of S.state desk.new) (W.contents machine.new.writer)) }
+    ensures sends { SendsAfter O.after plan.now.batch.mails.now (Ok verdicts.now) desk.new.live
+        (rooms_state R.state B.state O.mails rooms.old) (rooms_state R.state B.state O.mails rooms.new) }
+    ensures mail { rooms.new.mail ≡ rooms.old.mail }
+{
+    match act_on_dates(machine.alloc, desk, plan.dates, &mut machine.writer) {
+        Ok(()) => send_in(machine, desk, rooms, plan, verdicts),
+        Err(fault) => Err(fault),
+    }
+}
+
+/// Performs the deeds that are due on the day of `dates`, if it has a day.
+fn act_on_dates<S: Store, W: Write>(
+    alloc: Global,
+    desk: &mut Desk<S>,
+    dates: Option<(Day, Dates)>,
+    writer: &mut W,
+) -> Result<(), ToolFault>
+    ensures { PerformsDueDeeds dates
+        (command_state (view_of S.state desk.old) (W.contents writer.old)) result
+        (command_state (view_of S.state desk.new) (W.contents writer.new)) }
+{
+    match dates {
+        Some((today, which)) => run_desk_dates(alloc, desk, today, which, writer),
+        None => Ok(()),
+    }
+}
+
+/// Copies the desk, and then sends its messages as `send_copied` does. If the copy fails, nothing is sent.
+#[tactic(auto, using(crate::proofs::RoomsLemmas::sends_copied, crate::proofs::RoomsLemmas::sends_nothing))]
+fn send_in<T, S: Store, R: Room, B: Backup, O: Outgoing, W: Write, E: Write>(
+    machine: &mut Machine<'_, T, W, E>,
+    desk: &Desk<S>,
+    rooms: &mut Rooms<R, B, O>,
+    plan: &Plan<'_>,
+    verdicts: &[Verdict],
+) -> Result<bool, ToolFault>
+    ensures all { SendsAll (night_of plan.now.batch.mails.now plan.now.batch.waiting verdicts.now) desk.now.live
+        (W.contents machine.old.writer) (W.contents machine.new.writer) (Ok tt) result }
+    ensures sends { SendsInRooms O.after (asked_by desk.now.live (zip plan.now.batch.mails.now verdicts.now)) desk.now.live
+        (B.state rooms.old.backup) (B.state rooms.new.backup) (O.mails rooms.old.out) (O.mails rooms.new.out) }
+    ensures mail { rooms.new.mail ≡ rooms.old.mail }
+{
+    match rooms.backup.copy(desk, &mut machine.errors) {
+        Ok(()) => send_copied(machine, desk, rooms, plan, verdicts),
+        Err(fault) => Err(fault),
+    }
+}
+
+/// Sends the messages of the loans that want sending, and then gives a sign of life. A loan that a deed of the day has
+/// ended wants sending if a message of it came.
+#[tactic(auto, using(crate::proofs::RoomsLemmas::signs_after, crate::proofs::RoomsLemmas::signs_never))]
+fn send_copied<T, S: Store, R: Room, B: Backup, O: Outgoing, W: Write, E: Write>(
+    machine: &mut Machine<'_, T, W, E>,
+    desk: &Desk<S>,
+    rooms: &mut Rooms<R, B, O>,
+    plan: &Plan<'_>,
+    verdicts: &[Verdict],
+) -> Result<bool, ToolFault>
+    ensures all { SendsAll (night_of plan.now.batch.mails.now plan.now.batch.waiting verdicts.now) desk.now.live
+        (W.contents machine.old.writer) (W.contents machine.new.writer) (Ok tt) result }
+    ensures sends { SendsThenSigns O.after (asked_by desk.now.live (zip plan.now.batch.mails.now verdicts.now)) desk.now.live
+        (B.state rooms.old.backup) (B.state rooms.new.backup) (O.mails rooms.old.out) (O.mails rooms.new.out) }
+    ensures mail { rooms.new.mail ≡ rooms.old.mail }
+{
+    let asked = match asked_by(machine.alloc, desk, plan.batch.mails, verdicts) {
+        Ok(asked) => asked,
+        Err(_) => return Err(ToolFault::OutOfMemory),
+    };
+    match put_asked(machine, desk, &asked, &mut rooms.out) {
+        Ok(()) => sign(
+            machine,
+            &mut rooms.backup,
+            ending(desk, &plan.batch, verdicts),
+        ),
+        Err(fault) => Err(fault),
+    }
+}
+
+/// Puts the messages of the loans that want sending into `out`, and writes their number. `asking` has the messages that
+/// ask, one after another.
+pub(crate) fn put_asked<T, S: Store, O: Outgoing, W: Write, E>(
+    machine: &mut Machine<'_, T, W, E>,
+    desk: &Desk<S>,
+    asking: &[u8],
+    out: &mut O,
+) -> Result<(), ToolFault>
+    ensures sends { SendsAsked asking.now desk.now.live.held (W.contents machine.old.writer) (W.contents machine.new.writer) result }
+    ensures puts { PutsAsked O.after asking.now desk.now.live (O.mails out.old) (O.mails out.new) result }
+{
+    let sent = match run_desk_outbox(machine.alloc, desk, asking, out) {
+        Ok(sent) => sent,
+        Err(fault) => return Err(fault),
+    };
+    let line = format!(in machine.alloc; "sent {sent}\n")?;
+    write_and_flush(&mut machine.writer, line.as_bytes())
+}
+
+/// Gives a sign of life, and returns `ending`, the result of the night.
+fn sign<T, B: Backup, W, E: Write>(
+    machine: &mut Machine<'_, T, W, E>,
+    backup: &mut B,
+    ending: Result<bool, ToolFault>,
+) -> Result<bool, ToolFault>
+    ensures ends { EndsAfterSending ending (Ok tt) result }
+    ensures signs { (answer : Result (Unit {0}) ToolFault) ×
+        Answers is_honest_backup Signs (B.state backup.old) answer (B.state backup.new) }
+    ensures silent { machine.new.writer ≡ machine.old.writer }
+{
+    match backup.sign(&mut machine.errors) {
+        Ok(()) => ending,
+        Err(fault) => Err(fault),
+    }
+}
+
+/// Returns the result of a night: a fault if mails wait, false if a mail wants a person, else true.
+fn ending<S: Store>(
+    desk: &Desk<S>,
+    batch: &Batch<'_>,
+    verdicts: &[Verdict],
+) -> Result<bool, ToolFault>
+    ensures { result ≡ night_ending desk.now.live.role (night_of batch.now.mails.now batch.now.waiting verdicts.now) }
+{
+    if Tally::of(verdicts).is_waiting(batch.waiting) {
+        return Err(ToolFault::Left);
+    }
+    Ok(!wants_person(desk.sides().role(), batch.mails, verdicts))
+}

@@ -1,0 +1,331 @@
+-- The settling of mails, one after another.
+use Rattle.std.proofs.Common.{◌≡◌, ◌⊎◌, inl, inr, ⊎_elim, refl, sym, subst, ap, ◌∙◌, ℕ, zero, suc, ◌+◌, ◌<◌, ◌≤◌, Bool, true}
+use Rattle.std.proofs.Common.{false}
+use Rattle.std.proofs.Common.{List, [], ◌∷◌, length, slice_get, Option, None, Some, Result, Ok, Err}
+use Rattle.std.proofs.Common.{not-suc-le-zero, le_of_suc-le-suc, eq-or-lt_of_le, le_of_lt, le_refl, le_trans, lt_irrefl, add-one}
+use Rattle.std.proofs.lemmas.Bool.{cases_eq, cases_lt, true≢false}
+use Rattle.ill_text.specs.declared.fault.ToolFault.{ToolFault}
+use Rattle.ill_night.specs.declared.verdict.Verdict.{Verdict}
+use Rattle.ill_night.specs.declared.verdict.Verdict.TheVariants as verdicts
+use Rattle.ill_room.specs.declared.room.Place.{Place}
+use Rattle.ill_room.specs.declared.room.Place.TheVariants.{Waiting, Claimed, Aside, Gone}
+use Rattle.ill_room.specs.Room.{RoomState, Answers, AreSettled, EndsRun, EndsRunIf, IsElseSame, IsSettled, Keeps, KeepsBytes}
+use Rattle.ill_room.specs.Room.{MayMove, MaySettle, MovesPlace, Settles, SettlesAs, SettlesAt, SettlesEach, SettlesOne}
+use Rattle.ill_room.specs.Room.{is_honest_room}
+use Rattle.ill_room.specs.Room.{moved_at, place_for, place_of}
+
+-- There is no element of a list beyond its end.
+pub slice_beyond : {X : Type 0} (xs : List X) (n : ℕ) → length xs ≤ n → slice_get xs n ≡ None
+slice_beyond [] n end = refl
+slice_beyond (x ∷ xs) zero end = absurd (not-suc-le-zero end)
+slice_beyond (x ∷ xs) (suc n) end = slice_beyond xs n (le_of_suc-le-suc end)
+
+-- ---- one mail
+
+-- A mail that was moved to a place, and is to be moved there again, stays.
+moved_twice : (to : Place) (place : Option Place) → moved_at to (moved_at to place) ≡ moved_at to place
+moved_twice to None = refl
+moved_twice Waiting (Some Claimed) = refl
+moved_twice Claimed (Some Claimed) = refl
+moved_twice Aside (Some Claimed) = refl
+moved_twice Gone (Some Claimed) = refl
+moved_twice to (Some Waiting) = refl
+moved_twice to (Some Aside) = refl
+moved_twice to (Some Gone) = refl
+
+-- Two moves to one place are one.
+may_then : (to : Place) (a b c : Option Place) → MayMove to a b → MayMove to b c → MayMove to a c
+may_then to a b c first (inl stays) = subst (λ place. MayMove to a place) (sym stays) first
+may_then to a b c (inl stays) (inr moves) = inr (moves ∙ ap (moved_at to) stays)
+may_then to a b c (inr before) (inr moves) = inr (moves ∙ ap (moved_at to) before ∙ moved_twice to a)
+
+-- A call that moves a mail, done or not, may have moved it.
+pub may_move : {A : Type 0} (to : Place) (a b : Option Place) (answer : Result A ToolFault) → MovesPlace to a answer b →
+    MayMove to a b
+may_move to a b (Ok done) moves = inr moves
+may_move to a b (Err fault) moves = moves
+
+-- After a call that settles a mail, done or not, its file may be settled.
+here_may : {A : Type 0} (mail : ℕ) (verdict : Verdict) (x y : RoomState) (answer : Result A ToolFault) →
+    SettlesOne mail verdict x answer y → MaySettle (Some verdict) (place_of x mail) (place_of y mail)
+here_may mail (verdicts.Done outcome) x y answer one = may_move Gone (place_of x mail) (place_of y mail) answer one.here
+here_may mail (verdicts.Aside unfit) x y answer one = may_move Aside (place_of x mail) (place_of y mail) answer one.here
+here_may mail (verdicts.Left delay) x y answer one = one.here
+
+-- After a call that settled a mail, its file is settled.
+here_settled : {A : Type 0} (mail : ℕ) (verdict : Verdict) (x y : RoomState) (done : A) →
+    SettlesOne mail verdict x (Ok done) y → IsSettled (Some verdict) (place_of x mail) (place_of y mail)
+here_settled mail (verdicts.Done outcome) x y done one = one.here
+here_settled mail (verdicts.Aside unfit) x y done one = one.here
+here_settled mail (verdicts.Left delay) x y done one = one.here
+
+-- A call that settles a mail leaves all else.
+else_same : {A : Type 0} (mail : ℕ) (verdict : Verdict) (x y : RoomState) (answer : Result A ToolFault) →
+    SettlesOne mail verdict x answer y → IsElseSame mail x y
+else_same mail (verdicts.Done outcome) x y answer one = one.else_same
+else_same mail (verdicts.Aside unfit) x y answer one = one.else_same
+else_same mail (verdicts.Left delay) x y answer one = one.else_same
+
+-- ---- mails up to a number
+
+-- The files of the mails below the number `count` were settled, or stay. If `all_done`, each was settled. The further
+-- mails stay.
+pub record SettlesTo (count : ℕ) (all : List Verdict) (old : RoomState) (all_done : Bool) (new : RoomState) : Type 0 where
+  pub so_far : Settles all old new
+  pub well : all_done ≡ true → (mail : ℕ) → mail < count →
+      IsSettled (slice_get all mail) (place_of old mail) (place_of new mail)
+  pub rest : (mail : ℕ) → count ≤ mail → place_of new mail ≡ place_of old mail
+
+-- Nothing happens to a mail without a call.
+may_stay : (verdict : Option Verdict) (a : Option Place) → MaySettle verdict a a
+may_stay None a = refl
+may_stay (Some verdict) a = inl refl
+
+-- Before the first mail nothing is settled.
+pub settles_none : (all : List Verdict) (x : RoomState) → SettlesTo zero all x true x
+settles_none all x = record {
+  so_far = record { each = λ mail. may_stay (slice_get all mail) (place_of x mail); asked = refl };
+  well = λ done mail below. absurd (not-suc-le-zero below);
+  rest = λ mail above. refl;
+}
+
+-- One more mail may be settled after others.
+may_settle_then : (v : Option Verdict) (verdict : Verdict) (a b c : Option Place) → v ≡ Some verdict → MaySettle v a b →
+    MaySettle (Some verdict) b c → MaySettle v a c
+may_settle_then v verdict a b c is first then =
+    subst (λ w. MaySettle w a c) (sym is)
+    (may_then (place_for verdict) a b c (subst (λ w. MaySettle w a b) is first) then)
+
+-- Mails were settled, and then one more.
+settles_then : {A : Type 0} (all : List Verdict) (mail : ℕ) (verdict : Verdict) (x y z : RoomState)
+    (answer : Result A ToolFault) → Settles all x y → slice_get all mail ≡ Some verdict →
+    SettlesOne mail verdict y answer z → Settles all x z
+settles_then all mail verdict x y z answer so_far is one =
+    let same = else_same mail verdict y z answer one in
+    record {
+      each = λ other. ⊎_elim
+          (λ here. subst (λ m. MaySettle (slice_get all m) (place_of x m) (place_of z m)) (sym here)
+          (may_settle_then (slice_get all mail) verdict (place_of x mail) (place_of y mail) (place_of z mail) is
+          (so_far.each mail) (here_may mail verdict y z answer one)))
+          (λ differ. subst (λ place. MaySettle (slice_get all other) (place_of x other) place) (sym (same.others other differ))
+          (so_far.each other))
+          (cases_eq other mail);
+      asked = same.asked ∙ so_far.asked;
+    }
+
+-- The mail with the number `count` was settled after all before it.
+pub settles_next : {A : Type 0} (count : ℕ) (all : List Verdict) (verdict : Verdict) (x y z : RoomState) (all_done : Bool)
+    (done : A) → SettlesTo count all x all_done y → slice_get all count ≡ Some verdict →
+    SettlesOne count verdict y (Ok done) z → SettlesTo (suc count) all x all_done z
+settles_next count all verdict x y z all_done done to is one =
+    let same = else_same count verdict y z (Ok done) one in
+    record {
+      so_far = settles_then all count verdict x y z (Ok done) to.so_far is one;
+      well = λ each mail below. ⊎_elim
+          (λ here. subst (λ m. IsSettled (slice_get all m) (place_of x m) (place_of z m)) (sym here)
+          (subst (λ v. IsSettled v (place_of x count) (place_of z count)) (sym is)
+          (subst (λ place. IsSettled (Some verdict) place (place_of z count)) (to.rest count (le_refl count))
+          (here_settled count verdict y z done one))))
+          (λ lower. subst (λ place. IsSettled (slice_get all mail) (place_of x mail) place)
+          (sym (same.others mail (λ is. lt_irrefl count (subst (λ m. m < count) is lower))))
+          (to.well each mail lower))
+          (eq-or-lt_of_le (le_of_suc-le-suc below));
+      rest = λ mail above. same.others mail (λ is. lt_irrefl count (subst (λ m. count < m) is above))
+          ∙ to.rest mail (le_of_lt above);
+    }
+
+-- The mail with the number `count` could not be settled. So not each is.
+pub settles_not : {A : Type 0} (count : ℕ) (all : List Verdict) (verdict : Verdict) (x y z : RoomState) (all_done : Bool)
+    (answer : Result A ToolFault) → SettlesTo count all x all_done y → slice_get all count ≡ Some verdict →
+    SettlesOne count verdict y answer z → SettlesTo (suc count) all x false z
+settles_not count all verdict x y z all_done answer to is one =
+    let same = else_same count verdict y z answer one in
+    record {
+      so_far = settles_then all count verdict x y z answer to.so_far is one;
+      well = λ each mail below. absurd (true≢false (sym each));
+      rest = λ mail above. same.others mail (λ is. lt_irrefl count (subst (λ m. count < m) is above))
+          ∙ to.rest mail (le_of_lt above);
+    }
+
+-- ---- the states of a room, honest or not
+
+-- Before the first mail nothing is settled, in any room.
+pub none_settled : (all : List Verdict) (x : RoomState) → Answers is_honest_room (SettlesTo zero all) x true x
+none_settled all x = record { done = λ honest. settles_none all x; honest = refl }
+
+-- A mail without a verdict is settled if it stays.
+beyond : (v : Option Verdict) (a b : Option Place) → v ≡ None → b ≡ a → IsSettled v a b
+beyond v a b none same = subst (λ w. IsSettled w a b) (sym none) same
+
+-- A mail without a verdict stays, and so one more is settled.
+stays_next : (count : ℕ) (all : List Verdict) (x y : RoomState) (all_done : Bool) → SettlesTo count all x all_done y →
+    slice_get all count ≡ None → SettlesTo (suc count) all x all_done y
+stays_next count all x y all_done to is = record {
+  so_far = to.so_far;
+  well = λ each mail below. ⊎_elim
+      (λ here. subst (λ m. IsSettled (slice_get all m) (place_of x m) (place_of y m)) (sym here)
+      (beyond (slice_get all count) (place_of x count) (place_of y count) is (to.rest count (le_refl count))))
+      (λ lower. to.well each mail lower)
+      (eq-or-lt_of_le (le_of_suc-le-suc below));
+  rest = λ mail above. to.rest mail (le_of_lt above);
+}
+
+-- If each mail was settled, each was, also if not each had to be.
+not_each : (count : ℕ) (all : List Verdict) (x y : RoomState) (all_done : Bool) → SettlesTo count all x all_done y →
+    SettlesTo count all x false y
+not_each count all x y all_done to = record {
+  so_far = to.so_far;
+  well = λ each mail below. absurd (true≢false (sym each));
+  rest = to.rest;
+}
+
+-- The mail with the number `count` was settled by its verdict `v`, after all before it.
+at_settled : {A : Type 0} (count : ℕ) (all : List Verdict) (v : Option Verdict) (x y z : RoomState) (all_done : Bool)
+    (done : A) → slice_get all count ≡ v → SettlesTo count all x all_done y → SettlesAt count v y (Ok done) z →
+    SettlesTo (suc count) all x all_done z
+at_settled count all None x y z all_done done is to same =
+    subst (λ w. SettlesTo (suc count) all x all_done w) (sym same) (stays_next count all x y all_done to is)
+at_settled count all (Some verdict) x y z all_done done is to one =
+    settles_next count all verdict x y z all_done done to is one
+
+-- The mail with the number `count` could not be settled by its verdict `v`.
+at_not_settled : {A : Type 0} (count : ℕ) (all : List Verdict) (v : Option Verdict) (x y z : RoomState) (all_done : Bool)
+    (answer : Result A ToolFault) → slice_get all count ≡ v → SettlesTo count all x all_done y →
+    SettlesAt count v y answer z → SettlesTo (suc count) all x false z
+at_not_settled count all None x y z all_done answer is to same =
+    subst (λ w. SettlesTo (suc count) all x false w) (sym same)
+    (not_each (suc count) all x y all_done (stays_next count all x y all_done to is))
+at_not_settled count all (Some verdict) x y z all_done answer is to one =
+    settles_not count all verdict x y z all_done answer to is one
+
+-- One more than `count` is `count + 1`.
+one_more : (count : ℕ) (all : List Verdict) (x y : RoomState) (all_done : Bool) → SettlesTo (suc count) all x all_done y →
+    SettlesTo (count + 1) all x all_done y
+one_more count all x y all_done to = subst (λ n. SettlesTo n all x all_done y) (sym (add-one count)) to
+
+-- The mail with the number `count` was settled after all before it, in any room.
+pub one_settled : {A : Type 0} (count : ℕ) (all : List Verdict) (x y z : RoomState) (all_done : Bool) (done : A) →
+    Answers is_honest_room (SettlesTo count all) x all_done y →
+    Answers is_honest_room (SettlesAt count (slice_get all count)) y (Ok done) z →
+    Answers is_honest_room (SettlesTo (count + 1) all) x all_done z
+one_settled count all x y z all_done done to one = record {
+  done = λ honest. one_more count all x z all_done
+      (at_settled count all (slice_get all count) x y z all_done done refl (to.done honest)
+      (one.done (to.honest ∙ honest)));
+  honest = one.honest ∙ to.honest;
+}
+
+-- The mail with the number `count` could not be settled, in any room.
+pub one_not_settled : {A : Type 0} (count : ℕ) (all : List Verdict) (x y z : RoomState) (all_done : Bool)
+    (answer : Result A ToolFault) → Answers is_honest_room (SettlesTo count all) x all_done y →
+    Answers is_honest_room (SettlesAt count (slice_get all count)) y answer z →
+    Answers is_honest_room (SettlesTo (count + 1) all) x false z
+one_not_settled count all x y z all_done answer to one = record {
+  done = λ honest. one_more count all x z false (at_not_settled count all (slice_get all count) x y z all_done answer refl
+      (to.done honest) (one.done (to.honest ∙ honest)));
+  honest = one.honest ∙ to.honest;
+}
+
+-- If memory runs out at a mail, those before it may be settled, and it may be.
+pub stops_there : {A : Type 0} (count : ℕ) (all : List Verdict) (x y z : RoomState) (all_done : Bool)
+    (answer : Result A ToolFault) (fault : ToolFault) → Answers is_honest_room (SettlesTo count all) x all_done y →
+    Answers is_honest_room (SettlesAt count (slice_get all count)) y answer z →
+    Answers is_honest_room (SettlesEach all) x (Err fault) z
+stops_there count all x y z all_done answer fault to one = record {
+  done = λ honest. (at_not_settled count all (slice_get all count) x y z all_done answer refl (to.done honest)
+      (one.done (to.honest ∙ honest))).so_far;
+  honest = one.honest ∙ to.honest;
+}
+
+-- After the last mail each is settled, if all could be.
+all_settled : (count : ℕ) (all : List Verdict) (x y : RoomState) → length all ≤ count → SettlesTo count all x true y →
+    AreSettled all x y
+all_settled count all x y end to mail = ⊎_elim
+    (λ below. to.well refl mail below)
+    (λ above. beyond (slice_get all mail) (place_of x mail) (place_of y mail) (slice_beyond all mail (le_trans end above))
+    (to.rest mail above))
+    (cases_lt mail count)
+
+-- The loop is over, and each mail is settled if it answers true.
+ends_each : (count : ℕ) (all : List Verdict) (x y : RoomState) (all_done : Bool) → length all ≤ count →
+    SettlesTo count all x all_done y → SettlesEach all x (Ok all_done) y
+ends_each count all x y true end to = (to.so_far, all_settled count all x y end to)
+ends_each count all x y false end to = to.so_far
+
+-- The loop is over, in any room.
+pub each_settled : (count : ℕ) (all : List Verdict) (x y : RoomState) (all_done : Bool) → length all ≤ count →
+    Answers is_honest_room (SettlesTo count all) x all_done y → Answers is_honest_room (SettlesEach all) x (Ok all_done) y
+each_settled count all x y all_done end to = record {
+  done = λ honest. ends_each count all x y all_done end (to.done honest);
+  honest = to.honest;
+}
+
+-- ---- the end of a run
+
+-- The places are equal at each mail if the lists are.
+same_places : (x y : RoomState) → y.places ≡ x.places → (mail : ℕ) → place_of y mail ≡ place_of x mail
+same_places x y same mail = ap (λ places. slice_get places mail) same
+
+-- The messages that ask were kept, or not.
+kept_or_not : {A : Type 0} (asked before after : List ℕ) (answer : Result A ToolFault) → KeepsBytes asked before answer after →
+    (after ≡ before) ⊎ (after ≡ asked)
+kept_or_not asked before after (Ok done) keeps = inr keeps
+kept_or_not asked before after (Err fault) keeps = keeps
+
+-- If the messages that ask could not be kept, no mail was settled.
+ends_unkept : {A B : Type 0} (asked : List ℕ) (all : List Verdict) (x y : RoomState) (fault other : ToolFault) →
+    Keeps {A = A} asked x (Err fault) y → EndsRun {A = B} asked all x (Err other) y
+ends_unkept {A = A} asked all x y fault other keeps = record {
+  each = λ mail. subst (λ place. MaySettle (slice_get all mail) (place_of x mail) place)
+      (sym (same_places x y keeps.places mail)) (may_stay (slice_get all mail) (place_of x mail));
+  asked_stay = kept_or_not {A = A} asked x.asked y.asked (Err fault) keeps.here;
+  asked_first = inl (same_places x y keeps.places);
+  done = tt;
+}
+
+-- What a settling has settled, done or not.
+settles_of : {A : Type 0} (all : List Verdict) (x y : RoomState) (answer : Result A ToolFault) → SettlesAs all x answer y →
+    Settles all x y
+settles_of all x y (Ok done) settles = settles.0
+settles_of all x y (Err fault) settles = settles
+
+-- If the settling is done after the messages that ask were kept, the run is ended.
+ends_if : {A : Type 0} (asked : List ℕ) (all : List Verdict) (x y z : RoomState) (answer : Result A ToolFault) →
+    y.asked ≡ asked → y.places ≡ x.places → SettlesAs all y answer z → EndsRunIf asked all x answer z
+ends_if asked all x y z (Ok done) kept same settles = (
+  settles.0.asked ∙ kept,
+  λ mail.
+      subst (λ place. IsSettled (slice_get all mail) place (place_of z mail)) (same_places x y same mail) (settles.1 mail),
+)
+ends_if asked all x y z (Err fault) kept same settles = tt
+
+-- The messages that ask were kept, and then the mails settled.
+ends_kept : {A B : Type 0} (asked : List ℕ) (all : List Verdict) (x y z : RoomState) (done : A) (answer : Result B ToolFault) →
+    Keeps asked x (Ok done) y → SettlesAs all y answer z → EndsRun asked all x answer z
+ends_kept asked all x y z done answer keeps settles =
+    let so_far = settles_of all y z answer settles in
+    record {
+      each = λ mail. subst (λ place. MaySettle (slice_get all mail) place (place_of z mail))
+          (same_places x y keeps.places mail) (so_far.each mail);
+      asked_stay = inr (so_far.asked ∙ keeps.here);
+      asked_first = inr (so_far.asked ∙ keeps.here);
+      done = ends_if asked all x y z answer keeps.here keeps.places settles;
+    }
+
+-- If the messages that ask could not be kept, no mail was settled, in any room.
+pub run_unkept : {A B : Type 0} (asked : List ℕ) (all : List Verdict) (x y : RoomState) (fault other : ToolFault) →
+    Answers is_honest_room (Keeps {A = A} asked) x (Err fault) y
+    → Answers is_honest_room (EndsRun {A = B} asked all) x (Err other) y
+run_unkept asked all x y fault other keeps = record {
+  done = λ honest. ends_unkept asked all x y fault other (keeps.done honest);
+  honest = keeps.honest;
+}
+
+-- The messages that ask were kept, and then the mails settled, in any room.
+pub run_kept : {A B : Type 0} (asked : List ℕ) (all : List Verdict) (x y z : RoomState) (done : A)
+    (answer : Result B ToolFault) → Answers is_honest_room (Keeps asked) x (Ok done) y →
+    Answers is_honest_room (SettlesAs all) y answer z → Answers is_honest_room (EndsRun asked all) x answer z
+run_kept asked all x y z done answer keeps settles = record {
+  done = λ honest. ends_kept asked all x y z done answer (keeps.done honest) (settles.done (keeps.honest ∙ honest));
+  honest = settles.honest ∙ keeps.honest;
+}

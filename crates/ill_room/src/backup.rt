@@ -1,0 +1,32 @@
+//! What a night keeps beside its mail.
+
+ghost use Rattle.std.specs.Prelude.{IfErr};
+ghost use Rattle.ill_saved.specs.ManySides.{sides_held};
+ghost use Rattle.ill_room.specs.Backup.{BackupState, CopiesDesk, Signs, is_honest_backup};
+ghost use Rattle.ill_room.specs.Room.{Answers};
+ghost use Rattle.ill_text.specs.Fault.{IsFileFault};
+
+use ill_saved::{Desk, Store};
+use ill_text::fault::ToolFault;
+use std::io::Write;
+
+/// A copy of a desk, and a sign of life, if they are wanted.
+///
+/// The clauses hold of an honest one alone. A fault is `STORE_FAILED`, or memory ran out. A line to `errors` tells the
+/// reason.
+pub trait Backup {
+    /// Returns the state: the copy, and the number of signs of life. Its part `is_honest` is true if all is done as it is
+    /// answered.
+    ghost state: { Self → BackupState };
+
+    /// Copies `desk`, if a copy is wanted. A copy that the desk does not extend is not replaced, which is a failure.
+    fn copy<S: Store, E: Write>(&mut self, desk: &Desk<S>, errors: &mut E) -> Result<(), ToolFault>
+        ensures copies { Answers is_honest_backup (CopiesDesk (sides_held desk.now.live)) (state self.old) result
+            (state self.new) }
+        ensures faults { IfErr result IsFileFault };
+
+    /// Gives a sign of life, if it is wanted.
+    fn sign<E: Write>(&mut self, errors: &mut E) -> Result<(), ToolFault>
+        ensures signs { Answers is_honest_backup Signs (state self.old) result (state self.new) }
+        ensures faults { IfErr result IsFileFault };
+}

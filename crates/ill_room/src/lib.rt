@@ -1,0 +1,9 @@
+//! The rooms of a night's mail: what a run does with the mails that it has claimed, with the copy of its desk and with its
+//! sign of life. A room is a trait. No file is known here.
+#![tactic(auto)]
+
+pub mod backup;
+pub mod laws;
+pub mod memory_room;
+pub mod room;
+pub mod settle;

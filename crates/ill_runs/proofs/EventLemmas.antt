@@ -83,7 +83,7 @@ pub fault_leads : (who : Role) (sent : List Sending) (p : DeskParty) (landed : B
 fault_leads who sent p landed = one_leads who sent p (SaveFault who landed) refl
 
 -- If a record is read as the sides `all` with all messages released, it is read as `all`.
-read_back : (read : Result SidesOf RecordFault) (all : SidesOf) → map_ok whole_of read ≡ Ok (whole_of all) → read ≡ Ok all
+pub read_back : (read : Result SidesOf RecordFault) (all : SidesOf) → map_ok whole_of read ≡ Ok (whole_of all) → read ≡ Ok all
 read_back (Ok found) all is =
     let same : whole_of found ≡ whole_of all = cc in
     ap (λ (s : SidesOf). Ok s) (sym (sides_of_whole found) ∙ ap sides_held same ∙ sides_of_whole all)

@@ -1,4 +1,5 @@
 pub mod BadLibraries
+pub mod BadPower
 pub mod CommandLemmas
 pub mod EventLemmas
 pub mod HistoryLemmas
@@ -6,4 +7,6 @@ pub mod LeavingLemmas
 pub mod LibraryLemmas
 pub mod Lists
 pub mod NightLemmas
+pub mod PowerLemmas
+pub mod PowerRuns
 pub mod ShelfLemmas

@@ -45,7 +45,7 @@ use Rattle.ill_runs.proofs.Lists.{each_append, each_at, each_so}
 -- ---- events of one desk in a world
 
 -- The desks after an event at the desk of `role`.
-abbrev after_event : (w : DeskParties) → (role : Role) → DeskEvent → DeskParties
+abbrev pub after_event : (w : DeskParties) → (role : Role) → DeskEvent → DeskParties
 after_event w role event = (happens_at w role (λ p partner. desk_happens_to p partner.sent event)).1
 
 -- An event at the desk of `who` leads this desk on, and leaves the other.

@@ -1,5 +1,7 @@
 pub mod BadLibraries
+pub mod BadPower
 pub mod Events
 pub mod Libraries
 pub mod Mail
+pub mod Power
 pub mod ShelfLibraries

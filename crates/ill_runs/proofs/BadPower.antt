@@ -1,0 +1,31 @@
+-- Proves that no bad loss of power is one, and that no desk starts after it otherwise.
+use Rattle.std.proofs.Common.{◌≡◌, ℕ, List, Option, Some, None, Result, Ok, sym, ap, ◌∙◌, subst}
+use Rattle.ill_saved.specs.declared.fault.RecordFault.{RecordFault}
+use Rattle.ill_saved.specs.Holdings.{map_ok}
+use Rattle.ill_saved.specs.RecordsV2.{records_at}
+use Rattle.ill_saved.specs.ManySides.{DeskContents, whole_of}
+use Rattle.ill_world.specs.Desks.{DeskParty}
+use Rattle.ill_runs.specs.Power.{StartsAs}
+use Rattle.ill_runs.specs.BadPower.{IsBadStart, nothing, unread, other_sides, not_whole}
+use Rattle.ill_runs.proofs.BadLibraries.{read_once, not_read}
+
+-- If one record is there as `a` and as `b`, these are the same bytes.
+one_file : (left : Option (List ℕ)) (a b : List ℕ) → left ≡ Some a → left ≡ Some b → a ≡ b
+one_file left a b first second = let same : ◌≡◌ {A = Option (List ℕ)} (Some a) (Some b) = sym first ∙ second in cc
+
+-- A bad start is none.
+pub none_starts_so : (left : Option (List ℕ)) (q : DeskParty) → IsBadStart left q → StartsAs left q → ⊥
+none_starts_so left q (nothing none) starts =
+    let same : ◌≡◌ {A = Option (List ℕ)} None (Some starts.file) = sym none ∙ starts.there in absurd cc
+none_starts_so left q (unread file fault there fails) starts =
+    not_read (records_at file) fault q.landed fails
+    (subst (λ (bytes : List ℕ). records_at bytes ≡ Ok q.landed) (one_file left starts.file file starts.there there)
+    starts.landed)
+none_starts_so left q (other_sides file held there read differs) starts =
+    differs (read_once (records_at file) q.landed held
+    (subst (λ (bytes : List ℕ). records_at bytes ≡ Ok q.landed) (one_file left starts.file file starts.there there)
+    starts.landed) read)
+none_starts_so left q (not_whole differs) starts =
+    let read : ◌≡◌ {A = Result DeskContents RecordFault} (Ok q.live) (Ok (whole_of q.landed)) =
+    sym starts.live ∙ ap (map_ok whole_of) starts.landed in
+    let same : q.live ≡ whole_of q.landed = cc in differs same

@@ -1,0 +1,137 @@
+-- Proves which desk of the model starts from what a loss of power leaves.
+use Rattle.std.proofs.Common.{◌≡◌, ◌⊎◌, inl, inr, ℕ, Bool, true, false, List, [], ◌∷◌, Option, Some, None, Result, Ok, Err}
+use Rattle.std.proofs.Common.{refl, sym, ap, subst}
+use Rattle.ill_saved.specs.declared.role.Role.{Role}
+use Rattle.ill_store.specs.declared.store.StoreFault.{StoreFault}
+use Rattle.ill_store.specs.Store.{SaveLasts}
+use Rattle.ill_saved.specs.Desk.{LeavesLanded}
+use Rattle.ill_saved.specs.Holdings.{IsReadAgain, map_ok}
+use Rattle.ill_saved.specs.Sides.{SidesOf}
+use Rattle.ill_saved.specs.RecordsV2.{records_at, sides_spelling}
+use Rattle.ill_saved.specs.ManySides.{DeskContents, many_sides, sides_held, whole_of}
+use Rattle.ill_desk.specs.Performing.{HeldAndLanded, known_if}
+use Rattle.ill_world.specs.declared.event.DeskEvent.TheVariants.{Save, SaveFault, Restart}
+use Rattle.ill_world.specs.Desks.{DeskParty, Sending, desk_saves, desk_fails_to_save, desk_restarts}
+use Rattle.ill_runs.specs.Events.{desk_after, HappenAt, IsReadAs, IsDesk}
+use Rattle.ill_runs.specs.Power.{StartsAs, EndsInStart, IsFaultAndRestart, PoweredDesk, IsAmong, AreLeft, IsPoweredDesk}
+use Rattle.ill_runs.specs.Power.{leaves_after, on_record, started_from, save_event}
+use Rattle.ill_runs.proofs.EventLemmas.{read_back}
+
+-- ---- the records
+
+-- If the content of a store is known, it is the landed record.
+known_read : (is_honest : Bool) (landed : Option (List ℕ)) (sides : SidesOf) → IsReadAs (known_if is_honest landed) sides
+    → IsReadAs (Some landed) sides
+known_read true landed sides read = read
+known_read false landed sides read = absurd read
+
+-- If one record alone may be left, and it has landed and is read as `sides`, so is the one that is left.
+pub left_read : (is_honest : Bool) (landed : Option (List ℕ)) (leaves : Option (List ℕ) → Type 0) (sides : SidesOf)
+    (left : Option (List ℕ)) → IsReadAs (known_if is_honest landed) sides → LeavesLanded landed leaves → leaves left
+    → IsReadAs (Some left) sides
+left_read is_honest landed leaves sides left read lasts is =
+    subst (λ (record_left : Option (List ℕ)). IsReadAs (Some record_left) sides) (sym (lasts left is))
+    (known_read is_honest landed sides read)
+
+-- If a record is that of the sides `live`, and is read as these again, it is read as what the model's desk lands.
+pub new_read : (live held : DeskContents) (left : Option (List ℕ)) → live ≡ held → IsReadAgain many_sides live
+    → left ≡ Some (many_sides.spelling live) → IsReadAs (Some left) (sides_held held)
+new_read live held left same again is =
+    subst (λ (record_left : Option (List ℕ)). IsReadAs (Some record_left) (sides_held held)) (sym is)
+    (subst (λ (l : DeskContents). records_at (many_sides.spelling live) ≡ Ok (sides_held l)) same
+    (read_back (records_at (sides_spelling (sides_held live))) (sides_held live) again))
+
+-- After a save with any answer a loss of power leaves what it might have left before, or the new record.
+pub left_by_save : (bytes : List ℕ) (before : Option (List ℕ) → Type 0) (answer : Result (Unit {0}) StoreFault)
+    (after : Option (List ℕ) → Type 0) (left : Option (List ℕ)) → SaveLasts bytes before answer after → after left
+    → before left ⊎ (left ≡ Some bytes)
+left_by_save bytes before (Ok done) after left lasts is = inr (lasts left is)
+left_by_save bytes before (Err fault) after left lasts is = lasts left is
+
+-- ---- a start
+
+-- If a record is read as the landed sides of `q`, and `q` holds these, a desk starts from the record as `q`.
+pub starts_as : (left : Option (List ℕ)) (q : DeskParty) → IsReadAs (Some left) q.landed → q.live ≡ whole_of q.landed
+    → StartsAs left q
+starts_as (Some bytes) q read whole = record {
+  file = bytes;
+  there = refl;
+  live = subst (λ (l : DeskContents). map_ok whole_of (records_at bytes) ≡ Ok l) (sym whole) (ap (map_ok whole_of) read);
+  landed = read;
+}
+starts_as None q read whole = absurd read
+
+module _ (who : Role) (sent : List Sending) (p : DeskParty) (left : Option (List ℕ)) where
+  -- If the landed record is left, a restart leads to the desk that starts from it.
+  pub restart_starts : IsReadAs (Some left) p.landed → EndsInStart who sent p (Restart who ∷ []) left
+  unfolding desk_after HappenAt
+  restart_starts read = ((refl, tt), starts_as left (desk_restarts p) read refl)
+
+  -- If the saved record is left, a save and a restart lead to the desk that starts from it.
+  pub save_starts : IsReadAs (Some left) (sides_held p.live) → EndsInStart who sent p (Save who ∷ Restart who ∷ []) left
+  unfolding desk_after HappenAt
+  save_starts read = ((refl, (refl, tt)), starts_as left (desk_restarts (desk_saves p)) read refl)
+
+  -- If the old record is left, a save that failed, and landed nothing, goes before the restart.
+  old_starts : IsReadAs (Some left) p.landed → IsFaultAndRestart who sent p left
+  unfolding desk_after HappenAt
+  old_starts read =
+      (false, ((refl, (refl, tt)), starts_as left (desk_restarts (desk_fails_to_save p false)) read refl))
+
+  -- If the new record is left, a save that failed, and landed its record, goes before the restart.
+  new_starts : IsReadAs (Some left) (sides_held p.live) → IsFaultAndRestart who sent p left
+  unfolding desk_after HappenAt
+  new_starts read =
+      (true, ((refl, (refl, tt)), starts_as left (desk_restarts (desk_fails_to_save p true)) read refl))
+
+-- If the landed record or that of the live sides is left, a save that failed and a restart lead to its desk.
+pub fault_starts : (is_honest : Bool) (landed : Option (List ℕ)) (leaves : Option (List ℕ) → Type 0) (live : DeskContents)
+    (who : Role) (sent : List Sending) (p : DeskParty) (left : Option (List ℕ))
+    → IsDesk (record { live = live; landed = known_if is_honest landed }) p → LeavesLanded landed leaves
+    → IsReadAgain many_sides live → leaves left ⊎ (left ≡ Some (many_sides.spelling live))
+    → IsFaultAndRestart who sent p left
+fault_starts is_honest landed leaves live who sent p left is lasts again either = elim either [
+  | inl old ↦ old_starts who sent p left (left_read is_honest landed leaves p.landed left is.landed lasts old)
+  | inr new ↦ new_starts who sent p left (new_read live p.live left is.live again new)
+]
+
+-- ---- what may be left
+
+-- If what has landed is left alone, the model knows it.
+pub loaded_left : (is_honest : Bool) (landed : Option (List ℕ)) (leaves : Option (List ℕ) → Type 0) (live : DeskContents)
+    (p : DeskParty) → IsDesk (record { live = live; landed = known_if is_honest landed }) p → LeavesLanded landed leaves
+    → IsPoweredDesk (record { live = live; landed = known_if is_honest landed }) leaves (on_record p)
+unfolding IsAmong
+loaded_left is_honest landed leaves live p is lasts = record {
+  desk = is;
+  left = λ left is_left. (p.landed, left_read is_honest landed leaves p.landed left is.landed lasts is_left, inl refl);
+}
+
+module _ (desk : HeldAndLanded DeskContents) (leaves : Option (List ℕ) → Type 0) (p : PoweredDesk)
+    (is : IsPoweredDesk desk leaves p) (again : IsReadAgain many_sides desk.live) where
+  -- In a save the model knows each record that may be left.
+  pub left_in_save : (who : Role) (landed : Bool)
+      → AreLeft (λ left. leaves left ⊎ (left ≡ Some (many_sides.spelling desk.live)))
+      (leaves_after p.desk p.leaves (SaveFault who landed))
+  unfolding IsAmong
+  left_in_save who landed left either = elim either [
+    | inl old ↦ (let found = is.left left old in (found.0, found.1, inr found.2))
+    | inr new ↦ (sides_held p.desk.live, new_read desk.live p.desk.live left is.desk.live again new, inl refl)
+  ]
+
+  -- After a save with any answer the model knows each record that may be left.
+  pub left_after_save : (who : Role) (landed : Bool) (answer : Result (Unit {0}) StoreFault) (after : Option (List ℕ) → Type 0)
+      → SaveLasts (many_sides.spelling desk.live) leaves answer after
+      → AreLeft after (leaves_after p.desk p.leaves (save_event who landed answer))
+  unfolding IsAmong
+  left_after_save who landed (Ok done) after lasts left is_left =
+      (sides_held p.desk.live, new_read desk.live p.desk.live left is.desk.live again (lasts left is_left), inl refl)
+  left_after_save who landed (Err fault) after lasts left is_left = left_in_save who landed left (lasts left is_left)
+
+-- The desk that starts from a record which may be left is the model's desk after this loss.
+pub lost_starts : (desk : HeldAndLanded DeskContents) (leaves : Option (List ℕ) → Type 0) (p : PoweredDesk)
+    (left : Option (List ℕ)) → IsPoweredDesk desk leaves p → leaves left
+    → (sides : SidesOf) × IsAmong sides p.leaves × StartsAs left (started_from p.desk sides).desk
+lost_starts desk leaves p left is is_left =
+    let found = is.left left is_left in
+    (found.0, found.2, starts_as left (started_from p.desk found.0).desk found.1 refl)

@@ -1,0 +1,30 @@
+-- Proves the clauses of `a_desk_may_lose_its_power_as_in_the_model` (`src/power_laws.rt`).
+use Rattle.ill_desk.specs.Performing.{view_of}
+use Rattle.ill_runs.proofs.PowerLemmas.{left_after_save, left_in_save, loaded_left, lost_starts}
+use Rattle.ill_runs.proofs.power_laws.a_desk_may_lose_its_power_as_in_the_model.Goals as goal
+
+-- After a load or a save that is done the landed record is left.
+pub returns-clause-loaded : goal.returns-clause-loaded
+returns-clause-loaded g c p is lasts =
+    let desk = c.args.desk.now in
+    let state = g.S.Store.state desk.store in
+    loaded_left state.is_honest state.landed (g.S.Store.leaves desk.store) desk.live p is lasts
+
+-- In a save the new record may be left besides those before.
+pub returns-clause-in_save : goal.returns-clause-in_save
+returns-clause-in_save g c who landed p is again =
+    let desk = c.args.desk.now in
+    left_in_save (view_of g.S.Store.state desk) (g.S.Store.leaves desk.store) p is again who landed
+
+-- After a save the records that may be left are as it answers.
+pub returns-clause-after_save : goal.returns-clause-after_save
+returns-clause-after_save g c who landed p answer is again saves =
+    let desk = c.args.desk.now in
+    left_after_save (view_of g.S.Store.state desk) (g.S.Store.leaves desk.store) p is again who landed answer
+    (g.S.Store.leaves c.args.after.now) saves
+
+-- A desk starts from each of them.
+pub returns-clause-lost : goal.returns-clause-lost
+returns-clause-lost g c p left is is_left =
+    let desk = c.args.desk.now in
+    lost_starts (view_of g.S.Store.state desk) (g.S.Store.leaves desk.store) p left is is_left

@@ -1,0 +1,31 @@
+-- Losses of power that cannot happen, and starts after one that no desk makes. Each case has its own fault.
+use Rattle.std.specs.Prelude.{◌≡◌, ℕ, List, Option, None, Some, Ok, Err}
+use Rattle.ill_values.specs.TxnId.{Qualifiers}
+use Rattle.ill_values.specs.declared.apdu.Apdu.{Apdu}
+use Rattle.ill_core.specs.Issued.{message}
+use Rattle.ill_saved.specs.declared.fault.RecordFault.{RecordFault}
+use Rattle.ill_saved.specs.declared.role.Role.{Role}
+use Rattle.ill_saved.specs.Side.{issued_of}
+use Rattle.ill_saved.specs.Sides.{SidesOf}
+use Rattle.ill_saved.specs.RecordsV2.{records_at}
+use Rattle.ill_saved.specs.ManySides.{side_for, whole_of}
+use Rattle.ill_world.specs.World.{party, sent_message}
+use Rattle.ill_world.specs.Desks.{DeskParty, DeskParties, sent_for}
+
+-- A desk that starts from the record `left` is not the model's desk `q`.
+pub data IsBadStart (left : Option (List ℕ)) (q : DeskParty) : Type 0 where
+  -- There is no record.
+  nothing : left ≡ None → IsBadStart left q
+  -- The record cannot be read.
+  unread : (file : List ℕ) (fault : RecordFault) → left ≡ Some file → records_at file ≡ Err fault → IsBadStart left q
+  -- The record has other sides than those that have landed.
+  other_sides : (file : List ℕ) (held : SidesOf) → left ≡ Some file → records_at file ≡ Ok held → (q.landed ≡ held → ⊥) →
+      IsBadStart left q
+  -- The desk holds other sides than the landed ones, or has not released all their messages.
+  not_whole : (q.live ≡ whole_of q.landed → ⊥) → IsBadStart left q
+
+-- A desk has forgotten a message that it has sent: its landed side does not have it.
+abbrev pub ForgetsSent : DeskParties → Type 0
+ForgetsSent w =
+    (who : Role) × (txn : Qualifiers) × (n : ℕ) × (a : Apdu) × (sent_message (sent_for txn (party w who).sent) n ≡ Some a)
+    × (message (issued_of (side_for txn (party w who).landed)) n ≡ Some a → ⊥)

@@ -1,0 +1,125 @@
+//! The laws of a loss of power: at a desk it is a save that failed and a restart, and to two libraries nothing new.
+
+ghost use Rattle.std.specs.Prelude.{◌≡◌, ◌⊎◌, ℕ, Bool, true, List, [], ◌∷◌, Option, None, Some, Result, Ok};
+ghost use Rattle.ill_values.specs.TxnId.{Qualifiers};
+ghost use Rattle.ill_store.specs.declared.store.StoreFault.{StoreFault};
+ghost use Rattle.ill_store.specs.Store.{LoadLasts, SaveLasts, StoreLoads, StoreSaves};
+ghost use Rattle.ill_saved.specs.declared.role.Role.{Role};
+ghost use Rattle.ill_saved.specs.Desk.{LeavesLanded};
+ghost use Rattle.ill_saved.specs.Holdings.{IsReadAgain};
+ghost use Rattle.ill_saved.specs.ManySides.{many_sides, no_sides, sides_held};
+ghost use Rattle.ill_saved.specs.Sides.{SidesOf};
+ghost use Rattle.ill_desk.specs.Performing.{view_of};
+ghost use Rattle.ill_world.specs.declared.event.DeskEvent.{DeskEvent};
+ghost use Rattle.ill_world.specs.declared.event.DeskEvent.TheVariants.{Save, SaveFault, Restart};
+ghost use Rattle.ill_world.specs.Safety.{Safe};
+ghost use Rattle.ill_world.specs.Desks.{DeskParty, Sending, desks_run, first_desk, first_desks, project};
+ghost use Rattle.ill_runs.specs.Events.{IsDesk};
+ghost use Rattle.ill_runs.specs.Power.{AllMayHappen, AreLeft, EndsInStart, IsAmong, IsFaultAndRestart, IsPoweredDesk, PowerEvent, PoweredDesk, StartsAs, desks_of, first_powered_desks, leaves_after, on_record, power_run, powered_after, save_event, started_from};
+ghost use Rattle.ill_runs.specs.BadPower.{ForgetsSent, IsBadStart};
+
+use ill_saved::{Desk, Store};
+
+/// After a load and a save that are done, one record may be left by a loss of power: the one that has landed.
+pub fn a_done_call_leaves_one_record<S: Store>(before: &S, after: &S)
+    ensures loads { (found : Option (List ℕ)) → (S.state before.now).is_honest ≡ true →
+        StoreLoads (λ bytes. bytes) (S.state before.now) (Ok found) (S.state after.now) →
+        LoadLasts (S.state before.now).landed (S.leaves before.now) (Ok found) (S.leaves after.now) →
+        LeavesLanded (S.state after.now).landed (S.leaves after.now) }
+    ensures saves { (bytes : List ℕ) → (S.state before.now).is_honest ≡ true →
+        StoreSaves bytes (S.state before.now) (Ok tt) (S.state after.now) →
+        SaveLasts bytes (S.leaves before.now) (Ok tt) (S.leaves after.now) →
+        LeavesLanded (S.state after.now).landed (S.leaves after.now) }
+{}
+
+/// A loss of power at a desk is a restart of the model's desk. In a save, and after one with any answer, a save that failed
+/// goes before the restart. The save had landed its record if the power left the new one.
+///
+/// `desk` is the desk before the save, and `after` its store after it. A loss of power before the save leaves what has
+/// landed. In the first save of a new desk it leaves no record, or that of the model's first desk.
+pub fn a_loss_of_power_is_a_failed_save_and_a_restart<S: Store>(desk: &Desk<S>, after: &S)
+    ensures between { (who : Role) (sent : List Sending) (p : DeskParty) (left : Option (List ℕ)) →
+        IsDesk (view_of S.state desk.now) p →
+        LeavesLanded (S.state desk.now.store).landed (S.leaves desk.now.store) → S.leaves desk.now.store left →
+        EndsInStart who sent p (Restart who ∷ []) left }
+    ensures in_save { (who : Role) (sent : List Sending) (p : DeskParty) (left : Option (List ℕ)) →
+        IsDesk (view_of S.state desk.now) p →
+        LeavesLanded (S.state desk.now.store).landed (S.leaves desk.now.store) →
+        IsReadAgain many_sides desk.now.live →
+        S.leaves desk.now.store left ⊎ (left ≡ Some (many_sides.spelling desk.now.live)) →
+        IsFaultAndRestart who sent p left }
+    ensures after_save { (who : Role) (sent : List Sending) (p : DeskParty) (answer : Result (Unit {0}) StoreFault)
+        (left : Option (List ℕ)) → IsDesk (view_of S.state desk.now) p →
+        LeavesLanded (S.state desk.now.store).landed (S.leaves desk.now.store) →
+        IsReadAgain many_sides desk.now.live →
+        SaveLasts (many_sides.spelling desk.now.live) (S.leaves desk.now.store) answer (S.leaves after.now) →
+        S.leaves after.now left → IsFaultAndRestart who sent p left }
+    ensures saved { (who : Role) (sent : List Sending) (p : DeskParty) (left : Option (List ℕ)) →
+        IsDesk (view_of S.state desk.now) p → IsReadAgain many_sides desk.now.live →
+        SaveLasts (many_sides.spelling desk.now.live) (S.leaves desk.now.store) (Ok tt) (S.leaves after.now) →
+        S.leaves after.now left → EndsInStart who sent p (Save who ∷ Restart who ∷ []) left }
+    ensures first { (role : Role) (left : Option (List ℕ)) → desk.now.live ≡ no_sides role →
+        LeavesLanded None (S.leaves desk.now.store) → IsReadAgain many_sides desk.now.live →
+        S.leaves desk.now.store left ⊎ (left ≡ Some (many_sides.spelling desk.now.live)) →
+        (left ≡ None) ⊎ StartsAs left (first_desk role) }
+{}
+
+/// A desk of the program is a desk of the model whose power may go, after any saves, done or failed. Each record that a loss
+/// of power may leave has sides that the model knows (`leaves_after`), in a save too. The desk that starts from it is the
+/// model's desk after this loss.
+pub fn a_desk_may_lose_its_power_as_in_the_model<S: Store>(desk: &Desk<S>, after: &S)
+    ensures loaded { (p : DeskParty) → IsDesk (view_of S.state desk.now) p →
+        LeavesLanded (S.state desk.now.store).landed (S.leaves desk.now.store) →
+        IsPoweredDesk (view_of S.state desk.now) (S.leaves desk.now.store) (on_record p) }
+    ensures in_save { (who : Role) (landed : Bool) (p : PoweredDesk) →
+        IsPoweredDesk (view_of S.state desk.now) (S.leaves desk.now.store) p → IsReadAgain many_sides desk.now.live →
+        AreLeft (λ left. S.leaves desk.now.store left ⊎ (left ≡ Some (many_sides.spelling desk.now.live)))
+        (leaves_after p.desk p.leaves (SaveFault who landed)) }
+    ensures after_save { (who : Role) (landed : Bool) (p : PoweredDesk) (answer : Result (Unit {0}) StoreFault) →
+        IsPoweredDesk (view_of S.state desk.now) (S.leaves desk.now.store) p → IsReadAgain many_sides desk.now.live →
+        SaveLasts (many_sides.spelling desk.now.live) (S.leaves desk.now.store) answer (S.leaves after.now) →
+        AreLeft (S.leaves after.now) (leaves_after p.desk p.leaves (save_event who landed answer)) }
+    ensures lost { (p : PoweredDesk) (left : Option (List ℕ)) →
+        IsPoweredDesk (view_of S.state desk.now) (S.leaves desk.now.store) p → S.leaves desk.now.store left →
+        (sides : SidesOf) × IsAmong sides p.leaves × StartsAs left (started_from p.desk sides).desk }
+{}
+
+/// A loss of power adds nothing to the model. After any events and losses of power at two desks, some events alone lead
+/// the first desks there.
+pub fn each_run_through_losses_of_power_is_a_run()
+    ensures { (events : List PowerEvent) → AllMayHappen first_powered_desks events →
+        (alone : List DeskEvent) × (desks_run first_desks alone ≡ desks_of (power_run first_powered_desks events)) }
+{}
+
+/// Two desks are safe in each transaction after any events and losses of power.
+pub fn each_run_through_losses_of_power_is_safe()
+    ensures { (events : List PowerEvent) → AllMayHappen first_powered_desks events → (txn : Qualifiers) →
+        Safe (project txn (desks_of (power_run first_powered_desks events))) }
+{
+    each_run_through_losses_of_power_is_a_run();
+    ill_world::desk_laws::every_desk_run_is_safe();
+}
+
+/// No desk starts from a record that cannot be read, or with other sides. No desk has forgotten what it has sent.
+pub fn no_bad_loss_of_power_passes()
+    ensures starts { (left : Option (List ℕ)) (q : DeskParty) → IsBadStart left q → StartsAs left q → ⊥ }
+    ensures sent { (events : List PowerEvent) → AllMayHappen first_powered_desks events →
+        ForgetsSent (desks_of (power_run first_powered_desks events)) → ⊥ }
+{
+    each_run_through_losses_of_power_is_a_run();
+    ill_world::desk_laws::desks_stand();
+}
+
+/// A loss of power may leave each record that it might have left before a save that failed, and the new one. After a save
+/// that is done it may leave this one, and after a restart the landed one.
+#[tactic(auto, unfolding(crate::specs::Power::IsAmong))]
+pub fn each_record_may_be_left()
+    ensures old { (who : Role) (landed : Bool) (sent : List Sending) (p : PoweredDesk) (sides : SidesOf) →
+        IsAmong sides p.leaves → IsAmong sides (powered_after p sent (SaveFault who landed)).leaves }
+    ensures new { (who : Role) (landed : Bool) (sent : List Sending) (p : PoweredDesk) →
+        IsAmong (sides_held p.desk.live) (powered_after p sent (SaveFault who landed)).leaves }
+    ensures saved { (who : Role) (sent : List Sending) (p : PoweredDesk) →
+        IsAmong (sides_held p.desk.live) (powered_after p sent (Save who)).leaves }
+    ensures restarted { (who : Role) (sent : List Sending) (p : PoweredDesk) →
+        IsAmong p.desk.landed (powered_after p sent (Restart who)).leaves }
+{}

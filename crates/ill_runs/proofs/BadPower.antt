@@ -1,12 +1,16 @@
 -- Proves that no bad loss of power is one, and that no desk starts after it otherwise.
-use Rattle.std.proofs.Common.{◌≡◌, ℕ, List, Option, Some, None, Result, Ok, sym, ap, ◌∙◌, subst}
+use Rattle.std.proofs.Common.{◌≡◌, inl, inr, ℕ, List, Option, Some, None, Result, Ok, sym, ap, ◌∙◌, subst}
+use Rattle.ill_values.specs.declared.apdu.Apdu.{Apdu}
 use Rattle.ill_saved.specs.declared.fault.RecordFault.{RecordFault}
 use Rattle.ill_saved.specs.Holdings.{map_ok}
 use Rattle.ill_saved.specs.RecordsV2.{records_at}
 use Rattle.ill_saved.specs.ManySides.{DeskContents, whole_of}
 use Rattle.ill_world.specs.Desks.{DeskParty}
+use Rattle.ill_runs.specs.Libraries.{Library}
 use Rattle.ill_runs.specs.Power.{StartsAs}
+use Rattle.ill_runs.specs.CutOff.{IsCutInSave}
 use Rattle.ill_runs.specs.BadPower.{IsBadStart, nothing, unread, other_sides, not_whole}
+use Rattle.ill_runs.specs.BadPower.{IsBadCut, third_record, others_left, elsewhere}
 use Rattle.ill_runs.proofs.BadLibraries.{read_once, not_read}
 
 -- If one record is there as `a` and as `b`, these are the same bytes.
@@ -29,3 +33,12 @@ none_starts_so left q (not_whole differs) starts =
     let read : ◌≡◌ {A = Result DeskContents RecordFault} (Ok q.live) (Ok (whole_of q.landed)) =
     sym starts.live ∙ ap (map_ok whole_of) starts.landed in
     let same : q.live ≡ whole_of q.landed = cc in differs same
+
+-- No command is cut off so.
+pub none_cuts_so : (others : List Apdu) (before after : Library) (cut : IsCutInSave others before after) → IsBadCut cut → ⊥
+none_cuts_so others before after cut (third_record not_old not_new) = elim cut.file [
+  | inl old ↦ not_old old
+  | inr new ↦ not_new new
+]
+none_cuts_so others before after cut (others_left differs) = differs cut.left
+none_cuts_so others before after cut (elsewhere differs) = differs cut.starts.0

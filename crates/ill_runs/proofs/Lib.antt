@@ -1,6 +1,7 @@
 pub mod BadLibraries
 pub mod BadPower
 pub mod CommandLemmas
+pub mod CutOffLemmas
 pub mod EventLemmas
 pub mod HistoryLemmas
 pub mod LeavingLemmas

@@ -8,9 +8,11 @@ use Rattle.ill_saved.specs.declared.role.Role.{Role}
 use Rattle.ill_saved.specs.Side.{issued_of}
 use Rattle.ill_saved.specs.Sides.{SidesOf}
 use Rattle.ill_saved.specs.RecordsV2.{records_at}
-use Rattle.ill_saved.specs.ManySides.{side_for, whole_of}
+use Rattle.ill_saved.specs.ManySides.{many_sides, side_for, whole_of}
 use Rattle.ill_world.specs.World.{party, sent_message}
 use Rattle.ill_world.specs.Desks.{DeskParty, DeskParties, sent_for}
+use Rattle.ill_runs.specs.Libraries.{Library}
+use Rattle.ill_runs.specs.CutOff.{IsCutInSave}
 
 -- A desk that starts from the record `left` is not the model's desk `q`.
 pub data IsBadStart (left : Option (List ℕ)) (q : DeskParty) : Type 0 where
@@ -23,6 +25,15 @@ pub data IsBadStart (left : Option (List ℕ)) (q : DeskParty) : Type 0 where
       IsBadStart left q
   -- The desk holds other sides than the landed ones, or has not released all their messages.
   not_whole : (q.live ≡ whole_of q.landed → ⊥) → IsBadStart left q
+
+-- A loss of power cannot cut off a command so.
+pub data IsBadCut {others : List Apdu} {before after : Library} (cut : IsCutInSave others before after) : Type 0 where
+  -- The file has neither the old record nor the new one.
+  third_record : (after.file ≡ cut.last → ⊥) → (after.file ≡ many_sides.spelling cut.now.live → ⊥) → IsBadCut cut
+  -- A message has left in the save, or is forgotten.
+  others_left : (after.left ≡ before.left → ⊥) → IsBadCut cut
+  -- The command began from other sides than those in the file.
+  elsewhere : (many_sides.read before.file ≡ Ok cut.old.live → ⊥) → IsBadCut cut
 
 -- A desk has forgotten a message that it has sent: its landed side does not have it.
 abbrev pub ForgetsSent : DeskParties → Type 0

@@ -1,5 +1,6 @@
 pub mod BadLibraries
 pub mod BadPower
+pub mod CutOff
 pub mod Events
 pub mod Libraries
 pub mod Mail

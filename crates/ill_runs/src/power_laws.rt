@@ -2,6 +2,7 @@
 
 ghost use Rattle.std.specs.Prelude.{◌≡◌, ◌⊎◌, ℕ, Bool, true, List, [], ◌∷◌, Option, None, Some, Result, Ok};
 ghost use Rattle.ill_values.specs.TxnId.{Qualifiers};
+ghost use Rattle.ill_values.specs.declared.apdu.Apdu.{Apdu};
 ghost use Rattle.ill_store.specs.declared.store.StoreFault.{StoreFault};
 ghost use Rattle.ill_store.specs.Store.{LoadLasts, SaveLasts, StoreLoads, StoreSaves};
 ghost use Rattle.ill_saved.specs.declared.role.Role.{Role};
@@ -13,11 +14,17 @@ ghost use Rattle.ill_desk.specs.Performing.{view_of};
 ghost use Rattle.ill_world.specs.declared.event.DeskEvent.{DeskEvent};
 ghost use Rattle.ill_world.specs.declared.event.DeskEvent.TheVariants.{Save, SaveFault, Restart};
 ghost use Rattle.ill_world.specs.Safety.{Safe};
+ghost use Rattle.ill_world.specs.World.{party};
 ghost use Rattle.ill_world.specs.Desks.{DeskParty, Sending, desks_run, first_desk, first_desks, project};
 ghost use Rattle.ill_runs.specs.Events.{IsDesk};
+ghost use Rattle.ill_runs.specs.Libraries.{AreSafe, Commands, HasAllThatLeft, IsHistory, Libraries, Library, first_libraries, libraries_after};
 ghost use Rattle.ill_runs.specs.Power.{AllMayHappen, AreLeft, EndsInStart, IsAmong, IsFaultAndRestart, IsPoweredDesk, PowerEvent, PoweredDesk, StartsAs, desks_of, first_powered_desks, leaves_after, on_record, power_run, powered_after, save_event, started_from};
-ghost use Rattle.ill_runs.specs.BadPower.{ForgetsSent, IsBadStart};
+ghost use Rattle.ill_runs.specs.CutOff.{IsCutInSave, IsPoweredHistory, IsPoweredShelfHistory, LosesPower};
+ghost use Rattle.ill_runs.specs.ShelfLibraries.{GroupVisit, IsShelfHistory, ShelfLibraries};
+ghost use Rattle.ill_runs.specs.BadLibraries.{HasForgotten};
+ghost use Rattle.ill_runs.specs.BadPower.{ForgetsSent, IsBadCut, IsBadStart};
 
+use crate::laws;
 use ill_saved::{Desk, Store};
 
 /// After a load and a save that are done, one record may be left by a loss of power: the one that has landed.
@@ -100,13 +107,43 @@ pub fn each_run_through_losses_of_power_is_safe()
     ill_world::desk_laws::every_desk_run_is_safe();
 }
 
-/// No desk starts from a record that cannot be read, or with other sides. No desk has forgotten what it has sent.
+/// A command in which a library loses its power is a command of `Commands`: a shorter one, or one whose save failed. It may
+/// lose its power at any moment: in a save or after one that failed, between two saves, or when its messages leave.
+pub fn a_command_that_loses_power_is_a_command()
+    ensures { (others : List Apdu) (before after : Library) → LosesPower others before after →
+        Commands others before after }
+{
+    ill_der::laws::longest();
+}
+
+/// A history in which libraries lose their power is a history, of shelves too. So its libraries are safe, and each file has
+/// what has left.
+pub fn each_history_through_losses_of_power_is_a_history()
+    ensures history { (now : Libraries) (later : List Libraries) → IsPoweredHistory now later → IsHistory now later }
+    ensures shelves { (w : ShelfLibraries) (visits : List GroupVisit) →
+        IsPoweredShelfHistory w visits → IsShelfHistory w visits }
+    ensures safe { (later : List Libraries) → IsPoweredHistory first_libraries later →
+        AreSafe (libraries_after first_libraries later) }
+    ensures left { (later : List Libraries) → IsPoweredHistory first_libraries later → (who : Role) →
+        HasAllThatLeft (party (libraries_after first_libraries later) who) }
+{
+    a_command_that_loses_power_is_a_command();
+    laws::each_history_is_safe();
+    laws::what_has_left_is_in_the_file();
+}
+
+/// No loss of power leaves a third record, a record that cannot be read, or a desk that has forgotten what it has sent.
 pub fn no_bad_loss_of_power_passes()
     ensures starts { (left : Option (List ℕ)) (q : DeskParty) → IsBadStart left q → StartsAs left q → ⊥ }
+    ensures cuts { (others : List Apdu) (before after : Library) (cut : IsCutInSave others before after) →
+        IsBadCut cut → ⊥ }
     ensures sent { (events : List PowerEvent) → AllMayHappen first_powered_desks events →
         ForgetsSent (desks_of (power_run first_powered_desks events)) → ⊥ }
+    ensures left { (later : List Libraries) (who : Role) → IsPoweredHistory first_libraries later →
+        HasForgotten (party (libraries_after first_libraries later) who) → ⊥ }
 {
     each_run_through_losses_of_power_is_a_run();
+    each_history_through_losses_of_power_is_a_history();
     ill_world::desk_laws::desks_stand();
 }
 

@@ -1,7 +1,7 @@
 """Writes crates/NAME/LAWS.md of each crate that has laws: its laws, their sentences, and what their contracts name.
 
-A law is a `pub fn` without parameters and without a result. Its contract has `ensures`, and its body is empty or cites
-other laws. The list has the modules of a crate, `laws.rt` first, and the laws of a module in the order of the source. A
+A law is a `pub fn` without a result. Its contract has `ensures`, and its body is empty or cites other laws. Any store,
+desk or outlet of which it speaks is its parameter. The list has the modules of a crate, `laws.rt` first, and the laws of a module in the order of the source. A
 law has
 
 - its name, with a link to its file;
@@ -34,9 +34,9 @@ def laws_of(path):
     """Yields the laws of a source, in its order."""
     blocks = re.split(r"\n\s*\n(?=\S)", read(path))
     for block in blocks:
-        head = re.search(r"(?m)^pub fn (\w+)(?:<\w+>)?\(\)\n", block)
-        body = head and re.fullmatch(r"(.*)^\{\n?((?: +[\w:]+(?:::<\w+>)?\(\);\n)*)\}\s*", block[head.end():],
-                                     re.S | re.M)
+        head = re.search(r"(?m)^pub fn (\w+)(?:<[^>]*>)?\([^)]*\)\n", block)
+        body = head and re.fullmatch(r"(.*)^\{\n?((?: +(?:let _ = )?[\w:.]+(?:::<\w+>)?\(\);\n)*)\}\s*",
+                                     block[head.end():], re.S | re.M)
         if body and re.match(r" +ensures\b", body[1]):
             said = " ".join(re.findall(r"(?m)^/// ?(.*)", block[:head.start()]))
             if not said:

@@ -59,7 +59,7 @@ _ill_parts() {
     '') parts=(command) options='--explain --help --version' ;;
     help) parts=(command) options='' ;;
     new) parts=(file role) options='--explain --help' ;;
-    act) parts=(file loan loan words) options='--today --seen --dry-run --long --explain --help' ;;
+    act) parts=(file loan loan words) options='--today --by --seen --dry-run --long --explain --help' ;;
     list) parts=(files) options='--open --mine --today --ahead --due-before --state --find --actions --notes --json --explain --help' ;;
     news) parts=(files) options='--last --json --explain --help' ;;
     loan) parts=(file loan loan) options='--picture --json --explain --help' ;;
@@ -67,11 +67,11 @@ _ill_parts() {
     slip) parts=(file loan loan) options='--explain --help' ;;
     status) parts=(file) options='--json --explain --help' ;;
     report) parts=(files) options='--today --explain --help' ;;
-    take) parts=(file) options='--long --keep --key --explain --help' ;;
+    take) parts=(file) options='--long --keep --today --by --key --explain --help' ;;
     send) parts=(file loan loan none) options='--key --explain --help' ;;
-    inbox) parts=(file folder) options='--explain --help' ;;
+    inbox) parts=(file folder) options='--today --by --explain --help' ;;
     outbox) parts=(file folder) options='--stream --explain --help' ;;
-    exchange) parts=(file folder folder) options='--today --overdue --expire --copy --beat --explain --help' ;;
+    exchange) parts=(file folder folder) options='--today --by --overdue --expire --copy --beat --explain --help' ;;
     key) parts=(file) options='--show --read --explain --help' ;;
     verify) parts=(file) options='--explain --help' ;;
     show) parts=() options='--json --explain --help' ;;
@@ -81,16 +81,16 @@ _ill_parts() {
     shelf-) parts=(shelf-command) options='--explain --help' ;;
     shelf-help) parts=(shelf-command) options='' ;;
     shelf-new) parts=(folder role) options='--explain --help' ;;
-    shelf-act) parts=(folder loan loan words) options='--today --seen --dry-run --long --new-group --explain --help' ;;
+    shelf-act) parts=(folder loan loan words) options='--today --by --seen --dry-run --long --new-group --explain --help' ;;
     shelf-loan) parts=(folder loan loan) options='--picture --json --explain --help' ;;
     shelf-note) parts=(folder loan loan none) options='--explain --help' ;;
     shelf-slip) parts=(folder loan loan) options='--explain --help' ;;
     shelf-status) parts=(folder) options='--json --explain --help' ;;
-    shelf-take) parts=(folder) options='--long --keep --key --explain --help' ;;
+    shelf-take) parts=(folder) options='--long --keep --today --by --key --explain --help' ;;
     shelf-send) parts=(folder loan loan none) options='--key --explain --help' ;;
-    shelf-inbox) parts=(folder folder) options='--explain --help' ;;
+    shelf-inbox) parts=(folder folder) options='--today --by --explain --help' ;;
     shelf-outbox) parts=(folder folder) options='--stream --explain --help' ;;
-    shelf-exchange) parts=(folder folder folder) options='--today --overdue --expire --copy --beat --explain --help' ;;
+    shelf-exchange) parts=(folder folder folder) options='--today --by --overdue --expire --copy --beat --explain --help' ;;
     shelf-retire) parts=(folder loan) options='--explain --help' ;;
   esac
 }
@@ -107,7 +107,7 @@ _ill_read() {
       day-* | count-* | text-* | state-* | file-*) wanted=any ;;
       any---) wanted=argument ;;
       any---today | any---due-before) wanted=day ;;
-      any---seen | any---find) wanted=text ;;
+      any---by | any---seen | any---find) wanted=text ;;
       any---ahead | any---last) wanted=count ;;
       any---state) wanted=state ;;
       any---key | any---copy | any---beat) wanted=file ;;

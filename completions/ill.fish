@@ -33,7 +33,7 @@ function __ill_read
                 set wanted argument
             case any---today any---due-before
                 set wanted day
-            case any---seen any---find
+            case any---by any---seen any---find
                 set wanted text
             case any---ahead any---last
                 set wanted count
@@ -163,6 +163,7 @@ complete -c ill -n "__ill_option any '' new act list news loan note slip status 
 complete -c ill -n "__ill_option any '' new act list news loan note slip status report take send inbox outbox exchange key verify show check simulate simulate-desks shelf shelf-new shelf-act shelf-loan shelf-note shelf-slip shelf-status shelf-take shelf-send shelf-inbox shelf-outbox shelf-exchange shelf-retire" -s h -l help -d 'Print help'
 complete -c ill -n "__ill_option any ''" -s V -l version -d 'Print the version'
 complete -c ill -n '__ill_option day act shelf-act' -l today -x -d 'The day of the action, as 20250301; a responder needs it'
+complete -c ill -n '__ill_option text act take inbox exchange shelf-act shelf-take shelf-inbox shelf-exchange' -l by -x -d 'The name of who gives the command, for FILE.diary'
 complete -c ill -n '__ill_option text act shelf-act' -l seen -x -d 'Act only if this is what was shown of the loan'
 complete -c ill -n '__ill_option any act shelf-act' -l dry-run -d 'Tell what would come, and save nothing'
 complete -c ill -n '__ill_option any act shelf-act' -l long -d 'Write the item of the loan below the line'
@@ -181,9 +182,9 @@ complete -c ill -n '__ill_option any loan shelf-loan' -l picture -d 'Draw the me
 complete -c ill -n '__ill_option day report' -l today -x -d 'The day of the report, as 20250301'
 complete -c ill -n '__ill_option any take shelf-take' -l long -d 'Tell which message each was, and what it said'
 complete -c ill -n '__ill_option any take shelf-take' -l keep -d 'Keep each message that is taken, in FILE.came'
+complete -c ill -n '__ill_option day take inbox exchange shelf-take shelf-inbox shelf-exchange' -l today -x -d 'The day of the run, as 20250301'
 complete -c ill -n '__ill_option file take send shelf-take shelf-send' -l key -r -F -d 'Open or seal a letter with the key in this file'
 complete -c ill -n '__ill_option any outbox shelf-outbox' -l stream -d 'Write the messages to standard output'
-complete -c ill -n '__ill_option day exchange shelf-exchange' -l today -x -d 'The day of the run, as 20250301'
 complete -c ill -n '__ill_option any exchange shelf-exchange' -l overdue -d 'Say of each loan that is past its due date that it is'
 complete -c ill -n '__ill_option any exchange shelf-exchange' -l expire -d 'End each request that is past its last day'
 complete -c ill -n '__ill_option file exchange' -l copy -r -F -d 'Copy the desk to this file before anything is sent'

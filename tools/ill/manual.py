@@ -344,8 +344,8 @@ class Offers:
         for line in (f"{day}{file} G1 T1 ", f"{file} {day} G1 T1 ", f"{file} G1 T1 {day}", f"{day}-- {file} G1 T1 ",
                      f"{file} {day}-- G1 T1 "):
             self.offers(f"ill act {line}", *words)
-        self.offers(f"ill act {day}{file} -", EXPLAIN, "--help", "--today", "--seen", "--dry-run", "--long")
-        self.offers(f"ill act {day}{file} G1 T1 -", EXPLAIN, "--help", "--today", "--seen", "--dry-run", "--long")
+        self.offers(f"ill act {day}{file} -", EXPLAIN, "--help", "--today", "--by", "--seen", "--dry-run", "--long")
+        self.offers(f"ill act {day}{file} G1 T1 -", EXPLAIN, "--help", "--today", "--by", "--seen", "--dry-run", "--long")
         self.offers(f"ill act {day}{file} -- G1 T1 --")
 
     def compare(self, shell, told):

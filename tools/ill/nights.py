@@ -224,6 +224,8 @@ class Night:
         files, end = self.judge_end(), dict(self.end)
         came = messages_of(files.pop("loan.came", b""))
         expect(set(came[0]) == set(messages_of(end.pop("loan.came", b""))[0]) and not came[1], "again: FILE.came is another")
+        diary, whole = files.pop("loan.diary", b""), end.pop("loan.diary", b"")
+        expect(set(diary.splitlines(True)) <= set(whole.splitlines(True)), "again: FILE.diary has another line")
         files.pop("loan.new", None), end.pop("loan.new", None)
         expect(files == end, f"again: another end: {sorted(name for name in files | end if files.get(name) != end.get(name))}")
 
@@ -391,9 +393,10 @@ class ShelfNight(Night):
 
     @staticmethod
     def without_order(files):
-        """The files, with the messages of each .came in any order and once, and without what a crash leaves."""
+        """The files, with the messages of each .came in any order and once, and without what a crash leaves. A diary may
+        lack lines, if it has failed."""
         return {name: set(messages_of(body)[0]) if name.endswith(".came") else body
-                for name, body in files.items() if not name.endswith(".new")}
+                for name, body in files.items() if not name.endswith((".new", ".diary"))}
 
     def judge_again(self):
         """The night runs again, with the mails of retired groups brought again, as a partner does who asks: all is as if

@@ -240,6 +240,12 @@ def unique(pairs):
     return dict(pairs)
 
 
+def without_history(lines):
+    """Returns the lines of a loan without its history, which is told in lines alone and ends them."""
+    first = next((at for at, line in enumerate(lines) if line.startswith("history ")), None)
+    return lines if first is None else [*lines[:first - 1], ""]
+
+
 def compare(kind, words, lines_of, given=None):
     """Compares a command with `--json` and without it."""
     global compared
@@ -252,7 +258,7 @@ def compare(kind, words, lines_of, given=None):
         fault = fails(referred(kind), objects[-1])
         if fault:
             faults.append(f"{place}: {fault}")
-    wanted = run(words, given).decode("utf-8").split("\n")
+    wanted = without_history(run(words, given).decode("utf-8").split("\n"))
     if [*lines_of(objects), ""] != wanted or text.split("\n")[-1]:
         faults.append(f"{place}: {objects} is not what stands in {wanted}")
     compared += len(objects)

@@ -10,11 +10,12 @@ ghost use Rattle.ill_files.specs.Opening.{all_well};
 ghost use Rattle.ill_text.specs.Fault.{IsOpenFault};
 
 use crate::visit::{Visit, visit_paths};
-use ill_desk::act_as::{ActionView, run_desk_act_as};
+use ill_desk::act_as::{ActionView, action_line, run_desk_act_as};
 use ill_desk::new::run_desk_new;
 use ill_desk::send::run_desk_send;
 use ill_desk::take::{TakeForm, run_desk_take_as};
 use ill_files::came::{came_bytes, open_came};
+use ill_files::diary::{diary_bytes, open_came_diary, open_entry, warn_of_diary};
 use ill_files::folder::{desk_paths, warn_of_names};
 use ill_files::machine::Machine;
 use ill_files::notes::notes_bytes;
@@ -22,11 +23,12 @@ use ill_files::open::{all_well, end, lock, open, open_locked};
 use ill_saved::{
     Desk, FileStore, LockFiles, LockedDesk, RECORD_LIMIT, Role, SIDES_LIMIT, Side, Sides, Store,
 };
+use ill_show::file_lines::FileLines;
 use ill_show::finding::Sought;
 use ill_show::item_line::write_item;
 use ill_show::list::{count_left_out, run_desk_list};
 use ill_show::listed::{Listed, left_out_line, warning};
-use ill_show::loan::{LoanView, run_desk_loan};
+use ill_show::loan::{Beside, LoanView, run_desk_loan};
 use ill_show::notes::Notes;
 use ill_show::numbers::{numbers_lines, push_told};
 use ill_show::report::{end_page, push_desk, push_fault, push_head};
@@ -34,6 +36,7 @@ use ill_show::status::run_desk_status_as;
 use ill_show::verify::run_desk_verify;
 use ill_show::wanted::Wanted;
 use ill_slip::slip::run_desk_slip;
+use ill_text::diary::{Stamp, WithDiary, begin_text};
 use ill_text::fault::{ToolFault, graver};
 use ill_text::form::Form;
 use ill_values::{Day, Number, OutOfMemory, TxnId};
@@ -72,8 +75,8 @@ pub fn act<T: LockFiles, W: Write, E: Write>(
     act_at(machine, file, locked, view, is_long)
 }
 
-/// Performs or tries the action of `view` at `locked`, the desk in `file`, and then lets the desk and its lock go. Writes a line to
-/// the errors if the loan has few numbers left.
+/// Performs or tries the action of `view` at `locked`, the desk in `file`, and then lets the desk and its lock go. If its day is
+/// given, it is entered in the diary beside `file`. Writes a line to the errors if the loan has few numbers left.
 pub fn act_at<T: LockFiles, W: Write, E: Write>(
     machine: &mut Machine<'_, T, W, E>,
     file: &str,
@@ -83,7 +86,16 @@ pub fn act_at<T: LockFiles, W: Write, E: Write>(
 ) -> Result<bool, ToolFault>
     ensures { ActsAtFile (asking_of view.now) is_long (W.contents machine.old.writer) (W.contents machine.new.writer) result }
 {
-    let acted = run_desk_act_as(machine.alloc, &mut locked.desk, view, &mut machine.writer);
+    let line = action_line(machine.alloc, &locked.desk, view);
+    let mut entry = open_entry(machine.rt, machine.alloc, file, line, &mut machine.errors);
+    let acted = run_desk_act_as(
+        machine.alloc,
+        &mut locked.desk,
+        view,
+        &mut entry,
+        &mut machine.writer,
+    );
+    warn_of_diary(machine.alloc, file, entry.has_failed(), &mut machine.errors);
     let told = tell_item(
         machine.alloc,
         locked.desk.sides().get(view.txn),
@@ -137,52 +149,70 @@ fn tell_numbers_of<S: Store, E: Write>(
     }
 }
 
+/// The form in which APDUs are taken, and the stamp of the lines of the diary.
+#[derive(Clone, Copy)]
+pub struct TakeView<'a, 'b> {
+    /// The form.
+    pub form: TakeForm,
+    /// The stamp, if a day is given. Only messages that are kept are entered.
+    pub stamp: &'a Option<Stamp<'b>>,
+}
+
 /// `ill take`: takes the APDUs of the input. It holds the lock of the file until the input ends.
 pub fn take<T: LockFiles, R: Read, W: Write, E: Write>(
     machine: &mut Machine<'_, T, W, E>,
     file: &str,
-    form: TakeForm,
+    view: &TakeView<'_, '_>,
     reader: &mut R,
 ) -> Result<bool, ToolFault>
-    ensures { TakesAtFile form (R.remaining reader.old) (R.remaining reader.new)
+    ensures { TakesAtFile view.now.form (R.remaining reader.old) (R.remaining reader.new)
         (W.contents machine.old.writer) (W.contents machine.new.writer) result }
 {
     let mut locked = open_locked(machine.rt, machine.alloc, file)?;
-    let taken = take_at(machine, file, &mut locked.desk, form, reader);
+    let taken = take_at(machine, file, &mut locked.desk, view, reader);
     drop(locked);
     taken
 }
 
-/// Takes the APDUs of the input at `desk`. Those that are kept go to the file beside `file`, if that can be opened.
+/// Takes the APDUs of the input at `desk`. Those that are kept go to the file beside `file`, if that can be opened. If a day
+/// is given, they are entered in the diary too.
 pub(crate) fn take_at<T: Files, S: Store, R: Read, W: Write, E: Write>(
     machine: &mut Machine<'_, T, W, E>,
     file: &str,
     desk: &mut Desk<S>,
-    form: TakeForm,
+    view: &TakeView<'_, '_>,
     reader: &mut R,
 ) -> Result<bool, ToolFault>
-    ensures { TakesAtFile form (R.remaining reader.old) (R.remaining reader.new)
+    ensures { TakesAtFile view.now.form (R.remaining reader.old) (R.remaining reader.new)
         (W.contents machine.old.writer) (W.contents machine.new.writer) result }
 {
-    if !form.is_kept {
+    if !view.form.is_kept {
         return run_desk_take_as(
             machine.alloc,
             desk,
-            form,
+            view.form,
             &mut sink(),
             reader,
             &mut machine.writer,
         );
     }
     let mut came = open_came(machine.rt, machine.alloc, file)?;
-    run_desk_take_as(
+    let begin = begin_text(machine.alloc, view.stamp);
+    let mut diary = open_came_diary(machine.rt, machine.alloc, file, begin, &mut machine.errors);
+    let mut kept = WithDiary {
+        came: &mut came,
+        diary: &mut diary,
+    };
+    let taken = run_desk_take_as(
         machine.alloc,
         desk,
-        form,
-        &mut came,
+        view.form,
+        &mut kept,
         reader,
         &mut machine.writer,
-    )
+    );
+    warn_of_diary(machine.alloc, file, diary.has_failed(), &mut machine.errors);
+    taken
 }
 
 /// `ill send`: writes the bytes of a message of a transaction.
@@ -343,17 +373,17 @@ pub fn loan<T: Files, W: Write, E: Write>(
 ) -> Result<bool, ToolFault>
     ensures { LoanAtFile view.now.form view.now.txn.now (W.contents machine.old.writer) (W.contents machine.new.writer) result }
 {
+    let diary = diary_bytes(machine.rt, machine.alloc, file, &mut machine.errors)?;
+    let diary = FileLines::read(machine.alloc, &diary)?;
     let notes = read_notes(machine.rt, machine.alloc, file)?;
     let desk = open(machine.rt, machine.alloc, file)?;
     let came = came_bytes(machine.rt, machine.alloc, file)?;
-    let shown = run_desk_loan(
-        machine.alloc,
-        &desk,
-        view,
-        &notes,
-        &came,
-        &mut machine.writer,
-    );
+    let beside = Beside {
+        notes: &notes,
+        diary: &diary,
+        came: &came,
+    };
+    let shown = run_desk_loan(machine.alloc, &desk, view, &beside, &mut machine.writer);
     drop(desk);
     all_well(shown)
 }

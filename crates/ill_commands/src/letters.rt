@@ -9,8 +9,7 @@ ghost use Rattle.ill_desk.specs.Send.{RunsSendAs};
 ghost use Rattle.ill_commands.specs.AtFile.{TakesAtFile};
 ghost use Rattle.ill_commands.specs.Letters.{OpensOrStays, SendsLetterAtFile, SendsWith, TakesLetter, TakesLetterAtFile, TakesWith};
 
-use crate::commands::{send, take, take_at};
-use ill_desk::take::TakeForm;
+use crate::commands::{TakeView, send, take, take_at};
 use ill_files::machine::Machine;
 use ill_files::open::{all_well, open, open_locked};
 use ill_key::Key;
@@ -23,11 +22,11 @@ use ill_values::{Number, TxnId};
 use std::io::{Read, Write};
 use std::rt::Files;
 
-/// How a letter is taken: the key that opens it, and the form of `take`.
+/// The way in which a letter is taken: the key that opens it, and the form of `take`.
 #[derive(Clone, Copy)]
-struct LetterForm<'a> {
+struct LetterForm<'a, 'b, 'c> {
     key: &'a Key,
-    form: TakeForm,
+    view: TakeView<'b, 'c>,
 }
 
 /// `ill take`: takes the messages of the input, or those of the letter on it if there is a file of a key.
@@ -35,15 +34,15 @@ pub fn take_with<T: LockFiles, R: Read, W: Write, E: Write>(
     machine: &mut Machine<'_, T, W, E>,
     file: &str,
     key_file: Option<&str>,
-    form: TakeForm,
+    view: &TakeView<'_, '_>,
     reader: &mut R,
 ) -> Result<bool, ToolFault>
-    ensures { TakesWith (option_map (λ file. file.now) key_file.entry) form (R.remaining reader.old) (R.remaining reader.new)
+    ensures { TakesWith (option_map (λ file. file.now) key_file.entry) view.now.form (R.remaining reader.old) (R.remaining reader.new)
         (W.contents machine.old.writer) (W.contents machine.new.writer) result }
 {
     match key_file {
-        Some(key_file) => take_letter(machine, file, key_file, form, reader),
-        None => take(machine, file, form, reader),
+        Some(key_file) => take_letter(machine, file, key_file, view, reader),
+        None => take(machine, file, view, reader),
     }
 }
 
@@ -70,15 +69,18 @@ fn take_letter<T: LockFiles, R: Read, W: Write, E: Write>(
     machine: &mut Machine<'_, T, W, E>,
     file: &str,
     key_file: &str,
-    form: TakeForm,
+    view: &TakeView<'_, '_>,
     reader: &mut R,
 ) -> Result<bool, ToolFault>
-    ensures { TakesLetterAtFile form (R.remaining reader.old) (R.remaining reader.new)
+    ensures { TakesLetterAtFile view.now.form (R.remaining reader.old) (R.remaining reader.new)
         (W.contents machine.old.writer) (W.contents machine.new.writer) result }
 {
     let key = read_key(machine.rt, key_file)?;
     let mut locked = open_locked(machine.rt, machine.alloc, file)?;
-    let letter = LetterForm { key: &key, form };
+    let letter = LetterForm {
+        key: &key,
+        view: *view,
+    };
     let taken = take_letter_at(machine, file, &mut locked.desk, &letter, reader);
     drop(locked);
     taken
@@ -90,18 +92,18 @@ fn take_letter_at<T: Files, S: Store, R: Read, W: Write, E: Write>(
     machine: &mut Machine<'_, T, W, E>,
     file: &str,
     desk: &mut Desk<S>,
-    letter: &LetterForm<'_>,
+    letter: &LetterForm<'_, '_, '_>,
     reader: &mut R,
 ) -> Result<bool, ToolFault>
     ensures taken { TakesLetter letter.now.key.now (other_sender (many_sides.role desk.old.live))
-        (TakesAtFile letter.now.form) (R.remaining reader.old) (R.remaining reader.new)
+        (TakesAtFile letter.now.view.form) (R.remaining reader.old) (R.remaining reader.new)
         (W.contents machine.old.writer) (W.contents machine.new.writer) result }
     ensures unchanged { OpensOrStays letter.now.key.now (other_sender (many_sides.role desk.old.live))
         (view_of S.state desk.new ≡ view_of S.state desk.old) (R.remaining reader.old) (R.remaining reader.new) }
 {
     let sender = other_sender(desk.role());
     match open_letter(machine.alloc, letter.key, sender, reader) {
-        Ok(text) => take_at(machine, file, desk, letter.form, &mut text.as_slice()),
+        Ok(text) => take_at(machine, file, desk, &letter.view, &mut text.as_slice()),
         Err(fault) => Err(fault),
     }
 }

@@ -1,15 +1,23 @@
 -- Derives the effect of the command `act` from the results of its calls.
-use Rattle.std.proofs.Common.{◌≡◌, inl, inr, Bool, true, false, [], Option, Some, None, Err, refl, sym, subst}
+use Rattle.std.proofs.Common.{◌≡◌, inl, inr, ℕ, Bool, true, false, List, [], Option, Some, None, Result, Ok, Err, refl, sym}
+use Rattle.std.proofs.Common.{subst}
 use Rattle.std.proofs.KnownBytes.{Appends-nil}
 use Rattle.ill_saved.specs.declared.side.Action.{Action}
+use Rattle.ill_saved.specs.declared.fault.DeskFault.{DeskFault}
+use Rattle.ill_saved.specs.declared.fault.DeskFault.TheVariants as desks
+use Rattle.ill_saved.specs.declared.shown.Shown.{Shown}
+use Rattle.ill_words.specs.declared.outcome.DeskOutcome.{DeskOutcome}
+use Rattle.ill_text.specs.Diary.{DiaryState}
+use Rattle.ill_text.specs.Fault.{refused}
 use Rattle.ill_text.specs.declared.fault.ToolFault.{ToolFault}
 use Rattle.ill_text.specs.declared.fault.ToolFault.TheVariants.{Arguments, OutOfMemory}
 use Rattle.ill_saved.specs.Holdings.{Effects}
 use Rattle.ill_saved.specs.ManySides.{DeskContents, many_sides}
 use Rattle.ill_desk.specs.Performing.{CommandState}
-use Rattle.ill_desk.specs.Act.{NamesNone, RunsAct}
-use Rattle.ill_desk.specs.ActAs.{Asking, IfSo, RunsActAs, RunsTrial, action_asked, is_as_seen}
-use Rattle.ill_desk.specs.Telling.{shown_at}
+use Rattle.ill_desk.specs.Act.{EntersDone, NamesNone, RunsAct, fine_of}
+use Rattle.ill_desk.specs.ActAs.{Asking, EntersUnlessTried, IfSo, RunsActAs, RunsTrial, WritesChange, action_asked, is_as_seen}
+use Rattle.ill_desk.specs.ActAs.{not_done}
+use Rattle.ill_desk.specs.Telling.{Words, WritesOutcome, is_fine, shown_at}
 
 module _ {L K : Type 0} (effects : Effects L K) (key : K) where
   -- `act` may return `OutOfMemory` if it writes and changes nothing, whatever action `named` is.
@@ -67,3 +75,46 @@ unseen asked now =
     each_holds (is_as_seen asked.seen (shown_at many_sides asked.txn now.desk.live)) asked.is_trial
     (trial_unread many_sides asked.txn action now) (words_unread many_sides asked.txn action now)
     (refl, (Err OutOfMemory, Appends-nil now.written, refl))
+
+-- ---- the diary
+
+-- An action that is refused, or fails before it is done, enters nothing.
+pub enters_nothing : (fault : DeskFault) (line : List ℕ) (now : DiaryState) → EntersDone (fine_of (refused fault)) line now now
+enters_nothing (desks.Core refusal) line now = refl
+enters_nothing desks.NoSuchTransaction line now = refl
+enters_nothing desks.DeskFull line now = refl
+enters_nothing fault line now = inr refl
+
+-- Whatever an action has entered, it may have entered after a fault of the writing.
+entered_or_not : (is_done : Bool) (fault : ToolFault) (line : List ℕ) (old new : DiaryState)
+    → EntersDone (Ok is_done) line old new → EntersDone (Err fault) line old new
+entered_or_not true fault line old new enters = inl enters
+entered_or_not false fault line old new same = inr same
+
+-- The line of an action tells if it was entered.
+pub enters_told : (words : Words) (before after : Option (List ℕ)) (outcome : DeskOutcome) (now : Shown)
+    (result : Result Bool ToolFault) (line : List ℕ) (old new : DiaryState)
+    → WritesOutcome words before after outcome now result → EntersDone (Ok (is_fine outcome)) line old new
+    → EntersDone result line old new
+enters_told words before after outcome now (Ok fine) line old new writes enters =
+    subst (λ (is : Bool). EntersDone (Ok is) line old new) (sym writes.2.0) enters
+enters_told words before after outcome now (Err fault) line old new writes enters =
+    entered_or_not (is_fine outcome) fault line old new enters
+
+-- A fault before the action enters nothing.
+pub enters_unasked : (is_trial : Bool) (fault : ToolFault) (line : List ℕ) (now : DiaryState)
+    → EntersUnlessTried is_trial (Err fault) line now now
+enters_unasked true fault line now = refl
+enters_unasked false fault line now = inr refl
+
+-- A loan that was not seen as it is enters nothing.
+pub enters_unseen : (is_trial : Bool) (shown : Shown) (before after : Option (List ℕ)) (result : Result Bool ToolFault)
+    (line : List ℕ) (now : DiaryState)
+    → WritesChange shown before after result → EntersUnlessTried is_trial result line now now
+enters_unseen is_trial shown before after result line now writes =
+    subst (λ (r : Result Bool ToolFault). EntersUnlessTried is_trial r line now now) (sym writes.2) (go is_trial writes.0)
+  where
+    go : (is_trial : Bool) (written : Result (Unit {0}) ToolFault) → EntersUnlessTried is_trial (not_done written) line now now
+    go true written = refl
+    go false (Ok done) = refl
+    go false (Err fault) = inr refl

@@ -1,13 +1,14 @@
 -- The command `act`: it performs one action, and saves it.
-use Rattle.std.specs.Prelude.{◌≡◌, ◌⊎◌, ℕ, Bool, List, [], Option, None, Some, Result, Err}
+use Rattle.std.specs.Prelude.{◌≡◌, ◌⊎◌, ℕ, Bool, true, false, List, [], Option, None, Some, Result, Ok, Err}
 use Rattle.std.specs.Io.KnownBytes.{Appends}
 use Rattle.ill_saved.specs.declared.side.Action.{Action}
 use Rattle.ill_words.specs.declared.outcome.DeskOutcome.{DeskOutcome}
 use Rattle.ill_text.specs.declared.fault.ToolFault.{ToolFault}
 use Rattle.ill_text.specs.declared.fault.ToolFault.TheVariants.{Arguments, OutOfMemory}
+use Rattle.ill_text.specs.Diary.{DiaryState, Enters}
 use Rattle.ill_saved.specs.Holdings.{Effects}
 use Rattle.ill_desk.specs.Performing.{HeldAndLanded, CommandState, acted, Performs}
-use Rattle.ill_desk.specs.Telling.{shown_at, side_line, Reports}
+use Rattle.ill_desk.specs.Telling.{is_fine, shown_at, side_line, Reports}
 
 -- An action on the side `key` leads from `old` to `new`, with this result. It was done and saved. Or it was
 -- refused, and nothing changed. Or it was done, and the save failed. Or memory ran out before it was done or
@@ -31,3 +32,17 @@ RunsAct effects key (Some action) old result new =
     × Reports side_line performed (shown_at effects key new.desk.live) text result
 RunsAct effects key None old result new =
     ((result ≡ Err Arguments) ⊎ (result ≡ Err OutOfMemory)) × (new.desk ≡ old.desk) × Appends old.written new.written []
+
+-- ---- the diary
+
+-- Returns true after an action that was done, false after one that was refused, or the fault.
+abbrev pub fine_of : Result DeskOutcome ToolFault → Result Bool ToolFault
+fine_of (Ok outcome) = Ok (is_fine outcome)
+fine_of (Err fault) = Err fault
+
+-- An action with this answer was entered in a diary: its line, if it was done, and nothing if it was not. After a fault it
+-- may have been entered, or not.
+abbrev pub EntersDone : Result Bool ToolFault → (line : List ℕ) → DiaryState → DiaryState → Type 0
+EntersDone (Ok true) line old new = Enters line old new
+EntersDone (Ok false) line old new = new ≡ old
+EntersDone (Err fault) line old new = Enters line old new ⊎ (new ≡ old)

@@ -1,5 +1,6 @@
 -- The command `act` of a person who says what was seen of the loan, or who asks what would come.
-use Rattle.std.specs.Prelude.{◌≡◌, ◌⊎◌, ℕ, Bool, true, false, if◌then◌else◌, List, ◌++◌, map, Option, None, Some, option_map}
+use Rattle.std.specs.Prelude.{◌≡◌, ◌⊎◌, ℕ, ◌+◌, Bool, true, false, if◌then◌else◌, List, [], ◌∷◌, ◌++◌, map, Option, None, Some}
+use Rattle.std.specs.Prelude.{option_map}
 use Rattle.std.specs.Prelude.{codes, Result, Ok, Err}
 use Rattle.std.specs.Str.{bytes_eq}
 use Rattle.std.specs.Io.KnownBytes.{Appends}
@@ -13,10 +14,11 @@ use Rattle.ill_words.specs.declared.outcome.DeskOutcome.{DeskOutcome}
 use Rattle.ill_words.specs.Shown.{shown_text}
 use Rattle.ill_text.specs.declared.fault.ToolFault.{ToolFault}
 use Rattle.ill_text.specs.declared.fault.ToolFault.TheVariants.{OutOfMemory}
+use Rattle.ill_text.specs.Diary.{DiaryState, diary_line}
 use Rattle.ill_text.specs.Output.{WritesText}
 use Rattle.ill_desk.specs.declared.act_as.ActionView.{ActionView}
 use Rattle.ill_desk.specs.Performing.{CommandState, HeldAndLanded, acted, is_change}
-use Rattle.ill_desk.specs.Act.{RunsAct}
+use Rattle.ill_desk.specs.Act.{EntersDone, RunsAct}
 use Rattle.ill_desk.specs.Actions.{action_named}
 use Rattle.ill_desk.specs.Telling.{Reports, once_saved, shown_at, side_line}
 
@@ -113,3 +115,21 @@ abbrev pub RunsActAs : Asking → CommandState DeskContents → Result Bool Tool
 RunsActAs asked old result new =
     IfSo (is_as_seen asked.seen (shown_at many_sides asked.txn old.desk.live)) (RunsOrTries asked old result new)
     (TellsChange (shown_at many_sides asked.txn old.desk.live) old result new)
+
+-- ---- the diary
+
+-- Returns the line of a diary that names an action with these words, as the next message of a loan with `issued` messages.
+-- Without a day there is none.
+abbrev pub words_line : Option Date → (by : Option (List ℕ)) → Qualifiers → (words : List (List ℕ)) → (issued : ℕ) → List ℕ
+words_line (Some day) by txn (verb ∷ words) issued = diary_line day by txn verb (issued + 1)
+words_line today by txn words issued = []
+
+-- Returns the line of a diary that names the action for which a person asks, as `words_line` does. There is none if it is
+-- only tried.
+abbrev pub action_line : Asking → (by : Option (List ℕ)) → (issued : ℕ) → List ℕ
+action_line asked by issued = if asked.is_trial then [] else words_line asked.today by asked.txn asked.words issued
+
+-- An action with this answer was entered in a diary, as `EntersDone` says. One that is only tried is not entered.
+abbrev pub EntersUnlessTried : (is_trial : Bool) → Result Bool ToolFault → (line : List ℕ) → DiaryState → DiaryState → Type 0
+EntersUnlessTried true answer line old new = new ≡ old
+EntersUnlessTried false answer line old new = EntersDone answer line old new

@@ -6,12 +6,14 @@ ghost use Rattle.ill_desk.specs.Actions.{action_named};
 ghost use Rattle.ill_saved.specs.OneSide.{one_side};
 ghost use Rattle.ill_saved.specs.ManySides.{many_sides};
 ghost use Rattle.ill_desk.specs.Performing.{command_state, view_of};
+ghost use Rattle.ill_text.specs.Diary.{diary_state};
 ghost use Rattle.ill_text.specs.Fault.{CountsToolFailure};
-ghost use Rattle.ill_desk.specs.Act.{ActsAndSaves, NamesNone, RunsAct};
+ghost use Rattle.ill_desk.specs.Act.{ActsAndSaves, EntersDone, NamesNone, RunsAct, fine_of};
 
 use crate::action::action;
 use crate::side_line::report;
 use ill_saved::{Action, AnyDesk, Desk, Desk1, Holdings, Role, Store};
+use ill_text::diary::Entry;
 use ill_text::fault::{ToolFault, refused};
 use ill_values::{Day, TxnId};
 use ill_words::{DeskOutcome, Outcome};
@@ -38,7 +40,7 @@ pub fn run_act<S: Store, W: Write>(
     ensures counted { CountsToolFailure result (S.state desk.old.store).failures (S.state desk.new.store).failures }
 {
     match named(alloc, desk.role(), today, words) {
-        Ok(action) => perform(alloc, desk, &(), &action, writer),
+        Ok(action) => perform(alloc, desk, &(), &action, &mut Entry::none(alloc), writer),
         Err(fault) => Err(fault),
     }
 }
@@ -61,7 +63,7 @@ pub fn run_desk_act<S: Store, W: Write>(
     ensures counted { CountsToolFailure result (S.state desk.old.store).failures (S.state desk.new.store).failures }
 {
     match named(alloc, desk.role(), today, words) {
-        Ok(action) => perform(alloc, desk, txn, &action, writer),
+        Ok(action) => perform(alloc, desk, txn, &action, &mut Entry::none(alloc), writer),
         Err(fault) => Err(fault),
     }
 }
@@ -83,45 +85,59 @@ pub(crate) fn named(
     }
 }
 
-/// Performs `action` on the side `key` of `desk`, saves it, and writes its line.
-fn perform<H: Holdings, S: Store, W: Write>(
+/// Performs `action` on the side `key` of `desk`, saves it, and writes its line. If it is done, `entry` is entered before
+/// the save.
+#[tactic(auto, using(crate::proofs::ActLemmas::enters_told))]
+pub(crate) fn perform<H: Holdings, S: Store, D: Write, W: Write>(
     alloc: Global,
     desk: &mut AnyDesk<H, S>,
     key: &H::Key,
     action: &Action,
+    entry: &mut Entry<D>,
     writer: &mut W,
 ) -> Result<bool, ToolFault>
     ensures runs { RunsAct H.effects key.now (Some action.now)
         (command_state (view_of S.state desk.old) (W.contents writer.old)) result
         (command_state (view_of S.state desk.new) (W.contents writer.new)) }
+    ensures entered { EntersDone result entry.old.line.items
+        (diary_state (D.contents entry.old.diary.stream) entry.old.diary.has_failed)
+        (diary_state (D.contents entry.new.diary.stream) entry.new.diary.has_failed) }
     ensures counted { CountsToolFailure result (S.state desk.old.store).failures
         (S.state desk.new.store).failures }
 {
-    match act_and_save(alloc, desk, key, action) {
+    match act_and_save(alloc, desk, key, action, entry) {
         Ok(outcome) => report(alloc, writer, outcome, desk.shown(key)),
         Err(fault) => Err(fault),
     }
 }
 
-/// Performs `action` on the side `key`, and saves it if it was done.
-fn act_and_save<H: Holdings, S: Store>(
+/// Performs `action` on the side `key`. If it was done, it enters `entry`, and then saves the desk.
+#[tactic(auto, using(crate::proofs::ActLemmas::enters_nothing))]
+fn act_and_save<H: Holdings, S: Store, D: Write>(
     alloc: Global,
     desk: &mut AnyDesk<H, S>,
     key: &H::Key,
     action: &Action,
+    entry: &mut Entry<D>,
 ) -> Result<DeskOutcome, ToolFault>
     ensures acts { ActsAndSaves H.effects key.now
         (view_of S.state desk.old)
         action.now result
         (view_of S.state desk.new) }
+    ensures entered { EntersDone (fine_of result) entry.old.line.items
+        (diary_state (D.contents entry.old.diary.stream) entry.old.diary.has_failed)
+        (diary_state (D.contents entry.new.diary.stream) entry.new.diary.has_failed) }
     ensures counted { CountsToolFailure result (S.state desk.old.store).failures
         (S.state desk.new.store).failures }
 {
     match desk.act_on(alloc, key, action) {
-        Ok(()) => match desk.save(alloc) {
-            Ok(()) => Ok(DeskOutcome::Plain(Outcome::Done)),
-            Err(fault) => Err(fault.into()),
-        },
+        Ok(()) => {
+            entry.enter();
+            match desk.save(alloc) {
+                Ok(()) => Ok(DeskOutcome::Plain(Outcome::Done)),
+                Err(fault) => Err(fault.into()),
+            }
+        }
         Err(fault) => refused(fault),
     }
 }

@@ -1,17 +1,20 @@
 //! The command `act` of a person who says what was seen of the loan, or who asks what would come.
 
-ghost use Rattle.std.specs.Prelude.{◌≡◌, map, option_map, Some, IfOk};
+ghost use Rattle.std.specs.Prelude.{◌≡◌, false, map, option_map, Some, IfOk};
 ghost use Rattle.ill_saved.specs.ManySides.{many_sides};
+ghost use Rattle.ill_text.specs.Diary.{diary_state};
 ghost use Rattle.ill_text.specs.Fault.{CountsToolFailure};
+ghost use Rattle.ill_desk.specs.Act.{RunsAct, EntersDone};
 ghost use Rattle.ill_desk.specs.Actions.{action_named};
 ghost use Rattle.ill_desk.specs.Performing.{command_state, view_of};
 ghost use Rattle.ill_desk.specs.Telling.{shown_at, WritesOutcome};
-ghost use Rattle.ill_desk.specs.ActAs.{asking_of, changed_line, is_as_seen, not_done, RunsActAs, RunsOrTries, RunsTrial, TriesAction, WritesChange, tried_shown, trial_line};
+ghost use Rattle.ill_desk.specs.ActAs.{EntersUnlessTried, action_line, asking_of, words_line, changed_line, is_as_seen, not_done, RunsActAs, RunsOrTries, RunsTrial, TriesAction, WritesChange, tried_shown, trial_line};
 
-use crate::act::{named, run_desk_act};
+use crate::act::{named, perform};
 use crate::side_line::report;
 use ill_core::Taking;
 use ill_saved::{Action, Desk, Shown, Store};
+use ill_text::diary::{Entry, Stamp, diary_line};
 use ill_text::fault::{ToolFault, refused};
 use ill_text::output::write_whole;
 use ill_values::{Day, OutOfMemory, TxnId};
@@ -26,6 +29,8 @@ pub struct ActionView<'a> {
     pub txn: &'a TxnId,
     /// The day of the action, if it is given.
     pub today: Option<Day>,
+    /// The name of the person who acts, if one is named.
+    pub by: Option<&'a str>,
     /// The words of the action.
     pub words: &'a [&'a str],
     /// The text that the loan was shown with, as `SHIPPED 20250315 2/2`, if the action is to be done on that alone.
@@ -34,45 +39,105 @@ pub struct ActionView<'a> {
     pub is_trial: bool,
 }
 
-/// Performs the action of `view`, as `run_desk_act` does. If `view` says what was seen, and the loan is shown otherwise
+/// Returns the line of a diary that names the action of `view` at `desk`, as the next message of its loan. There is none
+/// without a day, and if the action is only tried.
+pub fn action_line<S: Store>(
+    alloc: Global,
+    desk: &Desk<S>,
+    view: &ActionView<'_>,
+) -> Result<Vec<u8>, OutOfMemory>
+    ensures { IfOk result (λ line. line.items ≡ action_line (asking_of view.now) (option_map (λ name. name.now) view.now.by)
+        (shown_at many_sides view.now.txn.now desk.now.live).issued) }
+{
+    if view.is_trial {
+        return Ok(Vec::new(alloc));
+    }
+    words_line(alloc, view, desk.shown(view.txn).issued)
+}
+
+/// Returns the line of a diary that names the action of `view`, as the next message of a loan with `issued` messages.
+fn words_line(alloc: Global, view: &ActionView<'_>, issued: u8) -> Result<Vec<u8>, OutOfMemory>
+    ensures { IfOk result (λ line. line.items ≡ words_line view.now.today (option_map (λ name. name.now) view.now.by)
+        view.now.txn.now (map (λ word. word.now) view.now.words.now) issued) }
+{
+    let (Some(day), Some(verb)) = (view.today, view.words.first()) else {
+        return Ok(Vec::new(alloc));
+    };
+    let stamp = Stamp { day, by: view.by };
+    diary_line(alloc, &stamp, view.txn, verb, u32::from(issued) + 1)
+}
+
+/// Performs the action of `view`, as `run_desk_act` does. If it is done, `entry` is entered before the save. If `view` says what was seen, and the loan is shown otherwise
 /// now, nothing is done. Then a line with `changed` and what is shown is written, and the answer is false.
 ///
 /// If the action is only tried, its line is written as if it was done and saved, and nothing is saved. Let the desk go
 /// then: its sides in memory are those after the action.
-pub fn run_desk_act_as<S: Store, W: Write>(
+#[tactic(auto, using(crate::proofs::ActLemmas::enters_unasked, crate::proofs::ActLemmas::enters_unseen))]
+pub fn run_desk_act_as<S: Store, D: Write, W: Write>(
     alloc: Global,
     desk: &mut Desk<S>,
     view: &ActionView<'_>,
+    entry: &mut Entry<D>,
     writer: &mut W,
 ) -> Result<bool, ToolFault>
     ensures runs { RunsActAs (asking_of view.now)
         (command_state (view_of S.state desk.old) (W.contents writer.old)) result
         (command_state (view_of S.state desk.new) (W.contents writer.new)) }
+    ensures entered { EntersUnlessTried view.now.is_trial result entry.old.line.items
+        (diary_state (D.contents entry.old.diary.stream) entry.old.diary.has_failed)
+        (diary_state (D.contents entry.new.diary.stream) entry.new.diary.has_failed) }
     ensures counted { CountsToolFailure result (S.state desk.old.store).failures (S.state desk.new.store).failures }
 {
     match is_as_seen(alloc, view.seen, desk.shown(view.txn)) {
-        Ok(true) => act_or_try(alloc, desk, view, writer),
+        Ok(true) => act_or_try(alloc, desk, view, entry, writer),
         Ok(false) => tell_change(alloc, desk.shown(view.txn), writer),
         Err(_) => Err(ToolFault::OutOfMemory),
     }
 }
 
 /// Performs the action of `view`, or tries it. The loan was seen as it is.
-fn act_or_try<S: Store, W: Write>(
+fn act_or_try<S: Store, D: Write, W: Write>(
     alloc: Global,
     desk: &mut Desk<S>,
     view: &ActionView<'_>,
+    entry: &mut Entry<D>,
     writer: &mut W,
 ) -> Result<bool, ToolFault>
     ensures runs { RunsOrTries (asking_of view.now)
         (command_state (view_of S.state desk.old) (W.contents writer.old)) result
         (command_state (view_of S.state desk.new) (W.contents writer.new)) }
+    ensures entered { EntersUnlessTried view.now.is_trial result entry.old.line.items
+        (diary_state (D.contents entry.old.diary.stream) entry.old.diary.has_failed)
+        (diary_state (D.contents entry.new.diary.stream) entry.new.diary.has_failed) }
     ensures counted { CountsToolFailure result (S.state desk.old.store).failures (S.state desk.new.store).failures }
 {
     if view.is_trial {
         try_words(alloc, desk, view, writer)
     } else {
-        run_desk_act(alloc, desk, view.txn, view.today, view.words, writer)
+        act_words(alloc, desk, view, entry, writer)
+    }
+}
+
+/// Performs the action of `view`, as `run_desk_act` does. If it is done, `entry` is entered before the save.
+fn act_words<S: Store, D: Write, W: Write>(
+    alloc: Global,
+    desk: &mut Desk<S>,
+    view: &ActionView<'_>,
+    entry: &mut Entry<D>,
+    writer: &mut W,
+) -> Result<bool, ToolFault>
+    ensures runs { RunsAct many_sides view.now.txn.now
+        (action_named desk.old.live.role view.now.today (map (λ word. word.now) view.now.words.now))
+        (command_state (view_of S.state desk.old) (W.contents writer.old)) result
+        (command_state (view_of S.state desk.new) (W.contents writer.new)) }
+    ensures entered { EntersDone result entry.old.line.items
+        (diary_state (D.contents entry.old.diary.stream) entry.old.diary.has_failed)
+        (diary_state (D.contents entry.new.diary.stream) entry.new.diary.has_failed) }
+    ensures counted { CountsToolFailure result (S.state desk.old.store).failures (S.state desk.new.store).failures }
+{
+    match named(alloc, desk.role(), view.today, view.words) {
+        Ok(action) => perform(alloc, desk, view.txn, &action, entry, writer),
+        Err(fault) => Err(fault),
     }
 }
 

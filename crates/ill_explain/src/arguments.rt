@@ -9,6 +9,7 @@ use clap::ArgMatches;
 use ill_core::{STATES, State};
 use ill_line::command_line::{Argument, Name};
 use ill_saved::LockFiles;
+use ill_text::diary::is_name;
 use ill_values::{OutOfMemory, TextFault, TxnId};
 use ill_words::words::{number, who};
 use std::alloc::Global;
@@ -41,12 +42,19 @@ fn tell_together<T: LockFiles>(
     name: Name,
     matches: &ArgMatches<'_>,
 ) -> Result<(), OutOfMemory> {
+    if has_name_without_day(matches) {
+        return writeln!(text, "  --by names who acts on a day: give --today too.");
+    }
     match name {
         Name::Act => tell_action(rt, alloc, text, matches),
         Name::Note => tell_note(alloc, text, matches),
         Name::Outbox => writeln!(
             text,
             "  Say where the messages go: a folder, or --stream, and not both."
+        ),
+        Name::Take => writeln!(
+            text,
+            "  --today is for messages that are kept: give --keep too."
         ),
         Name::Key => writeln!(
             text,
@@ -58,6 +66,12 @@ fn tell_together<T: LockFiles>(
         ),
         _ => Ok(()),
     }
+}
+
+/// Returns true if the name of a person is given, but no day.
+fn has_name_without_day(matches: &ArgMatches<'_>) -> bool {
+    matches.get_str(Argument::By.id()).is_some()
+        && matches.get_str(Argument::NightDay.id()).is_none()
 }
 
 /// Appends a line about `argument`, if it is wrong.
@@ -77,6 +91,7 @@ fn tell_argument(
         | Argument::DueBefore
         | Argument::ReportDay
         | Argument::NightDay => tell_day(text, word),
+        Argument::By => tell_name(text, word),
         Argument::InState => tell_state(alloc, text, word),
         Argument::Number => tell_number(text, word),
         Argument::Last => tell_last(text, word),
@@ -91,6 +106,18 @@ fn tell_role(text: &mut String, word: &str) -> Result<(), OutOfMemory> {
     }
     let shown = Shown::of(word);
     writeln!(text, "  {shown} is no role: it is requester or responder.")
+}
+
+/// Appends a line about the name of a person, if it is none for the diary.
+fn tell_name(text: &mut String, word: &str) -> Result<(), OutOfMemory> {
+    if is_name(word) {
+        return Ok(());
+    }
+    let shown = Shown::of(word);
+    writeln!(
+        text,
+        "  {shown} is no name for the diary: it may have no space, and is not `-`."
+    )
 }
 
 /// Appends a line about a qualifier of a loan, if it is invalid.

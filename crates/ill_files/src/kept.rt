@@ -1,17 +1,17 @@
-//! The files beside a desk to which commands append: the messages that came, and the notes of staff. No decision of a
-//! command depends on one.
+//! The files beside a desk to which commands append: the messages that came, the notes of staff and the diary. No
+//! decision of a command depends on one.
 
 ghost use Rattle.std.specs.Prelude.{IfErr};
 ghost use Rattle.ill_text.specs.Fault.{IsOpenFault};
 
-use crate::paths::{CAME, NOTES};
+use crate::paths::{CAME, DIARY, NOTES};
 use ill_der::{DerFault, Feed};
 use ill_saved::{DeskFault, FileStore, RECORD_LIMIT, Store};
 use ill_text::fault::{STORE_FAILED, ToolFault};
 use ill_values::OutOfMemory;
 use std::alloc::Global;
-use std::fs::{OpenFile, OpenOptions};
-use std::io::Write;
+use std::fs::{Metadata, OpenFile, OpenOptions};
+use std::io::{ErrorKind, Write};
 use std::os::unix::fs::{MetadataExt, OpenOptionsExt, lchown};
 use std::rt::Files;
 use std::{fs, io};
@@ -23,6 +23,8 @@ pub enum Kept {
     Came,
     /// The notes of staff on loans, a line a note.
     Notes,
+    /// The diary, a line for each message that was issued or taken.
+    Diary,
 }
 
 impl Kept {
@@ -31,6 +33,7 @@ impl Kept {
         match self {
             Kept::Came => CAME,
             Kept::Notes => NOTES,
+            Kept::Diary => DIARY,
         }
     }
 
@@ -40,7 +43,7 @@ impl Kept {
     {
         match self {
             Kept::Came => torn_message(alloc, bytes),
-            Kept::Notes => Ok(torn_line(bytes)),
+            Kept::Notes | Kept::Diary => Ok(torn_line(bytes)),
         }
     }
 }
@@ -138,14 +141,32 @@ fn load<T: Files>(rt: &T, alloc: Global, path: &str) -> Result<Option<Vec<u8>>, 
 }
 
 /// Makes the file at `path`, with the group and the permissions of the file `desk`. It gets the owner of that file too,
-/// if the system allows that. If the group cannot be set, only the owner may read or write the new file.
+/// if the system allows that. If the group cannot be set, only the owner may read or write the new file. So it is too
+/// if the desk is not saved yet.
 fn make<T: Files>(rt: &T, path: &str, desk: &str) -> io::Result<()> {
-    let other = fs::symlink_metadata(rt, desk)?;
+    let other = metadata_of(rt, desk)?;
     let mut options = OpenOptions::new();
     options.write(true);
     options.create_new(true);
     options.mode(0o600);
     let file = options.open(rt, path)?;
+    match other {
+        Some(other) => share(rt, path, &file, &other),
+        None => Ok(()),
+    }
+}
+
+/// Returns the metadata of the file at `path`, if it is there.
+fn metadata_of<T: Files>(rt: &T, path: &str) -> io::Result<Option<Metadata>> {
+    match fs::symlink_metadata(rt, path) {
+        Ok(found) => Ok(Some(found)),
+        Err(error) if error.kind() == ErrorKind::NotFound => Ok(None),
+        Err(error) => Err(error),
+    }
+}
+
+/// Gives `file`, at `path`, the group, the permissions and the owner that `other` tells, as `make` does.
+fn share<T: Files>(rt: &T, path: &str, file: &T::File, other: &Metadata) -> io::Result<()> {
     if lchown(rt, path, None, Some(other.gid())).is_ok() {
         file.set_permissions(other.permissions())?;
         let _ = lchown(rt, path, Some(other.uid()), None);

@@ -3,6 +3,7 @@
 #![tactic(auto)]
 
 pub mod came;
+pub mod diary;
 pub mod durable;
 pub mod folder;
 pub mod home;

@@ -19,8 +19,14 @@ pub const CAME: &str = ".came";
 /// The ending of the name of the file of notes, after the name of the desk's file.
 pub const NOTES: &str = ".notes";
 
+/// The ending of the name of the file of the diary, after the name of the desk's file.
+pub const DIARY: &str = ".diary";
+
+/// The endings of the names of the files to which commands append.
+pub const KEPT: [&str; 3] = [CAME, NOTES, DIARY];
+
 /// The endings of the names of the files, and of the folder, that lie beside the file of a desk.
-pub const BESIDE: [&str; 6] = [".new", ".lck", CAME, NOTES, MAIL, RETIRED];
+pub const BESIDE: [&str; 7] = [".new", ".lck", CAME, NOTES, DIARY, MAIL, RETIRED];
 
 /// The number of bytes of names that are read from a folder at once. Any name fits.
 const NAMES: usize = 4096;

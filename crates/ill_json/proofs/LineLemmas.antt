@@ -215,10 +215,10 @@ status_are entries each = lines_each fields_of_status entries (each_line entries
     )
 
 -- The text of `loan` is an object line.
-pub loan_is : (notes : List (List ℕ)) (entry : DeskEntry) (came : List Apdu) → IsEntry entry → Each IsApdu came
-    → IsObjectLine (loan_text Object (note_of notes (txn_of entry.side)) entry came)
+pub loan_is : (notes diary : List (List ℕ)) (entry : DeskEntry) (came : List Apdu) → IsEntry entry → Each IsApdu came
+    → IsObjectLine (loan_text Object (note_of notes (txn_of entry.side)) diary entry came)
     (fields_of_loan (note_of notes (txn_of entry.side)) entry came)
-loan_is notes entry came is each =
+loan_is notes diary entry came is each =
     let words = note_of notes (txn_of entry.side) in
     line_is (fields_of_loan words entry came)
     (each_append (FieldReads 2) (kept_fields entry came) (note_fields words)

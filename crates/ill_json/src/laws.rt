@@ -54,9 +54,10 @@ pub fn status_is_json()
 {}
 
 /// The line of `loan` is an object of JSON with the fields of a side. It has the messages that came, and the note, too.
+/// No diary changes it.
 pub fn loan_is_json()
-    ensures { (notes : List (List ℕ)) (entry : DeskEntry) (came : List Apdu) → IsEntry entry → Each IsApdu came →
-        IsObjectLine (loan_text Object (note_of notes (txn_of entry.side)) entry came)
+    ensures { (notes diary : List (List ℕ)) (entry : DeskEntry) (came : List Apdu) → IsEntry entry → Each IsApdu came →
+        IsObjectLine (loan_text Object (note_of notes (txn_of entry.side)) diary entry came)
         (fields_of_loan (note_of notes (txn_of entry.side)) entry came) }
 {}
 

@@ -117,6 +117,23 @@ refused_on (Some value) next (Fault Arguments) right = search rules
 refused_on (Some value) next (Fault OutOfMemory) right = right
 refused_on (Some value) next (Fault other) right = search rules
 
+-- A right refusal of an argument is a right refusal of what is made of it.
+pub refused_mapped : {A B : Type 0} (said : Option A) (of : A → B) (refusal : Refusal)
+    → IsRefusal (is_none said) refusal → IsRefusal (is_none (option_map of said)) refusal
+refused_mapped None of refusal right = right
+refused_mapped (Some value) of refusal right = right
+
+-- If the first argument is read, a right refusal of the rest is a right refusal of the request.
+pub refused_at : {A B : Type 0} (first : Option A) (value : A) (rest : A → Option B) (refusal : Refusal)
+    → first ≡ Some value → IsRefusal (is_none (rest value)) refusal → IsRefusal (is_none (first >>= rest)) refusal
+refused_at {A} first value rest refusal is right =
+    subst (λ (said : Option A). IsRefusal (is_none (said >>= rest)) refusal) (sym is) right
+
+-- If the first argument is read, what is right of the rest is right of the request.
+pub said_at : {A B : Type 0} (first : Option A) (value : A) (rest : A → Option B) (result : Option B)
+    → first ≡ Some value → rest value ≡ result → (first >>= rest) ≡ result
+said_at {A} first value rest result is right = subst (λ (said : Option A). (said >>= rest) ≡ result) (sym is) right
+
 -- If the first argument is read, a right refusal of the second is a right refusal of the request.
 pub refused_after : {A B C : Type 0} (first : Option A) (value : A) (second : Option B) (next : A → B → Option C)
     (refusal : Refusal)
@@ -179,8 +196,8 @@ let_if false asked is = refl
 -- A request that `unless_option` returns is the request that it was given.
 let_through : (words : List (List ℕ)) (asked : Asked) → is_none (unless_option words asked) ≡ false
     → unless_option words asked ≡ Some asked
-let_through words (Act file asking is_long is_new_group) is =
-    let_if (has_option words asking.words) (Act file asking is_long is_new_group) is
+let_through words (Act file asking by is_long is_new_group) is =
+    let_if (has_option words asking.words) (Act file asking by is_long is_new_group) is
 let_through words (Note file txn note) is = let_if (has_option words note) (Note file txn note) is
 let_through words other is = refl
 

@@ -1,7 +1,7 @@
 -- The requests of command lines: each is read from the words after the word of a command (this profile's
 -- own).
 use Rattle.std.specs.Prelude.{◌≡◌, ℕ, Bool, true, false, ◌||◌, if◌then◌else◌, List, map, codes, Option, None, Some, option_map}
-use Rattle.std.specs.Prelude.{is_none, Result, Ok, Err, is_ok, ◌-◌, ◌&&◌, ◌==◌, not, [], ◌∷◌, length, slice_get, take}
+use Rattle.std.specs.Prelude.{is_none, is_some, Result, Ok, Err, is_ok, ◌-◌, ◌&&◌, ◌==◌, not, [], ◌∷◌, length, slice_get, take}
 use Rattle.std.specs.List.{list_any}
 use Rattle.std.specs.Result.{result_ok}
 use Rattle.std.specs.Str.{bytes_eq}
@@ -22,6 +22,7 @@ use Rattle.ill_key.specs.declared.key.KeyDeed.TheVariants as deeds
 use Rattle.ill_show.specs.Loan.{loan_form}
 use Rattle.ill_show.specs.Notes.{is_note, note_text}
 use Rattle.ill_show.specs.declared.loan.LoanForm.{LoanForm}
+use Rattle.ill_text.specs.Diary.{Stamped, is_name, stamped}
 use Rattle.ill_text.specs.declared.form.Form.{Form}
 use Rattle.ill_text.specs.declared.form.Form.TheVariants as forms
 use Rattle.ill_night.specs.declared.dates.Dates.{Dates}
@@ -41,7 +42,7 @@ use Rattle.ill_line.specs.declared.command_line.Argument.TheVariants.{NewFile, F
 use Rattle.ill_line.specs.declared.command_line.Argument.TheVariants.{Words, Number, Long, Keep, Picture, Open, Mine, Json, Paths}
 use Rattle.ill_line.specs.declared.command_line.Argument.TheVariants.{OnDay, DueBefore, InState, ReportDay, OutFolder, Stream, In}
 use Rattle.ill_line.specs.declared.command_line.Argument.TheVariants.{Out, NightDay, Overdue, Expire, Copy, Beat, NewGroup, Ahead}
-use Rattle.ill_line.specs.declared.command_line.Argument.TheVariants.{DryRun, Seen}
+use Rattle.ill_line.specs.declared.command_line.Argument.TheVariants.{By, DryRun, Seen}
 use Rattle.ill_line.specs.declared.command_line.Argument.TheVariants.{Actions, Last, Title, NoteWords, Find, Notes}
 use Rattle.ill_line.specs.declared.command_line.Argument.TheVariants.{KeyFile, ShowKey, ReadKey}
 use Rattle.ill_line.specs.CommandLine.{name_read, id_of, is_option}
@@ -104,6 +105,40 @@ day_said (Some word) = option_map Some (day_of word)
 -- Returns the day of the optional argument `argument`, as `day_said` does.
 abbrev pub day_in : Argument → Found → Option (Option Date)
 day_in argument found = day_said (text_of argument found)
+
+-- Returns the name that an optional word spells. It is Some None without a word, and None if the word is no name. None too
+-- if a name is given without a day.
+abbrev pub name_said : (has_day : Bool) → Option (List ℕ) → Option (Option (List ℕ))
+name_said has_day None = Some None
+name_said has_day (Some word) = option_map Some (text_if (has_day && is_name word) word)
+
+-- Returns the name of the person who gives the command, as `name_said` does.
+abbrev pub name_in : (has_day : Bool) → Found → Option (Option (List ℕ))
+name_in has_day found = name_said has_day (text_of By found)
+
+-- Returns the day in `argument`, and the name of the person who gives the command, if they are valid.
+abbrev pub day_and_name_of : Argument → Found → Option (Option Date × Option (List ℕ))
+day_and_name_of argument found =
+    day_in argument found >>= λ today. option_map (λ by. (today, by)) (name_in (is_some today) found)
+
+-- Returns the stamp of a day and a name, if there is a day.
+abbrev pub stamp_on : Option Date × Option (List ℕ) → Option Stamped
+stamp_on (None, by) = None
+stamp_on (Some day, by) = Some (record { day = day; by = by })
+
+-- Returns the stamp of the lines of the diary. It is Some None if no day is given.
+abbrev pub stamp_of : Found → Option (Option Stamped)
+stamp_of found = option_map stamp_on (day_and_name_of NightDay found)
+
+-- Returns the stamp, unless there is one and no message is kept.
+abbrev pub stamp_unless : (is_kept : Bool) → Option Stamped → Option (Option Stamped)
+stamp_unless is_kept None = Some None
+stamp_unless true (Some stamp) = Some (Some stamp)
+stamp_unless false (Some stamp) = None
+
+-- Returns the stamp of the lines of the diary, as `stamp_of` does. Only a command that keeps messages may have one.
+abbrev pub stamp_if : (is_kept : Bool) → Found → Option (Option Stamped)
+stamp_if is_kept found = stamp_of found >>= stamp_unless is_kept
 
 -- Returns the day of a report, if it is one.
 abbrev pub report_day_of : Found → Option Date
@@ -226,6 +261,10 @@ dates_on dates (Some today) = if dates.overdue || dates.expire then Some (Some (
 abbrev pub dates_of : Found → Option (Option (Date × Dates))
 dates_of found = day_in NightDay found >>= dates_on (wanted_dates found)
 
+-- Returns the deeds of a night with their day, and the stamp of the lines of the diary.
+abbrev pub dates_and_stamp_of : Found → Option (Option (Date × Dates) × Option Stamped)
+dates_and_stamp_of found = dates_of found >>= λ dates. option_map (λ stamp. (dates, stamp)) (stamp_of found)
+
 -- Returns what `key` does, by its flags. It is None if both are set.
 abbrev pub deed_by : (is_shown is_read : Bool) → Option KeyDeed
 deed_by true true = None
@@ -246,11 +285,12 @@ pub data Asked : Type 0 where
   Simulate : (group transaction : List ℕ) → Asked
   SimulateDesks : Asked
   New : (file : List ℕ) → (role : Role) → Asked
-  Act : (file : List ℕ) → (asking : Asking) → (is_long is_new_group : Bool) → Asked
-  Take : (file : List ℕ) → (form : TakeForm) → (key : Option (List ℕ)) → Asked
-  Inbox : (file folder : List ℕ) → Asked
+  Act : (file : List ℕ) → (asking : Asking) → (by : Option (List ℕ)) → (is_long is_new_group : Bool) → Asked
+  Take : (file : List ℕ) → (form : TakeForm) → (stamp : Option Stamped) → (key : Option (List ℕ)) → Asked
+  Inbox : (file folder : List ℕ) → (stamp : Option Stamped) → Asked
   Outbox : (file : List ℕ) → (folder : Option (List ℕ)) → Asked
-  Exchange : (file incoming outgoing : List ℕ) → (dates : Option (Date × Dates)) → (copy beat : Option (List ℕ)) → Asked
+  Exchange : (file incoming outgoing : List ℕ) → (dates : Option (Date × Dates)) → (stamp : Option Stamped) →
+      (copy beat : Option (List ℕ)) → Asked
   Key : (file : List ℕ) → (deed : KeyDeed) → Asked
   Send : (file : List ℕ) → (txn : Qualifiers) → (number : ℕ) → (key : Option (List ℕ)) → Asked
   Listing : (paths : List (List ℕ)) → (wanted : Wanted) → (find : Option (List ℕ)) → (form : Form) → Asked
@@ -270,20 +310,21 @@ asked requests.Check = Check
 asked (requests.Simulate group transaction) = Simulate group.now transaction.now
 asked requests.SimulateDesks = SimulateDesks
 asked (requests.New file role) = New file.now role
-asked (requests.Act file txn today seen is_trial is_long is_new_group words) =
+asked (requests.Act file txn today by seen is_trial is_long is_new_group words) =
     Act file.now (record {
       txn = txn;
       today = today;
       words = map (λ word. word.now) words.items;
       seen = option_map (λ text. text.now) seen;
       is_trial = is_trial;
-    }) is_long is_new_group
-asked (requests.Take file form key) = Take file.now form (option_map (λ text. text.now) key)
-asked (requests.Inbox file folder) = Inbox file.now folder.now
+    }) (option_map (λ name. name.now) by) is_long is_new_group
+asked (requests.Take file form stamp key) =
+    Take file.now form (option_map stamped stamp) (option_map (λ text. text.now) key)
+asked (requests.Inbox file folder stamp) = Inbox file.now folder.now (option_map stamped stamp)
 asked (requests.Outbox file folder) = Outbox file.now (option_map (λ text. text.now) folder)
 asked (requests.Exchange file night) =
-    Exchange file.now night.incoming.now night.outgoing.now night.dates (option_map (λ text. text.now) night.copy)
-    (option_map (λ text. text.now) night.beat)
+    Exchange file.now night.incoming.now night.outgoing.now night.dates (option_map stamped night.stamp)
+    (option_map (λ text. text.now) night.copy) (option_map (λ text. text.now) night.beat)
 asked (requests.Key file deed) = Key file.now deed
 asked (requests.Send file txn number key) = Send file.now txn number (option_map (λ text. text.now) key)
 asked (requests.List paths wanted find form) =
@@ -301,11 +342,11 @@ asked (requests.Verify file) = Verify file.now
 -- returns the file of a key.
 abbrev pub desk_at_stake : Asked → Option (List ℕ)
 desk_at_stake (New file role) = Some file
-desk_at_stake (Act file asking is_long is_new_group) = Some file
-desk_at_stake (Take file form key) = Some file
-desk_at_stake (Inbox file folder) = Some file
+desk_at_stake (Act file asking by is_long is_new_group) = Some file
+desk_at_stake (Take file form stamp key) = Some file
+desk_at_stake (Inbox file folder stamp) = Some file
 desk_at_stake (Outbox file folder) = Some file
-desk_at_stake (Exchange file incoming outgoing dates copy beat) = Some file
+desk_at_stake (Exchange file incoming outgoing dates stamp copy beat) = Some file
 desk_at_stake (Key file deed) = Some file
 desk_at_stake (Send file txn number key) = Some file
 desk_at_stake (Note file txn words) = Some file
@@ -326,23 +367,25 @@ asked_of names.New found = do
   Some (New file role)
 asked_of names.Act found = do
   file ← text_of File found
-  today ← day_in Today found
+  both ← day_and_name_of Today found
   txn ← loan_of found
   words ← texts_of Words found
   Some (Act file (record {
     txn = txn;
-    today = today;
+    today = both.0;
     words = words;
     seen = text_of Seen found;
     is_trial = is_set DryRun found;
-  }) (is_set Title found) (is_set NewGroup found))
+  }) both.1 (is_set Title found) (is_set NewGroup found))
 asked_of names.Take found = do
   file ← text_of File found
-  Some (Take file (record { is_long = is_set Long found; is_kept = is_set Keep found }) (text_of arguments.Key found))
+  stamp ← stamp_if (is_set Keep found) found
+  Some (Take file (record { is_long = is_set Long found; is_kept = is_set Keep found }) stamp (text_of arguments.Key found))
 asked_of names.Inbox found = do
   file ← text_of File found
   folder ← text_of Folder found
-  Some (Inbox file folder)
+  stamp ← stamp_of found
+  Some (Inbox file folder stamp)
 asked_of names.Outbox found = do
   file ← text_of File found
   folder ← outlet_of found
@@ -351,8 +394,8 @@ asked_of names.Exchange found = do
   file ← text_of File found
   incoming ← text_of In found
   outgoing ← text_of Out found
-  dates ← dates_of found
-  Some (Exchange file incoming outgoing dates (text_of Copy found) (text_of Beat found))
+  both ← dates_and_stamp_of found
+  Some (Exchange file incoming outgoing both.0 both.1 (text_of Copy found) (text_of Beat found))
 asked_of names.Key found = do
   file ← new_file_of KeyFile found
   deed ← deed_of found
@@ -426,8 +469,8 @@ has_option words action =
 
 -- Returns the request of the command line `words`, unless an option is among the words of its action or its note.
 abbrev pub unless_option : (words : List (List ℕ)) → Asked → Option Asked
-unless_option words (Act file asking is_long is_new_group) =
-    if has_option words asking.words then None else Some (Act file asking is_long is_new_group)
+unless_option words (Act file asking by is_long is_new_group) =
+    if has_option words asking.words then None else Some (Act file asking by is_long is_new_group)
 unless_option words (Note file txn note) = if has_option words note then None else Some (Note file txn note)
 unless_option words other = Some other
 

@@ -11,7 +11,7 @@ use Rattle.ill_line.specs.declared.command_line.Argument.TheVariants.{NewFile, F
 use Rattle.ill_line.specs.declared.command_line.Argument.TheVariants.{Words, Number, Long, Keep, Picture, Open, Mine, Json, Paths}
 use Rattle.ill_line.specs.declared.command_line.Argument.TheVariants.{OnDay, DueBefore, InState, ReportDay, OutFolder, Stream, In}
 use Rattle.ill_line.specs.declared.command_line.Argument.TheVariants.{Out, NightDay, Overdue, Expire, Copy, Beat, NewGroup, Ahead}
-use Rattle.ill_line.specs.declared.command_line.Argument.TheVariants.{DryRun, Seen}
+use Rattle.ill_line.specs.declared.command_line.Argument.TheVariants.{By, DryRun, Seen}
 use Rattle.ill_line.specs.declared.command_line.Argument.TheVariants.{Actions, Last, Title, NoteWords, Find, Notes}
 use Rattle.ill_line.specs.declared.command_line.Argument.TheVariants.{KeyFile, ShowKey, ReadKey}
 use Rattle.ill_line.specs.declared.command_line.Argument.TheVariants as arguments
@@ -80,6 +80,7 @@ id_of Expire = codes "expire"
 id_of Copy = codes "copy"
 id_of Beat = codes "beat"
 id_of NewGroup = codes "new-group"
+id_of By = codes "by"
 id_of Seen = codes "seen"
 id_of DryRun = codes "dry-run"
 id_of Ahead = codes "ahead"
@@ -95,8 +96,8 @@ id_of ReadKey = codes "read"
 -- All options of the program.
 abbrev pub options : List (List ℕ)
 options =
-    codes "--today" ∷ codes "--seen" ∷ codes "--dry-run" ∷ codes "--ahead" ∷ codes "--due-before" ∷ codes "--state"
-    ∷ codes "--find"
+    codes "--today" ∷ codes "--by" ∷ codes "--seen" ∷ codes "--dry-run" ∷ codes "--ahead" ∷ codes "--due-before"
+    ∷ codes "--state" ∷ codes "--find"
     ∷ codes "--copy" ∷ codes "--beat"
     ∷ codes "--stream" ∷ codes "--overdue" ∷ codes "--expire" ∷ codes "--long" ∷ codes "--keep" ∷ codes "--picture"
     ∷ codes "--open" ∷ codes "--mine" ∷ codes "--actions" ∷ codes "--notes" ∷ codes "--json" ∷ codes "--new-group"

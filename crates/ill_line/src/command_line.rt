@@ -199,6 +199,7 @@ impl Name {
                 Argument::Group,
                 Argument::Transaction,
                 Argument::Today,
+                Argument::By,
                 Argument::Seen,
                 Argument::DryRun,
                 Argument::Title,
@@ -208,15 +209,23 @@ impl Name {
                 Argument::File,
                 Argument::Long,
                 Argument::Keep,
+                Argument::NightDay,
+                Argument::By,
                 Argument::Key,
             ],
-            Name::Inbox => &[Argument::File, Argument::Folder],
+            Name::Inbox => &[
+                Argument::File,
+                Argument::Folder,
+                Argument::NightDay,
+                Argument::By,
+            ],
             Name::Outbox => &[Argument::File, Argument::OutFolder, Argument::Stream],
             Name::Exchange => &[
                 Argument::File,
                 Argument::In,
                 Argument::Out,
                 Argument::NightDay,
+                Argument::By,
                 Argument::Overdue,
                 Argument::Expire,
                 Argument::Copy,
@@ -331,7 +340,7 @@ pub enum Argument {
     In,
     /// The folder of the mails that are to go.
     Out,
-    /// The day of an exchange.
+    /// The day on which mails or APDUs are taken.
     NightDay,
     /// Set if a responder says of each overdue loan that it is overdue.
     Overdue,
@@ -346,6 +355,8 @@ pub enum Argument {
     Transaction,
     /// The day of an action.
     Today,
+    /// The name of the person who gives a command.
+    By,
     /// What was shown of the loan before an action.
     Seen,
     /// Set if an action is only tried.
@@ -421,6 +432,7 @@ impl Argument {
             Argument::Group => "GROUP",
             Argument::Transaction => "TRANSACTION",
             Argument::Today | Argument::OnDay | Argument::ReportDay | Argument::NightDay => "today",
+            Argument::By => "by",
             Argument::Seen => "seen",
             Argument::DryRun => "dry-run",
             Argument::Words | Argument::NoteWords => "WORDS",
@@ -465,6 +477,7 @@ impl Argument {
             Argument::Group => "The group qualifier of the loan",
             Argument::Transaction => "The transaction qualifier of the loan",
             Argument::Today => "The day of the action, as 20250301; a responder needs it",
+            Argument::By => "The name of who gives the command, for FILE.diary",
             Argument::Seen => "Act only if this is what was shown of the loan",
             Argument::DryRun => "Tell what would come, and save nothing",
             Argument::Title => "Write the item of the loan below the line",
@@ -500,6 +513,7 @@ impl Argument {
         let arg = Arg::new(alloc, self.id()).help(self.help());
         match self {
             Argument::Today | Argument::OnDay | Argument::NightDay => valued(arg, "today", "DAY"),
+            Argument::By => valued(arg, "by", "NAME"),
             Argument::Seen => valued(arg, "seen", "TEXT"),
             Argument::DryRun => arg.long("dry-run").action(ArgAction::SetTrue),
             Argument::Copy => arg.long("copy").value_name("FILE"),
@@ -566,8 +580,9 @@ fn valued<'a>(arg: Arg<'a>, name: &'a str, value: &'a str) -> Arg<'a> {
 }
 
 /// All options of the program, also those that `clap` adds.
-const OPTIONS: [&str; 30] = [
+const OPTIONS: [&str; 31] = [
     "--today",
+    "--by",
     "--seen",
     "--dry-run",
     "--ahead",

@@ -118,9 +118,9 @@ The desk has no loan yet. A library that both asks and is asked has two desks,
 one as requester and one as responder, in two files.
 
 FILE must not be there yet, and its folder must. Its name may not end in .new,
-.lck, .came, .notes, .mail or .retired: what lies beside a desk has such names,
-and is the program's. A record is written by way of FILE.new. One line, `done`,
-is written to standard output.
+.lck, .came, .notes, .diary, .mail or .retired: what lies beside a desk has such
+names, and is the program's. A record is written by way of FILE.new. One line,
+`done`, is written to standard output.
 
 The exit status is 0 if the desk is saved, and 1 with `exists`.";
 
@@ -162,9 +162,15 @@ locations-provided, will-supply, hold-placed or estimate. ITEM is all the words
 that remain, of 200 bytes at most. None of the words may hold a space, so a
 title has no quotes round it: `request none War and Peace`.
 
-A responder's action needs --today; a requester's has no use for it. Options
-stand before the words. Among them an option of any command is `arguments`; if
-`--` stands right before the words, it is one of them, as of a title.
+A responder's action needs --today. With it, for either role, an action that is
+done gets a line in FILE.diary before it is saved, and `ill loan` tells its day.
+The line has the name of --by, which has no space, or `-`. Nothing is decided by
+that file, and an action is done too if it fails: then a line on standard error
+says so.
+
+Options stand before the words. Among them an option of any command is
+`arguments`; if `--` stands right before the words, it is one of them, as of a
+title.
 
 With --long the item of the loan stands on a line below that of the action,
 after `item`, if the loan has one.
@@ -243,6 +249,9 @@ that file: it may be put away. If a message cannot be kept, it is `store
 failed`, and the message is not saved. Then or after a crash it may be kept
 twice.
 
+With --keep and --today each message that is taken also gets a line in
+FILE.diary, with that day and the name of --by, as an action of `ill act` does.
+
 Only what is taken changes the desk, and it is saved in FILE before its line is
 written. To take a message twice does no harm.
 
@@ -296,7 +305,8 @@ owner of FILE alone, also if root runs this, and has to be on the disk of
 FOLDER. Then the mails are taken: those without a message, and after them those
 of each loan, in the order of their numbers.
 
-Each message that is taken is kept in FILE.came, as `ill take --keep` does. Then
+Each message that is taken is kept in FILE.came, as `ill take --keep` does. With
+--today it gets a line in FILE.diary, which may have the name of --by. Then
 the desk is saved, once, if a message was taken. Only then files go:
   removed                the desk has done with the mail: its message is taken,
                          a repeat, stale or in conflict, or comes again
@@ -708,6 +718,12 @@ before each. A message has the lines of `ill show`, and one more:
 After them come the messages that `take` has kept with --keep, in the order in
 which they came, each once. Before each stands an empty line, after it this:
   came                   `yes`
+
+After an empty line comes the history of the loan, in the order of FILE.diary.
+It has only messages that the loan has:
+  history                the day, the name of who acted or `-`, the first word
+                         of an action or the type of a message that came, and
+                         the number of the message
 
 With --picture the messages are drawn in place of all this, as a sequence chart
 in the language of Mermaid. The order of each side is right, and so is what

@@ -8,7 +8,8 @@ ghost use Rattle.ill_line.specs.CommandLine.{is_option};
 ghost use Rattle.ill_line.specs.declared.request.Refusal.TheVariants.{Usage, Fault};
 ghost use Rattle.ill_text.specs.declared.fault.ToolFault.TheVariants.{OutOfMemory};
 ghost use Rattle.ill_line.specs.declared.command_line.Name.TheVariants as names;
-ghost use Rattle.ill_line.specs.Asked.{GivesId, ReadsValue, IsRefusal, asked_by, asked_in, asked_of, text_of, texts_of, role_of, loan_of, group_of, new_file_of, day_in, last_in, state_in, number_of_message, dates_of, outlet_of, is_set, which_of, form_of, deed_by, deed_of, wanted_of, wanted_on, ahead_in, due_in, day_or_days, days_on, report_day_of, asked, desk_at_stake, end_with_dashes, has_option, note_words_of, said_free, unless_option};
+ghost use Rattle.ill_text.specs.Diary.{stamped};
+ghost use Rattle.ill_line.specs.Asked.{dates_and_stamp_of, day_and_name_of, name_in, stamp_if, stamp_of, GivesId, ReadsValue, IsRefusal, asked_by, asked_in, asked_of, text_of, texts_of, role_of, loan_of, group_of, new_file_of, day_in, last_in, state_in, number_of_message, dates_of, outlet_of, is_set, which_of, form_of, wanted_of, wanted_on, ahead_in, due_in, day_or_days, days_on, report_day_of, asked, desk_at_stake, end_with_dashes, has_option, note_words_of, said_free, unless_option, deed_by, deed_of};
 
 use crate::command_line::{Argument, Name, SHELF, command, is_option};
 use clap::error::ErrorKind;
@@ -24,6 +25,7 @@ use ill_show::loan::LoanForm;
 use ill_show::notes::{is_note, note_text};
 use ill_show::soon::SOON;
 use ill_show::wanted::{Wanted, Which};
+use ill_text::diary::{Stamp, is_name};
 use ill_text::fault::ToolFault;
 use ill_text::form::Form;
 use ill_values::{Day, Number, TextFault, TxnId};
@@ -64,6 +66,8 @@ pub enum Request<'a> {
         txn: TxnId,
         /// The day of the action, if it is given.
         today: Option<Day>,
+        /// The name of the person who acts, if one is named.
+        by: Option<&'a str>,
         /// The text that the loan was shown with, if the action is to be done on that alone.
         seen: Option<&'a str>,
         /// Set if the action is only tried.
@@ -81,6 +85,8 @@ pub enum Request<'a> {
         file: &'a str,
         /// The form of the command.
         form: TakeForm,
+        /// The stamp of the lines of the diary, if a day is given.
+        stamp: Option<Stamp<'a>>,
         /// The path of the key, if the input is a sealed letter.
         key: Option<&'a str>,
     },
@@ -90,6 +96,8 @@ pub enum Request<'a> {
         file: &'a str,
         /// The path of the folder.
         folder: &'a str,
+        /// The stamp of the lines of the diary, if a day is given.
+        stamp: Option<Stamp<'a>>,
     },
     /// Send the messages of the loans that want sending: `ill outbox`.
     Outbox {
@@ -410,7 +418,10 @@ fn act_request<'a>(alloc: Global, matches: &ArgMatches<'a>) -> Result<Request<'a
     ensures { ReadsValue asked (asked_of names.Act (rows_of (found_of matches.now))) result }
 {
     let file = text(alloc, matches, Argument::File)?;
-    let today = day(matches, Argument::Today)?;
+    let (today, by) = match day_and_name(matches, Argument::Today) {
+        Ok(both) => both,
+        Err(refusal) => return Err(refusal),
+    };
     let txn = loan(alloc, matches)?;
     let seen = said(matches, Argument::Seen);
     let is_trial = is_set(matches, Argument::DryRun);
@@ -421,6 +432,7 @@ fn act_request<'a>(alloc: Global, matches: &ArgMatches<'a>) -> Result<Request<'a
         file,
         txn,
         today,
+        by,
         seen,
         is_trial,
         is_long,
@@ -438,8 +450,68 @@ fn take_request<'a>(alloc: Global, matches: &ArgMatches<'a>) -> Result<Request<'
         is_long: is_set(matches, Argument::Long),
         is_kept: is_set(matches, Argument::Keep),
     };
+    let stamp = match stamp_if(form.is_kept, matches) {
+        Ok(stamp) => stamp,
+        Err(refusal) => return Err(refusal),
+    };
     let key = said(matches, Argument::Key);
-    Ok(Request::Take { file, form, key })
+    Ok(Request::Take {
+        file,
+        form,
+        stamp,
+        key,
+    })
+}
+
+/// Returns the stamp of the lines of the diary, if a day is given. Only a command that keeps the messages, as `is_kept`
+/// says, may have a day.
+fn stamp_if<'a>(is_kept: bool, matches: &ArgMatches<'a>) -> Result<Option<Stamp<'a>>, Refusal>
+    ensures { ReadsValue (option_map stamped) (stamp_if is_kept (rows_of (found_of matches.now))) result }
+{
+    match stamp(matches) {
+        Ok(Some(_)) if !is_kept => Err(Refusal::Fault(ToolFault::Arguments)),
+        stamp => stamp,
+    }
+}
+
+/// Returns the stamp of the lines of the diary, if a day is given.
+fn stamp<'a>(matches: &ArgMatches<'a>) -> Result<Option<Stamp<'a>>, Refusal>
+    ensures { ReadsValue (option_map stamped) (stamp_of (rows_of (found_of matches.now))) result }
+{
+    match day_and_name(matches, Argument::NightDay) {
+        Ok((Some(day), by)) => Ok(Some(Stamp { day, by })),
+        Ok((None, _)) => Ok(None),
+        Err(refusal) => Err(refusal),
+    }
+}
+
+/// Returns the day in `argument`, and the name of the person who gives the command, if they are given.
+fn day_and_name<'a>(
+    matches: &ArgMatches<'a>,
+    argument: Argument,
+) -> Result<(Option<Day>, Option<&'a str>), Refusal>
+    ensures { ReadsValue (λ both. (both.0, option_map (λ name. name.now) both.1))
+        (day_and_name_of argument (rows_of (found_of matches.now))) result }
+{
+    let today = match day(matches, argument) {
+        Ok(today) => today,
+        Err(refusal) => return Err(refusal),
+    };
+    match name(matches, today.is_some()) {
+        Ok(by) => Ok((today, by)),
+        Err(refusal) => Err(refusal),
+    }
+}
+
+/// Returns the name of the person who gives the command, if one is given. Then a day must be given, as `has_day` says.
+fn name<'a>(matches: &ArgMatches<'a>, has_day: bool) -> Result<Option<&'a str>, Refusal>
+    ensures { ReadsValue (λ name. option_map (λ text. text.now) name) (name_in has_day (rows_of (found_of matches.now))) result }
+{
+    match said(matches, Argument::By) {
+        None => Ok(None),
+        Some(name) if has_day && is_name(name) => Ok(Some(name)),
+        Some(_) => Err(Refusal::Fault(ToolFault::Arguments)),
+    }
 }
 
 /// Returns the request of `ill inbox`.
@@ -448,7 +520,15 @@ fn inbox_request<'a>(alloc: Global, matches: &ArgMatches<'a>) -> Result<Request<
 {
     let file = text(alloc, matches, Argument::File)?;
     let folder = text(alloc, matches, Argument::Folder)?;
-    Ok(Request::Inbox { file, folder })
+    let stamp = match stamp(matches) {
+        Ok(stamp) => stamp,
+        Err(refusal) => return Err(refusal),
+    };
+    Ok(Request::Inbox {
+        file,
+        folder,
+        stamp,
+    })
 }
 
 /// Returns the request of `ill outbox`.
@@ -490,7 +570,10 @@ fn exchange_request<'a>(alloc: Global, matches: &ArgMatches<'a>) -> Result<Reque
     let file = text(alloc, matches, Argument::File)?;
     let incoming = text(alloc, matches, Argument::In)?;
     let outgoing = text(alloc, matches, Argument::Out)?;
-    let dates = dates(matches)?;
+    let (dates, stamp) = match dates_and_stamp(matches) {
+        Ok(both) => both,
+        Err(refusal) => return Err(refusal),
+    };
     let copy = said(matches, Argument::Copy);
     let beat = said(matches, Argument::Beat);
     Ok(Request::Exchange {
@@ -499,11 +582,29 @@ fn exchange_request<'a>(alloc: Global, matches: &ArgMatches<'a>) -> Result<Reque
             incoming,
             outgoing,
             dates,
+            stamp,
             copy,
             beat,
             is_on_shelf: false,
         },
     })
+}
+
+/// The deeds of a night with their day, and the stamp of the lines of the diary.
+type DatesAndStamp<'a> = (Option<(Day, Dates)>, Option<Stamp<'a>>);
+
+/// Returns the deeds of a night with their day, and the stamp of the lines of the diary.
+fn dates_and_stamp<'a>(matches: &ArgMatches<'a>) -> Result<DatesAndStamp<'a>, Refusal>
+    ensures { ReadsValue (λ both. (both.0, option_map stamped both.1)) (dates_and_stamp_of (rows_of (found_of matches.now))) result }
+{
+    let dates = match dates(matches) {
+        Ok(dates) => dates,
+        Err(refusal) => return Err(refusal),
+    };
+    match stamp(matches) {
+        Ok(stamp) => Ok((dates, stamp)),
+        Err(refusal) => Err(refusal),
+    }
 }
 
 /// Returns the day of a night and the wanted deeds, if any deed is wanted. Then the day must be given.

@@ -17,6 +17,7 @@ use crate::places::{Places, look_at_out, look_at_places};
 use crate::rooms::{Plan, Rooms, night_in, take_in};
 use crate::sending::send_asked;
 use ill_files::came::{CameFile, open_came};
+use ill_files::diary::{DiaryFile, open_came_diary, warn_of_diary};
 use ill_files::machine::Machine;
 use ill_files::open::{all_well, open_locked};
 use ill_files::paths::folder_of;
@@ -25,6 +26,7 @@ use ill_night::outbox::run_desk_outbox_stream;
 use ill_night::tally::Tally;
 use ill_night::verdict::{Batch, Verdict};
 use ill_saved::{Desk, LockFiles, Role, Store};
+use ill_text::diary::{CameDiary, WithDiary, begin_text};
 use ill_text::fault::ToolFault;
 use std::alloc::Global;
 use std::io::Write;
@@ -36,7 +38,7 @@ const NO_CAME: &str = ".came cannot be read or written";
 pub fn inbox<T: LockFiles, W: Write, E: Write>(
     machine: &mut Machine<'_, T, W, E>,
     file: &str,
-    incoming: Incoming<'_>,
+    incoming: Incoming<'_, '_, '_>,
 ) -> Result<bool, ToolFault>
     ensures { InboxAtFile (W.contents machine.old.writer) (W.contents machine.new.writer) result }
 {
@@ -68,7 +70,7 @@ fn end(taken: Result<Taken, ToolFault>) -> Result<bool, ToolFault>
 fn take_mails<T: Files, S: Store, W: Write, E: Write>(
     machine: &mut Machine<'_, T, W, E>,
     file: &str,
-    incoming: Incoming<'_>,
+    incoming: Incoming<'_, '_, '_>,
     desk: &mut Desk<S>,
 ) -> Result<Taken, ToolFault>
     ensures { TakesMails (command_state (view_of S.state desk.old) (W.contents machine.old.writer))
@@ -79,8 +81,13 @@ fn take_mails<T: Files, S: Store, W: Write, E: Write>(
     let OpenedMail {
         mail_box,
         mut came,
+        mut diary,
         found,
     } = opened;
+    let mut kept = WithDiary {
+        came: &mut came,
+        diary: &mut diary,
+    };
     let batch = batch_of(&found);
     let place = MailPaths {
         file,
@@ -88,8 +95,8 @@ fn take_mails<T: Files, S: Store, W: Write, E: Write>(
         mail_box: &mail_box,
     };
     let mut room = HostRoom::at(machine.rt, machine.alloc, place, &found, false);
-    let taken = take_in(machine, desk, &mut room, &batch, &mut came);
-    warn_of_came(machine, file, &came);
+    let taken = take_in(machine, desk, &mut room, &batch, &mut kept);
+    warn_of_streams(machine, file, &came, &diary);
     match taken {
         Ok(verdicts) => Ok(Taken { found, verdicts }),
         Err(fault) => Err(fault),
@@ -113,6 +120,8 @@ struct OpenedMail<F> {
     mail_box: MailBox,
     /// The file of the messages that came.
     came: CameFile<F>,
+    /// The diary of these messages.
+    diary: CameDiary<DiaryFile<F>>,
     /// The mails that the run has found.
     found: Mails,
 }
@@ -121,7 +130,7 @@ struct OpenedMail<F> {
 fn open_mail<T: Files, W: Write, E: Write>(
     machine: &mut Machine<'_, T, W, E>,
     file: &str,
-    incoming: Incoming<'_>,
+    incoming: Incoming<'_, '_, '_>,
     role: Role,
 ) -> Result<OpenedMail<T::File>, ToolFault>
     ensures faults { IfErr result IsOpenFault }
@@ -133,6 +142,8 @@ fn open_mail<T: Files, W: Write, E: Write>(
         NO_BOX,
     )?;
     let came = machine.report_fault_at(open_came(machine.rt, machine.alloc, file), file, NO_CAME)?;
+    let begin = begin_text(machine.alloc, incoming.stamp);
+    let diary = open_came_diary(machine.rt, machine.alloc, file, begin, &mut machine.errors);
     let place = MailPaths {
         file,
         folder: incoming.folder,
@@ -142,18 +153,21 @@ fn open_mail<T: Files, W: Write, E: Write>(
     Ok(OpenedMail {
         mail_box,
         came,
+        diary,
         found,
     })
 }
 
-/// Writes a line to the errors if `came`, the file of the messages that came, has failed.
-fn warn_of_came<T, F, W, E: Write>(
+/// Writes a line to the errors if `came`, the file of the messages that came, has failed, or if `diary` has.
+fn warn_of_streams<T, F, W, E: Write>(
     machine: &mut Machine<'_, T, W, E>,
     file: &str,
     came: &CameFile<F>,
+    diary: &CameDiary<DiaryFile<F>>,
 )
     ensures { machine.new.writer ≡ machine.old.writer }
 {
+    warn_of_diary(machine.alloc, file, diary.has_failed(), &mut machine.errors);
     if came.has_failed() {
         machine.warn(file, NO_CAME);
     }
@@ -309,6 +323,7 @@ fn exchange_at<'a, T: Files, S: Store, W: Write, E: Write>(
     let incoming = Incoming {
         folder: night.incoming,
         is_sorted: night.is_on_shelf,
+        stamp: &night.stamp,
     };
     let opened = match open_mail(machine, file, incoming, desk.sides().role()) {
         Ok(opened) => opened,
@@ -317,8 +332,13 @@ fn exchange_at<'a, T: Files, S: Store, W: Write, E: Write>(
     let OpenedMail {
         mail_box,
         mut came,
+        mut diary,
         found,
     } = opened;
+    let mut kept = WithDiary {
+        came: &mut came,
+        diary: &mut diary,
+    };
     let plan = Plan {
         batch: batch_of(&found),
         dates: night.dates,
@@ -333,7 +353,7 @@ fn exchange_at<'a, T: Files, S: Store, W: Write, E: Write>(
         backup: HostBackup::at(machine.rt, machine.alloc, file, night),
         out: MailFolder::at(machine.rt, machine.alloc, night.outgoing),
     };
-    let done = night_in(machine, desk, &mut rooms, &plan, &mut came);
-    warn_of_came(machine, file, &came);
+    let done = night_in(machine, desk, &mut rooms, &plan, &mut kept);
+    warn_of_streams(machine, file, &came, &diary);
     report_fault_of_mail(machine, done, &rooms.out)
 }

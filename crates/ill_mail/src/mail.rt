@@ -17,6 +17,7 @@ use ill_files::shelf::is_for_desk;
 use ill_night::inbox::message_in;
 use ill_night::verdict::Mail;
 use ill_saved::Role;
+use ill_text::diary::Stamp;
 use ill_text::fault::ToolFault;
 use ill_values::OutOfMemory;
 use std::alloc::Global;
@@ -152,11 +153,13 @@ fn place_of(alloc: Global, mail: &Mail) -> Result<Vec<u8>, OutOfMemory> {
 
 /// The folder from which the mails of a desk come.
 #[derive(Clone, Copy)]
-pub struct Incoming<'a> {
+pub struct Incoming<'a, 'b, 'c> {
     /// Its path.
     pub folder: &'a str,
     /// Set if a shelf sorts the folder. The mails of the desk were then claimed for it before.
     pub is_sorted: bool,
+    /// The stamp of the lines of the diary, if a day is given.
+    pub stamp: &'b Option<Stamp<'c>>,
 }
 
 /// Makes the folder of a run.

@@ -20,16 +20,17 @@ use ill_files::durable::error_of_store;
 use ill_files::home::refuse_lost;
 use ill_files::machine::Machine;
 use ill_files::open::{lock, open};
-use ill_files::paths::{CAME, MAIL, NOTES, RETIRED, is_there, path_of};
+use ill_files::paths::{KEPT, MAIL, RETIRED, is_there, path_of};
 use ill_files::shelf::{Shelf, is_retired, names_of_desks, own_path, refuse_retired, retired_path};
 use ill_mail::backup::beat;
-use ill_mail::mail::names_in;
+use ill_mail::mail::{Incoming, names_in};
 use ill_mail::mail_box::remove_if_there;
 use ill_mail::places::{Places, look_at_places};
 use ill_night::night::Night;
 use ill_night::retire::run_desk_retire;
 use ill_saved::{Desk, FileStore, LockFiles, LockedDesk, RECORD_LIMIT, Role, Store};
 use ill_show::loan::LoanView;
+use ill_text::diary::Stamp;
 use ill_text::fault::{STORE_FAILED, ToolFault, graver};
 use ill_text::form::Form;
 use ill_text::output::write_whole;
@@ -241,16 +242,16 @@ fn send_words_to<T: Files, W: Write, E: Write>(
     }
 }
 
-/// `ill shelf inbox`: takes the mails of a folder, each at the desk of its group.
+/// `ill shelf inbox`: takes the mails of a folder, each at the desk of its group. `incoming` is sorted by the shelf.
 pub fn inbox_of_shelf<T: LockFiles, W: Write, E: Write>(
     machine: &mut Machine<'_, T, W, E>,
     folder: &str,
-    incoming: &str,
+    incoming: Incoming<'_, '_, '_>,
 ) -> Result<bool, ToolFault>
     ensures { VisitsShelf true InboxAtFile (W.contents machine.old.writer) (W.contents machine.new.writer) result }
 {
     let shelf = Shelf::open(machine.rt, machine.alloc, folder)?;
-    let is_waiting = sort_mails(machine, &shelf, incoming, None)?;
+    let is_waiting = sort_mails(machine, &shelf, incoming.folder, None)?;
     let desks = desks_and_own(machine.rt, machine.alloc, &shelf)?;
     let answer = visit_all(machine, &desks, &Visit::Inbox(incoming));
     graver(answer, waiting(is_waiting))
@@ -312,9 +313,21 @@ fn at_each<'a>(night: &Night<'a>) -> Night<'a>
         incoming: night.incoming,
         outgoing: night.outgoing,
         dates: night.dates,
+        stamp: same_stamp(&night.stamp),
         copy: night.copy,
         beat: None,
         is_on_shelf: true,
+    }
+}
+
+/// Returns the stamp.
+fn same_stamp<'a>(stamp: &Option<Stamp<'a>>) -> Option<Stamp<'a>> {
+    match stamp {
+        Some(stamp) => Some(Stamp {
+            day: stamp.day,
+            by: stamp.by,
+        }),
+        None => None,
     }
 }
 
@@ -462,7 +475,7 @@ fn retire_desk<S: Store, C: Store>(
 /// Removes the file of a desk and the files beside it, and makes that durable. Mails that were put aside stay in their
 /// folder.
 fn clear<T: Files>(rt: &T, alloc: Global, file: &str) -> io::Result<()> {
-    for ending in [CAME, NOTES] {
+    for ending in KEPT {
         let kept = format!(in alloc; "{file}{ending}")?;
         remove_if_there(rt, kept.as_str())?;
     }

@@ -6,9 +6,8 @@ ghost use Rattle.ill_shelf.specs.Shelf.{TakesAtShelf, TakesAtHome, TakesLetterAt
 ghost use Rattle.ill_text.specs.Fault.{IsOpenFault};
 
 use crate::sorting::{Route, make_desk, route_of};
-use ill_commands::commands::take;
+use ill_commands::commands::{TakeView, take};
 use ill_der::{ApduView, BodyView, Handler, encode};
-use ill_desk::take::TakeForm;
 use ill_files::home::home_at;
 use ill_files::machine::Machine;
 use ill_files::shelf::Shelf;
@@ -26,16 +25,16 @@ use std::io::{Read, Write};
 fn take_on_shelf<T: LockFiles, R: Read, W: Write, E: Write>(
     machine: &mut Machine<'_, T, W, E>,
     folder: &str,
-    form: TakeForm,
+    view: &TakeView<'_, '_>,
     reader: &mut R,
 ) -> Result<bool, ToolFault>
-    ensures { TakesAtShelf form (R.remaining reader.old) (R.remaining reader.new)
+    ensures { TakesAtShelf view.now.form (R.remaining reader.old) (R.remaining reader.new)
         (W.contents machine.old.writer) (W.contents machine.new.writer) result }
 {
     let shelf = Shelf::open(machine.rt, machine.alloc, folder)?;
     let mut taken = Counted::new(TakesHome {
         shelf,
-        form,
+        view: *view,
         all_fine: true,
     });
     match handle_input(machine.alloc, reader, machine, &mut taken) {
@@ -49,15 +48,15 @@ pub fn take_on_shelf_with<T: LockFiles, R: Read, W: Write, E: Write>(
     machine: &mut Machine<'_, T, W, E>,
     folder: &str,
     key_file: Option<&str>,
-    form: TakeForm,
+    view: &TakeView<'_, '_>,
     reader: &mut R,
 ) -> Result<bool, ToolFault>
-    ensures { TakesWithAtShelf (option_map (λ file. file.now) key_file.entry) form (R.remaining reader.old)
+    ensures { TakesWithAtShelf (option_map (λ file. file.now) key_file.entry) view.now.form (R.remaining reader.old)
         (R.remaining reader.new) (W.contents machine.old.writer) (W.contents machine.new.writer) result }
 {
     match key_file {
-        Some(key_file) => take_letter_on_shelf(machine, folder, key_file, form, reader),
-        None => take_on_shelf(machine, folder, form, reader),
+        Some(key_file) => take_letter_on_shelf(machine, folder, key_file, view, reader),
+        None => take_on_shelf(machine, folder, view, reader),
     }
 }
 
@@ -66,36 +65,36 @@ fn take_letter_on_shelf<T: LockFiles, R: Read, W: Write, E: Write>(
     machine: &mut Machine<'_, T, W, E>,
     folder: &str,
     key_file: &str,
-    form: TakeForm,
+    view: &TakeView<'_, '_>,
     reader: &mut R,
 ) -> Result<bool, ToolFault>
-    ensures { TakesLetterAtShelf form (R.remaining reader.old) (R.remaining reader.new)
+    ensures { TakesLetterAtShelf view.now.form (R.remaining reader.old) (R.remaining reader.new)
         (W.contents machine.old.writer) (W.contents machine.new.writer) result }
 {
     let key = read_key(machine.rt, key_file)?;
     let shelf = Shelf::open(machine.rt, machine.alloc, folder)?;
     let sender = other_sender(shelf.role);
     match open_letter(machine.alloc, &key, sender, reader) {
-        Ok(text) => take_on_shelf(machine, folder, form, &mut text.as_slice()),
+        Ok(text) => take_on_shelf(machine, folder, view, &mut text.as_slice()),
         Err(fault) => Err(fault),
     }
 }
 
 /// A handler that takes each APDU at the desk of its group, and records if all went well.
 #[derive(Drop)]
-struct TakesHome<'a> {
+struct TakesHome<'a, 'b, 'c> {
     shelf: Shelf<'a>,
-    form: TakeForm,
+    view: TakeView<'b, 'c>,
     all_fine: bool,
 }
 
-impl<T: LockFiles, W: Write, E: Write> Handler<Machine<'_, T, W, E>> for TakesHome<'_> {
+impl<T: LockFiles, W: Write, E: Write> Handler<Machine<'_, T, W, E>> for TakesHome<'_, '_, '_> {
     type Fault = ToolFault;
 
     ghost handles = { λ old apdu result new. TakesAtHome
-        (record { form = old.0.form; all_fine = old.0.all_fine; written = W.contents old.1.writer })
+        (record { form = old.0.view.form; all_fine = old.0.all_fine; written = W.contents old.1.writer })
         apdu result
-        (record { form = new.0.form; all_fine = new.0.all_fine; written = W.contents new.1.writer }) };
+        (record { form = new.0.view.form; all_fine = new.0.all_fine; written = W.contents new.1.writer }) };
 
     fn handle(
         &mut self,
@@ -112,7 +111,7 @@ impl<T: LockFiles, W: Write, E: Write> Handler<Machine<'_, T, W, E>> for TakesHo
             Err(_) => return Err(ToolFault::OutOfMemory),
         };
         let mut input = bytes.as_slice();
-        match take(machine, file.as_str(), self.form, &mut input) {
+        match take(machine, file.as_str(), &self.view, &mut input) {
             Ok(is_well) => {
                 self.all_fine = self.all_fine && is_well;
                 Ok(())

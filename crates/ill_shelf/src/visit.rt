@@ -22,11 +22,11 @@ use std::rt::Files;
 
 /// A visit of a command to a desk of a shelf.
 #[derive(Clone, Copy)]
-pub(crate) enum Visit<'a> {
+pub(crate) enum Visit<'a, 'b, 'c> {
     /// Its loans are shown.
     Status(Form),
     /// The mails that were sorted to it are taken. Mails that wait are given back to this folder.
-    Inbox(&'a str),
+    Inbox(Incoming<'a, 'b, 'c>),
     /// Its messages are put into this folder, or written to the output.
     Outbox(Option<&'a str>),
     /// It exchanges its mail.
@@ -37,7 +37,7 @@ pub(crate) enum Visit<'a> {
 pub(crate) fn visit_all<T: LockFiles, W: Write, E: Write>(
     machine: &mut Machine<'_, T, W, E>,
     paths: &[String],
-    visit: &Visit<'_>,
+    visit: &Visit<'_, '_, '_>,
 ) -> Result<bool, ToolFault>
     ensures { VisitsAll (is_headed visit.now) (RunsVisit visit.now) (map (λ path. string_bytes path) paths.now)
         (W.contents machine.old.writer) (W.contents machine.new.writer) result }
@@ -54,7 +54,7 @@ pub(crate) fn visit_all<T: LockFiles, W: Write, E: Write>(
 fn visit_desk<T: LockFiles, W: Write, E: Write>(
     machine: &mut Machine<'_, T, W, E>,
     path: &str,
-    visit: &Visit<'_>,
+    visit: &Visit<'_, '_, '_>,
 ) -> Result<bool, ToolFault>
     ensures { Headed (is_headed visit.now) (RunsVisit visit.now) (record {
       path = path.now;
@@ -88,7 +88,7 @@ fn head<T: Files, W: Write, E: Write>(
 }
 
 /// Returns true if the line of its path is written before each desk.
-fn is_headed(visit: &Visit<'_>) -> bool
+fn is_headed(visit: &Visit<'_, '_, '_>) -> bool
     ensures { result ≡ is_headed visit.now }
 {
     match visit {
@@ -112,7 +112,7 @@ fn is_lines(form: Form) -> bool
 fn visit_told<T: LockFiles, W: Write, E: Write>(
     machine: &mut Machine<'_, T, W, E>,
     path: &str,
-    visit: &Visit<'_>,
+    visit: &Visit<'_, '_, '_>,
 ) -> Result<bool, ToolFault>
     ensures { RunsVisit visit.now (W.contents machine.old.writer) (W.contents machine.new.writer) result }
 {
@@ -129,22 +129,14 @@ fn visit_told<T: LockFiles, W: Write, E: Write>(
 fn run_visit<T: LockFiles, W: Write, E: Write>(
     machine: &mut Machine<'_, T, W, E>,
     path: &str,
-    visit: &Visit<'_>,
+    visit: &Visit<'_, '_, '_>,
 ) -> Result<bool, ToolFault>
     ensures { RunsVisit visit.now (W.contents machine.old.writer) (W.contents machine.new.writer) result }
 {
     match visit {
         Visit::Status(form) => status(machine, path, *form),
-        Visit::Inbox(folder) => inbox(machine, path, sorted_from(folder)),
+        Visit::Inbox(incoming) => inbox(machine, path, *incoming),
         Visit::Outbox(folder) => outbox(machine, path, *folder),
         Visit::Exchange(night) => exchange(machine, path, night),
-    }
-}
-
-/// Returns `folder` as a folder that a shelf has sorted.
-fn sorted_from(folder: &str) -> Incoming<'_> {
-    Incoming {
-        folder,
-        is_sorted: true,
     }
 }

@@ -1,3 +1,5 @@
+pub mod DiaryLaws
+pub mod DiaryLemmas
 pub mod FindingLemmas
 pub mod ListLemmas
 pub mod LoanLemmas

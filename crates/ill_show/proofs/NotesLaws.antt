@@ -14,7 +14,8 @@ use Rattle.std.proofs.lemmas.Slice.Eq.{bytes_eq-Decides}
 use Rattle.std.proofs.lemmas.Str.{IsUtf8-nil, is_utf8-from_IsUtf8}
 use Rattle.ill_values.specs.TxnId.{Qualifiers}
 use Rattle.ill_show.specs.BadNotes.{MisjudgesNote, older, still_there, of_another}
-use Rattle.ill_show.specs.Notes.{key, key_byte, last_words, line_of, loan_key, note_of, unless_empty, words_after}
+use Rattle.ill_text.specs.Keys.{key, key_byte, loan_key}
+use Rattle.ill_show.specs.Notes.{last_words, line_of, note_of, unless_empty, words_after}
 
 -- ---- the line of a loan
 

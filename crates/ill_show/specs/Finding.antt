@@ -10,7 +10,8 @@ use Rattle.ill_saved.specs.declared.side.Side.{Side}
 use Rattle.ill_saved.specs.Side.{txn_of}
 use Rattle.ill_words.specs.Possible.{item_asked, request_of}
 use Rattle.ill_show.specs.declared.finding.Sought.{Sought}
-use Rattle.ill_show.specs.Notes.{lines_of, note_of}
+use Rattle.ill_show.specs.FileLines.{lines_of}
+use Rattle.ill_show.specs.Notes.{note_of}
 
 -- Returns a text of UTF-8 with the case of its characters folded (The Unicode Standard, section 3.13).
 abbrev pub folded : List ℕ → List ℕ

@@ -1,4 +1,6 @@
 pub mod BadNotes
+pub mod Diary
+pub mod FileLines
 pub mod Finding
 pub mod Heard
 pub mod ItemLine

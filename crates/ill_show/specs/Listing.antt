@@ -20,7 +20,8 @@ use Rattle.ill_work.specs.Work.{all_work, work_words}
 use Rattle.ill_show.specs.List.{columns_of, row, has_work, listed_of, counts_of, counts_line}
 use Rattle.ill_show.specs.Objects.{row_object, counts_object}
 use Rattle.ill_show.specs.Finding.{Seeking, found_of}
-use Rattle.ill_show.specs.Notes.{lines_of, listed_note, note_of}
+use Rattle.ill_show.specs.FileLines.{lines_of}
+use Rattle.ill_show.specs.Notes.{listed_note, note_of}
 
 -- ---- one kind of work
 

@@ -13,8 +13,11 @@ use Rattle.ill_text.specs.declared.form.Form.TheVariants as forms
 use Rattle.ill_text.specs.ApduObject.{object_line}
 use Rattle.ill_text.specs.Input.{AreIn}
 use Rattle.ill_text.specs.Output.{WritesText}
+use Rattle.ill_show.specs.declared.loan.Beside.{Beside}
 use Rattle.ill_show.specs.declared.loan.LoanForm.{LoanForm}
 use Rattle.ill_show.specs.declared.loan.LoanForm.TheVariants.{Lines, Object, Picture}
+use Rattle.ill_show.specs.Diary.{history_lines, history_of, messages_of}
+use Rattle.ill_show.specs.FileLines.{lines_of}
 use Rattle.ill_show.specs.Kept.{kept_lines, kept_of}
 use Rattle.ill_show.specs.Notes.{note_fields, note_of}
 use Rattle.ill_show.specs.Objects.{kept_fields}
@@ -26,11 +29,17 @@ loan_form forms.Json is_picture = Object
 loan_form forms.Lines true = Picture
 loan_form forms.Lines false = Lines
 
--- Returns the text of a loan with this note, and of the messages that came in it. A picture has no note.
-abbrev pub loan_text : LoanForm → Option (List ℕ) → DeskEntry → List Apdu → List ℕ
-loan_text Lines words = kept_lines words
-loan_text Object words = λ held kept. object_line (kept_fields held kept ++ note_fields words)
-loan_text Picture words = picture
+-- Returns the lines of a loan with this note, and of the messages that came in it. Its history by the lines of a diary comes
+-- last.
+abbrev pub lines_with_history : Option (List ℕ) → (diary : List (List ℕ)) → DeskEntry → List Apdu → List ℕ
+lines_with_history words diary held kept =
+    kept_lines words held kept ++ history_lines (history_of (messages_of held.side kept) diary)
+
+-- Returns the text of a loan with this note and this diary, and of the messages that came in it. A picture has neither.
+abbrev pub loan_text : LoanForm → Option (List ℕ) → (diary : List (List ℕ)) → DeskEntry → List Apdu → List ℕ
+loan_text Lines words diary = lines_with_history words diary
+loan_text Object words diary = λ held kept. object_line (kept_fields held kept ++ note_fields words)
+loan_text Picture words diary = picture
 
 -- `written` is the text of the messages of `txn` in `bytes`.
 abbrev pub IsTextOf : (List Apdu → List ℕ) → Qualifiers → List ℕ → List ℕ → Type 0
@@ -44,10 +53,20 @@ WritesLoan text txn bytes before after (Err OutOfMemory) = Appends before after 
 WritesLoan text txn bytes before after result =
     (came : List Apdu) × AreIn bytes came × WritesText before after (text (kept_of txn came)) result
 
--- The command: it writes the text of the side and of its note, and of the messages of its transaction in `bytes`. If the
--- side is not held, the fault is `NoSuchTransaction`, and nothing is written.
-abbrev pub RunsLoan : LoanForm → (notes : List (List ℕ)) → Option DeskEntry → List ℕ → Option (List ℕ) → Option (List ℕ) →
+-- The lines of the files beside a desk: the notes of staff, and the diary.
+pub record BesideLines : Type 0 where
+  pub notes : List (List ℕ)
+  pub diary : List (List ℕ)
+
+-- Returns the lines of the files beside a desk.
+abbrev pub beside_of : Beside → BesideLines
+beside_of beside = record { notes = lines_of beside.notes.now; diary = lines_of beside.diary.now }
+
+-- The command: it writes the text of the side, of its note and its history, and of the messages of its transaction in
+-- `bytes`. If the side is not held, the fault is `NoSuchTransaction`, and nothing is written.
+abbrev pub RunsLoan : LoanForm → BesideLines → Option DeskEntry → List ℕ → Option (List ℕ) → Option (List ℕ) →
     Result (Unit {0}) ToolFault → Type 0
-RunsLoan form notes None bytes before after result = (result ≡ Err (Desk NoSuchTransaction)) × Appends before after []
-RunsLoan form notes (Some held) bytes before after result =
-    WritesLoan (loan_text form (note_of notes (txn_of held.side)) held) (txn_of held.side) bytes before after result
+RunsLoan form beside None bytes before after result = (result ≡ Err (Desk NoSuchTransaction)) × Appends before after []
+RunsLoan form beside (Some held) bytes before after result =
+    WritesLoan (loan_text form (note_of beside.notes (txn_of held.side)) beside.diary held) (txn_of held.side) bytes before after
+    result

@@ -2,15 +2,15 @@
 use Rattle.std.specs.Prelude.{ℕ, Bool, ◌&&◌, ◌||◌, ◌==◌, if◌then◌else◌, nat_eq, List, [], ◌∷◌, ◌++◌, length, drop, fold, map}
 use Rattle.std.specs.Prelude.{codes}
 use Rattle.std.specs.Prelude.{Option, Some, None, is_ok}
-use Rattle.std.specs.List.{flat_map, join_by, starts_with}
+use Rattle.std.specs.List.{join_by, starts_with}
 use Rattle.std.specs.Option.{option_or}
 use Rattle.std.specs.Str.{is_utf8}
 use Rattle.ill_values.specs.Text.{item_check}
 use Rattle.ill_values.specs.TxnId.{Qualifiers}
 use Rattle.ill_text.specs.Escape.{escaped}
 use Rattle.ill_text.specs.Json.{Field, optional, quoted}
+use Rattle.ill_text.specs.Keys.{loan_key}
 use Rattle.ill_text.specs.Lines.{line}
-use Rattle.ill_show.specs.declared.notes.Notes.{Notes}
 
 -- ---- the words of a note
 
@@ -24,19 +24,6 @@ is_note text = length text == 0 || is_ok (item_check text)
 
 -- ---- the line of a note
 
--- Returns a byte of a qualifier. A space and a backslash are escapes, so a space ends the qualifier.
-abbrev pub key_byte : ℕ → List ℕ
-key_byte byte =
-    if byte == 0x20 then codes "\\u{20}" else (if byte == 0x5C then codes "\\u{5c}" else byte ∷ [])
-
--- Returns a qualifier in the line of a note.
-abbrev pub key : List ℕ → List ℕ
-key text = flat_map key_byte text
-
--- Returns the text with which each line of a loan begins: both qualifiers, with a space after each.
-abbrev pub loan_key : Qualifiers → List ℕ
-loan_key txn = key txn.group ++ (codes " " ++ (key txn.transaction ++ codes " "))
-
 -- Returns a line of a loan, without its end.
 abbrev pub line_of : Qualifiers → (words : List ℕ) → List ℕ
 line_of txn words = loan_key txn ++ words
@@ -44,20 +31,6 @@ line_of txn words = loan_key txn ++ words
 -- Returns the line of a note. A line without words removes the note of its loan.
 abbrev pub kept_line : Qualifiers → (words : List ℕ) → List ℕ
 kept_line txn words = loan_key txn ++ (escaped words ++ codes "\n")
-
--- ---- the lines of a file
-
--- Returns the lines so far and the bytes of the next one, with one byte more. A line feed ends a line.
-abbrev pub with_byte : List (List ℕ) × List ℕ → ℕ → List (List ℕ) × List ℕ
-with_byte (lines, next) byte = if byte == 0x0A then (lines ++ next ∷ [], []) else (lines, next ++ byte ∷ [])
-
--- Returns the lines in `bytes`, without their ends. A part of a line, as a crash leaves it at the end, is no line.
-abbrev pub lines_in : List ℕ → List (List ℕ)
-lines_in bytes = (fold with_byte ([], []) bytes).0
-
--- Returns the lines of a file that was read.
-abbrev pub lines_of : Notes → List (List ℕ)
-lines_of notes = map (λ line. line.items) notes.lines.items
 
 -- ---- the note of a loan
 

@@ -2,7 +2,8 @@
 
 ghost use Rattle.std.specs.Prelude.{◌≡◌, ◌++◌, ◌∷◌, [], filter, map, option_map, IfOk, OnOk};
 ghost use Rattle.ill_words.specs.Possible.{item_asked, request_of};
-ghost use Rattle.ill_show.specs.Notes.{lines_of, note_of};
+ghost use Rattle.ill_show.specs.FileLines.{lines_of};
+ghost use Rattle.ill_show.specs.Notes.{note_of};
 ghost use Rattle.ill_show.specs.Finding.{folded, found_of, has_part, has_words, loan_number, seeking_of, tells, tells_any};
 
 use crate::notes::Notes;

@@ -1,6 +1,7 @@
-//! States the laws of what came to a desk, and of the notes on its loans, as contracts of functions that do nothing.
+//! States the laws of what came to a desk, of the notes on its loans and of its diary, as contracts of functions that do
+//! nothing.
 
-ghost use Rattle.std.specs.Prelude.{◌≡◌, ◌++◌, ◌∷◌, ◌&&◌, ℕ, true, List, [], Option, Some, None, IsUtf8};
+ghost use Rattle.std.specs.Prelude.{◌≡◌, ◌++◌, ◌∷◌, ◌&&◌, ℕ, true, false, bytes_eq, find, List, [], Option, Some, None, IsUtf8};
 ghost use Rattle.std.specs.List.{list_any};
 ghost use Rattle.ill_values.specs.Day.{Date};
 ghost use Rattle.ill_values.specs.TxnId.{Qualifiers};
@@ -11,7 +12,12 @@ ghost use Rattle.ill_core.specs.declared.state.State.TheVariants.{NotSupplied};
 ghost use Rattle.ill_core.specs.Requester.{RequesterRecord};
 ghost use Rattle.ill_saved.specs.declared.side.Side.{Side};
 ghost use Rattle.ill_show.specs.BadNotes.{MisjudgesNote};
+ghost use Rattle.ill_saved.specs.Holdings.{DeskEntry};
+ghost use Rattle.ill_saved.specs.Ranges.{Each};
+ghost use Rattle.ill_show.specs.Diary.{Named, Said, history_lines, history_of, is_named, is_of_record, messages_of, part_of, said_by};
 ghost use Rattle.ill_show.specs.Heard.{requester_heard};
+ghost use Rattle.ill_show.specs.Loan.{loan_text};
+ghost use Rattle.ill_show.specs.declared.loan.LoanForm.TheVariants.{Lines};
 ghost use Rattle.ill_show.specs.News.{heard_at, is_same, is_told, news_of};
 ghost use Rattle.ill_show.specs.NewsWords.{news_words, says_no};
 ghost use Rattle.ill_show.specs.Notes.{line_of, note_of};
@@ -64,4 +70,35 @@ pub fn no_words_remove_a_note()
 pub fn no_bad_note_passes()
     ensures { (lines : List (List ℕ)) (on txn : Qualifiers) (words : List ℕ) →
         MisjudgesNote lines on txn words (note_of (lines ++ line_of on words ∷ []) txn) → ⊥ }
+{}
+
+/// A history has only messages of the record. So no line counts whose message the record lacks.
+#[tactic(auto, using(crate::proofs::DiaryLaws::all_ours))]
+pub fn a_history_is_of_its_record()
+    ensures { (messages : List Named) (lines : List (List ℕ)) →
+        Each (λ part. is_of_record messages part ≡ true) (history_of messages lines) }
+{}
+
+/// The last line that names a message of the record tells its day.
+#[tactic(auto, using(crate::proofs::DiaryLaws::last_tells))]
+pub fn the_last_line_tells_the_day()
+    ensures { (messages : List Named) (line : List ℕ) (later : List (List ℕ)) (says : Said) (message : Named) →
+        said_by line ≡ Some says → is_named says.message later ≡ false →
+        find (λ other. bytes_eq other.key says.message) messages ≡ Some message →
+        history_of messages (line ∷ later) ≡ part_of says message ∷ history_of messages later }
+{}
+
+/// A line tells nothing if a later one names its message.
+#[tactic(auto, using(crate::proofs::DiaryLaws::older_tells_nothing))]
+pub fn an_older_line_tells_nothing()
+    ensures { (messages : List Named) (line : List ℕ) (later : List (List ℕ)) (says : Said) → said_by line ≡ Some says →
+        is_named says.message later ≡ true → history_of messages (line ∷ later) ≡ history_of messages later }
+{}
+
+/// A diary decides nothing else: before its history, a loan is shown as without a diary.
+#[tactic(auto, using(crate::proofs::DiaryLaws::nothing_else))]
+pub fn a_diary_decides_nothing_else()
+    ensures { (words : Option (List ℕ)) (diary : List (List ℕ)) (held : DeskEntry) (kept : List Apdu) →
+        loan_text Lines words diary held kept
+        ≡ loan_text Lines words [] held kept ++ history_lines (history_of (messages_of held.side kept) diary) }
 {}

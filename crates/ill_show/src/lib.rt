@@ -3,6 +3,8 @@
 #![tactic(auto)]
 
 mod counts;
+mod diary;
+pub mod file_lines;
 pub mod finding;
 mod heard;
 pub mod item_line;

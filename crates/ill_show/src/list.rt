@@ -6,7 +6,7 @@ ghost use Rattle.ill_saved.specs.ManySides.{sides_held};
 ghost use Rattle.ill_text.specs.Output.{WritesText};
 ghost use Rattle.ill_show.specs.List.{counts_line, counts_of, has_work, is_left_out, lacks_day, left_out};
 ghost use Rattle.ill_show.specs.Finding.{seeking_of};
-ghost use Rattle.ill_show.specs.Notes.{lines_of};
+ghost use Rattle.ill_show.specs.FileLines.{lines_of};
 ghost use Rattle.ill_show.specs.Listing.{between, chosen_of, counts_text, file_told, gap, heading, list_lines, list_objects, listed_desk, note_shown, noted_row, ordered_lines, section, sections, work_heading, work_lines, work_objects, work_text};
 
 use crate::counts::Counts;

@@ -3,7 +3,7 @@
 ghost use Rattle.std.specs.Prelude.{◌≡◌, [], ◌++◌, map, option_map, codes, OnOk};
 ghost use Rattle.ill_text.specs.Json.{joined, member};
 ghost use Rattle.ill_show.specs.Objects.{kind_fields, listed_fields, counts_fields, counts_object, file_fields, names_of, noted_fields, row_fields, row_object};
-ghost use Rattle.ill_show.specs.Notes.{lines_of};
+ghost use Rattle.ill_show.specs.FileLines.{lines_of};
 
 use crate::counts::Counts;
 use crate::notes::{Notes, push_note_field};

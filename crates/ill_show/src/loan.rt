@@ -1,13 +1,16 @@
 //! The command `loan`.
 
-ghost use Rattle.std.specs.Prelude.{◌≡◌, option_copied, IfOk};
+ghost use Rattle.std.specs.Prelude.{◌≡◌, map, option_map, IfOk};
 ghost use Rattle.ill_saved.specs.Side.{txn_of};
 ghost use Rattle.ill_saved.specs.ManySides.{found_by, txn_held};
-ghost use Rattle.ill_show.specs.Loan.{IsTextOf, RunsLoan, loan_form, loan_text};
-ghost use Rattle.ill_show.specs.Notes.{lines_of, note_of};
+ghost use Rattle.ill_show.specs.Loan.{IsTextOf, RunsLoan, beside_of, lines_with_history, loan_form, loan_text};
+ghost use Rattle.ill_show.specs.FileLines.{lines_of};
+ghost use Rattle.ill_show.specs.declared.loan.LoanForm.TheVariants.{Object};
+ghost use Rattle.ill_show.specs.Notes.{note_of};
 
+use crate::diary::{history_of, messages_of, push_history};
+use crate::file_lines::FileLines;
 use crate::kept::{kept_of, push_kept_lines};
-use crate::notes::Notes;
 use crate::objects::push_kept_object;
 use crate::picture::picture_of;
 use ill_saved::{Desk, DeskFault, Side, Store};
@@ -52,26 +55,37 @@ pub struct LoanView<'a> {
     pub form: LoanForm,
 }
 
-/// Writes all that is known of the loan in `view` at `desk`, which must be held (else `NoSuchTransaction`). Its note in
-/// `notes` is among it. Then it writes each message of the transaction in `came`, once. A picture has the messages alone.
+/// What the files beside a desk have.
+#[derive(Clone, Copy)]
+pub struct Beside<'a> {
+    /// The notes of staff.
+    pub notes: &'a FileLines,
+    /// The diary.
+    pub diary: &'a FileLines,
+    /// The bytes of the messages that came.
+    pub came: &'a [u8],
+}
+
+/// Writes all that is known of the loan in `view` at `desk`, which must be held (else `NoSuchTransaction`). Its note is
+/// among it. Then it writes each message of the transaction that came, once, and the history of the loan by the diary. A
+/// picture has the messages alone.
 ///
 /// The lines are the seven of `status`, the library that acts next, and the actions that this side may do now. After
-/// them come the request, the numbers of messages that were taken, and each message that the side has issued. `came`
+/// them come the request, the numbers of messages that were taken, and each message that the side has issued. `beside`
 /// has the bytes that `take --keep` has kept. A part that is no message, and all bytes after it, are ignored.
 pub fn run_desk_loan<S: Store, W: Write>(
     alloc: Global,
     desk: &Desk<S>,
     view: &LoanView<'_>,
-    notes: &Notes,
-    came: &[u8],
+    beside: &Beside<'_>,
     writer: &mut W,
 ) -> Result<(), ToolFault>
-    ensures { RunsLoan view.now.form (lines_of notes.now) (found_by txn_held view.now.txn.now desk.now.live.held) came.now
-        (W.contents writer.old) (W.contents writer.new) result }
+    ensures { RunsLoan view.now.form (beside_of beside.now) (found_by txn_held view.now.txn.now desk.now.live.held)
+        beside.now.came.now (W.contents writer.old) (W.contents writer.new) result }
 {
     match desk.sides().get(view.txn) {
         Some(side) => {
-            match text_of_loan(alloc, view.form, side, desk.released(view.txn), notes, came) {
+            match text_of_loan(alloc, view.form, side, desk.released(view.txn), beside) {
                 Ok(text) => write_whole(writer, &text),
                 Err(_) => Err(ToolFault::OutOfMemory),
             }
@@ -80,41 +94,88 @@ pub fn run_desk_loan<S: Store, W: Write>(
     }
 }
 
-/// Returns the text of all that is known of `side`, of its note, and of its messages in `came`.
+/// Returns the text of all that is known of `side`, by the files beside its desk.
 fn text_of_loan(
     alloc: Global,
     form: LoanForm,
     side: &Side,
     released: u8,
-    notes: &Notes,
-    came: &[u8],
+    beside: &Beside<'_>,
 ) -> Result<Vec<u8>, OutOfMemory>
-    ensures { IfOk result (λ text. IsTextOf (loan_text form (note_of (lines_of notes.now) (txn_of side.now))
-        (record { side = side.now; released = released })) (txn_of side.now) came.now text.items) }
+    ensures { IfOk result (λ text. IsTextOf
+        (loan_text form (note_of (lines_of beside.now.notes.now) (txn_of side.now)) (lines_of beside.now.diary.now)
+        (record { side = side.now; released = released })) (txn_of side.now) beside.now.came.now text.items) }
 {
-    let came = apdus_in(alloc, came)?;
+    let came = apdus_in(alloc, beside.came)?;
     let kept = kept_of(alloc, side.txn(), &came)?;
-    let note = notes.note_of(side.txn())?;
-    loan_text(alloc, form, note, side, released, kept)
+    let shown = ShownLoan {
+        side,
+        released,
+        note: beside.notes.note_of(side.txn())?,
+        diary: beside.diary.lines(),
+    };
+    loan_text(alloc, form, &shown, kept)
 }
 
-/// Returns the text of `side` and of its note, and of the messages `kept` that came to it.
+/// A side that is shown.
+#[derive(Clone, Copy)]
+struct ShownLoan<'a> {
+    side: &'a Side,
+    /// The number of its released messages.
+    released: u8,
+    /// Its note, if it has one.
+    note: Option<&'a str>,
+    /// The lines of the diary.
+    diary: &'a [Vec<u8>],
+}
+
+/// Returns the text of the side in `shown`, and of the messages `kept` that came to it.
 fn loan_text(
     alloc: Global,
     form: LoanForm,
-    note: Option<&str>,
-    side: &Side,
-    released: u8,
+    shown: &ShownLoan<'_>,
     kept: Vec<Apdu>,
 ) -> Result<Vec<u8>, OutOfMemory>
-    ensures { IfOk result (λ text. text.items
-        ≡ loan_text form (option_copied note.entry) (record { side = side.now; released = released }) kept.items) }
+    ensures { IfOk result (λ text. text.items ≡ loan_text form (option_map (λ words. words.now) shown.now.note)
+        (map (λ line. line.items) shown.now.diary.now)
+        (record { side = shown.now.side.now; released = shown.now.released }) kept.items) }
+{
+    match form {
+        LoanForm::Lines => lines_of_loan(alloc, shown, &kept),
+        LoanForm::Object => object_of_loan(alloc, shown, &kept),
+        LoanForm::Picture => picture_of(alloc, shown.side, kept),
+    }
+}
+
+/// Returns the lines of the side in `shown`, of the messages `kept` that came to it, and of its history.
+fn lines_of_loan(
+    alloc: Global,
+    shown: &ShownLoan<'_>,
+    kept: &[Apdu],
+) -> Result<Vec<u8>, OutOfMemory>
+    ensures { IfOk result (λ text. text.items ≡ lines_with_history (option_map (λ words. words.now) shown.now.note)
+        (map (λ line. line.items) shown.now.diary.now)
+        (record { side = shown.now.side.now; released = shown.now.released }) kept.now) }
 {
     let mut text = Vec::new(alloc);
-    match form {
-        LoanForm::Lines => push_kept_lines(&mut text, note, side, released, &kept)?,
-        LoanForm::Object => push_kept_object(&mut text, note, side, released, &kept)?,
-        LoanForm::Picture => return picture_of(alloc, side, kept),
-    }
+    push_kept_lines(&mut text, shown.note, shown.side, shown.released, kept)?;
+    let messages = messages_of(alloc, shown.side, kept)?;
+    let history = history_of(alloc, &messages, shown.diary)?;
+    push_history(&mut text, &history)?;
+    Ok(text)
+}
+
+/// Returns the object of the side in `shown`, and of the messages `kept` that came to it.
+fn object_of_loan(
+    alloc: Global,
+    shown: &ShownLoan<'_>,
+    kept: &[Apdu],
+) -> Result<Vec<u8>, OutOfMemory>
+    ensures { IfOk result (λ text. text.items ≡ loan_text Object (option_map (λ words. words.now) shown.now.note)
+        (map (λ line. line.items) shown.now.diary.now)
+        (record { side = shown.now.side.now; released = shown.now.released }) kept.now) }
+{
+    let mut text = Vec::new(alloc);
+    push_kept_object(&mut text, shown.note, shown.side, shown.released, kept)?;
     Ok(text)
 }

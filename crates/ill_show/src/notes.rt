@@ -1,71 +1,29 @@
 //! The notes of staff on loans, as the file beside a desk keeps them: a line a note. The last note of a loan counts.
 
-ghost use Rattle.std.specs.Prelude.{◌≡◌, ◌++◌, [], map, codes, option_copied, string_bytes, IfOk, OnOk};
+ghost use Rattle.std.specs.Prelude.{◌≡◌, ◌++◌, map, codes, option_copied, string_bytes, IfOk, OnOk};
 ghost use Rattle.ill_text.specs.Escape.{escaped};
+ghost use Rattle.ill_text.specs.Keys.{loan_key};
 ghost use Rattle.ill_text.specs.Json.{joined, member, optional, quoted, value_text};
 ghost use Rattle.ill_text.specs.Lines.{line};
-ghost use Rattle.ill_show.specs.Notes.{key, key_byte, kept_line, last_words, lines_in, lines_of, is_note, listed_note, loan_key, note_fields, note_lines, note_of, note_text, unless_empty, with_byte, words_after};
+ghost use Rattle.ill_show.specs.Notes.{kept_line, last_words, is_note, listed_note, note_fields, note_lines, note_of, note_text, unless_empty, words_after};
+ghost use Rattle.ill_show.specs.FileLines.{lines_of};
 
+pub use crate::file_lines::FileLines as Notes;
+use crate::file_lines::FileLines;
 use ill_text::escape::push_escaped;
 use ill_text::json::{Value, push_members};
+use ill_text::keys::loan_key;
 use ill_text::lines::push_line;
 use ill_values::{Item, OutOfMemory, TxnId};
 use std::alloc::Global;
-use std::mem::replace;
 
-/// The lines of a file of notes.
-#[derive(Drop)]
-pub struct Notes {
-    /// The lines, without their ends.
-    lines: Vec<Vec<u8>>,
-    /// The bytes after the last line.
-    next: Vec<u8>,
-}
-
-impl Notes {
-    /// Returns the notes of a desk that has none.
-    pub fn none(alloc: Global) -> Notes
-        ensures lines { lines_of result ≡ [] }
-        ensures next { result.next.items ≡ [] }
-    {
-        Notes {
-            lines: Vec::new(alloc),
-            next: Vec::new(alloc),
-        }
-    }
-
-    /// Returns the notes in `bytes`. A part of a line at their end is ignored.
-    pub fn read(alloc: Global, bytes: &[u8]) -> Result<Notes, OutOfMemory>
-        ensures { IfOk result (λ notes. lines_of notes ≡ lines_in bytes.now) }
-    {
-        let mut notes = Notes::none(alloc);
-        for byte in bytes {
-            notes.push(*byte)?;
-        }
-        Ok(notes)
-    }
-
-    /// Appends a byte. A line feed ends a line.
-    fn push(&mut self, byte: u8) -> Result<(), OutOfMemory>
-        ensures { OnOk result ((lines_of self.new, self.new.next.items)
-            ≡ with_byte (lines_of self.old, self.old.next.items) byte) }
-    {
-        if byte != b'\n' {
-            self.next.push(byte)?;
-            return Ok(());
-        }
-        let alloc = *self.next.allocator();
-        let line = replace(&mut self.next, Vec::new(alloc));
-        self.lines.push(line)?;
-        Ok(())
-    }
-
+impl FileLines {
     /// Returns the note of the loan `txn`, if there is one.
     pub(crate) fn note_of(&self, txn: &TxnId) -> Result<Option<&str>, OutOfMemory>
         ensures { IfOk result (λ note. option_copied note ≡ note_of (lines_of self.now) txn.now) }
     {
-        let begin = loan_key(*self.next.allocator(), txn)?;
-        Ok(unless_empty(last_words(&begin, &self.lines)))
+        let begin = loan_key(self.allocator(), txn)?;
+        Ok(unless_empty(last_words(&begin, self.lines())))
     }
 }
 
@@ -176,40 +134,4 @@ pub fn kept_line(alloc: Global, txn: &TxnId, words: &str) -> Result<Vec<u8>, Out
     push_escaped(&mut line, words.as_bytes())?;
     line.push(b'\n')?;
     Ok(line)
-}
-
-/// Returns the text with which each line of the loan `txn` begins.
-fn loan_key(alloc: Global, txn: &TxnId) -> Result<Vec<u8>, OutOfMemory>
-    ensures { IfOk result (λ begin. begin.items ≡ loan_key txn.now) }
-{
-    let mut begin = Vec::new(alloc);
-    push_key(&mut begin, txn.group())?;
-    begin.push(b' ')?;
-    push_key(&mut begin, txn.transaction())?;
-    begin.push(b' ')?;
-    Ok(begin)
-}
-
-/// Appends the qualifier `text`.
-fn push_key(line: &mut Vec<u8>, text: &[u8]) -> Result<(), OutOfMemory>
-    ensures { OnOk result (line.new.items ≡ line.old.items ++ key text.now) }
-{
-    for byte in text {
-        push_key_byte(line, *byte)?;
-    }
-    Ok(())
-}
-
-/// Appends a byte of a qualifier. A space and a backslash are escapes.
-fn push_key_byte(line: &mut Vec<u8>, byte: u8) -> Result<(), OutOfMemory>
-    ensures { OnOk result (line.new.items ≡ line.old.items ++ key_byte byte) }
-{
-    match byte {
-        b' ' => line.extend_from_slice(b"\\u{20}"),
-        b'\\' => line.extend_from_slice(b"\\u{5c}"),
-        _ => {
-            line.push(byte)?;
-            Ok(())
-        }
-    }
 }

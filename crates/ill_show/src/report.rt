@@ -10,7 +10,8 @@ ghost use Rattle.ill_words.specs.Possible.{possible_on, request_of, item_asked};
 ghost use Rattle.ill_work.specs.Order.{has_work};
 ghost use Rattle.ill_show.specs.declared.report_parts.TheConstants.{TIME_END};
 ghost use Rattle.ill_show.specs.List.{title_text};
-ghost use Rattle.ill_show.specs.Notes.{lines_of, note_of};
+ghost use Rattle.ill_show.specs.FileLines.{lines_of};
+ghost use Rattle.ill_show.specs.Notes.{note_of};
 ghost use Rattle.ill_show.specs.Report.{action_text, counted, counts_text, deadline_text, desk_text, field_text, is_to_do, loans_text, noted_text, page_end, page_head, row_text, rows_text, table_head, table_text, unread_text, value_text, work_text};
 
 use crate::notes::Notes;

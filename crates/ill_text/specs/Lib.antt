@@ -1,10 +1,12 @@
 pub mod ApduObject
 pub mod Check
+pub mod Diary
 pub mod Escape
 pub mod Fault
 pub mod Html
 pub mod Input
 pub mod Json
+pub mod Keys
 pub mod Lines
 pub mod LongLines
 pub mod Output

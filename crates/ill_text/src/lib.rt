@@ -4,12 +4,14 @@
 
 pub mod apdu_object;
 pub mod check;
+pub mod diary;
 pub mod escape;
 pub mod fault;
 pub mod form;
 pub mod html;
 pub mod input;
 pub mod json;
+pub mod keys;
 pub mod lines;
 pub mod long_lines;
 pub mod output;

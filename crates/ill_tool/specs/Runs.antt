@@ -36,13 +36,13 @@ Runs (asks.Simulate group transaction) left rest before after result =
     GoesWell (Performs (txn_id_of group transaction) left rest before after) result
 Runs asks.SimulateDesks left rest before after result = GoesWell (PerformsDesks left rest before after) result
 Runs (asks.New file role) left rest before after result = (rest ≡ left) × NewAtFile before after result
-Runs (asks.Act file asking is_long is_new_group) left rest before after result =
+Runs (asks.Act file asking by is_long is_new_group) left rest before after result =
     (rest ≡ left) × ActsAtFile asking is_long before after result
-Runs (asks.Take file form key) left rest before after result = TakesWith key form left rest before after result
-Runs (asks.Inbox file folder) left rest before after result = (rest ≡ left) × InboxAtFile before after result
+Runs (asks.Take file form stamp key) left rest before after result = TakesWith key form left rest before after result
+Runs (asks.Inbox file folder stamp) left rest before after result = (rest ≡ left) × InboxAtFile before after result
 Runs (asks.Outbox file folder) left rest before after result =
     (rest ≡ left) × OutboxAtFile (is_some folder) before after result
-Runs (asks.Exchange file incoming outgoing dates copy beat) left rest before after result =
+Runs (asks.Exchange file incoming outgoing dates stamp copy beat) left rest before after result =
     (rest ≡ left) × ExchangesAtFile dates before after result
 Runs (asks.Key file deed) left rest before after result = RunsKey deed left rest before after result
 Runs (asks.Send file txn number key) left rest before after result =
@@ -73,9 +73,10 @@ RunsGuarded asked left rest before after result =
 abbrev pub RunsShelf : Asked → Option (List ℕ) → Option (List ℕ) → Option (List ℕ) → Option (List ℕ) →
     Result Bool ToolFault → Type 0
 RunsShelf (asks.New folder role) left rest before after result = (rest ≡ left) × NewAtFile before after result
-RunsShelf (asks.Act folder asking is_long is_new_group) left rest before after result =
+RunsShelf (asks.Act folder asking by is_long is_new_group) left rest before after result =
     (rest ≡ left) × ActsAtFile asking is_long before after result
-RunsShelf (asks.Take folder form key) left rest before after result = TakesWithAtShelf key form left rest before after result
+RunsShelf (asks.Take folder form stamp key) left rest before after result =
+    TakesWithAtShelf key form left rest before after result
 RunsShelf (asks.Send folder txn number key) left rest before after result =
     (rest ≡ left) × SendsWith key txn number before after result
 RunsShelf (asks.Loan folder txn form) left rest before after result =
@@ -85,11 +86,11 @@ RunsShelf (asks.Note folder txn words) left rest before after result =
 RunsShelf (asks.Slip folder txn) left rest before after result = (rest ≡ left) × SlipAtFile txn before after result
 RunsShelf (asks.Status folder form) left rest before after result =
     (rest ≡ left) × VisitsShelf (is_lines form) (ShowsFile form) before after result
-RunsShelf (asks.Inbox folder incoming) left rest before after result =
+RunsShelf (asks.Inbox folder incoming stamp) left rest before after result =
     (rest ≡ left) × VisitsShelf true InboxAtFile before after result
 RunsShelf (asks.Outbox folder outgoing) left rest before after result =
     (rest ≡ left) × VisitsShelf (is_some outgoing) (OutboxAtFile (is_some outgoing)) before after result
-RunsShelf (asks.Exchange folder incoming outgoing dates copy beat) left rest before after result =
+RunsShelf (asks.Exchange folder incoming outgoing dates stamp copy beat) left rest before after result =
     (rest ≡ left) × VisitsShelf true (ExchangesAtFile dates) before after result
 RunsShelf (asks.Retire folder group) left rest before after result = (rest ≡ left) × RetiresAtFile before after result
 RunsShelf other left rest before after result = (rest ≡ left) × (after ≡ before) × (result ≡ Err Arguments)

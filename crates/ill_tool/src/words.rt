@@ -10,11 +10,12 @@ ghost use Rattle.ill_tool.specs.ExitStatus.{IsFlushed, TellsKind, desk_status, e
 use crate::simulate::{run_simulate, run_simulate_desks};
 use clap::Error;
 use clap::error::ErrorKind;
-use ill_commands::commands::{act, list, loan, new, report, slip, status, verify};
+use ill_commands::commands::{TakeView, act, list, loan, new, report, slip, status, verify};
 use ill_commands::letters::{send_with, take_with};
 use ill_commands::note::{NoteView, note};
 use ill_commands::telling::news;
 use ill_desk::act_as::ActionView;
+use ill_desk::take::TakeForm;
 use ill_explain::{Passed, Watched, explain, is_asked};
 use ill_files::machine::Machine;
 use ill_files::open::all_well;
@@ -31,6 +32,7 @@ use ill_shelf::on_shelf::{
 use ill_shelf::take_home::take_on_shelf_with;
 use ill_show::loan::LoanView;
 use ill_text::check::run_check;
+use ill_text::diary::Stamp;
 use ill_text::fault::ToolFault;
 use ill_text::show::run_show_as;
 use std::alloc::Global;
@@ -265,6 +267,7 @@ fn run<T: LockFiles, R: Read, W: Write, E: Write>(
             file,
             txn,
             today,
+            by,
             seen,
             is_trial,
             is_long,
@@ -276,14 +279,24 @@ fn run<T: LockFiles, R: Read, W: Write, E: Write>(
             &ActionView {
                 txn,
                 today: *today,
+                by: *by,
                 words,
                 seen: *seen,
                 is_trial: *is_trial,
             },
             *is_long,
         ),
-        Request::Take { file, form, key } => take_with(machine, file, *key, *form, reader),
-        Request::Inbox { file, folder } => { inbox(machine, file, unsorted(folder)) }
+        Request::Take {
+            file,
+            form,
+            stamp,
+            key,
+        } => take_with(machine, file, *key, &take_view(*form, stamp), reader),
+        Request::Inbox {
+            file,
+            folder,
+            stamp,
+        } => inbox(machine, file, mails_in(folder, false, stamp)),
         Request::Outbox { file, folder } => outbox(machine, file, *folder),
         Request::Exchange { file, night } => exchange(machine, file, night),
         Request::Key { file, deed } => key(machine, file, *deed, reader),
@@ -310,11 +323,23 @@ fn run<T: LockFiles, R: Read, W: Write, E: Write>(
     }
 }
 
-/// Returns `folder` as a folder that no shelf has sorted.
-fn unsorted(folder: &str) -> Incoming<'_> {
+/// Returns the form in which messages are taken, with the stamp of the lines of the diary.
+fn take_view<'a, 'b>(form: TakeForm, stamp: &'a Option<Stamp<'b>>) -> TakeView<'a, 'b>
+    ensures { result.form ≡ form }
+{
+    TakeView { form, stamp }
+}
+
+/// Returns the mails of `folder`, with the stamp of the lines of the diary.
+fn mails_in<'a, 'b, 'c>(
+    folder: &'a str,
+    is_sorted: bool,
+    stamp: &'b Option<Stamp<'c>>,
+) -> Incoming<'a, 'b, 'c> {
     Incoming {
         folder,
-        is_sorted: false,
+        is_sorted,
+        stamp,
     }
 }
 
@@ -333,6 +358,7 @@ fn run_on_shelf<T: LockFiles, R: Read, W: Write, E: Write>(
             file,
             txn,
             today,
+            by,
             seen,
             is_trial,
             is_long,
@@ -344,6 +370,7 @@ fn run_on_shelf<T: LockFiles, R: Read, W: Write, E: Write>(
             &ActionView {
                 txn,
                 today: *today,
+                by: *by,
                 words,
                 seen: *seen,
                 is_trial: *is_trial,
@@ -351,9 +378,12 @@ fn run_on_shelf<T: LockFiles, R: Read, W: Write, E: Write>(
             *is_long,
             *is_new_group,
         ),
-        Request::Take { file, form, key } => {
-            take_on_shelf_with(machine, file, *key, *form, reader)
-        }
+        Request::Take {
+            file,
+            form,
+            stamp,
+            key,
+        } => take_on_shelf_with(machine, file, *key, &take_view(*form, stamp), reader),
         Request::Send {
             file,
             txn,
@@ -368,7 +398,11 @@ fn run_on_shelf<T: LockFiles, R: Read, W: Write, E: Write>(
         }
         Request::Slip { file, txn } => slip_on_shelf(machine, file, txn),
         Request::Status { file, form } => status_of_shelf(machine, file, *form),
-        Request::Inbox { file, folder } => inbox_of_shelf(machine, file, folder),
+        Request::Inbox {
+            file,
+            folder,
+            stamp,
+        } => inbox_of_shelf(machine, file, mails_in(folder, true, stamp)),
         Request::Outbox { file, folder } => { outbox_of_shelf(machine, file, *folder) }
         Request::Exchange { file, night } => { exchange_of_shelf(machine, file, night) }
         Request::Retire { file, group } => retire(machine, file, group),

@@ -66,14 +66,14 @@ class Desks:
 
     def fresh(self, name):
         """Lets the desk be a copy of another one, with nothing beside it and no copy of an earlier round."""
-        names = ("desk", "desk.new", "desk.lck", "desk.came", "desk.mail", "copy", "copy.new", "in", "out")
+        names = ("desk", "desk.new", "desk.lck", "desk.came", "desk.diary", "desk.mail", "copy", "copy.new", "in", "out")
         harness.remove(*map(self.path, names))
         if name:
             write(self.path("desk"), read(self.path(name)))
 
     def left(self):
         """Returns the files that are beside the desk."""
-        kept = ("desk.came", "desk.mail")
+        kept = ("desk.came", "desk.diary", "desk.mail")
         return sorted(name for name in os.listdir(self.folder) if name.startswith("desk.") and name not in kept)
 
     def loans(self):

@@ -28,8 +28,8 @@ OTHERS = {"error:", "ill help", "ill --version", ".unsorted.mail"}
 # The kinds of arguments that the completions know, by their variants, and those of the values of options.
 KINDS = {"File": "file", "NewFile": "file", "Paths": "files", "Folder": "folder", "OutFolder": "folder", "In": "folder",
          "Out": "folder", "Role": "role", "Group": "loan", "Transaction": "loan", "Words": "words", "NoteWords": "none",
-         "Number": "none", "KeyFile": "file"}
-VALUES = {"DAY": "day", "DAYS": "count", "N": "count", "TEXT": "text", "WORDS": "text", "STATE": "state", "FILE": "file",
+          "Number": "none", "KeyFile": "file"}
+VALUES = {"DAY": "day", "DAYS": "count", "N": "count", "NAME": "text", "TEXT": "text", "WORDS": "text", "STATE": "state", "FILE": "file",
           "FOLDER": "file", "KEYFILE": "file"}
 
 # An argument has the label that stands for it; an option has its name, the label of its value, and perhaps a letter.

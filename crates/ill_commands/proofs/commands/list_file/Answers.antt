@@ -1,7 +1,7 @@
 -- Answers the contract of `list_file` (`src/commands.rt`).
 use Rattle.std.proofs.Common.{inr}
 use Rattle.ill_saved.specs.ManySides.{sides_held}
-use Rattle.ill_show.specs.Notes.{lines_of}
+use Rattle.ill_show.specs.FileLines.{lines_of}
 use Rattle.ill_commands.proofs.commands.list_file.Goals as goal
 
 -- Proves the contract of `list_file` if the desk is opened. `run_desk_list` lists its sides.

@@ -1,6 +1,6 @@
 -- Answers the contract of `push_file` (`src/commands.rt`).
 use Rattle.std.proofs.Common.{Ok, Err, refl}
-use Rattle.ill_show.specs.Notes.{lines_of}
+use Rattle.ill_show.specs.FileLines.{lines_of}
 use Rattle.ill_commands.proofs.commands.push_file.Goals as goal
 
 -- Proves the contract of `push_file` if the desk is opened. The part has its loans.

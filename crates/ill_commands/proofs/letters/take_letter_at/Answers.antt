@@ -9,7 +9,7 @@ use Rattle.ill_commands.proofs.letters.take_letter_at.Goals as goal
 pub returns-in-Ok-clause-taken : goal.returns-in-Ok-clause-taken
 returns-in-Ok-clause-taken g c =
     took c.args.letter.now.key.now (other_sender c.args.desk.now.live.role) c.other_sender-sender.result
-    (TakesAtFile c.args.letter.now.form) _ _ _ _ c.in-Ok.text.items c.as_slice.result.now _ c.take_at.result
+    (TakesAtFile c.args.letter.now.view.form) _ _ _ _ c.in-Ok.text.items c.as_slice.result.now _ c.take_at.result
     (c.other_sender-sender.ensures ∙ ap other_sender c.role.ensures) c.in-Ok.ensures.opens c.as_slice.ensures.value
     c.take_at.ensures
 
@@ -22,7 +22,7 @@ returns-in-Ok-clause-unchanged g c =
 pub returns-in-Err-clause-taken : goal.returns-in-Err-clause-taken
 returns-in-Err-clause-taken g c =
     left_sealed c.args.letter.now.key.now (other_sender c.args.desk.now.live.role) c.other_sender-sender.result
-    (TakesAtFile c.args.letter.now.form) _ _ _ c.in-Err.fault
+    (TakesAtFile c.args.letter.now.view.form) _ _ _ c.in-Err.fault
     (c.other_sender-sender.ensures ∙ ap other_sender c.role.ensures) c.in-Err.ensures.fault
 
 pub returns-in-Err-clause-unchanged : goal.returns-in-Err-clause-unchanged

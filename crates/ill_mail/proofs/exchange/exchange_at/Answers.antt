@@ -20,5 +20,5 @@ returns g c =
     (g.W.Write.contents c.open_mail.new.machine.writer) (g.W.Write.contents c.night_in-done.new.machine.writer)
     (g.W.Write.contents c.report_fault_of_mail.new.machine.writer) c.night_in-done.result c.report_fault_of_mail.result
     c.night_in-done.ensures.over (ap (λ writer. g.W.Write.contents writer) c.in-Ok.ensures.silent)
-    (ap (λ writer. g.W.Write.contents writer) (c.report_fault_of_mail.ensures.silent ∙ c.warn_of_came.ensures))
+    (ap (λ writer. g.W.Write.contents writer) (c.report_fault_of_mail.ensures.silent ∙ c.warn_of_streams.ensures))
     c.report_fault_of_mail.ensures.answer

@@ -7,7 +7,7 @@ use Rattle.ill_shelf.proofs.take_home.take_letter_on_shelf.Goals as goal
 -- Proves that the messages are taken, if the letter opens.
 pub returns-in-Ok : goal.returns-in-Ok
 returns-in-Ok g c =
-    let letter = took _ c.other_sender-sender.result c.other_sender-sender.result (TakesAtShelf c.args.form) _ _ _ _
+    let letter = took _ c.other_sender-sender.result c.other_sender-sender.result (TakesAtShelf c.args.view.now.form) _ _ _ _
     c.in-Ok.text.items c.as_slice.result.now _ c.take_on_shelf.result refl c.in-Ok.ensures.opens
     c.as_slice.ensures.value c.take_on_shelf.ensures in
     inr (_, _, (letter.0, letter.1, letter.2))
@@ -15,6 +15,6 @@ returns-in-Ok g c =
 -- Proves that nothing changes, if it does not.
 pub returns-in-Err : goal.returns-in-Err
 returns-in-Err g c =
-    let letter = left_sealed _ c.other_sender-sender.result c.other_sender-sender.result (TakesAtShelf c.args.form) _ _ _
+    let letter = left_sealed _ c.other_sender-sender.result c.other_sender-sender.result (TakesAtShelf c.args.view.now.form) _ _ _
     c.in-Err.fault refl c.in-Err.ensures.fault in
     inr (_, _, (letter.0, letter.1, letter.2))

@@ -12,13 +12,13 @@ use Rattle.ill_shelf.proofs.take_home.take_on_shelf.Goals as goal
 pub returns-in-Ok : goal.returns-in-Ok
 returns-in-Ok g c =
     let view : TakesHome × Machine _ _ _ → ShelfTaking = λ s.
-    record { form = s.0.form; all_fine = s.0.all_fine; written = g.W.Write.contents s.1.writer } in
+    record { form = s.0.view.form; all_fine = s.0.all_fine; written = g.W.Write.contents s.1.writer } in
     let begun : TakesHome × _ = (c.new-taken.result.handler, c.args.machine.now) in
     let ended : TakesHome × _ = (c.handle_input.new.counted.handler, c.handle_input.new.context) in
     let left = g.R.Read.remaining c.args.reader.now in
     let rest = g.R.Read.remaining c.handle_input.new.reader in
     let taken = taken_home view left rest begun ended (Ok c.in-Ok.field-0) c.in-Ok.ensures in
-    let start : view begun ≡ shelf_taking c.args.form (g.W.Write.contents c.args.machine.now.writer) =
+    let start : view begun ≡ shelf_taking c.args.view.now.form (g.W.Write.contents c.args.machine.now.writer) =
     ap (λ (taking : TakesHome). view (taking, c.args.machine.now)) c.new-taken.ensures.handler in
     inr (
       Ok c.in-Ok.field-0,
@@ -32,13 +32,13 @@ returns-in-Ok g c =
 pub returns-in-Err : goal.returns-in-Err
 returns-in-Err g c =
     let view : TakesHome × Machine _ _ _ → ShelfTaking = λ s.
-    record { form = s.0.form; all_fine = s.0.all_fine; written = g.W.Write.contents s.1.writer } in
+    record { form = s.0.view.form; all_fine = s.0.all_fine; written = g.W.Write.contents s.1.writer } in
     let begun : TakesHome × _ = (c.new-taken.result.handler, c.args.machine.now) in
     let ended : TakesHome × _ = (c.handle_input.new.counted.handler, c.handle_input.new.context) in
     let left = g.R.Read.remaining c.args.reader.now in
     let rest = g.R.Read.remaining c.handle_input.new.reader in
     let taken = taken_home view left rest begun ended (Err c.in-Err.fault) c.in-Err.ensures in
-    let start : view begun ≡ shelf_taking c.args.form (g.W.Write.contents c.args.machine.now.writer) =
+    let start : view begun ≡ shelf_taking c.args.view.now.form (g.W.Write.contents c.args.machine.now.writer) =
     ap (λ (taking : TakesHome). view (taking, c.args.machine.now)) c.new-taken.ensures.handler in
     inr (
       Err c.in-Err.fault,

@@ -5,7 +5,7 @@ use Rattle.std.proofs.lemmas.List.{take_all}
 use Rattle.std.proofs.lemmas.List.Folds.{flat_map-map}
 use Rattle.ill_saved.specs.declared.side.Side.{Side}
 use Rattle.ill_show.specs.Listing.{noted_row}
-use Rattle.ill_show.specs.Notes.{lines_of}
+use Rattle.ill_show.specs.FileLines.{lines_of}
 use Rattle.ill_show.proofs.list.push_rows.Goals as goal
 
 -- Proves the contract of `push_rows`. After the loop each side has added its line.

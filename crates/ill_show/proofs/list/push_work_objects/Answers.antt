@@ -4,7 +4,7 @@ use Rattle.std.specs.List.{flat_map}
 use Rattle.std.proofs.lemmas.List.{take_all}
 use Rattle.std.proofs.lemmas.List.Folds.{flat_map-map}
 use Rattle.ill_saved.specs.declared.side.Side.{Side}
-use Rattle.ill_show.specs.Notes.{lines_of}
+use Rattle.ill_show.specs.FileLines.{lines_of}
 use Rattle.ill_show.specs.Objects.{row_object}
 use Rattle.ill_show.proofs.list.push_work_objects.Goals as goal
 

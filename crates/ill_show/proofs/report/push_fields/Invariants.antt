@@ -1,7 +1,7 @@
 -- States the loop invariant of `push_fields` (`src/report.rt`).
 use Rattle.std.proofs.Common.{◌≡◌, ◌++◌, take}
 use Rattle.std.specs.List.{flat_map}
-use Rattle.ill_show.specs.Notes.{lines_of}
+use Rattle.ill_show.specs.FileLines.{lines_of}
 use Rattle.ill_show.specs.Report.{field_text}
 use Rattle.ill_show.proofs.report.push_fields.Given as goal
 

@@ -5,7 +5,7 @@ use Rattle.std.proofs.lemmas.List.{take_all}
 use Rattle.std.proofs.lemmas.List.Folds.{flat_map-map}
 use Rattle.ill_saved.specs.declared.side.Side.{Side}
 use Rattle.ill_work.specs.Order.{has_work}
-use Rattle.ill_show.specs.Notes.{lines_of}
+use Rattle.ill_show.specs.FileLines.{lines_of}
 use Rattle.ill_show.specs.Report.{row_text, rows_text}
 use Rattle.ill_show.specs.declared.soon.TheConstants.{SOON}
 use Rattle.ill_show.proofs.ListLemmas.{kept_apart}

@@ -1,7 +1,7 @@
--- States the loop invariant of `push_key` (`src/notes.rt`).
+-- States the loop invariant of `push_key` (`src/keys.rt`).
 use Rattle.std.proofs.Common.{◌≡◌, ◌++◌, take}
-use Rattle.ill_show.specs.Notes.{key}
-use Rattle.ill_show.proofs.notes.push_key.Given as goal
+use Rattle.ill_text.specs.Keys.{key}
+use Rattle.ill_text.proofs.keys.push_key.Given as goal
 
 -- The bytes so far are appended.
 abbrev pub invariant-loop-byte : goal.invariant-loop-byte

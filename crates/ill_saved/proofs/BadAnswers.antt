@@ -7,7 +7,7 @@ use Rattle.ill_saved.specs.declared.fault.DeskFault.{DeskFault}
 use Rattle.ill_saved.specs.declared.fault.DeskFault.TheVariants.{OutOfMemory}
 use Rattle.ill_saved.specs.Holdings.{IsReadFault}
 use Rattle.ill_store.specs.Store.{LandsAtFailure}
-use Rattle.ill_saved.specs.Desk.{IsSaveFault, IsCreateAnswer, IsLoadFault, SaveLands, PlanAfter}
+use Rattle.ill_saved.specs.Desk.{IsSaveFault, IsCreateAnswer, IsLoadFault, LeavesBeforeOr, LeavesLanded, SaveLands, PlanAfter}
 use Rattle.ill_saved.specs.BadAnswers.{IsOfNoRecord, core, bytes, trailing, no_such_message, not_saved, no_such_transaction}
 use Rattle.ill_saved.specs.BadAnswers.{desk_full, store_memory, CannotSave, save_other, save_exists, save_no_record, save_record}
 use Rattle.ill_saved.specs.BadAnswers.{save_too_large, CannotCreate, create_other, create_no_record, create_record, CannotLoad}
@@ -121,3 +121,15 @@ none_lands plan record_bytes _ old new (memory other) is = other is
 -- A save for which memory ran out leaves no plan of `PlansWrong`.
 pub none_plans : (old new : Option NextCall) → PlansWrong old new → PlanAfter (Err OutOfMemory) old new → ⊥
 none_plans old new (plan_other not_spent not_old) is = neither not_spent not_old is
+
+-- ---- what a loss of power leaves
+
+-- If the landed record alone may be left, no other one is.
+pub none_outlasts : (landed : Option (List ℕ)) (leaves : Option (List ℕ) → Type 0) (left : Option (List ℕ))
+    → LeavesLanded landed leaves → leaves left → (left ≡ landed → ⊥) → ⊥
+none_outlasts landed leaves left lasts is differ = differ (lasts left is)
+
+-- If one of those before or another one may be left, no third one is.
+pub none_outlasts_either : (other : Option (List ℕ)) (before after : Option (List ℕ) → Type 0) (left : Option (List ℕ))
+    → LeavesBeforeOr other before after → after left → (before left → ⊥) → (left ≡ other → ⊥) → ⊥
+none_outlasts_either other before after left lasts is not_before not_other = neither not_before not_other (lasts left is)

@@ -85,6 +85,11 @@ Loads read begins landed plan answer = ⊥
 abbrev pub LeavesLanded : Option (List ℕ) → (Option (List ℕ) → Type 0) → Type 0
 LeavesLanded landed leaves = (left : Option (List ℕ)) → leaves left → left ≡ landed
 
+-- `after` holds of each record that a loss of power may leave after a call, and `before` of each that one might have left
+-- before it. After the call it is `other`, or one of those before.
+abbrev pub LeavesBeforeOr : Option (List ℕ) → (Option (List ℕ) → Type 0) → (Option (List ℕ) → Type 0) → Type 0
+LeavesBeforeOr other before after = (left : Option (List ℕ)) → after left → before left ⊎ (left ≡ other)
+
 -- The fault is one that loading can have: of the store, of the record, or a lack of memory.
 abbrev pub IsLoadFault : Bool → DeskFault → Type 0
 IsLoadFault has_digest (Store stores.Failed) = Unit {0}

@@ -1,13 +1,13 @@
 //! A desk: one side or many, in memory and in a store.
 
-ghost use Rattle.std.specs.Prelude.{◌≡◌, ◌≤◌, true, length, option_copied, IfOk, IfErr, IfSome, OnOk};
+ghost use Rattle.std.specs.Prelude.{◌≡◌, ◌≤◌, true, length, option_copied, Some, IfOk, IfErr, IfSome, OnOk};
 ghost use Rattle.ill_der.specs.ShortForm.{apdu_at};
 ghost use Rattle.ill_saved.specs.Side.{issued_of, idle_of, shown_of};
 ghost use Rattle.ill_saved.specs.Sides.{found_by};
 ghost use Rattle.ill_saved.specs.Holdings.{DeskActs, DeskTakesApdu, SendsHeld, IsBackedInSave, IsDurablyBacked, IsReadAgain, held_after, landed_live};
 ghost use Rattle.ill_saved.specs.OneSide.{OneBacks, alone, one_side};
 ghost use Rattle.ill_saved.specs.ManySides.{ManyBack, held_for, many_sides, no_sides, sides_held, txn_held};
-ghost use Rattle.ill_saved.specs.Desk.{DeskOf, DeskTakes, IsOneApdu, DeskSaves, IsSaveFault, IsLoadFault, Loads, Restarts, RestartLeaves, RunsOutInLoad, NothingTakesMemory, answer_of, store_of, Creates, IsCreateAnswer, Begins, IsStartAnswer, AreAllReleased, DeskLoads, IfEncoded, LeavesLanded};
+ghost use Rattle.ill_saved.specs.Desk.{DeskOf, DeskTakes, IsOneApdu, DeskSaves, IsSaveFault, IsLoadFault, Loads, Restarts, RestartLeaves, RunsOutInLoad, NothingTakesMemory, answer_of, store_of, Creates, IsCreateAnswer, Begins, IsStartAnswer, AreAllReleased, DeskLoads, IfEncoded, LeavesLanded, LeavesBeforeOr};
 
 use crate::fault::DeskFault;
 use crate::holdings::Holdings;
@@ -48,6 +48,7 @@ impl<H: Holdings, S: Store> Model for AnyDesk<H, S> {
 
 impl<H: Holdings, S: Store> AnyDesk<H, S> {
     /// Begins a desk over a store without a record (otherwise `Exists`). Saves nothing. A fault returns the store.
+    /// Once it is done, a loss of power leaves no record.
     pub fn begin(alloc: Global, store: S, first: H::First) -> Result<AnyDesk<H, S>, (DeskFault, S)>
         ensures creates { (S.state store).is_honest ≡ true →
             Creates (S.state store).landed (S.state store).plan (answer_of result) }
@@ -55,6 +56,10 @@ impl<H: Holdings, S: Store> AnyDesk<H, S> {
         ensures faults { IsCreateAnswer (answer_of result) }
         ensures memory { RunsOutInLoad (S.load_takes_memory store) (answer_of result) }
         ensures store { DeskLoads (S.state store) (answer_of result) (S.state (store_of result)) }
+        ensures lasts { (S.state store).is_honest ≡ true →
+            IfOk result (λ desk. LeavesLanded (S.state desk.store).landed (S.leaves desk.store)) }
+        ensures left { (S.state store).is_honest ≡ true →
+            LeavesBeforeOr (S.state store).landed (S.leaves store) (S.leaves (store_of result)) }
     {
         AnyDesk::over(alloc, store, H::begin(alloc, first))
     }
@@ -68,6 +73,10 @@ impl<H: Holdings, S: Store> AnyDesk<H, S> {
         ensures faults { IsCreateAnswer (answer_of result) }
         ensures memory { RunsOutInLoad (S.load_takes_memory store) (answer_of result) }
         ensures store { DeskLoads (S.state store) (answer_of result) (S.state (store_of result)) }
+        ensures lasts { (S.state store).is_honest ≡ true →
+            IfOk result (λ desk. LeavesLanded (S.state desk.store).landed (S.leaves desk.store)) }
+        ensures left { (S.state store).is_honest ≡ true →
+            LeavesBeforeOr (S.state store).landed (S.leaves store) (S.leaves (store_of result)) }
     {
         let mut store = store;
         match store.load(alloc) {
@@ -78,7 +87,7 @@ impl<H: Holdings, S: Store> AnyDesk<H, S> {
     }
 
     /// Starts a desk with the sides whose record `store` has (otherwise `NoRecord`). All their messages may be sent.
-    /// A fault returns the store.
+    /// A fault returns the store. Once it is done, a loss of power leaves this record.
     pub fn start(alloc: Global, store: S) -> Result<AnyDesk<H, S>, (DeskFault, S)>
         ensures starts { (S.state store).is_honest ≡ true →
             Begins H.effects.read H.effects.begins (λ desk. desk.live) (S.state store).landed (S.state store).plan result }
@@ -87,6 +96,10 @@ impl<H: Holdings, S: Store> AnyDesk<H, S> {
         ensures faults { IsStartAnswer H.effects.has_digest (answer_of result) }
         ensures memory { NothingTakesMemory (S.state store) (S.load_takes_memory store) (answer_of result) }
         ensures store { DeskLoads (S.state store) (answer_of result) (S.state (store_of result)) }
+        ensures lasts { (S.state store).is_honest ≡ true →
+            IfOk result (λ desk. LeavesLanded (S.state desk.store).landed (S.leaves desk.store)) }
+        ensures left { (S.state store).is_honest ≡ true →
+            LeavesBeforeOr (S.state store).landed (S.leaves store) (S.leaves (store_of result)) }
     {
         let mut store = store;
         match load::<H, S>(alloc, &mut store) {
@@ -123,7 +136,8 @@ impl<H: Holdings, S: Store> AnyDesk<H, S> {
 
     /// Saves all sides, so that all their messages may be sent. A fault changes neither the sides nor the released
     /// messages. The desk allocates all its memory before it calls the store. A loss of power meanwhile leaves a record
-    /// that has each released message.
+    /// that has each released message. Once the save is done, it leaves the new record. After a fault it leaves
+    /// this one, or one that it might have left before.
     pub fn save(&mut self, alloc: Global) -> Result<(), DeskFault>
         ensures live { self.new.live ≡ held_after H.effects result self.old.live }
         ensures store { DeskSaves (H.effects.spelling self.old.live) (S.state self.old.store) result
@@ -132,6 +146,11 @@ impl<H: Holdings, S: Store> AnyDesk<H, S> {
         ensures reads { IfEncoded (IsReadAgain H.effects) result self.old.live }
         ensures meanwhile { (S.state self.old.store).is_honest ≡ true →
             IfEncoded (IsBackedInSave H.effects H.backs (S.leaves self.old.store)) result self.old.live }
+        ensures lasts { (S.state self.old.store).is_honest ≡ true →
+            OnOk result (LeavesLanded (S.state self.new.store).landed (S.leaves self.new.store)) }
+        ensures left { (S.state self.old.store).is_honest ≡ true →
+            LeavesBeforeOr (Some (H.effects.spelling self.old.live)) (S.leaves self.old.store)
+            (S.leaves self.new.store) }
         ensures faults { IsSaveFault result }
     {
         let record = self.held.record(alloc)?;
@@ -142,7 +161,7 @@ impl<H: Holdings, S: Store> AnyDesk<H, S> {
 
     /// Goes back to the sides in the store, or to those of a new desk if the store has no record. All their messages
     /// may be sent. A fault changes neither the sides nor the released messages. If nothing has landed,
-    /// memory runs out only in the load of the store.
+    /// memory runs out only in the load of the store. Once it is done, a loss of power leaves what has landed.
     pub fn restart(&mut self, alloc: Global) -> Result<(), DeskFault>
         ensures restarts { (S.state self.old.store).is_honest ≡ true →
             Restarts (landed_live H.effects (S.state self.old.store).landed self.old.live)
@@ -150,6 +169,10 @@ impl<H: Holdings, S: Store> AnyDesk<H, S> {
         ensures leaves { RestartLeaves H.effects result self.old.live self.new.live }
         ensures memory { NothingTakesMemory (S.state self.old.store) (S.load_takes_memory self.old.store) result }
         ensures store { DeskLoads (S.state self.old.store) result (S.state self.new.store) }
+        ensures lasts { (S.state self.old.store).is_honest ≡ true →
+            OnOk result (LeavesLanded (S.state self.new.store).landed (S.leaves self.new.store)) }
+        ensures left { (S.state self.old.store).is_honest ≡ true →
+            LeavesBeforeOr (S.state self.old.store).landed (S.leaves self.old.store) (S.leaves self.new.store) }
     {
         let bytes = self.store.load(alloc)?;
         self.held.go_back(alloc, bytes)
@@ -208,7 +231,7 @@ impl<H: Holdings> AnyDesk<H, MemoryStore> {
 
 impl<S: Store> Desk1<S> {
     /// Creates a desk for the idle side `first`, over a store without a record (otherwise `Exists`). Saves nothing.
-    /// A fault returns the store.
+    /// A fault returns the store. Once it is done, a loss of power leaves no record.
     pub fn create(alloc: Global, store: S, first: Side) -> Result<Desk1<S>, (DeskFault, S)>
         requires idle { first ≡ idle_of first }
         ensures creates { (S.state store).is_honest ≡ true →
@@ -217,6 +240,10 @@ impl<S: Store> Desk1<S> {
         ensures faults { IsCreateAnswer (answer_of result) }
         ensures memory { RunsOutInLoad (S.load_takes_memory store) (answer_of result) }
         ensures store { DeskLoads (S.state store) (answer_of result) (S.state (store_of result)) }
+        ensures lasts { (S.state store).is_honest ≡ true →
+            IfOk result (λ desk. LeavesLanded (S.state desk.store).landed (S.leaves desk.store)) }
+        ensures left { (S.state store).is_honest ≡ true →
+            LeavesBeforeOr (S.state store).landed (S.leaves store) (S.leaves (store_of result)) }
     {
         AnyDesk::over(alloc, store, OneSide::alone(alloc, first))
     }
@@ -257,7 +284,7 @@ impl<S: Store> Desk1<S> {
 
 impl<S: Store> Desk<S> {
     /// Creates a desk of this role that holds no side, over a store without a record (otherwise `Exists`). Saves
-    /// nothing. A fault returns the store.
+    /// nothing. A fault returns the store. Once it is done, a loss of power leaves no record.
     pub fn create(alloc: Global, store: S, role: Role) -> Result<Desk<S>, (DeskFault, S)>
         ensures creates { (S.state store).is_honest ≡ true →
             Creates (S.state store).landed (S.state store).plan (answer_of result) }
@@ -265,6 +292,10 @@ impl<S: Store> Desk<S> {
         ensures faults { IsCreateAnswer (answer_of result) }
         ensures memory { RunsOutInLoad (S.load_takes_memory store) (answer_of result) }
         ensures store { DeskLoads (S.state store) (answer_of result) (S.state (store_of result)) }
+        ensures lasts { (S.state store).is_honest ≡ true →
+            IfOk result (λ desk. LeavesLanded (S.state desk.store).landed (S.leaves desk.store)) }
+        ensures left { (S.state store).is_honest ≡ true →
+            LeavesBeforeOr (S.state store).landed (S.leaves store) (S.leaves (store_of result)) }
     {
         AnyDesk::begin(alloc, store, role)
     }
@@ -318,6 +349,8 @@ fn load<H: Holdings, S: Store>(alloc: Global, store: &mut S) -> Result<Option<H>
     ensures store { DeskLoads (S.state store.old) result (S.state store.new) }
     ensures lasts { (S.state store.old).is_honest ≡ true →
         OnOk result (LeavesLanded (S.state store.old).landed (S.leaves store.new)) }
+    ensures left { (S.state store.old).is_honest ≡ true →
+        LeavesBeforeOr (S.state store.old).landed (S.leaves store.old) (S.leaves store.new) }
 {
     match store.load(alloc)? {
         Some(bytes) => Ok(Some(H::read(alloc, bytes)?)),

@@ -17,7 +17,7 @@ ghost use Rattle.ill_store.specs.Store.{StoreState, most_failures};
 ghost use Rattle.ill_saved.specs.Holdings.{DeskEntry, IsBacked, IsBackedInSave, IsReadFault, MaySend, ReadHas, landed_live};
 ghost use Rattle.ill_saved.specs.OneSide.{OneBacks, one_side};
 ghost use Rattle.ill_saved.specs.ManySides.{DeskContents, ManyBack, many_sides};
-ghost use Rattle.ill_saved.specs.Desk.{DeskFailsCounted, DeskLoads, DeskTakes, IsCreateAnswer, IsLoadFault, IsSaveFault, PlanAfter, RestartLeaves, SaveLands};
+ghost use Rattle.ill_saved.specs.Desk.{DeskFailsCounted, DeskLoads, DeskTakes, IsCreateAnswer, IsLoadFault, IsSaveFault, LeavesBeforeOr, LeavesLanded, PlanAfter, RestartLeaves, SaveLands};
 ghost use Rattle.ill_saved.specs.Side.{issued_of, is_idle, acts, takes, IsSideTransition, Grows, KeepsRequest, IsAfterTransitions, IsPrefix};
 ghost use Rattle.ill_saved.specs.Records.{side_spelled, record_at, record_spelling};
 ghost use Rattle.ill_saved.specs.RecordsV2.{sides_spelling, is_version_1, records_at, AreSides};
@@ -204,4 +204,15 @@ pub fn no_call_changes_too_much()
         (new ≡ old → ⊥) → DeskTakes many_sides old found (Err OutOfMemory) new → ⊥ }
     ensures counts { (old new : ℕ) → new ≤ old → new < most_failures →
         DeskFailsCounted {X = Unit {0}} (Err (Store Failed)) old new → ⊥ }
+{}
+
+/// No loss of power leaves a record that the clauses of a desk's calls exclude. After a call that is done it leaves the
+/// landed one. After any answer it leaves one of those before the call, or the one that the call names.
+#[tactic(auto, using(crate::proofs::BadAnswers::none_outlasts, crate::proofs::BadAnswers::none_outlasts_either))]
+pub fn no_call_leaves_another_record<S: Store>(before: &S, after: &S)
+    ensures done { (left : Option (List ℕ)) → LeavesLanded (S.state after.now).landed (S.leaves after.now) →
+        S.leaves after.now left → (left ≡ (S.state after.now).landed → ⊥) → ⊥ }
+    ensures any { (other left : Option (List ℕ)) →
+        LeavesBeforeOr other (S.leaves before.now) (S.leaves after.now) → S.leaves after.now left →
+        (S.leaves before.now left → ⊥) → (left ≡ other → ⊥) → ⊥ }
 {}

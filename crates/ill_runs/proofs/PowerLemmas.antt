@@ -1,10 +1,11 @@
 -- Proves which desk of the model starts from what a loss of power leaves.
 use Rattle.std.proofs.Common.{◌≡◌, ◌⊎◌, inl, inr, ℕ, Bool, true, false, List, [], ◌∷◌, Option, Some, None, Result, Ok, Err}
-use Rattle.std.proofs.Common.{refl, sym, ap, subst}
+use Rattle.std.proofs.Common.{refl, sym, ap, subst, ◌∙◌}
+use Rattle.std.specs.Prelude.{OnOk}
 use Rattle.ill_saved.specs.declared.role.Role.{Role}
-use Rattle.ill_store.specs.declared.store.StoreFault.{StoreFault}
-use Rattle.ill_store.specs.Store.{SaveLasts}
-use Rattle.ill_saved.specs.Desk.{LeavesLanded}
+use Rattle.ill_store.specs.Store.{StoreState}
+use Rattle.ill_saved.specs.declared.fault.DeskFault.{DeskFault}
+use Rattle.ill_saved.specs.Desk.{DeskSaves, LeavesBeforeOr, LeavesLanded}
 use Rattle.ill_saved.specs.Holdings.{IsReadAgain, map_ok}
 use Rattle.ill_saved.specs.Sides.{SidesOf}
 use Rattle.ill_saved.specs.RecordsV2.{records_at, sides_spelling}
@@ -25,6 +26,18 @@ known_read : (is_honest : Bool) (landed : Option (List ℕ)) (sides : SidesOf) �
 known_read true landed sides read = read
 known_read false landed sides read = absurd read
 
+-- If the content of a store is known, the store is honest.
+pub known_honest : (is_honest : Bool) (landed : Option (List ℕ)) (sides : SidesOf)
+    → IsReadAs (known_if is_honest landed) sides → is_honest ≡ true
+known_honest true landed sides read = refl
+known_honest false landed sides read = absurd read
+
+-- After a save of a desk that is done, an honest store has landed its bytes.
+pub saved_lands : (bytes : List ℕ) (old new : StoreState) (answer : Result (Unit {0}) DeskFault)
+    → DeskSaves bytes old answer new → old.is_honest ≡ true → OnOk answer (new.landed ≡ Some bytes)
+saved_lands bytes old new (Ok done) saves honest = (saves.landed honest).0
+saved_lands bytes old new (Err fault) saves honest = tt
+
 -- If one record alone may be left, and it has landed and is read as `sides`, so is the one that is left.
 pub left_read : (is_honest : Bool) (landed : Option (List ℕ)) (leaves : Option (List ℕ) → Type 0) (sides : SidesOf)
     (left : Option (List ℕ)) → IsReadAs (known_if is_honest landed) sides → LeavesLanded landed leaves → leaves left
@@ -40,13 +53,6 @@ new_read live held left same again is =
     subst (λ (record_left : Option (List ℕ)). IsReadAs (Some record_left) (sides_held held)) (sym is)
     (subst (λ (l : DeskContents). records_at (many_sides.spelling live) ≡ Ok (sides_held l)) same
     (read_back (records_at (sides_spelling (sides_held live))) (sides_held live) again))
-
--- After a save with any answer a loss of power leaves what it might have left before, or the new record.
-pub left_by_save : (bytes : List ℕ) (before : Option (List ℕ) → Type 0) (answer : Result (Unit {0}) StoreFault)
-    (after : Option (List ℕ) → Type 0) (left : Option (List ℕ)) → SaveLasts bytes before answer after → after left
-    → before left ⊎ (left ≡ Some bytes)
-left_by_save bytes before (Ok done) after left lasts is = inr (lasts left is)
-left_by_save bytes before (Err fault) after left lasts is = lasts left is
 
 -- ---- a start
 
@@ -120,13 +126,18 @@ module _ (desk : HeldAndLanded DeskContents) (leaves : Option (List ℕ) → Typ
   ]
 
   -- After a save with any answer the model knows each record that may be left.
-  pub left_after_save : (who : Role) (landed : Bool) (answer : Result (Unit {0}) StoreFault) (after : Option (List ℕ) → Type 0)
-      → SaveLasts (many_sides.spelling desk.live) leaves answer after
+  pub left_after_save : (who : Role) (landed : Bool) (answer : Result (Unit {0}) DeskFault) (saved : Option (List ℕ))
+      (after : Option (List ℕ) → Type 0) → OnOk answer (saved ≡ Some (many_sides.spelling desk.live))
+      → OnOk answer (LeavesLanded saved after) → LeavesBeforeOr (Some (many_sides.spelling desk.live)) leaves after
       → AreLeft after (leaves_after p.desk p.leaves (save_event who landed answer))
   unfolding IsAmong
-  left_after_save who landed (Ok done) after lasts left is_left =
-      (sides_held p.desk.live, new_read desk.live p.desk.live left is.desk.live again (lasts left is_left), inl refl)
-  left_after_save who landed (Err fault) after lasts left is_left = left_in_save who landed left (lasts left is_left)
+  left_after_save who landed (Ok done) saved after lands lasts either left is_left = (
+    sides_held p.desk.live,
+    new_read desk.live p.desk.live left is.desk.live again (lasts left is_left ∙ lands),
+    inl refl,
+  )
+  left_after_save who landed (Err fault) saved after lands lasts either left is_left =
+      left_in_save who landed left (either left is_left)
 
 -- The desk that starts from a record which may be left is the model's desk after this loss.
 pub lost_starts : (desk : HeldAndLanded DeskContents) (leaves : Option (List ℕ) → Type 0) (p : PoweredDesk)

@@ -2,7 +2,7 @@
 use Rattle.std.specs.Prelude.{◌≡◌, ◌⊎◌, ℕ, Bool, List, [], ◌∷◌, Option, Some, Result, Ok, Err}
 use Rattle.ill_saved.specs.declared.role.Role.{Role}
 use Rattle.ill_saved.specs.declared.role.Role.TheVariants.{Requester, Responder}
-use Rattle.ill_store.specs.declared.store.StoreFault.{StoreFault}
+use Rattle.ill_saved.specs.declared.fault.DeskFault.{DeskFault}
 use Rattle.ill_saved.specs.Side.{other}
 use Rattle.ill_saved.specs.Sides.{SidesOf}
 use Rattle.ill_saved.specs.RecordsV2.{records_at}
@@ -125,7 +125,7 @@ pub record IsPoweredDesk (own : HeldAndLanded DeskContents) (leaves : Option (Li
   pub desk : IsDesk own p.desk
   pub left : AreLeft leaves p.leaves
 
--- Returns the event of the model that a save with this answer is. If it failed, `landed` is true if its record landed.
-abbrev pub save_event : Role → Bool → Result (Unit {0}) StoreFault → DeskEvent
+-- Returns the event of the model that a save of a desk with this answer is. If it failed, `landed` is true if its record landed.
+abbrev pub save_event : Role → Bool → Result (Unit {0}) DeskFault → DeskEvent
 save_event who landed (Ok done) = Save who
 save_event who landed (Err fault) = SaveFault who landed

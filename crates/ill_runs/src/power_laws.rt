@@ -1,12 +1,11 @@
 //! The laws of a loss of power: at a desk it is a save that failed and a restart, and to two libraries nothing new.
 
-ghost use Rattle.std.specs.Prelude.{◌≡◌, ◌⊎◌, ℕ, Bool, true, List, [], ◌∷◌, Option, None, Some, Result, Ok};
+ghost use Rattle.std.specs.Prelude.{◌≡◌, ◌⊎◌, ℕ, Bool, true, List, [], ◌∷◌, Option, None, Some, Result, Ok, OnOk};
 ghost use Rattle.ill_values.specs.TxnId.{Qualifiers};
 ghost use Rattle.ill_values.specs.declared.apdu.Apdu.{Apdu};
-ghost use Rattle.ill_store.specs.declared.store.StoreFault.{StoreFault};
-ghost use Rattle.ill_store.specs.Store.{LoadLasts, SaveLasts, StoreLoads, StoreSaves};
 ghost use Rattle.ill_saved.specs.declared.role.Role.{Role};
-ghost use Rattle.ill_saved.specs.Desk.{LeavesLanded};
+ghost use Rattle.ill_saved.specs.declared.fault.DeskFault.{DeskFault};
+ghost use Rattle.ill_saved.specs.Desk.{DeskSaves, LeavesBeforeOr, LeavesLanded};
 ghost use Rattle.ill_saved.specs.Holdings.{IsReadAgain};
 ghost use Rattle.ill_saved.specs.ManySides.{many_sides, no_sides, sides_held};
 ghost use Rattle.ill_saved.specs.Sides.{SidesOf};
@@ -27,23 +26,12 @@ ghost use Rattle.ill_runs.specs.BadPower.{ForgetsSent, IsBadCut, IsBadStart};
 use crate::laws;
 use ill_saved::{Desk, Store};
 
-/// After a load and a save that are done, one record may be left by a loss of power: the one that has landed.
-pub fn a_done_call_leaves_one_record<S: Store>(before: &S, after: &S)
-    ensures loads { (found : Option (List ℕ)) → (S.state before.now).is_honest ≡ true →
-        StoreLoads (λ bytes. bytes) (S.state before.now) (Ok found) (S.state after.now) →
-        LoadLasts (S.state before.now).landed (S.leaves before.now) (Ok found) (S.leaves after.now) →
-        LeavesLanded (S.state after.now).landed (S.leaves after.now) }
-    ensures saves { (bytes : List ℕ) → (S.state before.now).is_honest ≡ true →
-        StoreSaves bytes (S.state before.now) (Ok tt) (S.state after.now) →
-        SaveLasts bytes (S.leaves before.now) (Ok tt) (S.leaves after.now) →
-        LeavesLanded (S.state after.now).landed (S.leaves after.now) }
-{}
-
 /// A loss of power at a desk is a restart of the model's desk. In a save, and after one with any answer, a save that failed
 /// goes before the restart. The save had landed its record if the power left the new one.
 ///
-/// `desk` is the desk before the save, and `after` its store after it. A loss of power before the save leaves what has
-/// landed. In the first save of a new desk it leaves no record, or that of the model's first desk.
+/// `desk` is the desk before the save, and `after` its store after it. The calls of a desk give each premise: `create`,
+/// `start`, `save` and `restart` that what has landed is left alone, and `save` what it leaves. In the first save of a new
+/// desk a loss leaves no record, or that of the model's first desk.
 pub fn a_loss_of_power_is_a_failed_save_and_a_restart<S: Store>(desk: &Desk<S>, after: &S)
     ensures between { (who : Role) (sent : List Sending) (p : DeskParty) (left : Option (List ℕ)) →
         IsDesk (view_of S.state desk.now) p →
@@ -55,16 +43,17 @@ pub fn a_loss_of_power_is_a_failed_save_and_a_restart<S: Store>(desk: &Desk<S>, 
         IsReadAgain many_sides desk.now.live →
         S.leaves desk.now.store left ⊎ (left ≡ Some (many_sides.spelling desk.now.live)) →
         IsFaultAndRestart who sent p left }
-    ensures after_save { (who : Role) (sent : List Sending) (p : DeskParty) (answer : Result (Unit {0}) StoreFault)
-        (left : Option (List ℕ)) → IsDesk (view_of S.state desk.now) p →
+    ensures after_save { (who : Role) (sent : List Sending) (p : DeskParty) (left : Option (List ℕ)) →
+        IsDesk (view_of S.state desk.now) p →
         LeavesLanded (S.state desk.now.store).landed (S.leaves desk.now.store) →
         IsReadAgain many_sides desk.now.live →
-        SaveLasts (many_sides.spelling desk.now.live) (S.leaves desk.now.store) answer (S.leaves after.now) →
+        LeavesBeforeOr (Some (many_sides.spelling desk.now.live)) (S.leaves desk.now.store) (S.leaves after.now) →
         S.leaves after.now left → IsFaultAndRestart who sent p left }
     ensures saved { (who : Role) (sent : List Sending) (p : DeskParty) (left : Option (List ℕ)) →
         IsDesk (view_of S.state desk.now) p → IsReadAgain many_sides desk.now.live →
-        SaveLasts (many_sides.spelling desk.now.live) (S.leaves desk.now.store) (Ok tt) (S.leaves after.now) →
-        S.leaves after.now left → EndsInStart who sent p (Save who ∷ Restart who ∷ []) left }
+        DeskSaves (many_sides.spelling desk.now.live) (S.state desk.now.store) (Ok tt) (S.state after.now) →
+        LeavesLanded (S.state after.now).landed (S.leaves after.now) → S.leaves after.now left →
+        EndsInStart who sent p (Save who ∷ Restart who ∷ []) left }
     ensures first { (role : Role) (left : Option (List ℕ)) → desk.now.live ≡ no_sides role →
         LeavesLanded None (S.leaves desk.now.store) → IsReadAgain many_sides desk.now.live →
         S.leaves desk.now.store left ⊎ (left ≡ Some (many_sides.spelling desk.now.live)) →
@@ -82,9 +71,11 @@ pub fn a_desk_may_lose_its_power_as_in_the_model<S: Store>(desk: &Desk<S>, after
         IsPoweredDesk (view_of S.state desk.now) (S.leaves desk.now.store) p → IsReadAgain many_sides desk.now.live →
         AreLeft (λ left. S.leaves desk.now.store left ⊎ (left ≡ Some (many_sides.spelling desk.now.live)))
         (leaves_after p.desk p.leaves (SaveFault who landed)) }
-    ensures after_save { (who : Role) (landed : Bool) (p : PoweredDesk) (answer : Result (Unit {0}) StoreFault) →
+    ensures after_save { (who : Role) (landed : Bool) (p : PoweredDesk) (answer : Result (Unit {0}) DeskFault) →
         IsPoweredDesk (view_of S.state desk.now) (S.leaves desk.now.store) p → IsReadAgain many_sides desk.now.live →
-        SaveLasts (many_sides.spelling desk.now.live) (S.leaves desk.now.store) answer (S.leaves after.now) →
+        DeskSaves (many_sides.spelling desk.now.live) (S.state desk.now.store) answer (S.state after.now) →
+        OnOk answer (LeavesLanded (S.state after.now).landed (S.leaves after.now)) →
+        LeavesBeforeOr (Some (many_sides.spelling desk.now.live)) (S.leaves desk.now.store) (S.leaves after.now) →
         AreLeft (S.leaves after.now) (leaves_after p.desk p.leaves (save_event who landed answer)) }
     ensures lost { (p : PoweredDesk) (left : Option (List ℕ)) →
         IsPoweredDesk (view_of S.state desk.now) (S.leaves desk.now.store) p → S.leaves desk.now.store left →

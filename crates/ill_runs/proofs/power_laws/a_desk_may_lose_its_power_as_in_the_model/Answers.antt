@@ -1,6 +1,8 @@
 -- Proves the clauses of `a_desk_may_lose_its_power_as_in_the_model` (`src/power_laws.rt`).
+use Rattle.ill_saved.specs.ManySides.{many_sides}
 use Rattle.ill_desk.specs.Performing.{view_of}
-use Rattle.ill_runs.proofs.PowerLemmas.{left_after_save, left_in_save, loaded_left, lost_starts}
+use Rattle.ill_runs.proofs.PowerLemmas.{known_honest, left_after_save, left_in_save, loaded_left, lost_starts}
+use Rattle.ill_runs.proofs.PowerLemmas.{saved_lands}
 use Rattle.ill_runs.proofs.power_laws.a_desk_may_lose_its_power_as_in_the_model.Goals as goal
 
 -- After a load or a save that is done the landed record is left.
@@ -18,10 +20,14 @@ returns-clause-in_save g c who landed p is again =
 
 -- After a save the records that may be left are as it answers.
 pub returns-clause-after_save : goal.returns-clause-after_save
-returns-clause-after_save g c who landed p answer is again saves =
+returns-clause-after_save g c who landed p answer is again saves lasts either =
     let desk = c.args.desk.now in
-    left_after_save (view_of g.S.Store.state desk) (g.S.Store.leaves desk.store) p is again who landed answer
-    (g.S.Store.leaves c.args.after.now) saves
+    let state = g.S.Store.state desk.store in
+    let after = g.S.Store.state c.args.after.now in
+    let honest = known_honest state.is_honest state.landed p.desk.landed is.desk.landed in
+    left_after_save (view_of g.S.Store.state desk) (g.S.Store.leaves desk.store) p is again who landed answer after.landed
+    (g.S.Store.leaves c.args.after.now) (saved_lands (many_sides.spelling desk.live) state after answer saves honest) lasts
+    either
 
 -- A desk starts from each of them.
 pub returns-clause-lost : goal.returns-clause-lost

@@ -1,8 +1,8 @@
 -- Proves the clauses of `a_loss_of_power_is_a_failed_save_and_a_restart` (`src/power_laws.rt`).
-use Rattle.std.proofs.Common.{inl, inr, refl}
-use Rattle.ill_saved.specs.ManySides.{many_sides, no_sides}
+use Rattle.std.proofs.Common.{inl, inr, refl, ◌∙◌}
+use Rattle.ill_saved.specs.ManySides.{no_sides}
 use Rattle.ill_world.specs.Desks.{first_desk}
-use Rattle.ill_runs.proofs.PowerLemmas.{fault_starts, left_by_save, left_read, new_read, restart_starts, save_starts}
+use Rattle.ill_runs.proofs.PowerLemmas.{fault_starts, known_honest, left_read, new_read, restart_starts, save_starts}
 use Rattle.ill_runs.proofs.PowerLemmas.{starts_as}
 use Rattle.ill_runs.proofs.power_laws.a_loss_of_power_is_a_failed_save_and_a_restart.Goals as goal
 
@@ -23,18 +23,20 @@ returns-clause-in_save g c who sent p left is lasts again either =
 
 -- After a save with any answer one of these is left, too.
 pub returns-clause-after_save : goal.returns-clause-after_save
-returns-clause-after_save g c who sent p answer left is lasts again saves is_left =
+returns-clause-after_save g c who sent p left is lasts again either is_left =
     let desk = c.args.desk.now in
     let state = g.S.Store.state desk.store in
-    let leaves = g.S.Store.leaves in
-    fault_starts state.is_honest state.landed (leaves desk.store) desk.live who sent p left is lasts again
-    (left_by_save (many_sides.spelling desk.live) (leaves desk.store) answer (leaves c.args.after.now) left saves is_left)
+    fault_starts state.is_honest state.landed (g.S.Store.leaves desk.store) desk.live who sent p left is lasts again
+    (either left is_left)
 
 -- After a save that is done the new record is left.
 pub returns-clause-saved : goal.returns-clause-saved
-returns-clause-saved g c who sent p left is again saves is_left =
+returns-clause-saved g c who sent p left is again saves lasts is_left =
     let desk = c.args.desk.now in
-    save_starts who sent p left (new_read desk.live p.live left is.live again (saves left is_left))
+    let state = g.S.Store.state desk.store in
+    let honest = known_honest state.is_honest state.landed p.landed is.landed in
+    save_starts who sent p left
+    (new_read desk.live p.live left is.live again (lasts left is_left ∙ (saves.landed honest).0))
 
 -- In the first save nothing is left, or the new record.
 pub returns-clause-first : goal.returns-clause-first

@@ -6,4 +6,6 @@ pub mod backup;
 pub mod laws;
 pub mod memory_room;
 pub mod room;
+#[cfg(test)]
+mod runs;
 pub mod settle;

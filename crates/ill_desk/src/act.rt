@@ -40,7 +40,13 @@ pub fn run_act<S: Store, W: Write>(
     ensures counted { CountsToolFailure result (S.state desk.old.store).failures (S.state desk.new.store).failures }
 {
     match named(alloc, desk.role(), today, words) {
-        Ok(action) => perform(alloc, desk, &(), &action, &mut Entry::none(alloc), writer),
+        Ok(action) => {
+            let keyed = KeyedAction {
+                key: &(),
+                action: &action,
+            };
+            perform(alloc, desk, &keyed, &mut Entry::none(alloc), writer)
+        }
         Err(fault) => Err(fault),
     }
 }
@@ -63,7 +69,13 @@ pub fn run_desk_act<S: Store, W: Write>(
     ensures counted { CountsToolFailure result (S.state desk.old.store).failures (S.state desk.new.store).failures }
 {
     match named(alloc, desk.role(), today, words) {
-        Ok(action) => perform(alloc, desk, txn, &action, &mut Entry::none(alloc), writer),
+        Ok(action) => {
+            let keyed = KeyedAction {
+                key: txn,
+                action: &action,
+            };
+            perform(alloc, desk, &keyed, &mut Entry::none(alloc), writer)
+        }
         Err(fault) => Err(fault),
     }
 }
@@ -85,18 +97,26 @@ pub(crate) fn named(
     }
 }
 
-/// Performs `action` on the side `key` of `desk`, saves it, and writes its line. If it is done, `entry` is entered before
+/// An action, and the key of the side that performs it.
+#[derive(Drop)]
+pub(crate) struct KeyedAction<'a, K> {
+    /// The key of the side.
+    pub(crate) key: &'a K,
+    /// The action.
+    pub(crate) action: &'a Action,
+}
+
+/// Performs `keyed` at `desk`, saves it, and writes the line of the side. If the action is done, `entry` is entered before
 /// the save.
 #[tactic(auto, using(crate::proofs::ActLemmas::enters_told))]
 pub(crate) fn perform<H: Holdings, S: Store, D: Write, W: Write>(
     alloc: Global,
     desk: &mut AnyDesk<H, S>,
-    key: &H::Key,
-    action: &Action,
+    keyed: &KeyedAction<'_, H::Key>,
     entry: &mut Entry<D>,
     writer: &mut W,
 ) -> Result<bool, ToolFault>
-    ensures runs { RunsAct H.effects key.now (Some action.now)
+    ensures runs { RunsAct H.effects keyed.now.key.now (Some keyed.now.action.now)
         (command_state (view_of S.state desk.old) (W.contents writer.old)) result
         (command_state (view_of S.state desk.new) (W.contents writer.new)) }
     ensures entered { EntersDone result entry.old.line.items
@@ -105,8 +125,8 @@ pub(crate) fn perform<H: Holdings, S: Store, D: Write, W: Write>(
     ensures counted { CountsToolFailure result (S.state desk.old.store).failures
         (S.state desk.new.store).failures }
 {
-    match act_and_save(alloc, desk, key, action, entry) {
-        Ok(outcome) => report(alloc, writer, outcome, desk.shown(key)),
+    match act_and_save(alloc, desk, keyed.key, keyed.action, entry) {
+        Ok(outcome) => report(alloc, writer, outcome, desk.shown(keyed.key)),
         Err(fault) => Err(fault),
     }
 }

@@ -10,7 +10,7 @@ ghost use Rattle.ill_desk.specs.Performing.{command_state, view_of};
 ghost use Rattle.ill_desk.specs.Telling.{shown_at, WritesOutcome};
 ghost use Rattle.ill_desk.specs.ActAs.{EntersUnlessTried, action_line, asking_of, words_line, changed_line, is_as_seen, not_done, RunsActAs, RunsOrTries, RunsTrial, TriesAction, WritesChange, tried_shown, trial_line};
 
-use crate::act::{named, perform};
+use crate::act::{KeyedAction, named, perform};
 use crate::side_line::report;
 use ill_core::Taking;
 use ill_saved::{Action, Desk, Shown, Store};
@@ -136,7 +136,13 @@ fn act_words<S: Store, D: Write, W: Write>(
     ensures counted { CountsToolFailure result (S.state desk.old.store).failures (S.state desk.new.store).failures }
 {
     match named(alloc, desk.role(), view.today, view.words) {
-        Ok(action) => perform(alloc, desk, view.txn, &action, entry, writer),
+        Ok(action) => {
+            let keyed = KeyedAction {
+                key: view.txn,
+                action: &action,
+            };
+            perform(alloc, desk, &keyed, entry, writer)
+        }
         Err(fault) => Err(fault),
     }
 }

@@ -297,24 +297,23 @@ fn tell_unsaved<T: LockFiles>(
         text,
         "  Look at the permissions of both, and at the room on the disk."
     )?;
-    tell_kept(rt, alloc, text, path, CAME, ", or has more than messages")?;
-    tell_kept(rt, alloc, text, path, NOTES, "")
+    let came = format!(in alloc; "{path}{CAME}")?;
+    tell_kept(rt, text, came.as_str(), ", or has more than messages")?;
+    let notes = format!(in alloc; "{path}{NOTES}")?;
+    tell_kept(rt, text, notes.as_str(), "")
 }
 
-/// Appends that the file with `ending` beside that at `path` may be the cause, if it exists. `more` may say more of it.
+/// Appends that the file at `kept` may be the cause, if it exists. `more` may say more of it.
 fn tell_kept<T: LockFiles>(
     rt: &T,
-    alloc: Global,
     text: &mut String,
-    path: &str,
-    ending: &str,
+    kept: &str,
     more: &str,
 ) -> Result<(), OutOfMemory> {
-    let kept = format!(in alloc; "{path}{ending}")?;
-    if fs::symlink_metadata(rt, kept.as_str()).is_err() {
+    if fs::symlink_metadata(rt, kept).is_err() {
         return Ok(());
     }
-    let shown = Shown::of(kept.as_str());
+    let shown = Shown::of(kept);
     writeln!(text, "  Or {shown} cannot be read or written{more}.")
 }
 

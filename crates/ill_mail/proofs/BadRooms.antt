@@ -13,8 +13,7 @@ use Rattle.ill_night.specs.Outbox.{Letter}
 use Rattle.ill_room.specs.declared.room.Place.{Place}
 use Rattle.ill_room.specs.declared.room.Place.TheVariants as places
 use Rattle.ill_room.specs.Room.{RoomState, MaySettle, place_of}
-use Rattle.ill_room.specs.Backup.{BackupState}
-use Rattle.ill_mail.specs.Rooms.{IsDone, IsDoneInSaved, SendsInRooms, SettlesSaved, TakesInRoom}
+use Rattle.ill_mail.specs.Rooms.{IsDone, IsDoneInSaved, OutState, SendsInRooms, SettlesSaved, TakesInRoom}
 use Rattle.ill_mail.specs.BadRooms.{IsBadTaking, unsaved, IsBadSending, uncopied, signed_early, no_outbox}
 
 -- No taking is bad.
@@ -25,16 +24,15 @@ none_takes mails desk old new (Err fault) (unsaved none moved) (inl same) = move
 none_takes mails desk old new (Err fault) (unsaved none moved) (inr (verdicts, takes)) = none verdicts takes.saved
 
 -- No sending is bad.
-pub none_sends : {M : Type 0} (put : M → Letter → M) (asked : List ℕ) (desk : DeskContents) (old new : BackupState)
-    (before after : Option M) → IsBadSending put asked desk old new before after →
-    SendsInRooms put asked desk old new before after → ⊥
-none_sends put asked desk old new before after (uncopied honest wants other sent) sends =
+pub none_sends : {M : Type 0} (put : M → Letter → M) (asked : List ℕ) (desk : DeskContents) (old new : OutState M) →
+    IsBadSending put asked desk old new → SendsInRooms put asked desk old new → ⊥
+none_sends put asked desk old new (uncopied honest wants other sent) sends =
     ⊎_elim (λ same. sent same)
     (λ has. ⊎_elim (λ none. true≢false (sym wants ∙ none)) (λ there. other there) has)
     (sends.copy_first honest)
-none_sends put asked desk old new before after (signed_early honest signed none) sends =
+none_sends put asked desk old new (signed_early honest signed none) sends =
     ⊎_elim (λ same. signed same) (λ all. none all.0 all.1) (sends.sign_last honest)
-none_sends put asked desk old new before after (no_outbox sent none) sends =
+none_sends put asked desk old new (no_outbox sent none) sends =
     ⊎_elim (λ same. sent same) (λ some. none some.0 some.1) sends.sends
 
 -- Returns true for the place of a removed mail.

@@ -7,11 +7,11 @@ use Rattle.ill_text.specs.Fault.{IsOpenFault}
 use Rattle.ill_desk.specs.Performing.{CommandState, HeldAndLanded, command_state}
 use Rattle.ill_night.specs.declared.dates.Dates.{Dates}
 use Rattle.ill_night.specs.declared.verdict.Mail.{Mail}
-use Rattle.ill_night.specs.Outbox.{Letter, RunsOutbox}
+use Rattle.ill_night.specs.Outbox.{Letter}
 use Rattle.ill_room.specs.Room.{Answers}
 use Rattle.ill_room.specs.Backup.{BackupState, CopiesDesk, HasCopy, IsSameWish, Signs, is_honest_backup}
 use Rattle.ill_mail.specs.Nights.{ExchangesAt, FinishesNight, Night, TakesMails}
-use Rattle.ill_mail.specs.Rooms.{NightOver, PutsAsked, SendsInRooms, SendsThenSigns, TakesFound}
+use Rattle.ill_mail.specs.Rooms.{NightOver, OutState, PutsAsked, SendsInRooms, SendsThenSigns, TakesFound}
 
 -- A copy that was there is there after what leaves it as it was.
 still_copied : (desk : DeskContents) (x y : BackupState) → y.copied ≡ x.copied → IsSameWish x y →
@@ -20,53 +20,52 @@ still_copied desk x y same wish (inl none) = inl (wish.copy ∙ none)
 still_copied desk x y same wish (inr there) = inr (same ∙ there)
 
 -- A sign of life after a copy is one after the sending.
-signs_as_before : {M : Type 0} (put : M → Letter → M) (asked : List ℕ) (desk : DeskContents) (x y z : BackupState)
-    (before after : Option M) → y.signs ≡ x.signs →
-    (z.signs ≡ y.signs) ⊎ ((count : ℕ) × RunsOutbox put asked desk.held before after (Ok count)) →
-    (z.signs ≡ x.signs) ⊎ ((count : ℕ) × RunsOutbox put asked desk.held before after (Ok count))
-signs_as_before put asked desk x y z before after same (inl stays) = inl (stays ∙ same)
-signs_as_before put asked desk x y z before after same (inr all) = inr all
+signs_as_before : {All : Type 0} (x y z : BackupState) → y.signs ≡ x.signs → (z.signs ≡ y.signs) ⊎ All →
+    (z.signs ≡ x.signs) ⊎ All
+signs_as_before x y z same (inl stays) = inl (stays ∙ same)
+signs_as_before x y z same (inr all) = inr all
 
 -- After a copy the messages are sent.
-pub sends_copied : {M A : Type 0} (put : M → Letter → M) (asked : List ℕ) (desk : DeskContents) (x y z : BackupState)
-    (before after : Option M) (done : A) → Answers is_honest_backup (CopiesDesk (sides_held desk)) x (Ok done) y →
-    SendsThenSigns put asked desk y z before after → SendsInRooms put asked desk x z before after
-sends_copied put asked desk x y z before after done copy sending = record {
+pub sends_copied : {M A : Type 0} (put : M → Letter → M) (asked : List ℕ) (desk : DeskContents) (old new : OutState M)
+    (copy : BackupState) (done : A) →
+    Answers is_honest_backup (CopiesDesk (sides_held desk)) old.backup (Ok done) copy →
+    SendsThenSigns put asked desk (record old { backup = copy }) new → SendsInRooms put asked desk old new
+sends_copied put asked desk old new copy done copies sending = record {
   sends = sending.sends;
-  copy_first = λ honest. let there = copy.honest ∙ honest in
-      inr (still_copied desk y z (sending.copied there) (sending.wish there) (copy.done honest).has);
-  sign_last = λ honest. signs_as_before put asked desk x y z before after (copy.done honest).signs
-      (sending.sign_last (copy.honest ∙ honest));
+  copy_first = λ honest. let there = copies.honest ∙ honest in
+      inr (still_copied desk copy new.backup (sending.copied there) (sending.wish there) (copies.done honest).has);
+  sign_last = λ honest. signs_as_before old.backup copy new.backup (copies.done honest).signs
+      (sending.sign_last (copies.honest ∙ honest));
 }
 
 -- If the copy fails, nothing is sent.
-pub sends_nothing : {M : Type 0} (put : M → Letter → M) (asked : List ℕ) (desk : DeskContents) (x y : BackupState)
-    (there : Option M) (fault : ToolFault)
-    → Answers is_honest_backup (CopiesDesk {A = Unit {0}} (sides_held desk)) x (Err fault) y →
-    SendsInRooms put asked desk x y there there
-sends_nothing put asked desk x y there fault copy = record {
+pub sends_nothing : {M : Type 0} (put : M → Letter → M) (asked : List ℕ) (desk : DeskContents) (old : OutState M)
+    (copy : BackupState) (fault : ToolFault)
+    → Answers is_honest_backup (CopiesDesk {A = Unit {0}} (sides_held desk)) old.backup (Err fault) copy →
+    SendsInRooms put asked desk old (record old { backup = copy })
+sends_nothing put asked desk old copy fault copies = record {
   sends = inl refl;
   copy_first = λ honest. inl refl;
-  sign_last = λ honest. inl (copy.done honest).signs;
+  sign_last = λ honest. inl (copies.done honest).signs;
 }
 
 -- After all messages were sent, a sign of life is given, or that fails.
-pub signs_after : {M A : Type 0} (put : M → Letter → M) (asked : List ℕ) (desk : DeskContents) (x y : BackupState)
-    (before after : Option M) (done : A) → PutsAsked put asked desk before after (Ok done) →
-    ((answer : Result (Unit {0}) ToolFault) × Answers is_honest_backup Signs x answer y) →
-    SendsThenSigns put asked desk x y before after
-signs_after put asked desk x y before after done puts (answer, sign) = record {
+pub signs_after : {M A : Type 0} (put : M → Letter → M) (asked : List ℕ) (desk : DeskContents) (old : OutState M)
+    (sign : BackupState) (after : Option M) (done : A) → PutsAsked put asked desk old.out after (Ok done) →
+    ((answer : Result (Unit {0}) ToolFault) × Answers is_honest_backup Signs old.backup answer sign) →
+    SendsThenSigns put asked desk old (record old { backup = sign; out = after })
+signs_after put asked desk old sign after done puts (answer, signs) = record {
   sends = inr (Ok puts.0, puts.1);
   sign_last = λ honest. inr puts;
-  copied = λ honest. (sign.done honest).copied;
-  wish = λ honest. (sign.done honest).wish;
+  copied = λ honest. (signs.done honest).copied;
+  wish = λ honest. (signs.done honest).wish;
 }
 
 -- If not all messages were sent, no sign of life is given.
-pub signs_never : {M : Type 0} (put : M → Letter → M) (asked : List ℕ) (desk : DeskContents) (x : BackupState)
-    (before after : Option M) (fault : ToolFault) → PutsAsked {A = Unit {0}} put asked desk before after (Err fault) →
-    SendsThenSigns put asked desk x x before after
-signs_never put asked desk x before after fault puts = record {
+pub signs_never : {M : Type 0} (put : M → Letter → M) (asked : List ℕ) (desk : DeskContents) (old : OutState M)
+    (after : Option M) (fault : ToolFault) → PutsAsked {A = Unit {0}} put asked desk old.out after (Err fault) →
+    SendsThenSigns put asked desk old (record old { out = after })
+signs_never put asked desk old after fault puts = record {
   sends = inr puts;
   sign_last = λ honest. inl refl;
   copied = λ honest. refl;
@@ -83,7 +82,7 @@ found_taken mails waiting old new result (answer, runs, settles) = inr (mails, w
 -- A night in rooms that keeps nothing is one of a desk. Before it and after it nothing was written.
 pub night_opened : (mails : List Mail) (waiting : ℕ) (dates : Option (Date × Dates)) (old new : HeldAndLanded DeskContents)
     (before opened told after : Option (List ℕ)) (answer result : Result Bool ToolFault) →
-    NightOver mails waiting dates None None (command_state old opened) answer (command_state new told) →
+    NightOver mails waiting dates (command_state old opened) answer (command_state new told) →
     opened ≡ before → after ≡ told → result ≡ answer →
     ExchangesAt dates (command_state old before) result (command_state new after)
 night_opened mails waiting dates old new before opened told after answer result (met, written, taken, takes, finishes) quiet

@@ -9,7 +9,7 @@ use Rattle.ill_night.specs.declared.verdict.Verdict.{Verdict}
 use Rattle.ill_night.specs.Inbox.{EndedWell}
 use Rattle.ill_night.specs.Outbox.{Letter, RunsOutbox}
 use Rattle.ill_room.specs.Room.{RoomState}
-use Rattle.ill_room.specs.Backup.{BackupState}
+use Rattle.ill_mail.specs.Rooms.{OutState}
 
 -- The mails of a room cannot be taken so: something was done in the room, and no run over them was saved.
 pub data IsBadTaking (mails : List Mail) (desk : HeldAndLanded DeskContents) (old new : RoomState) : Type 0 where
@@ -18,14 +18,14 @@ pub data IsBadTaking (mails : List Mail) (desk : HeldAndLanded DeskContents) (ol
 
 -- The messages of a desk cannot leave so. A message left that the copy has not, a sign of life was given before all had
 -- left, or what left is no outbox of the desk.
-pub data IsBadSending {M : Type 0} (put : M → Letter → M) (asked : List ℕ) (desk : DeskContents) (old new : BackupState)
-    (before after : Option M) : Type 0 where
-  uncopied : old.is_honest ≡ true → new.keeps_copy ≡ true →
-      (new.copied ≡ Some (sides_spelling (sides_held desk)) → ⊥) → (after ≡ before → ⊥) →
-      IsBadSending put asked desk old new before after
-  signed_early : old.is_honest ≡ true → (new.signs ≡ old.signs → ⊥) →
-      ((count : ℕ) → RunsOutbox put asked desk.held before after (Ok count) → ⊥) →
-      IsBadSending put asked desk old new before after
-  no_outbox : (after ≡ before → ⊥) →
-      ((answer : Result ℕ ToolFault) → RunsOutbox put asked desk.held before after answer → ⊥) →
-      IsBadSending put asked desk old new before after
+pub data IsBadSending {M : Type 0} (put : M → Letter → M) (asked : List ℕ) (desk : DeskContents) (old new : OutState M)
+    : Type 0 where
+  uncopied : old.backup.is_honest ≡ true → new.backup.keeps_copy ≡ true →
+      (new.backup.copied ≡ Some (sides_spelling (sides_held desk)) → ⊥) → (new.out ≡ old.out → ⊥) →
+      IsBadSending put asked desk old new
+  signed_early : old.backup.is_honest ≡ true → (new.backup.signs ≡ old.backup.signs → ⊥) →
+      ((count : ℕ) → RunsOutbox put asked desk.held old.out new.out (Ok count) → ⊥) →
+      IsBadSending put asked desk old new
+  no_outbox : (new.out ≡ old.out → ⊥) →
+      ((answer : Result ℕ ToolFault) → RunsOutbox put asked desk.held old.out new.out answer → ⊥) →
+      IsBadSending put asked desk old new

@@ -54,17 +54,38 @@ abbrev pub IsDoneInSaved : List Mail → HeldAndLanded DeskContents → ℕ → 
 IsDoneInSaved mails desk mail =
     (verdicts : List Verdict) × EndedWell mails verdicts desk × IsDone (slice_get verdicts mail)
 
+-- ---- the state of the rooms
+
+-- The state of what leaves in a night: its copy and sign of life, and its outlet.
+pub record OutState (M : Type 0) : Type 0 where
+  pub backup : BackupState
+  pub out : Option M
+
+-- The state of the rooms of a night: its mail, and what leaves.
+pub record RoomsState (M : Type 0) : Type 0 where
+  pub mail : RoomState
+  pub leaving : OutState M
+
+-- Returns the state of what leaves from the rooms of the code.
+abbrev pub out_state : {R B O M : Type 0} → (B → BackupState) → (O → Option M) → Rooms R B O → OutState M
+out_state backup out rooms = record { backup = backup rooms.backup; out = out rooms.out }
+
+-- Returns the state of the rooms of the code.
+abbrev pub rooms_state : {R B O M : Type 0} → (R → RoomState) → (B → BackupState) → (O → Option M) → Rooms R B O →
+    RoomsState M
+rooms_state mail backup out rooms = record { mail = mail rooms.mail; leaving = out_state backup out rooms }
+
 -- ---- the messages that leave
 
--- The messages of a desk that holds `desk` were put into an outlet, or some of them. They leave after the copy is made. A
--- sign of life is given after all have left. `asked` has the messages that ask. The outlet goes from `before` to `after`.
-pub record SendsInRooms {M : Type 0} (put : M → Letter → M) (asked : List ℕ) (desk : DeskContents) (old new : BackupState)
-    (before after : Option M) : Type 0 where
-  pub sends : (after ≡ before)
-      ⊎ ((answer : Result ℕ ToolFault) × RunsOutbox put asked desk.held before after answer)
-  pub copy_first : old.is_honest ≡ true → (after ≡ before) ⊎ HasCopy (sides_held desk) new
-  pub sign_last : old.is_honest ≡ true → (new.signs ≡ old.signs)
-      ⊎ ((count : ℕ) × RunsOutbox put asked desk.held before after (Ok count))
+-- The messages of a desk that holds `desk` were put into the outlet, or some of them. They leave after the copy is made.
+-- A sign of life is given after all have left. `asked` has the messages that ask.
+pub record SendsInRooms {M : Type 0} (put : M → Letter → M) (asked : List ℕ) (desk : DeskContents) (old new : OutState M)
+    : Type 0 where
+  pub sends : (new.out ≡ old.out)
+      ⊎ ((answer : Result ℕ ToolFault) × RunsOutbox put asked desk.held old.out new.out answer)
+  pub copy_first : old.backup.is_honest ≡ true → (new.out ≡ old.out) ⊎ HasCopy (sides_held desk) new.backup
+  pub sign_last : old.backup.is_honest ≡ true → (new.backup.signs ≡ old.backup.signs)
+      ⊎ ((count : ℕ) × RunsOutbox put asked desk.held old.out new.out (Ok count))
 
 -- The messages of a desk that holds `desk` were put into an outlet. If that is done, all were. Else some were.
 abbrev pub PutsAsked : {M A : Type 0} → (M → Letter → M) → List ℕ → DeskContents → Option M → Option M → Result A ToolFault →
@@ -75,38 +96,26 @@ PutsAsked put asked desk before after (Err fault) =
 
 -- The same messages leave, and then a sign of life is given. The copy stays.
 pub record SendsThenSigns {M : Type 0} (put : M → Letter → M) (asked : List ℕ) (desk : DeskContents)
-    (old new : BackupState) (before after : Option M) : Type 0 where
-  pub sends : (after ≡ before)
-      ⊎ ((answer : Result ℕ ToolFault) × RunsOutbox put asked desk.held before after answer)
-  pub sign_last : old.is_honest ≡ true → (new.signs ≡ old.signs)
-      ⊎ ((count : ℕ) × RunsOutbox put asked desk.held before after (Ok count))
-  pub copied : old.is_honest ≡ true → new.copied ≡ old.copied
-  pub wish : old.is_honest ≡ true → IsSameWish old new
+    (old new : OutState M) : Type 0 where
+  pub sends : (new.out ≡ old.out)
+      ⊎ ((answer : Result ℕ ToolFault) × RunsOutbox put asked desk.held old.out new.out answer)
+  pub sign_last : old.backup.is_honest ≡ true → (new.backup.signs ≡ old.backup.signs)
+      ⊎ ((count : ℕ) × RunsOutbox put asked desk.held old.out new.out (Ok count))
+  pub copied : old.backup.is_honest ≡ true → new.backup.copied ≡ old.backup.copied
+  pub wish : old.backup.is_honest ≡ true → IsSameWish old.backup new.backup
 
 -- ---- the night
 
--- The state of the rooms of a night: its mail, its copy and sign of life, and its outlet.
-pub record RoomsState (M : Type 0) : Type 0 where
-  pub mail : RoomState
-  pub backup : BackupState
-  pub out : Option M
-
--- Returns the state of the rooms of the code.
-abbrev pub rooms_state : {R B O M : Type 0} → (R → RoomState) → (B → BackupState) → (O → Option M) → Rooms R B O →
-    RoomsState M
-rooms_state mail backup out rooms = record { mail = mail rooms.mail; backup = backup rooms.backup; out = out rooms.out }
-
 -- Nothing was copied, given as a sign, or sent.
-pub record IsSilent {M : Type 0} (old new : RoomsState M) : Type 0 where
+pub record IsSilent {M : Type 0} (old new : OutState M) : Type 0 where
   pub backup : new.backup ≡ old.backup
   pub out : new.out ≡ old.out
 
 -- After the mails were taken, the messages of a desk were sent, which is `desk` then. If they could not be taken, none was.
 abbrev pub SendsAfter : {M : Type 0} → (M → Letter → M) → List Mail → Result (List Verdict) ToolFault → DeskContents →
-    RoomsState M → RoomsState M → Type 0
+    OutState M → OutState M → Type 0
 SendsAfter put mails (Ok verdicts) desk old new =
-    IsSilent old new
-    ⊎ SendsInRooms put (asked_by desk (zip mails verdicts)) desk old.backup new.backup old.out new.out
+    IsSilent old new ⊎ SendsInRooms put (asked_by desk (zip mails verdicts)) desk old new
 SendsAfter put mails (Err fault) desk old new = IsSilent old new
 
 -- A night over `mails` in its rooms. The desk is `desk` at the end.
@@ -114,13 +123,13 @@ abbrev pub NightInRooms : {M : Type 0} → (M → Letter → M) → List Mail �
     RoomsState M → Type 0
 NightInRooms put mails desk old new =
     (met : HeldAndLanded DeskContents) × (taken : Result (List Verdict) ToolFault)
-    × TakesInRoom mails met old.mail taken new.mail × SendsAfter put mails taken desk.live old new
+    × TakesInRoom mails met old.mail taken new.mail × SendsAfter put mails taken desk.live old.leaving new.leaving
 
 -- The same night at its desk: `mails` were taken, with `waiting` further ones, and then the deeds of the day performed,
--- and the messages of the desk sent. What the run keeps of the messages that came goes from `came` to `kept`.
-abbrev pub NightOver : List Mail → ℕ → Option (Date × Dates) → (came kept : Option (List ℕ)) → CommandState DeskContents →
-    Result Bool ToolFault → CommandState DeskContents → Type 0
-NightOver mails waiting dates came kept old result new =
+-- and the messages of the desk sent. After the mails were taken nothing more is kept.
+abbrev pub NightOver : List Mail → ℕ → Option (Date × Dates) → CommandState DeskContents → Result Bool ToolFault →
+    CommandState DeskContents → Type 0
+NightOver mails waiting dates old result new =
     (desk : HeldAndLanded DeskContents) × (written : Option (List ℕ)) × (taken : Result Night ToolFault)
-    × TakesFound mails waiting (with_kept came old) taken (with_kept kept (command_state desk written))
+    × TakesFound mails waiting old taken (with_kept new.kept (command_state desk written))
     × FinishesNight dates taken (command_state desk written) result new

@@ -8,8 +8,7 @@ ghost use Rattle.ill_night.specs.declared.verdict.Mail.{Mail};
 ghost use Rattle.ill_night.specs.declared.verdict.Verdict.{Verdict};
 ghost use Rattle.ill_room.specs.declared.room.Place.TheVariants.{Claimed, Gone};
 ghost use Rattle.ill_room.specs.Room.{RoomState, place_of};
-ghost use Rattle.ill_room.specs.Backup.{BackupState};
-ghost use Rattle.ill_mail.specs.Rooms.{IsDoneInSaved, SendsInRooms, TakesInRoom};
+ghost use Rattle.ill_mail.specs.Rooms.{IsDoneInSaved, OutState, SendsInRooms, TakesInRoom};
 ghost use Rattle.ill_mail.specs.BadRooms.{IsBadSending, IsBadTaking};
 
 use ill_night::outgoing::Outgoing;
@@ -34,7 +33,6 @@ pub fn no_mail_is_settled_unsaved()
 /// No message leaves that a wanted copy has not. No sign of life comes before all have left. Only an outbox of the desk
 /// leaves.
 pub fn nothing_leaves_uncopied<O: Outgoing>(_out: &O)
-    ensures { (asked : List ℕ) (desk : DeskContents) (old new : BackupState) (before after : Option O.Mails) →
-        IsBadSending O.after asked desk old new before after →
-        SendsInRooms O.after asked desk old new before after → ⊥ }
+    ensures { (asked : List ℕ) (desk : DeskContents) (old new : OutState O.Mails) →
+        IsBadSending O.after asked desk old new → SendsInRooms O.after asked desk old new → ⊥ }
 {}

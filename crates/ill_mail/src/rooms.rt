@@ -5,7 +5,7 @@ ghost use Rattle.std.specs.Prelude.{◌≡◌, Ok, Result};
 ghost use Rattle.std.specs.List.{zip};
 ghost use Rattle.ill_desk.specs.Performing.{command_state, view_of, with_kept};
 ghost use Rattle.ill_mail.specs.Nights.{EndsAfterSending, FinishesNight, PerformsDueDeeds, SendsAll, SendsAsked, SettlesRun, night_ending};
-ghost use Rattle.ill_mail.specs.Rooms.{NightInRooms, NightOver, PutsAsked, SendsAfter, SendsInRooms, SendsThenSigns, TakesFound, TakesInRoom, night_of, rooms_state};
+ghost use Rattle.ill_mail.specs.Rooms.{NightInRooms, NightOver, PutsAsked, SendsAfter, SendsInRooms, SendsThenSigns, TakesFound, TakesInRoom, night_of, out_state, rooms_state};
 ghost use Rattle.ill_night.specs.Inbox.{EndedWell, answered_with};
 ghost use Rattle.ill_night.specs.Outbox.{asked_by};
 ghost use Rattle.ill_room.specs.Room.{Answers};
@@ -64,9 +64,9 @@ pub fn night_in<T, S: Store, R: Room, B: Backup, O: Outgoing, F: Write, W: Write
     plan: &Plan<'_>,
     came: &mut F,
 ) -> Result<bool, ToolFault>
-    ensures over { NightOver plan.now.batch.mails.now plan.now.batch.waiting plan.now.dates (F.contents came.old)
-        (F.contents came.new) (command_state (view_of S.state desk.old) (W.contents machine.old.writer)) result
-        (command_state (view_of S.state desk.new) (W.contents machine.new.writer)) }
+    ensures over { NightOver plan.now.batch.mails.now plan.now.batch.waiting plan.now.dates
+        (with_kept (F.contents came.old) (command_state (view_of S.state desk.old) (W.contents machine.old.writer))) result
+        (with_kept (F.contents came.new) (command_state (view_of S.state desk.new) (W.contents machine.new.writer))) }
     ensures rooms { NightInRooms O.after plan.now.batch.mails.now (view_of S.state desk.new)
         (rooms_state R.state B.state O.mails rooms.old) (rooms_state R.state B.state O.mails rooms.new) }
 {
@@ -141,7 +141,7 @@ fn finish_in<T, S: Store, R: Room, B: Backup, O: Outgoing, W: Write, E: Write>(
         (command_state (view_of S.state desk.old) (W.contents machine.old.writer)) result
         (command_state (view_of S.state desk.new) (W.contents machine.new.writer)) }
     ensures sends { SendsAfter O.after plan.now.batch.mails.now (Ok verdicts.now) desk.new.live
-        (rooms_state R.state B.state O.mails rooms.old) (rooms_state R.state B.state O.mails rooms.new) }
+        (out_state B.state O.mails rooms.old) (out_state B.state O.mails rooms.new) }
     ensures mail { rooms.new.mail ≡ rooms.old.mail }
 {
     match act_on_dates(machine.alloc, desk, plan.dates, &mut machine.writer) {
@@ -179,7 +179,7 @@ fn send_in<T, S: Store, R: Room, B: Backup, O: Outgoing, W: Write, E: Write>(
     ensures all { SendsAll (night_of plan.now.batch.mails.now plan.now.batch.waiting verdicts.now) desk.now.live
         (W.contents machine.old.writer) (W.contents machine.new.writer) (Ok tt) result }
     ensures sends { SendsInRooms O.after (asked_by desk.now.live (zip plan.now.batch.mails.now verdicts.now)) desk.now.live
-        (B.state rooms.old.backup) (B.state rooms.new.backup) (O.mails rooms.old.out) (O.mails rooms.new.out) }
+        (out_state B.state O.mails rooms.old) (out_state B.state O.mails rooms.new) }
     ensures mail { rooms.new.mail ≡ rooms.old.mail }
 {
     match rooms.backup.copy(desk, &mut machine.errors) {
@@ -201,7 +201,7 @@ fn send_copied<T, S: Store, R: Room, B: Backup, O: Outgoing, W: Write, E: Write>
     ensures all { SendsAll (night_of plan.now.batch.mails.now plan.now.batch.waiting verdicts.now) desk.now.live
         (W.contents machine.old.writer) (W.contents machine.new.writer) (Ok tt) result }
     ensures sends { SendsThenSigns O.after (asked_by desk.now.live (zip plan.now.batch.mails.now verdicts.now)) desk.now.live
-        (B.state rooms.old.backup) (B.state rooms.new.backup) (O.mails rooms.old.out) (O.mails rooms.new.out) }
+        (out_state B.state O.mails rooms.old) (out_state B.state O.mails rooms.new) }
     ensures mail { rooms.new.mail ≡ rooms.old.mail }
 {
     let asked = match asked_by(machine.alloc, desk, plan.batch.mails, verdicts) {

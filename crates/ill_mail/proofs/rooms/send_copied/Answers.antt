@@ -2,7 +2,7 @@
 use Rattle.std.proofs.Common.{ℕ, List, Option, Bool, Result, inr, Ok, ap, subst, sym, ◌∙◌}
 use Rattle.ill_text.specs.declared.fault.ToolFault.{ToolFault}
 use Rattle.ill_mail.specs.Nights.{EndsAfterSending, SendsAsked}
-use Rattle.ill_mail.specs.Rooms.{PutsAsked}
+use Rattle.ill_mail.specs.Rooms.{PutsAsked, out_state}
 use Rattle.ill_mail.proofs.RoomsLemmas.{signs_after}
 use Rattle.ill_mail.proofs.rooms.send_copied.Goals as goal
 
@@ -28,10 +28,10 @@ returns-in-Ok-put_asked-clause-all g c =
 pub returns-in-Ok-put_asked-clause-sends : goal.returns-in-Ok-put_asked-clause-sends
 returns-in-Ok-put_asked-clause-sends g c =
     let desk = c.args.desk.now.live in
-    let before = g.O.Outgoing.mails c.args.rooms.now.out in
+    let old = out_state g.B.Backup.state g.O.Outgoing.mails c.args.rooms.now in
     let after = g.O.Outgoing.mails c.put_asked.new.out in
     let asks = c.deref.ensures.value ∙ c.in-Ok.ensures in
-    let puts = subst (λ (bytes : List ℕ). PutsAsked g.O.Outgoing.after bytes desk before after (Ok c.in-Ok-put_asked.field-0))
+    let puts = subst (λ (bytes : List ℕ). PutsAsked g.O.Outgoing.after bytes desk old.out after (Ok c.in-Ok-put_asked.field-0))
     asks c.in-Ok-put_asked.ensures.puts in
-    signs_after g.O.Outgoing.after _ desk (g.B.Backup.state c.args.rooms.now.backup) (g.B.Backup.state c.sign.new.backup)
-    before after c.in-Ok-put_asked.field-0 puts c.sign.ensures.signs
+    signs_after g.O.Outgoing.after _ desk old (g.B.Backup.state c.sign.new.backup) after c.in-Ok-put_asked.field-0 puts
+    c.sign.ensures.signs

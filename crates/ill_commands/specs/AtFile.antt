@@ -20,7 +20,7 @@ use Rattle.ill_desk.specs.Telling.{wording}
 use Rattle.ill_desk.specs.Take.{RunsTaking}
 use Rattle.ill_desk.specs.declared.take.TakeForm.{TakeForm}
 use Rattle.ill_desk.specs.Send.{RunsSend}
-use Rattle.ill_show.specs.Loan.{BesideLines, RunsLoan}
+use Rattle.ill_show.specs.Loan.{FilesBeside, RunsLoan}
 use Rattle.ill_show.specs.declared.loan.LoanForm.{LoanForm}
 use Rattle.ill_slip.specs.Slip.{RunsSlip}
 use Rattle.ill_show.specs.Verify.{VerifiesLoaded}
@@ -136,8 +136,8 @@ TellsPaths form last before after result = VisitsPaths (TellsDesk form last) bef
 abbrev pub LoanAtFile : LoanForm → Qualifiers → Option (List ℕ) → Option (List ℕ) → Result Bool ToolFault → Type 0
 LoanAtFile form txn before after result =
     FailsToOpen before after result
-    ⊎ ((held : List DeskEntry) × (beside : BesideLines) × (came : List ℕ)
-    × GoesWell (RunsLoan form beside (found_by txn_held txn held) came before after) result)
+    ⊎ ((held : List DeskEntry) × (beside : FilesBeside)
+    × GoesWell (RunsLoan form beside (found_by txn_held txn held) before after) result)
 
 -- The slip of the transaction `txn` at a desk was written. Or its file could not be opened.
 abbrev pub SlipAtFile : Qualifiers → Option (List ℕ) → Option (List ℕ) → Result Bool ToolFault → Type 0

@@ -53,20 +53,26 @@ WritesLoan text txn bytes before after (Err OutOfMemory) = Appends before after 
 WritesLoan text txn bytes before after result =
     (came : List Apdu) × AreIn bytes came × WritesText before after (text (kept_of txn came)) result
 
--- The lines of the files beside a desk: the notes of staff, and the diary.
-pub record BesideLines : Type 0 where
+-- What the files beside a desk have: the lines of the notes of staff and of the diary, and the bytes of the messages that
+-- came.
+pub record FilesBeside : Type 0 where
   pub notes : List (List ℕ)
   pub diary : List (List ℕ)
+  pub came : List ℕ
 
--- Returns the lines of the files beside a desk.
-abbrev pub beside_of : Beside → BesideLines
-beside_of beside = record { notes = lines_of beside.notes.now; diary = lines_of beside.diary.now }
+-- Returns what the files beside a desk have.
+abbrev pub beside_of : Beside → FilesBeside
+beside_of beside = record {
+  notes = lines_of beside.notes.now;
+  diary = lines_of beside.diary.now;
+  came = beside.came.now;
+}
 
--- The command: it writes the text of the side, of its note and its history, and of the messages of its transaction in
--- `bytes`. If the side is not held, the fault is `NoSuchTransaction`, and nothing is written.
-abbrev pub RunsLoan : LoanForm → BesideLines → Option DeskEntry → List ℕ → Option (List ℕ) → Option (List ℕ) →
+-- The command: it writes the text of the side, of its note and its history, and of the messages of its transaction that
+-- came. If the side is not held, the fault is `NoSuchTransaction`, and nothing is written.
+abbrev pub RunsLoan : LoanForm → FilesBeside → Option DeskEntry → Option (List ℕ) → Option (List ℕ) →
     Result (Unit {0}) ToolFault → Type 0
-RunsLoan form beside None bytes before after result = (result ≡ Err (Desk NoSuchTransaction)) × Appends before after []
-RunsLoan form beside (Some held) bytes before after result =
-    WritesLoan (loan_text form (note_of beside.notes (txn_of held.side)) beside.diary held) (txn_of held.side) bytes before after
-    result
+RunsLoan form beside None before after result = (result ≡ Err (Desk NoSuchTransaction)) × Appends before after []
+RunsLoan form beside (Some held) before after result =
+    WritesLoan (loan_text form (note_of beside.notes (txn_of held.side)) beside.diary held) (txn_of held.side) beside.came before
+    after result

@@ -81,7 +81,7 @@ pub fn run_desk_loan<S: Store, W: Write>(
     writer: &mut W,
 ) -> Result<(), ToolFault>
     ensures { RunsLoan view.now.form (beside_of beside.now) (found_by txn_held view.now.txn.now desk.now.live.held)
-        beside.now.came.now (W.contents writer.old) (W.contents writer.new) result }
+        (W.contents writer.old) (W.contents writer.new) result }
 {
     match desk.sides().get(view.txn) {
         Some(side) => {

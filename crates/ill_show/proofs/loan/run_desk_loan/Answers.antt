@@ -22,7 +22,6 @@ returns-in-Ok g c =
     let form = c.args.view.now.form in
     let side = c.in-Some.side.now in
     let beside = beside_of c.args.beside.now in
-    let bytes = c.args.beside.now.came.now in
     let before = g.W.Write.contents c.args.writer.now in
     let after = g.W.Write.contents c.write_whole.new.writer in
     let text = c.in-Ok.text.items in
@@ -31,11 +30,12 @@ returns-in-Ok g c =
     let note = note_of beside.notes (txn_of side) in
     let held = loan_text form note beside.diary (record { side = side; released = (held_for txn live).released }) in
     let is = subst (λ (released : ℕ). IsTextOf (loan_text form note beside.diary (record { side = side; released = released }))
-    (txn_of side) bytes text) counted c.in-Ok.ensures in
+    (txn_of side) beside.came text) counted c.in-Ok.ensures in
     let writes = subst (λ (t : List ℕ). WritesPrefix before after t c.write_whole.result) c.deref.ensures.value
     c.write_whole.ensures in
-    subst (λ (found : Option DeskEntry). RunsLoan form beside found bytes before after c.write_whole.result)
-    (sym (held_there live txn side there)) (writes_loan held (txn_of side) bytes text before after c.write_whole.result is writes)
+    subst (λ (found : Option DeskEntry). RunsLoan form beside found before after c.write_whole.result)
+    (sym (held_there live txn side there))
+    (writes_loan held (txn_of side) beside.came text before after c.write_whole.result is writes)
 
 -- Proves the contract of `run_desk_loan` if memory runs out for the text. Then nothing is written.
 pub returns-in-Err : goal.returns-in-Err
@@ -45,7 +45,7 @@ returns-in-Err g c =
     let before = g.W.Write.contents c.args.writer.now in
     let there : side_with txn (sides_held live).sides ≡ Some c.in-Some.side.now = search rules in
     subst (λ (found : Option DeskEntry).
-    RunsLoan c.args.view.now.form (beside_of c.args.beside.now) found c.args.beside.now.came.now before before (Err OutOfMemory))
+    RunsLoan c.args.view.now.form (beside_of c.args.beside.now) found before before (Err OutOfMemory))
     (sym (held_there live txn c.in-Some.side.now there)) (Appends-nil before)
 
 -- Proves the contract of `run_desk_loan` if the side is not held. Then the desk has no entry of it.

@@ -1,5 +1,5 @@
 -- The copy of a desk, the sending of its messages and the sign of life, one after another.
-use Rattle.std.proofs.Common.{◌≡◌, ◌⊎◌, inl, inr, refl, sym, subst, ◌∙◌, ℕ, Bool, List, Option, None, Result, Ok, Err}
+use Rattle.std.proofs.Common.{◌≡◌, ◌⊎◌, inl, inr, refl, sym, subst, ◌∙◌, ℕ, Bool, List, Option, Result, Ok, Err}
 use Rattle.ill_values.specs.Day.{Date}
 use Rattle.ill_saved.specs.ManySides.{DeskContents, sides_held}
 use Rattle.ill_text.specs.declared.fault.ToolFault.{ToolFault}

@@ -1,5 +1,5 @@
 -- These are nights that no rooms may have. By the laws the definitions of `Rooms` exclude them all.
-use Rattle.std.specs.Prelude.{◌≡◌, ℕ, true, List, Option, Some, Result, Ok}
+use Rattle.std.specs.Prelude.{◌≡◌, ℕ, true, List, Some, Result, Ok}
 use Rattle.ill_saved.specs.ManySides.{DeskContents, sides_held}
 use Rattle.ill_saved.specs.RecordsV2.{sides_spelling}
 use Rattle.ill_text.specs.declared.fault.ToolFault.{ToolFault}

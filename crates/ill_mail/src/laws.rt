@@ -1,6 +1,6 @@
 //! The laws of nights in rooms are the contracts of functions that do nothing.
 
-ghost use Rattle.std.specs.Prelude.{◌≡◌, ℕ, true, List, Option, Some, Result};
+ghost use Rattle.std.specs.Prelude.{◌≡◌, ℕ, true, List, Some, Result};
 ghost use Rattle.ill_saved.specs.ManySides.{DeskContents};
 ghost use Rattle.ill_text.specs.declared.fault.ToolFault.{ToolFault};
 ghost use Rattle.ill_desk.specs.Performing.{HeldAndLanded};

@@ -1,5 +1,5 @@
 -- Proves that a good night of commands leads both sides of a transaction in step or to rest, in the files.
-use Rattle.std.proofs.Common.{◌≡◌, inl, inr, ℕ, Bool, true, false, not, ◌&&◌, if◌then◌else◌, List, [], ◌∷◌, Option, Some, Result}
+use Rattle.std.proofs.Common.{◌≡◌, inl, inr, Bool, true, false, not, ◌&&◌, if◌then◌else◌, List, [], ◌∷◌, Option, Some, Result}
 use Rattle.std.proofs.Common.{Ok, Err, length, map, refl, sym, ap, ◌∙◌, subst}
 use Rattle.std.specs.List.{list_all, zip}
 use Rattle.ill_values.specs.Day.{Date}
@@ -27,7 +27,7 @@ use Rattle.ill_night.specs.declared.dates.Dates.{Dates}
 use Rattle.ill_night.specs.declared.verdict.Mail.{Mail}
 use Rattle.ill_night.specs.declared.verdict.Verdict.{Verdict}
 use Rattle.ill_night.specs.Outbox.{Issue, asked_by, is_asked, leaving_desk}
-use Rattle.ill_mail.specs.Nights.{Night, ExchangesAt, PerformsDueDeeds, SendsAll, SendsAsked, SettlesRun, TakesMails, night_asks}
+use Rattle.ill_mail.specs.Nights.{Night, ExchangesAt, PerformsDueDeeds, SettlesRun, TakesMails, night_asks}
 use Rattle.ill_world.specs.declared.event.Event.{Event}
 use Rattle.ill_world.specs.declared.event.Event.TheVariants as events
 use Rattle.ill_world.specs.declared.event.DeskEvent.{DeskEvent}
@@ -51,7 +51,7 @@ use Rattle.ill_runs.specs.Mail.{Bring, IsOneOf, WasSent, mails_of, mails_taken}
 use Rattle.ill_runs.proofs.BadLibraries.{read_once}
 use Rattle.ill_runs.proofs.LibraryLemmas.{brought, events_there}
 use Rattle.ill_nights.specs.Messages.{InStepOrAtRest, after_deeds_of, messages_for, sent_by}
-use Rattle.ill_nights.specs.Nights.{AreBytes, AreDone, AreInStepIn, CanAnswerIn, EndsWithAll, IsAllOf, IsGoodNight, IsNight}
+use Rattle.ill_nights.specs.Nights.{AreBytes, AreDone, AreInStepIn, CanAnswerIn, IsGoodNight, IsNight}
 use Rattle.ill_nights.specs.Nights.{IsWhole, LeftOf, TakesAll, TookOf, by_inbox, by_night, messages_came, messages_of}
 use Rattle.ill_nights.specs.Nights.{messages_of_all}
 use Rattle.ill_nights.specs.Nights.{verdicts_of}
@@ -195,13 +195,10 @@ module _ (projects : EachProjects) (reaches : EachReaches) (stand : EachStands) 
     outbox_sent : (mails : List Mail) (night : Night) (asking left : List Apdu) → night.mails ≡ mails
         → (took : Took (party w role) after (messages_of mails)) (desk : HeldAndLanded DeskContents) (side : Side)
         (reached : Reached projects reaches stand changes txn role w desk side) → side ≡ side_for txn took.held
-        → (written_before written_after : Option (List ℕ)) (sent : Result (Unit {0}) ToolFault)
-        (sends : SendsAsked (night_asks desk.live night) desk.live.held written_before written_after sent)
-        → IsAllOf (night_asks desk.live night) desk.live.held written_before written_after sent sends asking left
+        → AreIn (night_asks desk.live night) asking
+        → left ≡ map (λ (issue : Issue). issue.apdu) (leaving_desk asking desk.live.held)
         → Sent role (party w role) after mails night.verdicts left asking
-    outbox_sent mails night asking left are took desk side reached is written_before written_after sent (inl failed) whole =
-        absurd whole
-    outbox_sent mails night asking left are took desk side reached is written_before written_after sent (inr went) whole =
+    outbox_sent mails night asking left are took desk side reached is asks leave =
         let now : DeskParties = reached.now in
         let p : DeskParty = party now role in
         let held_is : (held_for txn p.live).side ≡ side =
@@ -211,11 +208,10 @@ module _ (projects : EachProjects) (reaches : EachReaches) (stand : EachStands) 
         ∙ ap (λ s. length (issued_of s)) (sym held_is) in
         let came : AreIn (asked_by p.live (zip mails night.verdicts)) asking =
         subst (λ l. AreIn (asked_by l (zip mails night.verdicts)) asking) reached.at.live
-        (subst (λ m. AreIn (asked_by desk.live (zip m night.verdicts)) asking) are
-        (subst (AreIn (night_asks desk.live night)) whole.0 went.1)) in
+        (subst (λ m. AreIn (asked_by desk.live (zip m night.verdicts)) asking) are asks) in
         record {
           took = took;
-          left_all = ap (messages_for txn) whole.1
+          left_all = ap (messages_for txn) leave
               ∙ ap (λ live. messages_for txn (map (λ (issue : Issue). issue.apdu) (leaving_desk asking live.held)))
               reached.at.live
               ∙ outbox_leaves now role reached.stands txn asking all
@@ -227,24 +223,18 @@ module _ (projects : EachProjects) (reaches : EachReaches) (stand : EachStands) 
 
     -- The end of a night, after its mails, takes what came and sends all.
     rest_sent : (mails : List Mail) (asking left : List Apdu) (dates : Option (Date × Dates)) (night : Night)
-        → night.mails ≡ mails → (met between new : CommandState DeskContents) (said : Result (Unit {0}) ToolFault)
-        (result : Result Bool ToolFault)
+        → night.mails ≡ mails → (met rested : CommandState DeskContents) (done : Unit {0})
         → Reached projects reaches stand changes txn role w met.desk (takes_all landed (messages_for txn (messages_of mails)))
-        → PerformsDueDeeds dates met said between
-        → (sends : SendsAll night between.desk.live between.written new.written said result)
-        → EndsWithAll night between.desk.live between.written new.written said result sends asking left
-        → between.desk.landed ≡ Some (Some after.file) → Sent role (party w role) after mails night.verdicts left asking
+        → PerformsDueDeeds dates met (Ok done) rested → AreIn (night_asks rested.desk.live night) asking
+        → left ≡ map (λ (issue : Issue). issue.apdu) (leaving_desk asking rested.desk.live.held)
+        → rested.desk.landed ≡ Some (Some after.file) → Sent role (party w role) after mails night.verdicts left asking
     unfolding reached_took
-    rest_sent mails asking left dates night are met between new (Ok done) result start deeds (inr sends) whole content =
+    rest_sent mails asking left dates night are met rested done start deeds asks leave content =
         let side : Side = takes_all landed (messages_for txn (messages_of mails)) in
-        let by_deeds = deeds_reach projects reaches stand changes txn role w dates met between done side start deeds in
-        let took = reached_took role w after (messages_of mails) side between.desk by_deeds refl content in
-        outbox_sent mails night asking left are took between.desk (after_deeds_of side by_deeds.deeds) by_deeds.reached
-        (sym took.side) between.written new.written sends.0 sends.1 whole
-    rest_sent mails asking left dates night are met between new (Ok done) result start deeds (inl failed) whole content =
-        absurd whole
-    rest_sent mails asking left dates night are met between new (Err fault) result start deeds sends whole content =
-        absurd whole
+        let by_deeds = deeds_reach projects reaches stand changes txn role w dates met rested done side start deeds in
+        let took = reached_took role w after (messages_of mails) side rested.desk by_deeds refl content in
+        outbox_sent mails night asking left are took rested.desk (after_deeds_of side by_deeds.deeds) by_deeds.reached
+        (sym took.side) asks leave
 
     -- A whole night takes what came and sends all.
     exchange_sent : (asking left : List Apdu) (dates : Option (Date × Dates)) (old new : CommandState DeskContents)
@@ -253,12 +243,19 @@ module _ (projects : EachProjects) (reaches : EachReaches) (stand : EachStands) 
         → IsWhole dates exchange asking left → new.desk.landed ≡ Some (Some after.file)
         → Sent role (party w role) after (mails_of dates exchange) (verdicts_of dates exchange) left asking
     exchange_sent asking left dates old new result start (met, Err fault, taken, ends) bring whole content = absurd whole
-    exchange_sent asking left dates old new result start (met, Ok night, taken, ends) bring whole content =
-        let between : CommandState DeskContents = ends.0 in
-        rest_sent (mails_taken taken) asking left dates night (night_mails old met night taken) met between new ends.1 result
+    exchange_sent asking left dates old new result start (met, Ok night, taken, (rested, Err fault, deeds, sends, same)) bring
+        whole content = absurd whole
+    exchange_sent asking left dates old new result start (met, Ok night, taken, (rested, Ok done, deeds, inl failed, same))
+        bring whole content = absurd whole
+    exchange_sent asking left dates old new result start
+        (met, Ok night, taken, (rested, Ok done, deeds, inr (sent, inl failed, ends), same)) bring whole content = absurd whole
+    exchange_sent asking left dates old new result start
+        (met, Ok night, taken, (rested, Ok done, deeds, inr (sent, inr (asked, are, told), ends), same)) bring whole content =
+        rest_sent (mails_taken taken) asking left dates night (night_mails old met night taken) met rested done
         (mails_reach projects reaches stand changes txn role w old met night landed start taken
         (brought (party w (other role)).sent others were (mails_taken taken) bring))
-        ends.2 ends.3 whole (ap (λ (d : HeldAndLanded DeskContents). d.landed) (sym ends.4) ∙ content)
+        deeds (subst (AreIn (night_asks rested.desk.live night)) whole.0 are) whole.1
+        (ap (λ (d : HeldAndLanded DeskContents). d.landed) (sym same) ∙ content)
 
     -- A whole night takes what came and sends all.
     pub night_sent : (night : IsNight others before after)

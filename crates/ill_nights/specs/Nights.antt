@@ -8,7 +8,6 @@ use Rattle.ill_der.specs.Laws.{IsBytes}
 use Rattle.ill_core.specs.declared.responder.Deed.{Deed}
 use Rattle.ill_saved.specs.Ranges.{Each}
 use Rattle.ill_saved.specs.Sides.{SidesOf}
-use Rattle.ill_saved.specs.Holdings.{DeskEntry}
 use Rattle.ill_saved.specs.RecordsV2.{records_at}
 use Rattle.ill_saved.specs.ManySides.{DeskContents, side_for}
 use Rattle.ill_text.specs.declared.fault.ToolFault.{ToolFault}
@@ -18,7 +17,7 @@ use Rattle.ill_night.specs.declared.verdict.Verdict.{Verdict}
 use Rattle.ill_night.specs.declared.verdict.Verdict.TheVariants.{Done}
 use Rattle.ill_night.specs.declared.dates.Dates.{Dates}
 use Rattle.ill_night.specs.Outbox.{Issue, is_asked, leaving_desk}
-use Rattle.ill_mail.specs.Nights.{Night, ExchangesAt, SendsAll, SendsAsked, night_asks}
+use Rattle.ill_mail.specs.Nights.{Night, ExchangesAt}
 use Rattle.ill_world.specs.Round.{CanAnswer}
 use Rattle.ill_runs.specs.Mail.{mails_of, mails_taken, message_of}
 use Rattle.ill_runs.specs.Libraries.{Exchanges, IsCommand, IsHistory, Libraries, Library, TakesMail, libraries_after}
@@ -26,28 +25,16 @@ use Rattle.ill_nights.specs.Messages.{InStepOrAtRest, after_deeds_of, after_mess
 
 -- ---- what leaves in a night
 
--- The messages of an outbox were put into a folder, and `left` are all of them. `asking` are the messages that ask.
-abbrev pub IsAllOf : (bytes : List ℕ) → (held : List DeskEntry) → (before after : Option (List ℕ)) →
-    (result : Result (Unit {0}) ToolFault) → SendsAsked bytes held before after result → List Apdu → List Apdu → Type 0
-IsAllOf bytes held before after result (inl failed) asking left = ⊥
-IsAllOf bytes held before after result (inr went) asking left =
-    (went.0 ≡ asking) × (left ≡ map (λ (issue : Issue). issue.apdu) (leaving_desk asking held))
-
--- A night ended with an outbox, of which all messages have left.
-abbrev pub EndsWithAll : (night : Night) → (live : DeskContents) → (before after : Option (List ℕ)) →
-    (said : Result (Unit {0}) ToolFault) → (result : Result Bool ToolFault) →
-    SendsAll night live before after said result → List Apdu → List Apdu → Type 0
-EndsWithAll night live before after (Err fault) result sends asking left = ⊥
-EndsWithAll night live before after (Ok done) result (inl failed) asking left = ⊥
-EndsWithAll night live before after (Ok done) result (inr sends) asking left =
-    IsAllOf (night_asks live night) live.held before after sends.0 sends.1 asking left
-
--- A night was whole. Its mails were taken, its deeds were done, and `left` are all messages of its outbox.
+-- A night was whole. Its mails were taken, its deeds were done, it was copied, and `left` are all messages of its outbox.
+-- `asking` are the messages that ask.
 abbrev pub IsWhole : (dates : Option (Date × Dates)) → {old new : CommandState DeskContents} →
-    {result : Result Bool ToolFault} → ExchangesAt dates old result new → List Apdu → List Apdu → Type 0
+    {result : Result Bool ToolFault} → ExchangesAt dates old result new → (asking left : List Apdu) → Type 0
 IsWhole dates (met, Err fault, taken, ends) asking left = ⊥
-IsWhole dates {new = new} {result = result} (met, Ok night, taken, ends) asking left =
-    EndsWithAll night ends.0.desk.live ends.0.written new.written ends.1 result ends.3 asking left
+IsWhole dates (met, Ok night, taken, (rested, Err fault, deeds, sends, same)) asking left = ⊥
+IsWhole dates (met, Ok night, taken, (rested, Ok done, deeds, inl failed, same)) asking left = ⊥
+IsWhole dates (met, Ok night, taken, (rested, Ok done, deeds, inr (sent, inl failed, ends), same)) asking left = ⊥
+IsWhole dates (met, Ok night, taken, (rested, Ok done, deeds, inr (sent, inr (asked, are, told), ends), same)) asking left =
+    (asked ≡ asking) × (left ≡ map (λ (issue : Issue). issue.apdu) (leaving_desk asking rested.desk.live.held))
 
 -- A whole night leads from the library `before` to `after`, by the command `exchange`. `others` have left the other
 -- library.

@@ -1,5 +1,6 @@
 -- Proves that the commands of a person, and the mails and deeds of a night, are events of the model.
-use Rattle.std.proofs.Common.{◌≡◌, inl, inr, ℕ, Bool, true, false, if◌then◌else◌, List, [], ◌∷◌, length, fold, Option, Some, None}
+use Rattle.std.proofs.Common.{◌≡◌, inl, inr, ⊎_elim, ℕ, Bool, true, false, if◌then◌else◌, List, [], ◌∷◌, length, fold, Option}
+use Rattle.std.proofs.Common.{Some, None}
 use Rattle.std.proofs.Common.{option_map, Result, Ok, Err}
 use Rattle.std.proofs.Common.{refl, sym, ◌∙◌, subst}
 use Rattle.ill_values.specs.Day.{Date}
@@ -20,7 +21,7 @@ use Rattle.ill_saved.specs.Holdings.{WantsMemory}
 use Rattle.ill_saved.specs.ManySides.{DeskContents, many_sides, desk_acts, desk_takes, acts_reached, side_for_call}
 use Rattle.ill_words.specs.declared.outcome.DeskOutcome.{DeskOutcome}
 use Rattle.ill_der.specs.Handling.{Handled}
-use Rattle.ill_text.specs.Input.{Ends, Rest, rest_of}
+use Rattle.ill_text.specs.Input.{Ends, ReadsInput, Rest, rest_of}
 use Rattle.ill_text.specs.declared.fault.ToolFault.{ToolFault}
 use Rattle.ill_text.specs.declared.fault.ToolFault.TheVariants.{Desk, Write, OutOfMemory}
 use Rattle.ill_desk.specs.Performing.{HeldAndLanded, CommandState, Run, EndsRun, Performs, acted, handed, is_change}
@@ -161,17 +162,15 @@ module _ (who : Role) (sent : List Sending) (is_kept : Bool) (told : Wording) wh
       let more = handled_is_run first.0 is.0 after apdus were.1 first.2 is.2 in
       record { end = more.end; leads = then_leads first.1 more.leads; at = more.at }
 
-  -- The end of an input is a run, if the other desk has sent the message of which the handling failed.
-  ending_is_run : (p : DeskParty) (result : Result ℕ ToolFault) (count : ℕ) (rest : Rest) (before after : Progress DeskContents)
-      → IsDesk before.state.desk p → (ends : Ends (TakesMessage is_kept told many_sides) result count rest before after)
-      → Each (WasSent sent) (message_failed (TakesMessage is_kept told many_sides) result count rest before after ends)
+  -- The bad end of an input is a run, if the other desk has sent the message of which the handling failed.
+  failing_is_run : (p : DeskParty) (fault : ToolFault) (count : ℕ) (rest : Rest) (before after : Progress DeskContents)
+      → IsDesk before.state.desk p → (ends : Ends (TakesMessage is_kept told many_sides) (Err fault) count rest before after)
+      → Each (WasSent sent) (⊎_elim (λ stops. []) (λ fails. fails.0 ∷ []) ends)
       → (q : DeskParty) × Leads who sent p q × IsReadAs after.state.desk.landed q.landed
   unfolding Each
-  ending_is_run p (Ok n) count rest before after at ends were =
-      (p, none_leads who sent p, subst (λ s. IsReadAs s.state.desk.landed p.landed) (sym ends.3) at.landed)
-  ending_is_run p (Err fault) count rest before after at (inl stops) were =
+  failing_is_run p fault count rest before after at (inl stops) were =
       (p, none_leads who sent p, subst (λ s. IsReadAs s.state.desk.landed p.landed) (sym stops.1) at.landed)
-  ending_is_run p (Err fault) count rest before after at (inr fails) were = elim fails.4 [
+  failing_is_run p fault count rest before after at (inr fails) were = elim fails.4 [
     | inl memory ↦
         (p, none_leads who sent p, subst (λ s. IsReadAs s.state.desk.landed p.landed) (sym memory.1) at.landed)
     | inr took ↦
@@ -179,18 +178,26 @@ module _ (who : Role) (sent : List Sending) (is_kept : Bool) (told : Wording) wh
         (run.0, run.1, store_of_end took.0 after.state.desk run.0 run.2)
   ]
 
+  -- The end of an input is a run, if the other desk has sent the message of which the handling failed.
+  ending_is_run : (p : DeskParty) (left rest : Option (List ℕ)) (before after : Progress DeskContents)
+      (result : Result ℕ ToolFault) (read : ReadsInput (TakesMessage is_kept told many_sides) left rest before result after)
+      → IsDesk read.last.state.desk p → Each (WasSent sent) (message_failed result read)
+      → (q : DeskParty) × Leads who sent p q × IsReadAs after.state.desk.landed q.landed
+  ending_is_run p left rest before after (Ok n) read at were =
+      (p, none_leads who sent p, subst (λ s. IsReadAs s.state.desk.landed p.landed) (sym read.ended.3) at.landed)
+  ending_is_run p left rest before after (Err fault) read at were =
+      failing_is_run p fault (length read.apdus) (rest_of read.bytes read.ahead rest) read.last after at read.ended were
+
   -- The command `take` is a run, if the other desk has sent each message of the input.
   pub take_is_run : (p : DeskParty) (old new : CommandState DeskContents) (result : Result Bool ToolFault) → IsDesk old.desk p
       → (taken : RunsTaking is_kept told many_sides old result new) → Each (WasSent sent) (messages_taken {told = told} taken)
       → (q : DeskParty) × Leads who sent p q × IsReadAs new.desk.landed q.landed
   take_is_run p old new result at taken were =
       let read = taken.3 in
-      let failed = message_failed (TakesMessage is_kept told many_sides) taken.0 (length read.apdus)
-      (rest_of read.bytes read.ahead new.unread) read.last (progress new taken.1) read.ended in
-      let both = each_parts (WasSent sent) read.apdus failed were in
+      let both = each_parts (WasSent sent) read.apdus (message_failed taken.0 read) were in
       let handled = handled_is_run p (progress old true) read.last read.apdus both.0 at read.handled in
-      let ended = ending_is_run handled.end taken.0 (length read.apdus) (rest_of read.bytes read.ahead new.unread) read.last
-      (progress new taken.1) handled.at read.ended both.1 in
+      let ended = ending_is_run handled.end old.unread new.unread (progress old true) (progress new taken.1) taken.0 read
+      handled.at both.1 in
       (ended.0, then_leads handled.leads ended.1, ended.2)
 
 -- ---- the mails of a night

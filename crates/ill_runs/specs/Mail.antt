@@ -1,8 +1,8 @@
 -- The messages that come to a desk in a command, and those that leave it.
-use Rattle.std.specs.Prelude.{◌≡◌, ℕ, nat_le, Bool, true, List, [], ◌∷◌, ◌++◌, length, map, take, Option, None, Some, option_map}
+use Rattle.std.specs.Prelude.{◌≡◌, ℕ, nat_le, Bool, true, List, [], ◌∷◌, ◌++◌, map, take, Option, None, Some, option_map}
 use Rattle.std.specs.Prelude.{Result, Ok, Err}
 use Rattle.std.specs.List.{slice_get}
-use Rattle.std.proofs.Common.{inl, inr}
+use Rattle.std.proofs.Common.{inl, inr, ⊎_elim}
 use Rattle.ill_values.specs.Day.{Date}
 use Rattle.ill_values.specs.TxnId.{Qualifiers}
 use Rattle.ill_values.specs.declared.apdu.Apdu.{Apdu}
@@ -13,9 +13,9 @@ use Rattle.ill_saved.specs.Side.{issued_of}
 use Rattle.ill_saved.specs.Holdings.{DeskEntry}
 use Rattle.ill_saved.specs.ManySides.{DeskContents, found_by, many_sides, txn_held}
 use Rattle.ill_text.specs.declared.fault.ToolFault.{ToolFault}
-use Rattle.ill_text.specs.Input.{Ends, ReadsInput, Rest, rest_of}
+use Rattle.ill_text.specs.Input.{ReadsInput}
 use Rattle.ill_desk.specs.Performing.{CommandState}
-use Rattle.ill_desk.specs.Take.{RunsTaking, TakesMessage, progress}
+use Rattle.ill_desk.specs.Take.{RunsTaking}
 use Rattle.ill_desk.specs.Telling.{Wording}
 use Rattle.ill_night.specs.declared.verdict.Mail.{Mail}
 use Rattle.ill_night.specs.declared.verdict.Unfit.{Unfit}
@@ -45,25 +45,20 @@ IsReleased live a =
 -- ---- the messages of an input
 
 -- Returns the message with which an input ended, if its handling failed.
-abbrev pub message_failed : {S : Type 0} → (handles : Handles S ToolFault) → (result : Result ℕ ToolFault) → (count : ℕ) →
-    (rest : Rest) → (before after : S) → Ends handles result count rest before after → List Apdu
-message_failed handles (Ok n) count rest before after ends = []
-message_failed handles (Err fault) count rest before after (inl stops) = []
-message_failed handles (Err fault) count rest before after (inr fails) = fails.0 ∷ []
+abbrev pub message_failed : {S : Type 0} → {handles : Handles S ToolFault} → {old new : Option (List ℕ)} → {before after : S} →
+    (result : Result ℕ ToolFault) → ReadsInput handles old new before result after → List Apdu
+message_failed (Ok n) read = []
+message_failed (Err fault) read = ⊎_elim (λ stops. []) (λ fails. fails.0 ∷ []) read.ended
 
 -- Returns the messages that an input brought, by how it was read.
-abbrev pub messages_read : {S : Type 0} → (handles : Handles S ToolFault) → (old new : Option (List ℕ)) → (before : S) →
-    (result : Result ℕ ToolFault) → (after : S) → ReadsInput handles old new before result after → List Apdu
-messages_read handles old new before result after read =
-    read.apdus
-    ++ message_failed handles result (length read.apdus) (rest_of read.bytes read.ahead new) read.last after read.ended
+abbrev pub messages_read : {S : Type 0} → {handles : Handles S ToolFault} → {old new : Option (List ℕ)} → {before after : S} →
+    {result : Result ℕ ToolFault} → ReadsInput handles old new before result after → List Apdu
+messages_read {result = result} read = read.apdus ++ message_failed result read
 
 -- Returns the messages that a desk took from its input, by how that went.
 abbrev pub messages_taken : {is_kept : Bool} → {told : Wording} → {old new : CommandState DeskContents} →
     {result : Result Bool ToolFault} → RunsTaking is_kept told many_sides old result new → List Apdu
-messages_taken {is_kept} {told} {old} {new} taken =
-    messages_read (TakesMessage is_kept told many_sides) old.unread new.unread (progress old true) taken.0
-    (progress new taken.1) taken.3
+messages_taken taken = messages_read taken.3
 
 -- ---- the mails of a folder
 

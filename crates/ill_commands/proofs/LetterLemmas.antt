@@ -3,30 +3,37 @@ use Rattle.std.proofs.Common.{◌≡◌, ℕ, Bool, List, Option, Some, Result, 
 use Rattle.ill_seal.specs.declared.sender.Sender.{Sender}
 use Rattle.ill_text.specs.declared.fault.ToolFault.{ToolFault}
 use Rattle.ill_key.specs.Letter.{LeavesSealed, OpensLetter}
-use Rattle.ill_commands.specs.Letters.{Opens, OpensOrStays, TakesLetter}
+use Rattle.ill_commands.specs.Letters.{OpensOrStays, TakesLetter}
+use Rattle.ill_commands.specs.Streams.{Streams}
 
--- A command on an input: the input before and after it, the output before and after it, and its result.
+-- A command: the streams before it, its result, and the streams after it.
 abbrev Taking : Type 1
-Taking = Option (List ℕ) → Option (List ℕ) → Option (List ℕ) → Option (List ℕ) → Result Bool ToolFault → Type 0
+Taking = Streams → Result Bool ToolFault → Streams → Type 0
 
 -- If the messages `bytes` of a letter of the sender are taken, the letter is taken.
-pub took : (key : List ℕ) (sender named : Sender) (Takes : Taking) (left rest before after : Option (List ℕ))
-    (text bytes : List ℕ) (unread : Option (List ℕ)) (result : Result Bool ToolFault)
-    → named ≡ sender → OpensLetter key named left rest text → bytes ≡ text → Takes (Some bytes) unread before after result
-    → TakesLetter key sender Takes left rest before after result
-took key sender named Takes left rest before after text bytes unread result is opens same takes = (
+pub took : (key : List ℕ) (sender named : Sender) (Takes : Taking) (old new : Streams) (text bytes : List ℕ)
+    (unread : Option (List ℕ)) (result : Result Bool ToolFault)
+    → named ≡ sender → OpensLetter key named old.unread new.unread text → bytes ≡ text
+    → Takes (record old { unread = Some bytes }) result (record new { unread = unread })
+    → TakesLetter key sender Takes old result new
+took key sender named Takes old new text bytes unread result is opens same takes = (
   Ok text,
-  subst (λ (sender : Sender). OpensLetter key sender left rest text) is opens,
-  (unread, subst (λ (list : List ℕ). Takes (Some list) unread before after result) same takes),
+  subst (λ (sender : Sender). OpensLetter key sender old.unread new.unread text) is opens,
+  (
+    unread,
+    subst (λ (list : List ℕ). Takes (record old { unread = Some list }) result (record new { unread = unread })) same takes,
+  ),
 )
 
 -- If an input is left sealed, nothing is taken.
-pub left_sealed : (key : List ℕ) (sender named : Sender) (Takes : Taking) (left rest before : Option (List ℕ))
-    (fault : ToolFault)
-    → named ≡ sender → LeavesSealed key named left rest fault
-    → TakesLetter key sender Takes left rest before before (Err fault)
-left_sealed key sender named Takes left rest before fault is leaves =
-    (Err fault, subst (λ (sender : Sender). LeavesSealed key sender left rest fault) is leaves, (refl, refl))
+pub left_sealed : (key : List ℕ) (sender named : Sender) (Takes : Taking) (old new : Streams) (fault : ToolFault)
+    → named ≡ sender → LeavesSealed key named old.unread new.unread fault → new.written ≡ old.written
+    → TakesLetter key sender Takes old (Err fault) new
+left_sealed key sender named Takes old new fault is leaves quiet = (
+  Err fault,
+  subst (λ (sender : Sender). LeavesSealed key sender old.unread new.unread fault) is leaves,
+  (refl, quiet),
+)
 
 -- What is opened may change.
 pub opened : (key : List ℕ) (sender named : Sender) (IsUnchanged : Type 0) (left rest : Option (List ℕ)) (text : List ℕ)

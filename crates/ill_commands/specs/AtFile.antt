@@ -32,6 +32,7 @@ use Rattle.ill_show.specs.Report.{Part, gravest_part, report_page}
 use Rattle.ill_text.specs.declared.form.Form.{Form}
 use Rattle.ill_show.specs.Objects.{status_of_desk}
 use Rattle.ill_text.specs.Visits.{Stop, VisitsEach, graver}
+use Rattle.ill_commands.specs.Streams.{Streams}
 use Rattle.ill_commands.specs.declared.visit.Visit.{Visit}
 use Rattle.ill_commands.specs.declared.visit.Visit.TheVariants as visits
 
@@ -63,13 +64,12 @@ ActsAtFile asked is_long before after result =
     × TellsItem is_long (item_of (side_with asked.txn (sides_held new.live).sides)) acted between after result)
 
 -- The APDUs of the input were taken at a desk, in this form. Or its file could not be opened.
-abbrev pub TakesAtFile : TakeForm → Option (List ℕ) → Option (List ℕ) → Option (List ℕ) → Option (List ℕ) →
-    Result Bool ToolFault → Type 0
-TakesAtFile form left rest before after result =
-    (FailsToOpen before after result × (rest ≡ left))
-    ⊎ ((old : HeldAndLanded DeskContents) × (new : HeldAndLanded DeskContents)
-    × RunsTaking form.is_kept (wording form.is_long) many_sides (with_input left (command_state old before)) result
-    (with_input rest (command_state new after)))
+abbrev pub TakesAtFile : TakeForm → Streams → Result Bool ToolFault → Streams → Type 0
+TakesAtFile form old result new =
+    (FailsToOpen old.written new.written result × (new.unread ≡ old.unread))
+    ⊎ ((before after : HeldAndLanded DeskContents)
+    × RunsTaking form.is_kept (wording form.is_long) many_sides (with_input old.unread (command_state before old.written)) result
+    (with_input new.unread (command_state after new.written)))
 
 -- The message `number` of `txn` at a desk was written. Or a file could not be opened.
 abbrev pub SendsAtFile : Qualifiers → ℕ → Option (List ℕ) → Option (List ℕ) → Result Bool ToolFault → Type 0

@@ -1,3 +1,4 @@
 pub mod AtFile
 pub mod Letters
 pub mod Note
+pub mod Streams

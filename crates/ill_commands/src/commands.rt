@@ -5,6 +5,7 @@ ghost use Rattle.std.specs.Prelude.{◌≡◌, map, option_copied, option_map, s
 ghost use Rattle.ill_show.specs.News.{item_of};
 ghost use Rattle.ill_show.specs.Report.{AddsPart, AddsParts};
 ghost use Rattle.ill_commands.specs.AtFile.{ActsAtFile, ListsDesk, ListsPaths, LoanAtFile, NewAtFile, ReportsPaths, SendsAtFile, ShowsFile, SlipAtFile, TakesAtFile, TellsItem, VerifiesFile, after_writing};
+ghost use Rattle.ill_commands.specs.Streams.{streams_of};
 ghost use Rattle.ill_desk.specs.ActAs.{asking_of};
 ghost use Rattle.ill_files.specs.Opening.{all_well};
 ghost use Rattle.ill_text.specs.Fault.{IsOpenFault};
@@ -165,8 +166,8 @@ pub fn take<T: LockFiles, R: Read, W: Write, E: Write>(
     view: &TakeView<'_, '_>,
     reader: &mut R,
 ) -> Result<bool, ToolFault>
-    ensures { TakesAtFile view.now.form (R.remaining reader.old) (R.remaining reader.new)
-        (W.contents machine.old.writer) (W.contents machine.new.writer) result }
+    ensures { TakesAtFile view.now.form (streams_of (R.remaining reader.old) (W.contents machine.old.writer)) result
+        (streams_of (R.remaining reader.new) (W.contents machine.new.writer)) }
 {
     let mut locked = open_locked(machine.rt, machine.alloc, file)?;
     let taken = take_at(machine, file, &mut locked.desk, view, reader);
@@ -183,8 +184,8 @@ pub(crate) fn take_at<T: Files, S: Store, R: Read, W: Write, E: Write>(
     view: &TakeView<'_, '_>,
     reader: &mut R,
 ) -> Result<bool, ToolFault>
-    ensures { TakesAtFile view.now.form (R.remaining reader.old) (R.remaining reader.new)
-        (W.contents machine.old.writer) (W.contents machine.new.writer) result }
+    ensures { TakesAtFile view.now.form (streams_of (R.remaining reader.old) (W.contents machine.old.writer)) result
+        (streams_of (R.remaining reader.new) (W.contents machine.new.writer)) }
 {
     if !view.form.is_kept {
         return run_desk_take_as(

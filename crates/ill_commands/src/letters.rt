@@ -7,7 +7,8 @@ ghost use Rattle.ill_key.specs.Letter.{other_sender, own_sender};
 ghost use Rattle.ill_desk.specs.Performing.{view_of};
 ghost use Rattle.ill_desk.specs.Send.{RunsSendAs};
 ghost use Rattle.ill_commands.specs.AtFile.{TakesAtFile};
-ghost use Rattle.ill_commands.specs.Letters.{OpensOrStays, SendsLetterAtFile, SendsWith, TakesLetter, TakesLetterAtFile, TakesWith};
+ghost use Rattle.ill_commands.specs.Letters.{OpensOrStays, SendsLetterAtFile, SendsWith, TakesLetter, TakesSealed, TakesWith};
+ghost use Rattle.ill_commands.specs.Streams.{streams_of};
 
 use crate::commands::{TakeView, send, take, take_at};
 use ill_files::machine::Machine;
@@ -37,8 +38,9 @@ pub fn take_with<T: LockFiles, R: Read, W: Write, E: Write>(
     view: &TakeView<'_, '_>,
     reader: &mut R,
 ) -> Result<bool, ToolFault>
-    ensures { TakesWith (option_map (λ file. file.now) key_file.entry) view.now.form (R.remaining reader.old) (R.remaining reader.new)
-        (W.contents machine.old.writer) (W.contents machine.new.writer) result }
+    ensures { TakesWith (option_map (λ file. file.now) key_file.entry) (TakesAtFile view.now.form)
+        (streams_of (R.remaining reader.old) (W.contents machine.old.writer)) result
+        (streams_of (R.remaining reader.new) (W.contents machine.new.writer)) }
 {
     match key_file {
         Some(key_file) => take_letter(machine, file, key_file, view, reader),
@@ -72,8 +74,9 @@ fn take_letter<T: LockFiles, R: Read, W: Write, E: Write>(
     view: &TakeView<'_, '_>,
     reader: &mut R,
 ) -> Result<bool, ToolFault>
-    ensures { TakesLetterAtFile view.now.form (R.remaining reader.old) (R.remaining reader.new)
-        (W.contents machine.old.writer) (W.contents machine.new.writer) result }
+    ensures { TakesSealed (TakesAtFile view.now.form)
+        (streams_of (R.remaining reader.old) (W.contents machine.old.writer)) result
+        (streams_of (R.remaining reader.new) (W.contents machine.new.writer)) }
 {
     let key = read_key(machine.rt, key_file)?;
     let mut locked = open_locked(machine.rt, machine.alloc, file)?;
@@ -96,8 +99,8 @@ fn take_letter_at<T: Files, S: Store, R: Read, W: Write, E: Write>(
     reader: &mut R,
 ) -> Result<bool, ToolFault>
     ensures taken { TakesLetter letter.now.key.now (other_sender (many_sides.role desk.old.live))
-        (TakesAtFile letter.now.view.form) (R.remaining reader.old) (R.remaining reader.new)
-        (W.contents machine.old.writer) (W.contents machine.new.writer) result }
+        (TakesAtFile letter.now.view.form) (streams_of (R.remaining reader.old) (W.contents machine.old.writer)) result
+        (streams_of (R.remaining reader.new) (W.contents machine.new.writer)) }
     ensures unchanged { OpensOrStays letter.now.key.now (other_sender (many_sides.role desk.old.live))
         (view_of S.state desk.new ≡ view_of S.state desk.old) (R.remaining reader.old) (R.remaining reader.new) }
 {
@@ -109,7 +112,7 @@ fn take_letter_at<T: Files, S: Store, R: Read, W: Write, E: Write>(
 }
 
 /// `ill send --key`: writes the letter that has one message of a transaction, sealed with the key in `key_file`.
-pub fn send_letter<T: Files, W: Write, E: Write>(
+fn send_letter<T: Files, W: Write, E: Write>(
     machine: &mut Machine<'_, T, W, E>,
     file: &str,
     key_file: &str,

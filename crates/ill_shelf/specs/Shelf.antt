@@ -1,7 +1,7 @@
 -- A shelf: a folder of desks of one role, one for each group of transactions. The group of a transaction
 -- gives the name of its desk (this profile's own).
 use Rattle.std.specs.Prelude.{◌≡◌, ◌⊎◌, ℕ, ◌-◌, Bool, true, false, ◌&&◌, List, codes, Option, Some, is_some, Result, Ok}
-use Rattle.std.specs.Prelude.{Err, None}
+use Rattle.std.specs.Prelude.{Err}
 use Rattle.ill_saved.specs.declared.role.Role.{Role}
 use Rattle.ill_saved.specs.declared.role.Role.TheVariants.{Responder}
 use Rattle.ill_text.specs.declared.fault.ToolFault.{ToolFault}
@@ -17,7 +17,7 @@ use Rattle.ill_shelf.specs.declared.visit.Visit.TheVariants as visits
 use Rattle.ill_der.specs.Handling.{Handles}
 use Rattle.ill_der.specs.ShortForm.{spelling}
 use Rattle.ill_commands.specs.AtFile.{ShowsFile, TakesAtFile}
-use Rattle.ill_commands.specs.Letters.{TakesSealed}
+use Rattle.ill_commands.specs.Streams.{Streams, streams_of}
 use Rattle.ill_files.specs.Opening.{FailsToOpen}
 use Rattle.ill_mail.specs.Nights.{ExchangesAtFile, InboxAtFile, OutboxAtFile}
 use Rattle.ill_text.specs.Input.{ReadsInput}
@@ -128,32 +128,20 @@ pub record ShelfTaking : Type 0 where
 abbrev pub TakesAtHome : Handles ShelfTaking ToolFault
 TakesAtHome old a (Ok done) new =
     (is_well : Bool) × (rest : Option (List ℕ))
-    × TakesAtFile old.form (Some (spelling a)) rest old.written new.written (Ok is_well)
+    × TakesAtFile old.form (streams_of (Some (spelling a)) old.written) (Ok is_well) (streams_of rest new.written)
     × (new ≡ record old { all_fine = old.all_fine && is_well; written = new.written })
 TakesAtHome old a (Err fault) new =
-    (rest : Option (List ℕ)) × TakesAtFile old.form (Some (spelling a)) rest old.written new.written (Err fault)
+    (rest : Option (List ℕ))
+    × TakesAtFile old.form (streams_of (Some (spelling a)) old.written) (Err fault) (streams_of rest new.written)
 
 -- Returns the state before the first APDU.
 abbrev pub shelf_taking : TakeForm → Option (List ℕ) → ShelfTaking
 shelf_taking form before = record { form = form; all_fine = true; written = before }
 
 -- The APDUs of the input were taken, each at a desk. Or the shelf could not be opened.
-abbrev pub TakesAtShelf : TakeForm → Option (List ℕ) → Option (List ℕ) → Option (List ℕ) → Option (List ℕ) →
-    Result Bool ToolFault → Type 0
-TakesAtShelf form left rest before after result =
-    (FailsToOpen before after result × (rest ≡ left))
+abbrev pub TakesAtShelf : TakeForm → Streams → Result Bool ToolFault → Streams → Type 0
+TakesAtShelf form old result new =
+    (FailsToOpen old.written new.written result × (new.unread ≡ old.unread))
     ⊎ ((count : Result ℕ ToolFault) × (end : ShelfTaking)
-    × ReadsInput TakesAtHome left rest (shelf_taking form before) count end
-    × (after ≡ end.written) × (result ≡ answer_of count end.all_fine))
-
--- The input was a letter of the other library, and its messages were taken, each at a desk. Or it was no such letter, and
--- no desk changed. Or the key or the shelf could not be used.
-abbrev pub TakesLetterAtShelf : TakeForm → Option (List ℕ) → Option (List ℕ) → Option (List ℕ) → Option (List ℕ) →
-    Result Bool ToolFault → Type 0
-TakesLetterAtShelf form left rest before after result = TakesSealed (TakesAtShelf form) left rest before after result
-
--- The command `take` on a shelf, with a key or without one.
-abbrev pub TakesWithAtShelf : (key : Option (List ℕ)) → TakeForm → Option (List ℕ) → Option (List ℕ) → Option (List ℕ) →
-    Option (List ℕ) → Result Bool ToolFault → Type 0
-TakesWithAtShelf None form left rest before after result = TakesAtShelf form left rest before after result
-TakesWithAtShelf (Some key) form left rest before after result = TakesLetterAtShelf form left rest before after result
+    × ReadsInput TakesAtHome old.unread new.unread (shelf_taking form old.written) count end
+    × (new.written ≡ end.written) × (result ≡ answer_of count end.all_fine))

@@ -1,8 +1,8 @@
 //! The commands on a shelf. In a transaction each does at the desk of its group as the command for one desk does.
 
 ghost use Rattle.std.specs.Prelude.{◌≡◌, true, is_some, option_map, IfErr};
-ghost use Rattle.ill_commands.specs.AtFile.{ActsAtFile, LoanAtFile, NewAtFile, SendsAtFile, ShowsFile, SlipAtFile};
-ghost use Rattle.ill_commands.specs.Letters.{SendsLetterAtFile, SendsWith};
+ghost use Rattle.ill_commands.specs.AtFile.{ActsAtFile, LoanAtFile, NewAtFile, ShowsFile, SlipAtFile};
+ghost use Rattle.ill_commands.specs.Letters.{SendsWith};
 ghost use Rattle.ill_commands.specs.Note.{NotesAtFile, text_of};
 ghost use Rattle.ill_desk.specs.ActAs.{asking_of};
 ghost use Rattle.ill_mail.specs.Nights.{ExchangesAtFile, InboxAtFile, OutboxAtFile};
@@ -12,8 +12,8 @@ ghost use Rattle.ill_text.specs.Fault.{IsOpenFault};
 use crate::last_words::{load_mark, send_last_words};
 use crate::sorting::sort_mails;
 use crate::visit::{Visit, visit_all};
-use ill_commands::commands::{act_at, loan, new, send, slip};
-use ill_commands::letters::send_letter;
+use ill_commands::commands::{act_at, loan, new, slip};
+use ill_commands::letters::send_with;
 use ill_commands::note::{NoteView, note};
 use ill_desk::act_as::ActionView;
 use ill_files::durable::error_of_store;
@@ -106,6 +106,7 @@ fn open_or_begin<'a, T: LockFiles>(
 }
 
 /// `ill shelf send`: writes the bytes of a message of a transaction, or its letter if there is a file of a key.
+#[tactic(auto, using(crate::proofs::ShelfLemmas::unsent))]
 pub fn send_on_shelf_with<T: Files, W: Write, E: Write>(
     machine: &mut Machine<'_, T, W, E>,
     folder: &str,
@@ -116,37 +117,8 @@ pub fn send_on_shelf_with<T: Files, W: Write, E: Write>(
     ensures { SendsWith (option_map (λ file. file.now) key_file.entry) txn.now number (W.contents machine.old.writer)
         (W.contents machine.new.writer) result }
 {
-    match key_file {
-        Some(key_file) => send_letter_on_shelf(machine, folder, key_file, txn, number),
-        None => send_on_shelf(machine, folder, txn, number),
-    }
-}
-
-/// `ill shelf send` without a key: writes the bytes of a message of a transaction.
-fn send_on_shelf<T: Files, W: Write, E: Write>(
-    machine: &mut Machine<'_, T, W, E>,
-    folder: &str,
-    txn: &TxnId,
-    number: Number,
-) -> Result<bool, ToolFault>
-    ensures { SendsAtFile txn.now number (W.contents machine.old.writer) (W.contents machine.new.writer) result }
-{
     let file = home_of(machine.rt, machine.alloc, folder, txn)?;
-    send(machine, file.as_str(), txn, number)
-}
-
-/// `ill shelf send --key`: writes the letter of a message of a transaction.
-fn send_letter_on_shelf<T: Files, W: Write, E: Write>(
-    machine: &mut Machine<'_, T, W, E>,
-    folder: &str,
-    key_file: &str,
-    txn: &TxnId,
-    number: Number,
-) -> Result<bool, ToolFault>
-    ensures { SendsLetterAtFile txn.now number (W.contents machine.old.writer) (W.contents machine.new.writer) result }
-{
-    let file = home_of(machine.rt, machine.alloc, folder, txn)?;
-    send_letter(machine, file.as_str(), key_file, txn, number)
+    send_with(machine, file.as_str(), key_file, txn, number)
 }
 
 /// `ill shelf loan`: shows all that is known of a transaction, or draws it.

@@ -2,7 +2,9 @@
 
 ghost use Rattle.std.specs.Prelude.{◌≡◌, IfErr, IfOk, option_map};
 ghost use Rattle.ill_der.specs.ShortForm.{spelling};
-ghost use Rattle.ill_shelf.specs.Shelf.{TakesAtShelf, TakesAtHome, TakesLetterAtShelf, TakesWithAtShelf};
+ghost use Rattle.ill_commands.specs.Letters.{TakesSealed, TakesWith};
+ghost use Rattle.ill_commands.specs.Streams.{streams_of};
+ghost use Rattle.ill_shelf.specs.Shelf.{TakesAtShelf, TakesAtHome};
 ghost use Rattle.ill_text.specs.Fault.{IsOpenFault};
 
 use crate::sorting::{Route, make_desk, route_of};
@@ -28,8 +30,8 @@ fn take_on_shelf<T: LockFiles, R: Read, W: Write, E: Write>(
     view: &TakeView<'_, '_>,
     reader: &mut R,
 ) -> Result<bool, ToolFault>
-    ensures { TakesAtShelf view.now.form (R.remaining reader.old) (R.remaining reader.new)
-        (W.contents machine.old.writer) (W.contents machine.new.writer) result }
+    ensures { TakesAtShelf view.now.form (streams_of (R.remaining reader.old) (W.contents machine.old.writer)) result
+        (streams_of (R.remaining reader.new) (W.contents machine.new.writer)) }
 {
     let shelf = Shelf::open(machine.rt, machine.alloc, folder)?;
     let mut taken = Counted::new(TakesHome {
@@ -51,8 +53,9 @@ pub fn take_on_shelf_with<T: LockFiles, R: Read, W: Write, E: Write>(
     view: &TakeView<'_, '_>,
     reader: &mut R,
 ) -> Result<bool, ToolFault>
-    ensures { TakesWithAtShelf (option_map (λ file. file.now) key_file.entry) view.now.form (R.remaining reader.old)
-        (R.remaining reader.new) (W.contents machine.old.writer) (W.contents machine.new.writer) result }
+    ensures { TakesWith (option_map (λ file. file.now) key_file.entry) (TakesAtShelf view.now.form)
+        (streams_of (R.remaining reader.old) (W.contents machine.old.writer)) result
+        (streams_of (R.remaining reader.new) (W.contents machine.new.writer)) }
 {
     match key_file {
         Some(key_file) => take_letter_on_shelf(machine, folder, key_file, view, reader),
@@ -68,8 +71,9 @@ fn take_letter_on_shelf<T: LockFiles, R: Read, W: Write, E: Write>(
     view: &TakeView<'_, '_>,
     reader: &mut R,
 ) -> Result<bool, ToolFault>
-    ensures { TakesLetterAtShelf view.now.form (R.remaining reader.old) (R.remaining reader.new)
-        (W.contents machine.old.writer) (W.contents machine.new.writer) result }
+    ensures { TakesSealed (TakesAtShelf view.now.form)
+        (streams_of (R.remaining reader.old) (W.contents machine.old.writer)) result
+        (streams_of (R.remaining reader.new) (W.contents machine.new.writer)) }
 {
     let key = read_key(machine.rt, key_file)?;
     let shelf = Shelf::open(machine.rt, machine.alloc, folder)?;

@@ -15,16 +15,17 @@ use Rattle.ill_line.specs.declared.request.Refusal.{Refusal}
 use Rattle.ill_line.specs.declared.request.Refusal.TheVariants.{Usage, Fault}
 use Rattle.ill_tool.specs.ExitStatus.{IsFlushed, TellsKind, exit_status, status_of}
 use Rattle.ill_commands.specs.AtFile.{NewAtFile, ActsAtFile, ShowsFile, ListsPaths, LoanAtFile}
-use Rattle.ill_commands.specs.AtFile.{SlipAtFile, TellsPaths}
+use Rattle.ill_commands.specs.AtFile.{SlipAtFile, TakesAtFile, TellsPaths}
 use Rattle.ill_commands.specs.Letters.{SendsWith, TakesWith}
 use Rattle.ill_commands.specs.Note.{NotesAtFile}
+use Rattle.ill_commands.specs.Streams.{streams_of}
 use Rattle.ill_key.specs.KeyCommand.{RunsKey}
 use Rattle.ill_files.specs.Opening.{GoesWell}
 use Rattle.ill_show.specs.Notes.{note_text}
 use Rattle.ill_commands.specs.AtFile.{VerifiesFile, ReportsPaths}
 use Rattle.ill_mail.specs.Nights.{InboxAtFile, OutboxAtFile, ExchangesAtFile}
 use Rattle.ill_line.specs.Guard.{IsGuarded}
-use Rattle.ill_shelf.specs.Shelf.{is_lines, VisitsShelf, RetiresAtFile, TakesWithAtShelf}
+use Rattle.ill_shelf.specs.Shelf.{is_lines, VisitsShelf, RetiresAtFile, TakesAtShelf}
 
 -- A command has this result. The input went from `left` to `rest`, and the output from `before` to `after`.
 -- Only a shelf retires a group.
@@ -38,7 +39,8 @@ Runs asks.SimulateDesks left rest before after result = GoesWell (PerformsDesks 
 Runs (asks.New file role) left rest before after result = (rest ≡ left) × NewAtFile before after result
 Runs (asks.Act file asking by is_long is_new_group) left rest before after result =
     (rest ≡ left) × ActsAtFile asking is_long before after result
-Runs (asks.Take file form stamp key) left rest before after result = TakesWith key form left rest before after result
+Runs (asks.Take file form stamp key) left rest before after result =
+    TakesWith key (TakesAtFile form) (streams_of left before) result (streams_of rest after)
 Runs (asks.Inbox file folder stamp) left rest before after result = (rest ≡ left) × InboxAtFile before after result
 Runs (asks.Outbox file folder) left rest before after result =
     (rest ≡ left) × OutboxAtFile (is_some folder) before after result
@@ -76,7 +78,7 @@ RunsShelf (asks.New folder role) left rest before after result = (rest ≡ left)
 RunsShelf (asks.Act folder asking by is_long is_new_group) left rest before after result =
     (rest ≡ left) × ActsAtFile asking is_long before after result
 RunsShelf (asks.Take folder form stamp key) left rest before after result =
-    TakesWithAtShelf key form left rest before after result
+    TakesWith key (TakesAtShelf form) (streams_of left before) result (streams_of rest after)
 RunsShelf (asks.Send folder txn number key) left rest before after result =
     (rest ≡ left) × SendsWith key txn number before after result
 RunsShelf (asks.Loan folder txn form) left rest before after result =

@@ -2,14 +2,17 @@
 use Rattle.std.proofs.Common.{refl, ap, ◌∙◌}
 use Rattle.ill_key.specs.Letter.{other_sender}
 use Rattle.ill_commands.specs.AtFile.{TakesAtFile}
+use Rattle.ill_commands.specs.Streams.{streams_of}
 use Rattle.ill_commands.proofs.LetterLemmas.{left_sealed, opened, stays, took}
 use Rattle.ill_commands.proofs.letters.take_letter_at.Goals as goal
 
 -- Proves that the messages are taken, if the letter opens.
 pub returns-in-Ok-clause-taken : goal.returns-in-Ok-clause-taken
 returns-in-Ok-clause-taken g c =
+    let old = streams_of (g.R.Read.remaining c.args.reader.now) (g.W.Write.contents c.args.machine.now.writer) in
+    let new = streams_of (g.R.Read.remaining c.open_letter.new.reader) (g.W.Write.contents c.take_at.new.machine.writer) in
     took c.args.letter.now.key.now (other_sender c.args.desk.now.live.role) c.other_sender-sender.result
-    (TakesAtFile c.args.letter.now.view.form) _ _ _ _ c.in-Ok.text.items c.as_slice.result.now _ c.take_at.result
+    (TakesAtFile c.args.letter.now.view.form) old new c.in-Ok.text.items c.as_slice.result.now _ c.take_at.result
     (c.other_sender-sender.ensures ∙ ap other_sender c.role.ensures) c.in-Ok.ensures.opens c.as_slice.ensures.value
     c.take_at.ensures
 
@@ -21,9 +24,11 @@ returns-in-Ok-clause-unchanged g c =
 -- Proves that nothing is taken, if it does not.
 pub returns-in-Err-clause-taken : goal.returns-in-Err-clause-taken
 returns-in-Err-clause-taken g c =
+    let written = g.W.Write.contents c.args.machine.now.writer in
     left_sealed c.args.letter.now.key.now (other_sender c.args.desk.now.live.role) c.other_sender-sender.result
-    (TakesAtFile c.args.letter.now.view.form) _ _ _ c.in-Err.fault
-    (c.other_sender-sender.ensures ∙ ap other_sender c.role.ensures) c.in-Err.ensures.fault
+    (TakesAtFile c.args.letter.now.view.form) (streams_of (g.R.Read.remaining c.args.reader.now) written)
+    (streams_of (g.R.Read.remaining c.open_letter.new.reader) written) c.in-Err.fault
+    (c.other_sender-sender.ensures ∙ ap other_sender c.role.ensures) c.in-Err.ensures.fault refl
 
 pub returns-in-Err-clause-unchanged : goal.returns-in-Err-clause-unchanged
 returns-in-Err-clause-unchanged g c =

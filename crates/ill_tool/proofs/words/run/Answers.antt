@@ -3,6 +3,11 @@ use Rattle.std.proofs.Common.{refl, sym, subst}
 use Rattle.ill_line.specs.declared.request.Request.{Request}
 use Rattle.ill_line.specs.Asked.{asked}
 use Rattle.ill_tool.specs.Runs.{Runs}
+use Rattle.ill_commands.specs.AtFile.{TakesAtFile}
+use Rattle.ill_commands.specs.Letters.{TakesWith}
+use Rattle.ill_commands.specs.Streams.{streams_of}
+use Rattle.ill_desk.specs.declared.take.TakeForm.{TakeForm}
+use Rattle.std.specs.Prelude.{option_map}
 use Rattle.ill_tool.proofs.words.run.Goals as goal
 
 -- Proves the contract of `run` for the request `Send`. It is the contract of `send_with`, which reads no input.
@@ -36,3 +41,15 @@ returns-in-List g c =
     subst (λ (request : Request). Runs (asked request) left left (g.W.Write.contents c.args.machine.now.writer)
     (g.W.Write.contents c.list.new.machine.writer) c.list.result)
     (sym c.in-List.is) (refl, c.list.ensures)
+
+-- Proves the contract of `run` for the request `Take`. It is the contract of `take_with`, in the form that `take_view`
+-- passes.
+pub returns-in-Take : goal.returns-in-Take
+returns-in-Take g c =
+    let left = g.R.Read.remaining c.args.reader.now in
+    let rest = g.R.Read.remaining c.take_with.new.reader in
+    let before = g.W.Write.contents c.args.machine.now.writer in
+    let after = g.W.Write.contents c.take_with.new.machine.writer in
+    let took = subst (λ (form : TakeForm). TakesWith (option_map (λ file. file.now) c.in-Take.key) (TakesAtFile form)
+    (streams_of left before) c.take_with.result (streams_of rest after)) c.take_view.ensures c.take_with.ensures in
+    subst (λ (request : Request). Runs (asked request) left rest before after c.take_with.result) (sym c.in-Take.is) took

@@ -5,7 +5,10 @@ use Rattle.ill_line.specs.declared.request.Request.{Request}
 use Rattle.ill_line.specs.Asked.{asked}
 use Rattle.ill_mail.specs.Nights.{OutboxAtFile}
 use Rattle.ill_tool.specs.Runs.{RunsShelf}
-use Rattle.ill_shelf.specs.Shelf.{VisitsShelf}
+use Rattle.ill_shelf.specs.Shelf.{TakesAtShelf, VisitsShelf}
+use Rattle.ill_commands.specs.Letters.{TakesWith}
+use Rattle.ill_commands.specs.Streams.{streams_of}
+use Rattle.ill_desk.specs.declared.take.TakeForm.{TakeForm}
 use Rattle.ill_tool.proofs.words.run_on_shelf.Goals as goal
 
 -- An option and its image under `text` are both `Some` or both `None`.
@@ -60,3 +63,17 @@ returns-in-Slip g c =
     subst (λ (request : Request). RunsShelf (asked request) left left (g.W.Write.contents c.args.machine.now.writer)
     (g.W.Write.contents c.slip_on_shelf.new.machine.writer) c.slip_on_shelf.result)
     (sym c.in-Slip.is) (refl, c.slip_on_shelf.ensures)
+
+-- Proves the contract of `run_on_shelf` for the request `Take`. It is the contract of `take_on_shelf_with`, in the form that
+-- `take_view` passes.
+pub returns-in-Take : goal.returns-in-Take
+returns-in-Take g c =
+    let left = g.R.Read.remaining c.args.reader.now in
+    let rest = g.R.Read.remaining c.take_on_shelf_with.new.reader in
+    let before = g.W.Write.contents c.args.machine.now.writer in
+    let after = g.W.Write.contents c.take_on_shelf_with.new.machine.writer in
+    let took = subst (λ (form : TakeForm). TakesWith (option_map (λ file. file.now) c.in-Take.key) (TakesAtShelf form)
+    (streams_of left before) c.take_on_shelf_with.result (streams_of rest after)) c.take_view.ensures
+    c.take_on_shelf_with.ensures in
+    subst (λ (request : Request). RunsShelf (asked request) left rest before after c.take_on_shelf_with.result)
+    (sym c.in-Take.is) took

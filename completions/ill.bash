@@ -60,7 +60,7 @@ _ill_parts() {
     help) parts=(command) options='' ;;
     new) parts=(file role) options='--explain --help' ;;
     act) parts=(file loan loan words) options='--today --by --seen --dry-run --long --explain --help' ;;
-    list) parts=(files) options='--open --mine --today --ahead --due-before --state --find --actions --notes --json --explain --help' ;;
+    list) parts=(files) options='--open --mine --today --ahead --due-before --state --find --actions --notes --since-when --json --explain --help' ;;
     news) parts=(files) options='--last --json --explain --help' ;;
     loan) parts=(file loan loan) options='--picture --json --explain --help' ;;
     note) parts=(file loan loan none) options='--explain --help' ;;

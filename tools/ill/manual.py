@@ -165,8 +165,8 @@ def usages(lines):
         command = usage.split(" ")[0]
         yield f"command {command}"
         yield "argument " + re.sub(r" *\[--[^]]*\]", "", usage)
-        for match in found(r"^[a-z-]* (--[a-z-]* [A-Z]*) ", [usage]):
-            yield f"option {command} {match[1]}"
+        for option in re.findall(r" (--[a-z-]* [A-Z]*)(?= |$)", re.sub(r"\[[^]]*\]", "", usage)):
+            yield f"option {command} {option}"
         for option in re.findall(r"\[(--[^]]*)\]", usage):
             yield f"option {command} {option}"
 
@@ -292,7 +292,7 @@ class Offers:
         self.offers("ill status my", "my desk")
         self.offers(r"ill status my\ d", "my desk")
         self.all_offer([f"list {flag}" for flag in (
-            "--open", "--mine", "--actions", "--notes", "--find Maps", "--find=Maps", "--today 20250301", "--ahead 3",
+            "--open", "--mine", "--actions", "--notes", "--since-when", "--find Maps", "--find=Maps", "--today 20250301", "--ahead 3",
             "--due-before=20250301", "--state SHIPPED", "--state=RENEW/PENDING", "one", "one -- two")], *self.files)
         self.all_offer([f"news {flag}" for flag in ("--last 7", "--last=7", "one", "one --last 7 two")], *self.files)
         self.all_offer(("list --today", "list one --ahead", "list one --due-before", "exchange one --today",

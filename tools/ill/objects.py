@@ -51,7 +51,7 @@ COURSES = {
     "recalled": "here request none Maps> there ship +14> here receive> there recall>",
     "returned": "here request none Maps> there ship +14> here receive> here return>",
     "checked in": "here request none Maps> there ship +14> here receive> here return> there check-in>"}
-DAYS = {"here": [], "there": ["--today", "20250301"], "late": ["--today", "20250310"]}
+DAYS = {"here": [], "there": ["--today", "20250301", "--by", "J.\u202eP."], "late": ["--today", "20250310"]}
 
 PROGRAM = None  # as main has it
 faults = []
@@ -163,7 +163,12 @@ def loan_lines(loan):
         lines += ["", *message_lines(apdu, shown)]
     for apdu in loan["came"]:
         lines += ["", *message_lines(apdu, shown), "came yes"]
-    return lines
+    return lines + [""] * bool(loan["history"]) + [history_line(told) for told in loan["history"]]
+
+
+def history_line(told):
+    """The line of what the diary tells of a message."""
+    return f"history {day(told['day'])} {shown(or_dash(told['by']))} {told['what']} {told['number']}"
 
 
 def note_lines(label, loan):
@@ -171,7 +176,7 @@ def note_lines(label, loan):
     return [] if loan["note"] is None else [f"{label} {shown(loan['note'])}"]
 
 
-def list_lines(has_actions, has_notes=False):
+def list_lines(has_actions, has_notes=False, has_since=False):
     """The lines of what is listed of desks, where the objects have the paths of the desks and where not."""
     def lines_of(objects):
         lines, rows = [], []
@@ -183,7 +188,7 @@ def list_lines(has_actions, has_notes=False):
                 lines += [""] * bool(lines) + [f"{shown(value['file'])}:"]
             if any(row.get("file") != value.get("file") for row in rows):
                 faults.append(f"the path of a loan is not that of its counts, {value}")
-            lines += row_lines(rows, has_actions, has_notes)
+            lines += row_lines(rows, has_actions, has_notes, has_since)
             counts = (value[label] for label in ("loans", "open", "todo", "room"))
             lines.append("loans {}, open {}, to do {}, room for {}".format(*counts))
             rows = []
@@ -191,7 +196,7 @@ def list_lines(has_actions, has_notes=False):
     return lines_of
 
 
-def row_lines(rows, has_actions, has_notes):
+def row_lines(rows, has_actions, has_notes, has_since):
     """The lines of the loans of a desk, under a heading for each kind of work."""
     cells = [[row["state"], day(row["due"]).ljust(8), row["group"], row["transaction"], *[",".join(row["now"])] * has_actions]
              for row in rows]
@@ -203,6 +208,7 @@ def row_lines(rows, has_actions, has_notes):
         columns = "".join(f"{text:<{width}}  " for text, width in zip(texts, widths))
         lines.append(f"  {columns}{shown(or_dash(row['item']))}")
         lines += note_lines("    note", row) if has_notes else []
+        lines += [f"    since {day(row['since'])}"] if has_since and row["since"] else []
     return lines
 
 
@@ -240,12 +246,6 @@ def unique(pairs):
     return dict(pairs)
 
 
-def without_history(lines):
-    """Returns the lines of a loan without its history, which is told in lines alone and ends them."""
-    first = next((at for at, line in enumerate(lines) if line.startswith("history ")), None)
-    return lines if first is None else [*lines[:first - 1], ""]
-
-
 def compare(kind, words, lines_of, given=None):
     """Compares a command with `--json` and without it."""
     global compared
@@ -258,7 +258,7 @@ def compare(kind, words, lines_of, given=None):
         fault = fails(referred(kind), objects[-1])
         if fault:
             faults.append(f"{place}: {fault}")
-    wanted = without_history(run(words, given).decode("utf-8").split("\n"))
+    wanted = run(words, given).decode("utf-8").split("\n")
     if [*lines_of(objects), ""] != wanted or text.split("\n")[-1]:
         faults.append(f"{place}: {objects} is not what stands in {wanted}")
     compared += len(objects)
@@ -311,6 +311,7 @@ def compare_desks():
         run(["note", "here", *txn, title])
     compare("list", ["list", "here"], list_lines(False))
     compare("list", ["list", "here", "--notes"], list_lines(False, True))
+    compare("list", ["list", "there", "--since-when", "--notes"], list_lines(False, True, True))
     compare("list", ["list", "here", "--mine", "--actions"], list_lines(True))
     compare("list", ["list", "here", "--open", "--state", "PENDING"], list_lines(False))
     os.mkdir("folder")
@@ -336,7 +337,7 @@ def compare_messages():
 def compare_words():
     """Compares the words of the schema with those of the sources."""
     for name, words in {"state": SCHEMA["$defs"]["state"]["enum"] + ["IDLE"],
-                        "verb": SCHEMA["$defs"]["verbs"]["items"]["enum"]}.items():
+                        "verb": SCHEMA["$defs"]["verb"]["enum"]}.items():
         sources = re.findall(r'=> "([\w/-]+)"', read(f"{TOP}/crates/ill_core/src/{name}.rt").decode())
         if sorted(sources) != sorted(words):
             faults.append(f"docs/ill.schema.json: the words of {name} are {words}, and those of the sources {sources}")

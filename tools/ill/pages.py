@@ -164,10 +164,11 @@ class Page(html.parser.HTMLParser):
 
 
 def begin():
-    """Two desks with a loan in each state: the titles, by the transaction. In the first, each third loan has a note."""
+    """Two desks with a loan in each state: the titles, by the transaction, and the days of the last actions, by the desk and
+    the transaction. In the first desk, each third loan has a note."""
     lines("new", "here", "requester")
     lines("new", "there", "responder")
-    titles = {}
+    titles, acted = {}, {}
     for place, story in enumerate(STORIES.values()):
         txn, item, expiry = f"T{place:02}", TITLES[place], EXPIRIES[place % len(EXPIRIES)]
         titles[txn] = item
@@ -177,13 +178,14 @@ def begin():
             filled = [word.format(item=item, expiry=expiry) if "{" in word else word for word in words.split(" ")]
             today = "20250301" if words.startswith("ship") else DAY
             lines("act", desk, GROUP, txn, "--today", today, *" ".join(filled).split(" "))
+            acted[desk, txn] = today
             issued[who] += 1
             if is_delivered:
                 message = ill("send", desk, GROUP, txn, str(issued[who])).stdout
                 ill("take", other, given=message)
     for txn in list(titles)[::3]:
         lines("note", "here", GROUP, txn, "--", NOTE)
-    return titles
+    return titles, acted
 
 
 def day_or_none(word):
@@ -194,8 +196,9 @@ def iso(day):
     return f"{day[:4]}-{day[4:6]}-{day[6:]}"
 
 
-def loans_of(desk, titles, morning):
+def loans_of(desk, begun, morning):
     """The loans of a desk in the order in which they were begun, each with the row that a page has of it."""
+    titles, acted = begun
     txns = [line.partition(" ")[2] for line in lines("status", desk) if line.startswith("transaction ")]
     for txn in txns:
         told = dict(line.partition(" ")[::2] for line in reversed(lines("loan", desk, GROUP, txn)))
@@ -204,13 +207,14 @@ def loans_of(desk, titles, morning):
         date = f"due {iso(due)}" if due else f"expires {iso(expiry)}" if expiry else ""
         verbs = [verb for verb in told["now"].split() if verb != "-" and morning.allows(loan, verb)]
         notes = [shown(NOTE)] if "note" in told else []
-        yield loan, [shown(titles[txn]), notes, GROUP, txn, morning.state(loan), date, verbs]
+        since = [f"since {iso(acted[desk, txn])}"] if (desk, txn) in acted else []
+        yield loan, [shown(titles[txn]), notes + since, GROUP, txn, morning.state(loan), date, verbs]
 
 
-def check_desk(page, desk, titles, today):
+def check_desk(page, desk, begun, today):
     """Compares what a page tells of a desk with what `loan` tells, by the tables of the document."""
     morning = Morning(today)
-    loans = list(loans_of(desk, titles, morning))
+    loans = list(loans_of(desk, begun, morning))
     wanted, found = [[words, wants, len(rows), rows] for words, wants, rows in morning.tables(loans)], page.tables.get(desk, [])
     heads = [[table[:3] for table in tables] for tables in (found, wanted)]
     faults = [] if heads[0] == heads[1] else [f"the tables {heads[0]} and not {heads[1]}"]
@@ -338,7 +342,7 @@ def main(program):
     """Looks at pages, in the folder that it is in. Returns the exit status."""
     global PROGRAM
     PROGRAM = program
-    titles = begin()
+    begun = begin()
     # The title of the second loan, which has the words of a reference, stands in no desk but the first.
     for words, today in ((["here", "there"], DAY), (["here", "there"], "20250307"), (["here", "there"], "20250308"),
                          (["here", "there"], "20250502"), (["there"], DAY)):
@@ -346,7 +350,7 @@ def main(program):
         page = Page(text)
         tell(f"the page of {' and '.join(words)} is well formed", page.faults)
         for desk in words:
-            check_desk(page, desk, titles, today)
+            check_desk(page, desk, begun, today)
     check_text(text)
     check_style(page.style)
     check_unread()
@@ -364,5 +368,5 @@ def main(program):
         is_right = done.returncode == status and not done.stdout and (not said or done.stderr.decode() == said)
         tell(f"ill {' '.join(words)}", [] if is_right else [f"{done.returncode} {done.stderr.decode()}"])
     text = ill("report", name, "there", "--today", DAY).stdout.decode()
-    check_browser(text, titles.values())
+    check_browser(text, begun[0].values())
     return REPORT.status()

@@ -21,6 +21,6 @@ pub nothing_written : (visit : Visit) (form : Form) (is_headed is_first : Bool) 
     → RunsVisit visit form is_headed is_first
     (record { path = path; before = written; after = written; answer = answer })
 nothing_written (visits.List wanted find) form is_headed is_first path written answer failed =
-    inr ([], [], (Err Write, (0, Appends-nil written), failed))
+    inr ([], record { notes = []; diary = []; came = [] }, (Err Write, (0, Appends-nil written), failed))
 nothing_written (visits.News last) form is_headed is_first path written answer failed =
     inr ([], [], (Err Write, ([], nothing_in, (0, Appends-nil written)), failed))

@@ -28,6 +28,7 @@ use Rattle.ill_show.specs.declared.wanted.Wanted.{Wanted}
 use Rattle.ill_show.specs.Listing.{between, listed_desk}
 use Rattle.ill_show.specs.ItemLine.{item_line}
 use Rattle.ill_show.specs.News.{WritesNews, item_of, news_text}
+use Rattle.ill_show.specs.Since.{AnnexRead}
 use Rattle.ill_show.specs.Report.{Part, gravest_part, report_page}
 use Rattle.ill_text.specs.declared.form.Form.{Form}
 use Rattle.ill_show.specs.Objects.{status_of_desk}
@@ -88,9 +89,9 @@ ShowsFile form before after result =
 abbrev pub ListsDesk : Form → Wanted → (find : Option (List ℕ)) → (is_headed is_first : Bool) → Stop → Type 0
 ListsDesk form wanted find is_headed is_first stop =
     FailsToOpen stop.before stop.after stop.answer
-    ⊎ ((sides : List Side) × (notes : List (List ℕ))
+    ⊎ ((sides : List Side) × (annex : AnnexRead)
     × GoesWell (WritesText stop.before stop.after
-    (between form is_first ++ listed_desk form is_headed wanted (record { find = find; notes = notes }) stop.path sides))
+    (between form is_first ++ listed_desk form is_headed wanted (record { find = find; annex = annex }) stop.path sides))
     stop.answer)
 
 -- What came to a desk was told in a visit, as `news_text` does. Or a file could not be opened, and nothing was written.

@@ -6,17 +6,19 @@ ghost use Rattle.ill_show.specs.News.{item_of};
 ghost use Rattle.ill_show.specs.Report.{AddsPart, AddsParts};
 ghost use Rattle.ill_commands.specs.AtFile.{ActsAtFile, ListsDesk, ListsPaths, LoanAtFile, NewAtFile, ReportsPaths, SendsAtFile, ShowsFile, SlipAtFile, TakesAtFile, TellsItem, VerifiesFile, after_writing};
 ghost use Rattle.ill_commands.specs.Streams.{streams_of};
-ghost use Rattle.ill_desk.specs.ActAs.{asking_of};
+ghost use Rattle.ill_desk.specs.ActAs.{RunsActAs, asking_of};
+ghost use Rattle.ill_desk.specs.Performing.{command_state, view_of};
 ghost use Rattle.ill_files.specs.Opening.{all_well};
 ghost use Rattle.ill_text.specs.Fault.{IsOpenFault};
 
+use crate::late_diary::late_entry;
 use crate::visit::{Visit, visit_paths};
 use ill_desk::act_as::{ActionView, action_line, run_desk_act_as};
 use ill_desk::new::run_desk_new;
 use ill_desk::send::run_desk_send;
 use ill_desk::take::{TakeForm, run_desk_take_as};
 use ill_files::came::{came_bytes, open_came};
-use ill_files::diary::{diary_bytes, open_came_diary, open_entry, warn_of_diary};
+use ill_files::diary::{diary_bytes, open_came_diary, warn_of_diary};
 use ill_files::folder::{desk_paths, warn_of_names};
 use ill_files::machine::Machine;
 use ill_files::notes::notes_bytes;
@@ -24,6 +26,7 @@ use ill_files::open::{all_well, end, lock, open, open_locked};
 use ill_saved::{
     Desk, FileStore, LockFiles, LockedDesk, RECORD_LIMIT, Role, SIDES_LIMIT, Side, Sides, Store,
 };
+use ill_show::annex::Annex;
 use ill_show::file_lines::FileLines;
 use ill_show::finding::Sought;
 use ill_show::item_line::write_item;
@@ -40,6 +43,7 @@ use ill_slip::slip::run_desk_slip;
 use ill_text::diary::{Stamp, WithDiary, begin_text};
 use ill_text::fault::{ToolFault, graver};
 use ill_text::form::Form;
+use ill_text::input::apdus_in;
 use ill_values::{Day, Number, OutOfMemory, TxnId};
 use std::alloc::Global;
 use std::io::{Read, Write, sink};
@@ -77,7 +81,8 @@ pub fn act<T: LockFiles, W: Write, E: Write>(
 }
 
 /// Performs or tries the action of `view` at `locked`, the desk in `file`, and then lets the desk and its lock go. If its day is
-/// given, it is entered in the diary beside `file`. Writes a line to the errors if the loan has few numbers left.
+/// given, it is entered in the diary beside `file`, which is made if it does not exist. An action that is refused makes
+/// none. Writes a line to the errors if the loan has few numbers left.
 pub fn act_at<T: LockFiles, W: Write, E: Write>(
     machine: &mut Machine<'_, T, W, E>,
     file: &str,
@@ -87,16 +92,7 @@ pub fn act_at<T: LockFiles, W: Write, E: Write>(
 ) -> Result<bool, ToolFault>
     ensures { ActsAtFile (asking_of view.now) is_long (W.contents machine.old.writer) (W.contents machine.new.writer) result }
 {
-    let line = action_line(machine.alloc, &locked.desk, view);
-    let mut entry = open_entry(machine.rt, machine.alloc, file, line, &mut machine.errors);
-    let acted = run_desk_act_as(
-        machine.alloc,
-        &mut locked.desk,
-        view,
-        &mut entry,
-        &mut machine.writer,
-    );
-    warn_of_diary(machine.alloc, file, entry.has_failed(), &mut machine.errors);
+    let acted = act_and_enter(machine, file, &mut locked.desk, view);
     let told = tell_item(
         machine.alloc,
         locked.desk.sides().get(view.txn),
@@ -115,6 +111,26 @@ pub fn act_at<T: LockFiles, W: Write, E: Write>(
     }
     drop(locked);
     told
+}
+
+/// Performs or tries the action of `view` at `desk`. If its day is given, it is entered in the diary beside `file`.
+fn act_and_enter<T: Files, S: Store, W: Write, E: Write>(
+    machine: &mut Machine<'_, T, W, E>,
+    file: &str,
+    desk: &mut Desk<S>,
+    view: &ActionView<'_>,
+) -> Result<bool, ToolFault>
+    ensures { RunsActAs (asking_of view.now)
+        (command_state (view_of S.state desk.old) (W.contents machine.old.writer)) result
+        (command_state (view_of S.state desk.new) (W.contents machine.new.writer)) }
+{
+    let line = action_line(machine.alloc, desk, view);
+    let mut entry = late_entry(machine.rt, machine.alloc, file, line, &mut machine.errors);
+    let acted = run_desk_act_as(machine.alloc, desk, view, &mut entry, &mut machine.writer);
+    let has_failed = entry.has_failed();
+    drop(entry);
+    warn_of_diary(machine.alloc, file, has_failed, &mut machine.errors);
+    acted
 }
 
 /// Writes the item of the loan of `side` after the line of an action, if `is_long` is set and the answer `acted` is no
@@ -260,11 +276,17 @@ pub(crate) fn list_file<T: Files, W: Write, E: Write>(
       answer = result;
     }) }
 {
-    let notes = read_notes(machine.rt, machine.alloc, listed.path)?;
+    let annex = listed_annex(
+        machine.rt,
+        machine.alloc,
+        listed,
+        wanted,
+        &mut machine.errors,
+    )?;
     let desk = open(machine.rt, machine.alloc, listed.path)?;
     let sought = Sought {
         find,
-        notes: &notes,
+        annex: &annex,
     };
     let answer = run_desk_list(
         machine.alloc,
@@ -297,17 +319,55 @@ pub(crate) fn list_file<T: Files, W: Write, E: Write>(
     all_well(answer)
 }
 
-/// Opens the desk in `file`, and reads the notes beside it.
-fn open_with_notes<'a, T: Files>(
+/// Reads what a list shows of the annex of the desk in `listed`. Lines without days show its notes alone.
+fn listed_annex<T: Files, E: Write>(
+    rt: &T,
+    alloc: Global,
+    listed: &Listed<'_>,
+    wanted: &Wanted,
+    errors: &mut E,
+) -> Result<Annex, ToolFault>
+    ensures { IfErr result IsOpenFault }
+{
+    match listed.form {
+        Form::Lines if !wanted.has_since => {
+            let notes = read_notes(rt, alloc, listed.path)?;
+            Ok(Annex::of_notes(alloc, notes))
+        }
+        _ => read_annex(rt, alloc, listed.path, errors),
+    }
+}
+
+/// Opens the desk in `file`, and reads the annex beside it.
+fn open_with_annex<'a, T: Files, E: Write>(
     rt: &'a T,
     alloc: Global,
     file: &str,
-) -> Result<(Desk<FileStore<'a, T>>, Notes), ToolFault>
+    errors: &mut E,
+) -> Result<(Desk<FileStore<'a, T>>, Annex), ToolFault>
     ensures { IfErr result IsOpenFault }
 {
-    let notes = read_notes(rt, alloc, file)?;
+    let annex = read_annex(rt, alloc, file, errors)?;
     let desk = open(rt, alloc, file)?;
-    Ok((desk, notes))
+    Ok((desk, annex))
+}
+
+/// Reads the annex of the desk in `file`.
+fn read_annex<T: Files, E: Write>(
+    rt: &T,
+    alloc: Global,
+    file: &str,
+    errors: &mut E,
+) -> Result<Annex, ToolFault>
+    ensures { IfErr result IsOpenFault }
+{
+    let diary = diary_bytes(rt, alloc, file, errors)?;
+    let came = came_bytes(rt, alloc, file)?;
+    Ok(Annex {
+        notes: read_notes(rt, alloc, file)?,
+        diary: FileLines::read(alloc, &diary)?,
+        came: apdus_in(alloc, &came)?,
+    })
 }
 
 /// Reads the notes beside the desk in `file`.
@@ -479,9 +539,9 @@ fn push_file<T: Files, W: Write, E: Write>(
     ensures fault { IfOk result (λ answer. IfErr answer IsOpenFault) }
     ensures silent { machine.new.writer ≡ machine.old.writer }
 {
-    match open_with_notes(machine.rt, machine.alloc, file) {
-        Ok((desk, notes)) => {
-            let told = push_desk(page, today, file, desk.sides(), &notes);
+    match open_with_annex(machine.rt, machine.alloc, file, &mut machine.errors) {
+        Ok((desk, annex)) => {
+            let told = push_desk(page, today, file, desk.sides(), &annex);
             drop(desk);
             told?;
             Ok(Ok(true))

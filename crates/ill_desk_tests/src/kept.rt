@@ -13,8 +13,8 @@ use ill_night::verdict::{Batch, Mail, Verdict};
 use ill_saved::{Desk, Desk1, DeskFault, MemoryStore, Store};
 use ill_session_kit::Call;
 use ill_session_kit::words::{Word, texts};
-use ill_show::loan::{LoanForm, LoanView, run_desk_loan};
-use ill_show::notes::Notes;
+use ill_show::file_lines::FileLines;
+use ill_show::loan::{Beside, LoanForm, LoanView, run_desk_loan};
 use ill_show::status::{run_desk_status, run_status};
 use ill_test_kit::{Page, octet_in};
 use ill_text::fault::ToolFault;
@@ -299,14 +299,13 @@ impl<S: Store> Kept for Desk<S> {
             txn: &txn,
             form: LoanForm::Lines,
         };
-        let answer = run_desk_loan(
-            alloc,
-            self,
-            &view,
-            &Notes::none(alloc),
-            b"",
-            &mut call.output,
-        );
+        let none = FileLines::none(alloc);
+        let beside = Beside {
+            notes: &none,
+            diary: &none,
+            came: b"",
+        };
+        let answer = run_desk_loan(alloc, self, &view, &beside, &mut call.output);
         Some(call.end_engine(alloc, answer, &ToolFault::OutOfMemory))
     }
 

@@ -8,6 +8,7 @@ pub mod Found
 pub mod Names
 pub mod NoteLemmas
 pub mod Sides
+pub mod HistoryLines
 pub mod LineLemmas
 pub mod NewsLines
 pub mod BadLines

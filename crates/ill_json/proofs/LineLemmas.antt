@@ -28,10 +28,12 @@ use Rattle.ill_show.specs.List.{counts_of, has_work, is_listed, listed_of}
 use Rattle.ill_show.specs.Finding.{Seeking, is_found}
 use Rattle.ill_show.specs.Listing.{between, chosen_of, file_told, list_objects, listed, listed_desk, section, sections}
 use Rattle.ill_show.specs.Listing.{work_objects}
+use Rattle.ill_show.specs.Diary.{Told, history_fields, history_of, messages_of, part_fields, part_object}
 use Rattle.ill_show.specs.Notes.{note_fields, note_of}
+use Rattle.ill_show.specs.Since.{AnnexRead, since_fields, since_of}
 use Rattle.ill_show.specs.Loan.{loan_text}
 use Rattle.ill_show.specs.Objects.{came_fields, counts_fields, counts_object, file_fields, kept_fields, loan_fields}
-use Rattle.ill_show.specs.Objects.{message_object, names_of, noted_fields, row_fields, row_object, status_of_desk}
+use Rattle.ill_show.specs.Objects.{message_object, dated_fields, names_of, noted_fields, row_fields, row_object, status_of_desk}
 use Rattle.ill_json.specs.Lines.{IsEntry, fields_of_list, fields_of_loan, fields_of_message, fields_in_order, fields_of_row}
 use Rattle.ill_json.specs.Lines.{fields_of_status, fields_of_work}
 use Rattle.ill_json.specs.Objects.{AreObjectLines, IsObject, IsObjectLine, items_of, strings}
@@ -42,8 +44,9 @@ use Rattle.ill_json.proofs.Values.{string_reads, number_reads, flag_reads, null_
 use Rattle.ill_json.proofs.Fields.{day_utf8}
 use Rattle.ill_json.proofs.Sides.{each_append, apdu_apart, apdu_reads, counts_apart, loan_apart, message_apart, message_reads}
 use Rattle.ill_json.proofs.Sides.{messages_values, row_apart, status_reads, loan_reads, came_reads, file_reads, row_reads}
-use Rattle.ill_json.proofs.Sides.{counts_reads, note_reads}
+use Rattle.ill_json.proofs.Sides.{counts_reads, note_reads, since_reads}
 use Rattle.ill_json.proofs.NoteLemmas.{note_utf8}
+use Rattle.ill_json.proofs.HistoryLines.{IsTold, history_reads, history_told, part_reads}
 
 -- ---- lines
 
@@ -146,40 +149,44 @@ kept_each P Q keeps (x ∷ xs) so each = go (keeps x) (kept_each P Q keeps xs so
     go false rest = rest
 
 -- The line of a listed loan is an object line.
-row_is : (file : Option (List ℕ)) (notes : List (List ℕ)) (today : Option Date) (work : Work) (side : Side)
+row_is : (file : Option (List ℕ)) (annex : AnnexRead) (today : Option Date) (work : Work) (side : Side)
     → IfSome file IsUtf8 → IsSide side
-    → IsObjectLine (row_object file notes today work side) (fields_of_row file notes today work side)
-row_is file notes today work side u is =
-    line_is (fields_of_row file notes today work side)
-    (each_append (FieldReads 2) (noted_fields notes today work side) (file_fields file)
-    (each_append (FieldReads 2) (row_fields work side (names_of today side)) (note_fields (note_of notes (txn_of side)))
-    (row_reads today work side is.1) (note_reads _ (note_utf8 notes (txn_of side)))) (file_reads file u))
-    (row_apart file notes today work side)
+    → IsObjectLine (row_object file annex today work side) (fields_of_row file annex today work side)
+unfolding row_object
+row_is file annex today work side u is =
+    line_is (fields_of_row file annex today work side)
+    (each_append (FieldReads 2) (dated_fields annex today work side) (file_fields file)
+    (each_append (FieldReads 2) (noted_fields annex.notes today work side) (since_fields (since_of annex side))
+    (each_append (FieldReads 2) (row_fields work side (names_of today side)) (note_fields (note_of annex.notes (txn_of side)))
+    (row_reads today work side is.1) (note_reads _ (note_utf8 annex.notes (txn_of side))))
+    (since_reads (since_of annex side))) (file_reads file u))
+    (row_apart file annex today work side)
 
 -- The rows of one kind of work are object lines.
-rows_are : (file : Option (List ℕ)) (notes : List (List ℕ)) (wanted : Wanted) (shown : List Side) → IfSome file IsUtf8
+rows_are : (file : Option (List ℕ)) (annex : AnnexRead) (wanted : Wanted) (shown : List Side) → IfSome file IsUtf8
     → Each IsSide shown → (work : Work)
-    → AreObjectLines (section (work_objects file notes) wanted shown work) (fields_of_work file notes wanted shown work)
-rows_are file notes wanted shown u each work =
-    lines_each (fields_of_row file notes wanted.today work) (filter (has_work wanted work) shown)
+    → AreObjectLines (section (work_objects file annex) wanted shown work) (fields_of_work file annex wanted shown work)
+unfolding row_object
+rows_are file annex wanted shown u each work =
+    lines_each (fields_of_row file annex wanted.today work) (filter (has_work wanted work) shown)
     (kept_each IsSide
-    (λ side. IsObjectLine (row_object file notes wanted.today work side) (fields_of_row file notes wanted.today work side))
-    (has_work wanted work) shown (λ side is. row_is file notes wanted.today work side u is) each)
+    (λ side. IsObjectLine (row_object file annex wanted.today work side) (fields_of_row file annex wanted.today work side))
+    (has_work wanted work) shown (λ side is. row_is file annex wanted.today work side u is) each)
 
 -- A list in order is object lines.
 ordered_are : (file : Option (List ℕ)) (wanted : Wanted) (seeking : Seeking) (held : List Side) → IfSome file IsUtf8
     → Each IsSide held → length held ≤ most_sides
-    → AreObjectLines (listed (work_objects file seeking.notes) (counts_object file) wanted seeking held)
+    → AreObjectLines (listed (work_objects file seeking.annex) (counts_object file) wanted seeking held)
     (fields_in_order file wanted seeking held)
 ordered_are file wanted seeking held u each few =
     let shown = chosen_of wanted seeking held in
-    let objects = work_objects file seeking.notes in
-    let fields = fields_of_work file seeking.notes wanted shown in
+    let objects = work_objects file seeking.annex in
+    let fields = fields_of_work file seeking.annex wanted shown in
     let listed_each = kept_each IsSide IsSide (is_listed wanted) held (λ side is. is) each in
     lines_append (sections objects wanted shown) _ (flat_map fields all_work) _
     (lines_flat (section objects wanted shown) fields all_work
-    (rows_are file seeking.notes wanted shown u
-    (kept_each IsSide IsSide (is_found seeking.find seeking.notes) (listed_of wanted held) (λ side is. is) listed_each)))
+    (rows_are file seeking.annex wanted shown u
+    (kept_each IsSide IsSide (is_found seeking.find seeking.annex.notes) (listed_of wanted held) (λ side is. is) listed_each)))
     (lines_one _ (line_is _ (each_append (FieldReads 2) (counts_fields (counts_of wanted held)) (file_fields file)
     (counts_reads wanted held few) (file_reads file u)) (counts_apart file wanted held)))
 
@@ -217,15 +224,29 @@ status_are entries each = lines_each fields_of_status entries (each_line entries
 -- The text of `loan` is an object line.
 pub loan_is : (notes diary : List (List ℕ)) (entry : DeskEntry) (came : List Apdu) → IsEntry entry → Each IsApdu came
     → IsObjectLine (loan_text Object (note_of notes (txn_of entry.side)) diary entry came)
-    (fields_of_loan (note_of notes (txn_of entry.side)) entry came)
+    (fields_of_loan (note_of notes (txn_of entry.side)) diary entry came)
 loan_is notes diary entry came is each =
     let words = note_of notes (txn_of entry.side) in
-    line_is (fields_of_loan words entry came)
+    let history = history_of (messages_of entry.side came) diary in
+    line_is (fields_of_loan words diary entry came)
+    (each_append (FieldReads 2) (kept_fields entry came ++ note_fields words) (history_fields history)
     (each_append (FieldReads 2) (kept_fields entry came) (note_fields words)
     (each_append (FieldReads 2) (loan_fields entry.side entry.released) (came_fields came)
     (loan_reads entry.side entry.released is.side.1 is.released) (came_reads came each))
     (note_reads words (note_utf8 notes (txn_of entry.side))))
-    (loan_apart words entry.side entry.released came)
+    (history_reads history (history_told entry.side came diary is.side.1 each)))
+    (loan_apart words diary entry.side entry.released came)
+
+-- Each part of the history of a loan is an object with the fields of the part.
+pub parts_are : (side : Side) (kept : List Apdu) (diary : List (List ℕ)) → IsSide side → Each IsApdu kept
+    → Each (λ part. IsObject (part_object part) (part_fields part)) (history_of (messages_of side kept) diary)
+unfolding Each
+parts_are side kept diary is each = go (history_of (messages_of side kept) diary) (history_told side kept diary is.1 each)
+  where
+    go : (parts : List Told) → Each IsTold parts → Each (λ part. IsObject (part_object part) (part_fields part)) parts
+    go [] told = tt
+    go (part ∷ parts) told =
+        (object_is 0 (part_fields part) (part_reads 0 part told.0) refl (omega arith), go parts told.1)
 
 -- The texts of APDUs are object lines.
 pub apdus_are : (apdus : List Apdu) → Each IsApdu apdus

@@ -37,6 +37,7 @@ use Rattle.ill_show.specs.Objects.{names_of}
 use Rattle.ill_show.specs.Objects.{came_fields, row_fields, status_fields, taken_fields, turn_fields}
 use Rattle.ill_show.specs.Status.{mark, marks_of}
 use Rattle.ill_show.specs.News.{item_of, told_fields}
+use Rattle.ill_show.specs.Since.{AnnexRead, since_fields}
 use Rattle.ill_json.specs.Lines.{fields_of_counts, fields_of_loan, fields_of_message, fields_of_news, fields_of_row}
 use Rattle.ill_json.proofs.Labels.{labels, are_apart, apart_before}
 use Rattle.ill_json.proofs.Names.{type_printable, result_printable, state_printable, turn_printable, verb_printable}
@@ -219,7 +220,7 @@ item_asked_utf8 None is = tt
 item_asked_utf8 (Some a) is = item_in_utf8 a.body is.body
 
 -- A text of UTF-8 that may be missing has a value.
-optional_text : (most : ℕ) (found : Option (List ℕ)) → IfSome found IsUtf8 → HasValue most (optional quoted found)
+pub optional_text : (most : ℕ) (found : Option (List ℕ)) → IfSome found IsUtf8 → HasValue most (optional quoted found)
 optional_text most None u = optional_value most quoted None tt
 optional_text most (Some text) u = text_value most text u
 
@@ -324,18 +325,18 @@ loan_reads side released is few =
     (messages_reads (codes "messages") (Some released) (issued_of side) refl is.issued)
 
 -- The labels of `loan` differ.
-pub loan_apart : (words : Option (List ℕ)) (side : Side) (released : ℕ) (came : List Apdu)
-    → are_apart (labels (fields_of_loan words (record { side = side; released = released }) came)) ≡ true
-loan_apart words (sides.Requester x) released came = refl
-loan_apart words (sides.Responder y) released came = refl
+pub loan_apart : (words : Option (List ℕ)) (diary : List (List ℕ)) (side : Side) (released : ℕ) (came : List Apdu)
+    → are_apart (labels (fields_of_loan words diary (record { side = side; released = released }) came)) ≡ true
+loan_apart words diary (sides.Requester x) released came = refl
+loan_apart words diary (sides.Responder y) released came = refl
 
 -- ---- lists
 
 -- The labels of the line of a loan differ.
-pub row_apart : (file : Option (List ℕ)) (notes : List (List ℕ)) (today : Option Date) (work : Work) (side : Side)
-    → are_apart (labels (fields_of_row file notes today work side)) ≡ true
-row_apart None notes today work side = refl
-row_apart (Some path) notes today work side = refl
+pub row_apart : (file : Option (List ℕ)) (annex : AnnexRead) (today : Option Date) (work : Work) (side : Side)
+    → are_apart (labels (fields_of_row file annex today work side)) ≡ true
+row_apart None annex today work side = refl
+row_apart (Some path) annex today work side = refl
 
 -- The labels of the line of the counts differ.
 pub counts_apart : (file : Option (List ℕ)) (wanted : Wanted) (held : List Side)
@@ -348,6 +349,11 @@ pub note_reads : (words : Option (List ℕ)) → IfSome words IsUtf8 → Each (F
 unfolding Each
 note_reads None utf8 = (field_reads 2 _ _ refl (optional_value 2 quoted None tt), tt)
 note_reads (Some words) utf8 = (field_reads 2 _ _ refl (text_value 2 words utf8), tt)
+
+-- The field of the day since which a loan stands as it does is read.
+pub since_reads : (since : Option Date) → Each (FieldReads 2) (since_fields since)
+unfolding Each
+since_reads since = (field_reads 2 _ _ refl (optional_day_value 2 since), tt)
 
 -- The field of a path is read.
 pub file_reads : (file : Option (List ℕ)) → IfSome file IsUtf8 → Each (FieldReads 2) (file_fields file)

@@ -12,24 +12,26 @@ use Rattle.ill_words.specs.Waiting.{most_urgent_first}
 use Rattle.ill_show.specs.declared.wanted.Wanted.{Wanted}
 use Rattle.ill_work.specs.declared.work.Work.{Work}
 use Rattle.ill_work.specs.Work.{all_work}
+use Rattle.ill_show.specs.Diary.{history_fields, history_of, messages_of}
 use Rattle.ill_show.specs.Finding.{Seeking}
 use Rattle.ill_show.specs.List.{has_work, counts_of}
 use Rattle.ill_show.specs.Listing.{chosen_of}
 use Rattle.ill_show.specs.Notes.{note_fields}
 use Rattle.ill_show.specs.News.{news_fields}
-use Rattle.ill_show.specs.Objects.{noted_fields, counts_fields, file_fields, status_fields, kept_fields}
+use Rattle.ill_show.specs.Since.{AnnexRead}
+use Rattle.ill_show.specs.Objects.{dated_fields, counts_fields, file_fields, status_fields, kept_fields}
 use Rattle.ill_show.specs.Objects.{leaves_fields}
 
 -- ---- `list`
 
 -- Returns the fields in the line of a listed loan with this work.
-abbrev pub fields_of_row : Option (List ℕ) → (notes : List (List ℕ)) → Option Date → Work → Side → List Field
-fields_of_row file notes today work side = noted_fields notes today work side ++ file_fields file
+abbrev pub fields_of_row : Option (List ℕ) → AnnexRead → Option Date → Work → Side → List Field
+fields_of_row file annex today work side = dated_fields annex today work side ++ file_fields file
 
 -- Returns the fields in the line of each of the `listed` loans that have this work.
-abbrev pub fields_of_work : Option (List ℕ) → (notes : List (List ℕ)) → Wanted → List Side → Work → List (List Field)
-fields_of_work file notes wanted listed work =
-    map (fields_of_row file notes wanted.today work) (filter (has_work wanted work) listed)
+abbrev pub fields_of_work : Option (List ℕ) → AnnexRead → Wanted → List Side → Work → List (List Field)
+fields_of_work file annex wanted listed work =
+    map (fields_of_row file annex wanted.today work) (filter (has_work wanted work) listed)
 
 -- Returns the fields in the line of the counts.
 abbrev pub fields_of_counts : Option (List ℕ) → Wanted → List Side → List Field
@@ -38,7 +40,7 @@ fields_of_counts file wanted sides = counts_fields (counts_of wanted sides) ++ f
 -- Returns the fields in each line of a list of `sides`, kind of work by kind of work. The counts come last.
 abbrev pub fields_in_order : Option (List ℕ) → Wanted → Seeking → List Side → List (List Field)
 fields_in_order file wanted seeking sides =
-    flat_map (fields_of_work file seeking.notes wanted (chosen_of wanted seeking sides)) all_work
+    flat_map (fields_of_work file seeking.annex wanted (chosen_of wanted seeking sides)) all_work
     ++ fields_of_counts file wanted sides ∷ []
 
 -- Returns the fields in each line of `list`. Loans with one kind of work are in the order of their deadlines.
@@ -62,9 +64,10 @@ pub record IsEntry (entry : DeskEntry) : Type 0 where
 abbrev pub fields_of_status : DeskEntry → List Field
 fields_of_status entry = status_fields entry.side entry.released
 
--- Returns the fields in the line of `loan` with a note. `came` are the messages that came.
-abbrev pub fields_of_loan : (words : Option (List ℕ)) → DeskEntry → List Apdu → List Field
-fields_of_loan words entry came = kept_fields entry came ++ note_fields words
+-- Returns the fields in the line of `loan` with a note and a history by a diary. `came` are the messages that came.
+abbrev pub fields_of_loan : (words : Option (List ℕ)) → (diary : List (List ℕ)) → DeskEntry → List Apdu → List Field
+fields_of_loan words diary entry came =
+    kept_fields entry came ++ note_fields words ++ history_fields (history_of (messages_of entry.side came) diary)
 
 -- Returns the fields of a message within the line of `loan`.
 abbrev pub fields_of_message : Option ℕ → Apdu → List Field

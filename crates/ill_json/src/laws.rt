@@ -20,6 +20,7 @@ ghost use Rattle.ill_show.specs.declared.loan.LoanForm.TheVariants.{Object};
 ghost use Rattle.ill_show.specs.declared.wanted.Wanted.{Wanted};
 ghost use Rattle.ill_show.specs.Listing.{between, file_told, listed_desk};
 ghost use Rattle.ill_show.specs.Finding.{Seeking};
+ghost use Rattle.ill_show.specs.Diary.{history_of, messages_of, part_fields, part_object};
 ghost use Rattle.ill_show.specs.Loan.{loan_text};
 ghost use Rattle.ill_show.specs.Notes.{note_of};
 ghost use Rattle.ill_saved.specs.Side.{txn_of};
@@ -53,12 +54,19 @@ pub fn status_is_json()
         AreObjectLines (status_of_desk forms.Json entries) (map fields_of_status entries) }
 {}
 
-/// The line of `loan` is an object of JSON with the fields of a side. It has the messages that came, and the note, too.
-/// No diary changes it.
+/// The line of `loan` is an object of JSON with the fields of a side. It has the messages that came, the note and the
+/// history by a diary, too.
 pub fn loan_is_json()
     ensures { (notes diary : List (List ℕ)) (entry : DeskEntry) (came : List Apdu) → IsEntry entry → Each IsApdu came →
         IsObjectLine (loan_text Object (note_of notes (txn_of entry.side)) diary entry came)
-        (fields_of_loan (note_of notes (txn_of entry.side)) entry came) }
+        (fields_of_loan (note_of notes (txn_of entry.side)) diary entry came) }
+{}
+
+/// A part of the history within the line of `loan` is an object with its day, the name of a person, its message and the
+/// number of that.
+pub fn histories_are_json()
+    ensures { (side : Side) (kept : List Apdu) (diary : List (List ℕ)) → IsSide side → Each IsApdu kept →
+        Each (λ part. IsObject (part_object part) (part_fields part)) (history_of (messages_of side kept) diary) }
 {}
 
 /// Each line of `show` is an object of JSON with the fields of an APDU.

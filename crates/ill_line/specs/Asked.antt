@@ -43,7 +43,7 @@ use Rattle.ill_line.specs.declared.command_line.Argument.TheVariants.{Words, Num
 use Rattle.ill_line.specs.declared.command_line.Argument.TheVariants.{OnDay, DueBefore, InState, ReportDay, OutFolder, Stream, In}
 use Rattle.ill_line.specs.declared.command_line.Argument.TheVariants.{Out, NightDay, Overdue, Expire, Copy, Beat, NewGroup, Ahead}
 use Rattle.ill_line.specs.declared.command_line.Argument.TheVariants.{By, DryRun, Seen}
-use Rattle.ill_line.specs.declared.command_line.Argument.TheVariants.{Actions, Last, Title, NoteWords, Find, Notes}
+use Rattle.ill_line.specs.declared.command_line.Argument.TheVariants.{Actions, Last, Title, NoteWords, Find, Notes, SinceWhen}
 use Rattle.ill_line.specs.declared.command_line.Argument.TheVariants.{KeyFile, ShowKey, ReadKey}
 use Rattle.ill_line.specs.CommandLine.{name_read, id_of, is_option}
 use Rattle.ill_files.specs.Paths.{is_beside}
@@ -226,6 +226,7 @@ wanted_on today found = do
     state = state;
     has_actions = is_set Actions found;
     has_notes = is_set Notes found;
+    has_since = is_set SinceWhen found;
   })
 
 -- Returns the conditions on the loans to list, on the day that is given, if one is.

@@ -12,7 +12,7 @@ use Rattle.ill_line.specs.declared.command_line.Argument.TheVariants.{Words, Num
 use Rattle.ill_line.specs.declared.command_line.Argument.TheVariants.{OnDay, DueBefore, InState, ReportDay, OutFolder, Stream, In}
 use Rattle.ill_line.specs.declared.command_line.Argument.TheVariants.{Out, NightDay, Overdue, Expire, Copy, Beat, NewGroup, Ahead}
 use Rattle.ill_line.specs.declared.command_line.Argument.TheVariants.{By, DryRun, Seen}
-use Rattle.ill_line.specs.declared.command_line.Argument.TheVariants.{Actions, Last, Title, NoteWords, Find, Notes}
+use Rattle.ill_line.specs.declared.command_line.Argument.TheVariants.{Actions, Last, Title, NoteWords, Find, Notes, SinceWhen}
 use Rattle.ill_line.specs.declared.command_line.Argument.TheVariants.{KeyFile, ShowKey, ReadKey}
 use Rattle.ill_line.specs.declared.command_line.Argument.TheVariants as arguments
 
@@ -87,6 +87,7 @@ id_of Ahead = codes "ahead"
 id_of Find = codes "find"
 id_of Actions = codes "actions"
 id_of Notes = codes "notes"
+id_of SinceWhen = codes "since-when"
 id_of Last = codes "last"
 id_of arguments.Key = codes "key"
 id_of KeyFile = codes "KEYFILE"
@@ -100,7 +101,8 @@ options =
     ∷ codes "--state" ∷ codes "--find"
     ∷ codes "--copy" ∷ codes "--beat"
     ∷ codes "--stream" ∷ codes "--overdue" ∷ codes "--expire" ∷ codes "--long" ∷ codes "--keep" ∷ codes "--picture"
-    ∷ codes "--open" ∷ codes "--mine" ∷ codes "--actions" ∷ codes "--notes" ∷ codes "--json" ∷ codes "--new-group"
+    ∷ codes "--open" ∷ codes "--mine" ∷ codes "--actions" ∷ codes "--notes" ∷ codes "--since-when" ∷ codes "--json"
+        ∷ codes "--new-group"
     ∷ codes "--last" ∷ codes "--key" ∷ codes "--show" ∷ codes "--read"
     ∷ codes "--explain" ∷ codes "--help" ∷ codes "--version" ∷ codes "-h" ∷ codes "-V" ∷ []
 

@@ -268,6 +268,7 @@ impl Name {
                 Argument::Find,
                 Argument::Actions,
                 Argument::Notes,
+                Argument::SinceWhen,
                 Argument::Json,
             ],
             Name::News => &[Argument::Paths, Argument::Last, Argument::Json],
@@ -385,6 +386,8 @@ pub enum Argument {
     Actions,
     /// Set if a list has the notes on loans.
     Notes,
+    /// Set if a list has the days since which loans stand as they do.
+    SinceWhen,
     /// Set if objects of JSON are written.
     Json,
     /// The paths of desks, or of folders of them.
@@ -445,6 +448,7 @@ impl Argument {
             Argument::Find => "find",
             Argument::Actions => "actions",
             Argument::Notes => "notes",
+            Argument::SinceWhen => "since-when",
             Argument::Json => "json",
             Argument::Paths => "PATH",
             Argument::Ahead => "ahead",
@@ -492,6 +496,7 @@ impl Argument {
             Argument::Find => "List only the loans with these words in a text",
             Argument::Actions => "Show the actions that are possible in each loan",
             Argument::Notes => "Show the note on each loan below it",
+            Argument::SinceWhen => "Show below each loan the day of its last message, by the diary",
             Argument::Json => "Write objects of JSON, one on a line",
             Argument::Paths => "The file of a desk, or a folder of them",
             Argument::OnDay => "The day of the work, as 20250301",
@@ -543,6 +548,7 @@ impl Argument {
             Argument::Mine => arg.long("mine").action(ArgAction::SetTrue),
             Argument::Actions => arg.long("actions").action(ArgAction::SetTrue),
             Argument::Notes => arg.long("notes").action(ArgAction::SetTrue),
+            Argument::SinceWhen => arg.long("since-when").action(ArgAction::SetTrue),
             Argument::Json => arg.long("json").action(ArgAction::SetTrue),
             Argument::NewGroup => arg.long("new-group").action(ArgAction::SetTrue),
             Argument::Key => arg.long("key").value_name("KEYFILE"),
@@ -580,7 +586,7 @@ fn valued<'a>(arg: Arg<'a>, name: &'a str, value: &'a str) -> Arg<'a> {
 }
 
 /// All options of the program, also those that `clap` adds.
-const OPTIONS: [&str; 31] = [
+const OPTIONS: [&str; 32] = [
     "--today",
     "--by",
     "--seen",
@@ -601,6 +607,7 @@ const OPTIONS: [&str; 31] = [
     "--mine",
     "--actions",
     "--notes",
+    "--since-when",
     "--json",
     "--new-group",
     "--last",

@@ -549,7 +549,9 @@ These options say which loans are listed; all that are given hold:
                          not: in GROUP and TRANSACTION, with a space between
                          them, in the title or in the note
 
-With --notes the note on a loan stands on a line below it, after `note`.
+With --notes the note on a loan stands on a line below it, after `note`. With
+--since-when such a line has the day of its last message, after `since`. It is
+there if FILE.diary tells that day, as `ill loan` does.
 
 The last line counts all loans of the desk, whichever are listed. It says how
 many want a hand, to do, and for how many more there is room. From 900 loans on
@@ -559,8 +561,8 @@ at most 10 numbers left for its messages has such a line, whichever loans are
 listed.
 
 With --json a loan has `kind`, which is loan, `work`, `state`, `due`, `group`,
-`transaction`, `now` (what `act` takes now), `item` and `note`. After them an
-object whose `kind` is counts has `loans`, `open`, `todo` and `room`.
+`transaction`, `now` (what `act` takes now), `item`, `note` and `since`. After
+them an object whose `kind` is counts has `loans`, `open`, `todo` and `room`.
 
 `ill --help` tells which desks a PATH has, and what comes of several.";
 
@@ -731,7 +733,9 @@ answers a message; how both orders lay in time, nobody knows.
 
 With --json the loan also has the labels of `ill status --json`. Its `messages`
 are an array of those that it has issued, and its `came` one of those that were
-kept. Without a note its `note` is null. With --picture too it is the object.
+kept. Without a note its `note` is null. Its `history` is an array of objects,
+in order, with the day, the name, which is null for `-`, the word of the message
+and its number. With --picture too it is the object.
 
 The exit status is 0 if the loan is shown, and 1 with `no-such-transaction`.";
 
@@ -866,8 +870,9 @@ on DAY. The most pressing work stands first, and loans that are over stand last.
 A due date is soon if it is at most 7 days away.
 
 A row has the title of a loan, the note on it, its group and transaction, and
-its state in plain words. It has the day on which the item is due, or else the
-day after which the request may expire. Last it has the verbs that `ill act`
+its state in plain words. Below that stands the day of its last message, if
+FILE.diary tells it. It has the day on which the item is due, or else the day
+after which the request may expire. Last it has the verbs that `ill act`
 takes on DAY. In each table the earliest of these days stands first, and loans
 without one last. A day is written YYYY-MM-DD.
 

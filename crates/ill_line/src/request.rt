@@ -855,6 +855,7 @@ fn wanted_on(matches: &ArgMatches<'_>, today: &Option<Day>) -> Result<Wanted, Re
         state,
         has_actions: is_set(matches, Argument::Actions),
         has_notes: is_set(matches, Argument::Notes),
+        has_since: is_set(matches, Argument::SinceWhen),
     })
 }
 

@@ -6,5 +6,7 @@ pub mod LoanLemmas
 pub mod NewsLemmas
 pub mod NotesLaws
 pub mod NotesLemmas
+pub mod ReadLemmas
 pub mod ReportLemmas
+pub mod SinceLaws
 pub mod StatusLemmas

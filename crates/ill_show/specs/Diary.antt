@@ -1,10 +1,11 @@
 -- The history of a loan: the lines of a diary that name a message which the record of the loan has.
-use Rattle.std.specs.Prelude.{ℕ, Bool, false, nat_lt, ◌&&◌, ◌==◌, if◌then◌else◌, List, [], ◌∷◌, ◌++◌, length, map, filter, find}
+use Rattle.std.specs.Prelude.{◌≡◌, IsUtf8, ℕ, Bool, false, nat_lt, ◌&&◌, ◌==◌, if◌then◌else◌, List, [], ◌∷◌, ◌++◌, length, map}
+use Rattle.std.specs.Prelude.{filter, find}
 use Rattle.std.specs.Prelude.{codes, bytes_eq, Option, None, Some, option_map, option_to_list}
 use Rattle.std.specs.List.{after_first, before_first, flat_map, list_any, position_or_len}
 use Rattle.std.specs.Str.{is_utf8}
 use Rattle.std.specs.Fmt.{decimal}
-use Rattle.ill_values.specs.Day.{Date, date_text}
+use Rattle.ill_values.specs.Day.{Date, date_text, iso_text}
 use Rattle.ill_values.specs.declared.apdu.Apdu.{Apdu}
 use Rattle.ill_values.specs.Body.{Body}
 use Rattle.ill_values.specs.declared.apdu.BodyWith.TheVariants as types
@@ -18,6 +19,7 @@ use Rattle.ill_saved.specs.Side.{issued_of}
 use Rattle.ill_words.specs.Words.{◌>>=◌, day_of}
 use Rattle.ill_text.specs.Diary.{message_key}
 use Rattle.ill_text.specs.Escape.{escaped}
+use Rattle.ill_text.specs.Json.{Field, array, object, optional, quoted}
 use Rattle.ill_text.specs.Lines.{line}
 use Rattle.ill_show.specs.Heard.{is_heard}
 use Rattle.ill_show.specs.declared.diary.Entry.{Entry}
@@ -36,9 +38,17 @@ pub record Said : Type 0 where
 abbrev pub said : Entry → Said
 said entry = record { day = entry.day; by = entry.by.now; message = entry.message.now }
 
+-- Returns what a line says with this day, this name and this key of a message.
+abbrev pub says_of : Date → (by message : List ℕ) → Said
+says_of day by message = record { day = day; by = by; message = message }
+
 -- Returns true for a space.
 abbrev pub is_space : ℕ → Bool
 is_space byte = byte == 0x20
+
+-- `text` is UTF-8, and no space is in it.
+abbrev pub IsWord : List ℕ → Type 0
+IsWord text = IsUtf8 text × (list_any is_space text ≡ false)
 
 -- Returns the texts before and after the first space, if there is one.
 abbrev pub at_space : List ℕ → Option (List ℕ × List ℕ)
@@ -48,7 +58,7 @@ at_space text =
 
 -- Returns what a line says whose first word is `day` and whose other words are `parts`, if `day` is a day.
 abbrev pub said_on : (day : List ℕ) → (parts : List ℕ × List ℕ) → Option Said
-said_on day parts = option_map (λ d. record { day = d; by = parts.0; message = parts.1 }) (day_of day)
+said_on day parts = option_map (λ d. says_of d parts.0 parts.1) (day_of day)
 
 -- Returns what a text says: a day, a name and the key of a message, with a space between two. Other texts say nothing.
 abbrev pub said_in : List ℕ → Option Said
@@ -112,20 +122,29 @@ messages_of side kept =
 
 -- ---- the history
 
--- A part of the history of a loan: the day as eight digits, the name of a person or a dash, and the message.
+-- A part of the history of a loan: the day as eight digits and with hyphens, the name of a person or a dash, and the
+-- message.
 pub record Told : Type 0 where
   pub day : List ℕ
+  pub iso : List ℕ
   pub by : List ℕ
   pub what : List ℕ
   pub number : ℕ
 
 -- Returns what a part tells.
 abbrev pub told : Part → Told
-told part = record { day = part.day; by = part.by.now; what = part.what.now; number = part.number }
+told part =
+    record { day = part.day; iso = part.iso; by = part.by.now; what = part.what.now; number = part.number }
 
 -- Returns the part of the history that a line tells of a message.
 abbrev pub part_of : Said → Named → Told
-part_of line message = record { day = date_text line.day; by = line.by; what = message.what; number = message.number }
+part_of line message = record {
+  day = date_text line.day;
+  iso = iso_text line.day;
+  by = line.by;
+  what = message.what;
+  number = message.number;
+}
 
 -- Returns true if what a line says has this key of a message.
 abbrev pub has_key : (key : List ℕ) → Option Said → Bool
@@ -160,6 +179,10 @@ tells_of part message = bytes_eq message.what part.what && message.number == par
 abbrev pub is_of_record : (messages : List Named) → Told → Bool
 is_of_record messages part = list_any (tells_of part) messages
 
+-- A history ends with `part`.
+abbrev pub EndsWith : List Told → Told → Type 0
+EndsWith history part = (before : List Told) × (history ≡ before ++ part ∷ [])
+
 -- ---- the text
 
 -- Returns the line of a part of the history: the day, the name of a person or a dash, and the message.
@@ -172,3 +195,23 @@ part_line part =
 abbrev pub history_lines : List Told → List ℕ
 history_lines [] = []
 history_lines (part ∷ parts) = codes "\n" ++ flat_map part_line (part ∷ parts)
+
+-- ---- the objects
+
+-- Returns the name of a person, or nothing for a dash.
+abbrev pub person : List ℕ → Option (List ℕ)
+person by = if bytes_eq by (codes "-") then None else Some by
+
+-- Returns the fields of a part of the history: the day, the name of a person, the message and its number.
+abbrev pub part_fields : Told → List Field
+part_fields part =
+    (codes "day", quoted part.iso) ∷ (codes "by", optional quoted (person part.by))
+    ∷ (codes "what", quoted part.what) ∷ (codes "number", decimal part.number) ∷ []
+
+-- Returns the object of a part of the history.
+abbrev pub part_object : Told → List ℕ
+part_object part = object (part_fields part)
+
+-- Returns the field of a history: an array of its parts, in their order.
+abbrev pub history_fields : List Told → List Field
+history_fields parts = (codes "history", array part_object parts) ∷ []

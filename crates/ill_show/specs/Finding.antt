@@ -10,8 +10,8 @@ use Rattle.ill_saved.specs.declared.side.Side.{Side}
 use Rattle.ill_saved.specs.Side.{txn_of}
 use Rattle.ill_words.specs.Possible.{item_asked, request_of}
 use Rattle.ill_show.specs.declared.finding.Sought.{Sought}
-use Rattle.ill_show.specs.FileLines.{lines_of}
 use Rattle.ill_show.specs.Notes.{note_of}
+use Rattle.ill_show.specs.Since.{AnnexRead, annex_of}
 
 -- Returns a text of UTF-8 with the case of its characters folded (The Unicode Standard, section 3.13).
 abbrev pub folded : List ℕ → List ℕ
@@ -40,14 +40,14 @@ has_words sought notes side =
     tells sought (loan_number (txn_of side)) || (tells_any sought (item_asked (request_of side))
     || tells_any sought (note_of notes (txn_of side)))
 
--- The words that are sought in the loans of a desk, if there are any, and the lines of notes on these loans.
+-- The words that are sought in the loans of a desk, if there are any, and the annex of the desk.
 pub record Seeking : Type 0 where
   pub find : Option (List ℕ)
-  pub notes : List (List ℕ)
+  pub annex : AnnexRead
 
--- Returns the words that are sought, and the notes.
+-- Returns the words that are sought, and the annex.
 abbrev pub seeking_of : Sought → Seeking
-seeking_of sought = record { find = option_map (λ words. words.now) sought.find; notes = lines_of sought.notes.now }
+seeking_of sought = record { find = option_map (λ words. words.now) sought.find; annex = annex_of sought.annex.now }
 
 -- Returns true if a loan has the words `find`, or if there are none.
 abbrev pub is_found : (find : Option (List ℕ)) → (notes : List (List ℕ)) → Side → Bool
@@ -56,4 +56,4 @@ is_found (Some words) notes side = has_words (folded words) notes side
 
 -- Returns the loans of `sides` that are found, in their order.
 abbrev pub found_of : Seeking → List Side → List Side
-found_of seeking sides = filter (is_found seeking.find seeking.notes) sides
+found_of seeking sides = filter (is_found seeking.find seeking.annex.notes) sides

@@ -16,6 +16,7 @@ pub mod Numbers
 pub mod Objects
 pub mod Picture
 pub mod Report
+pub mod Since
 pub mod StateWords
 pub mod Status
 pub mod Verify

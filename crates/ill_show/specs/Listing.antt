@@ -20,8 +20,8 @@ use Rattle.ill_work.specs.Work.{all_work, work_words}
 use Rattle.ill_show.specs.List.{columns_of, row, has_work, listed_of, counts_of, counts_line}
 use Rattle.ill_show.specs.Objects.{row_object, counts_object}
 use Rattle.ill_show.specs.Finding.{Seeking, found_of}
-use Rattle.ill_show.specs.FileLines.{lines_of}
 use Rattle.ill_show.specs.Notes.{listed_note, note_of}
+use Rattle.ill_show.specs.Since.{AnnexRead, annex_of, since_line, since_of}
 
 -- ---- one kind of work
 
@@ -37,15 +37,23 @@ note_shown notes wanted side = if wanted.has_notes then listed_note (note_of not
 abbrev pub noted_row : Columns → (notes : List (List ℕ)) → Wanted → Side → List ℕ
 noted_row columns notes wanted side = row columns wanted.today side ++ note_shown notes wanted side
 
+-- Returns the line of the day since which a loan stands as it does, if the list has such lines and the day is known.
+abbrev pub since_shown : AnnexRead → Wanted → Side → List ℕ
+since_shown annex wanted side = if wanted.has_since then since_line (since_of annex side) else []
+
+-- Returns the line of a loan, and those of its note and its day below it.
+abbrev pub dated_row : Columns → AnnexRead → Wanted → Side → List ℕ
+dated_row columns annex wanted side = noted_row columns annex.notes wanted side ++ since_shown annex wanted side
+
 -- Returns the lines of the loans with this work: a heading, and those of each. Without a loan there is no line.
-abbrev pub work_lines : Columns → (notes : List (List ℕ)) → Wanted → Work → List Side → List ℕ
-work_lines columns notes wanted work [] = []
-work_lines columns notes wanted work (first ∷ others) =
-    work_heading work (length (first ∷ others)) ++ flat_map (noted_row columns notes wanted) (first ∷ others)
+abbrev pub work_lines : Columns → AnnexRead → Wanted → Work → List Side → List ℕ
+work_lines columns annex wanted work [] = []
+work_lines columns annex wanted work (first ∷ others) =
+    work_heading work (length (first ∷ others)) ++ flat_map (dated_row columns annex wanted) (first ∷ others)
 
 -- Returns the objects of the loans with this work.
-abbrev pub work_objects : Option (List ℕ) → (notes : List (List ℕ)) → Wanted → Work → List Side → List ℕ
-work_objects file notes wanted work sides = flat_map (row_object file notes wanted.today work) sides
+abbrev pub work_objects : Option (List ℕ) → AnnexRead → Wanted → Work → List Side → List ℕ
+work_objects file annex wanted work sides = flat_map (row_object file annex wanted.today work) sides
 
 -- ---- one desk
 
@@ -69,18 +77,18 @@ listed text counts_text wanted seeking sides =
 
 -- Returns the text of the loans with one kind of work, in lines or in objects.
 abbrev pub work_text : Rows → Wanted → Work → List Side → List ℕ
-work_text (rows.Lines columns notes) = work_lines columns (lines_of notes.now)
-work_text (rows.Objects file notes) = work_objects (option_map (λ path. path.now) file) (lines_of notes.now)
+work_text (rows.Lines columns annex) = work_lines columns (annex_of annex.now)
+work_text (rows.Objects file annex) = work_objects (option_map (λ path. path.now) file) (annex_of annex.now)
 
 -- Returns the counts as a line or an object.
 abbrev pub counts_text : Rows → Counts → List ℕ
-counts_text (rows.Lines columns notes) = counts_line
-counts_text (rows.Objects file notes) = counts_object (option_map (λ path. path.now) file)
+counts_text (rows.Lines columns annex) = counts_line
+counts_text (rows.Objects file annex) = counts_object (option_map (λ path. path.now) file)
 
 -- Returns the lines of a list of `sides`. Its columns are wide enough for the chosen loans.
 abbrev pub ordered_lines : Wanted → Seeking → List Side → List ℕ
 ordered_lines wanted seeking sides =
-    listed (work_lines (columns_of wanted (chosen_of wanted seeking sides)) (seeking.notes)) counts_line
+    listed (work_lines (columns_of wanted (chosen_of wanted seeking sides)) (seeking.annex)) counts_line
     wanted seeking sides
 
 -- Returns the lines of a desk. Loans with one kind of work are in the order of their deadlines.
@@ -90,7 +98,7 @@ list_lines wanted seeking sides = ordered_lines wanted seeking (most_urgent_firs
 -- Returns the objects of a desk, in the order of `list_lines`.
 abbrev pub list_objects : Option (List ℕ) → Wanted → Seeking → List Side → List ℕ
 list_objects file wanted seeking sides =
-    listed (work_objects file (seeking.notes)) (counts_object file) wanted seeking (most_urgent_first sides)
+    listed (work_objects file (seeking.annex)) (counts_object file) wanted seeking (most_urgent_first sides)
 
 -- ---- several desks
 

@@ -12,11 +12,12 @@ use Rattle.ill_text.specs.declared.form.Form.{Form}
 use Rattle.ill_text.specs.declared.form.Form.TheVariants as forms
 use Rattle.ill_text.specs.ApduObject.{object_line}
 use Rattle.ill_text.specs.Input.{AreIn}
+use Rattle.ill_text.specs.Json.{Field}
 use Rattle.ill_text.specs.Output.{WritesText}
 use Rattle.ill_show.specs.declared.loan.Beside.{Beside}
 use Rattle.ill_show.specs.declared.loan.LoanForm.{LoanForm}
 use Rattle.ill_show.specs.declared.loan.LoanForm.TheVariants.{Lines, Object, Picture}
-use Rattle.ill_show.specs.Diary.{history_lines, history_of, messages_of}
+use Rattle.ill_show.specs.Diary.{history_fields, history_lines, history_of, messages_of}
 use Rattle.ill_show.specs.FileLines.{lines_of}
 use Rattle.ill_show.specs.Kept.{kept_lines, kept_of}
 use Rattle.ill_show.specs.Notes.{note_fields, note_of}
@@ -35,10 +36,16 @@ abbrev pub lines_with_history : Option (List ℕ) → (diary : List (List ℕ)) 
 lines_with_history words diary held kept =
     kept_lines words held kept ++ history_lines (history_of (messages_of held.side kept) diary)
 
+-- Returns the fields of a loan with this note, and of the messages that came in it. Its history by the lines of a diary comes
+-- last.
+abbrev pub fields_with_history : Option (List ℕ) → (diary : List (List ℕ)) → DeskEntry → List Apdu → List Field
+fields_with_history words diary held kept =
+    kept_fields held kept ++ note_fields words ++ history_fields (history_of (messages_of held.side kept) diary)
+
 -- Returns the text of a loan with this note and this diary, and of the messages that came in it. A picture has neither.
 abbrev pub loan_text : LoanForm → Option (List ℕ) → (diary : List (List ℕ)) → DeskEntry → List Apdu → List ℕ
 loan_text Lines words diary = lines_with_history words diary
-loan_text Object words diary = λ held kept. object_line (kept_fields held kept ++ note_fields words)
+loan_text Object words diary = λ held kept. object_line (fields_with_history words diary held kept)
 loan_text Picture words diary = picture
 
 -- `written` is the text of the messages of `txn` in `bytes`.

@@ -24,6 +24,7 @@ use Rattle.ill_work.specs.Work.{work_words}
 use Rattle.ill_words.specs.Possible.{possible_on, request_of, item_asked}
 use Rattle.ill_text.specs.ApduObject.{object_line, apdu_fields}
 use Rattle.ill_show.specs.Notes.{note_fields, note_of}
+use Rattle.ill_show.specs.Since.{AnnexRead, since_fields, since_of}
 
 -- ---- sides
 
@@ -137,9 +138,13 @@ row_fields work side names = kind_fields work ++ listed_fields side names
 abbrev pub noted_fields : (notes : List (List ℕ)) → Option Date → Work → Side → List Field
 noted_fields notes today work side = row_fields work side (names_of today side) ++ note_fields (note_of notes (txn_of side))
 
+-- Returns the fields of a listed loan with this work, its note and the day since which it stands so.
+abbrev pub dated_fields : AnnexRead → Option Date → Work → Side → List Field
+dated_fields annex today work side = noted_fields annex.notes today work side ++ since_fields (since_of annex side)
+
 -- Returns the object of a listed loan with this work, with the actions of the day `today`.
-abbrev pub row_object : Option (List ℕ) → (notes : List (List ℕ)) → Option Date → Work → Side → List ℕ
-row_object file notes today work side = object_line (noted_fields notes today work side ++ file_fields file)
+unfoldable pub row_object : Option (List ℕ) → AnnexRead → Option Date → Work → Side → List ℕ
+row_object file annex today work side = object_line (dated_fields annex today work side ++ file_fields file)
 
 -- Returns the fields of the counts of a desk.
 abbrev pub counts_fields : Counts → List Field

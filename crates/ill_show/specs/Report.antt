@@ -26,10 +26,11 @@ use Rattle.ill_show.specs.declared.report_parts.Field.{Field}
 use Rattle.ill_show.specs.declared.report_parts.Field.TheVariants as fields
 use Rattle.ill_show.specs.declared.report_parts.TheConstants.{PAGE, DESKS, END, DESK, TO_DO, OPEN, LOANS, ROOM, COUNTS_END}
 use Rattle.ill_show.specs.declared.report_parts.TheConstants.{DESK_END, TASK, HEADING, COUNT, TABLE, ROW, TABLE_END, UNREAD}
-use Rattle.ill_show.specs.declared.report_parts.TheConstants.{UNREAD_END, TIME_END, NOTE, NOTE_END}
+use Rattle.ill_show.specs.declared.report_parts.TheConstants.{UNREAD_END, TIME_END, NOTE, NOTE_END, SINCE}
 use Rattle.ill_show.specs.declared.soon.TheConstants.{SOON}
 use Rattle.ill_show.specs.List.{title_text}
 use Rattle.ill_show.specs.Notes.{note_of}
+use Rattle.ill_show.specs.Since.{AnnexRead, since_of}
 use Rattle.ill_show.specs.StateWords.{state_words}
 
 -- ---- a loan
@@ -49,15 +50,20 @@ abbrev pub noted_text : Option (List ℕ) → List ℕ
 noted_text None = []
 noted_text (Some words) = NOTE.now ++ (html_text words ++ NOTE_END.now)
 
--- Returns the value of a field of a loan on the day `today`. `notes` are the lines of the desk's notes.
-abbrev pub value_text : Date → (notes : List (List ℕ)) → Side → Field → List ℕ
-value_text today notes side fields.Title =
-    html_escaped (title_text (item_asked (request_of side))) ++ noted_text (note_of notes (txn_of side))
-value_text today notes side fields.Group = html_text (txn_of side).group
-value_text today notes side fields.Transaction = html_text (txn_of side).transaction
-value_text today notes side fields.State = state_words side
-value_text today notes side fields.Deadline = deadline_text (due_date_of side) (expiry_of (request_of side))
-value_text today notes side fields.Actions = flat_map action_text (possible_on (Some today) side)
+-- Returns the day since which a loan stands as it does, if it is known.
+abbrev pub since_text : Option Date → List ℕ
+since_text None = []
+since_text (Some day) = SINCE.now ++ (iso_text day ++ TIME_END.now) ++ NOTE_END.now
+
+-- Returns the value of a field of a loan on the day `today`.
+abbrev pub value_text : Date → AnnexRead → Side → Field → List ℕ
+value_text today annex side fields.Title =
+    html_escaped (title_text (item_asked (request_of side))) ++ noted_text (note_of annex.notes (txn_of side))
+value_text today annex side fields.Group = html_text (txn_of side).group
+value_text today annex side fields.Transaction = html_text (txn_of side).transaction
+value_text today annex side fields.State = state_words side ++ since_text (since_of annex side)
+value_text today annex side fields.Deadline = deadline_text (due_date_of side) (expiry_of (request_of side))
+value_text today annex side fields.Actions = flat_map action_text (possible_on (Some today) side)
 
 -- Returns the text of the page before a field.
 abbrev pub before : Field → List ℕ
@@ -75,12 +81,12 @@ after fields.Actions = codes "</td></tr>\n"
 after other = codes "</td>"
 
 -- Returns a field of a loan, between the texts before and after it.
-abbrev pub field_text : Date → (notes : List (List ℕ)) → Side → Field → List ℕ
-field_text today notes side field = before field ++ (value_text today notes side field ++ after field)
+abbrev pub field_text : Date → AnnexRead → Side → Field → List ℕ
+field_text today annex side field = before field ++ (value_text today annex side field ++ after field)
 
 -- Returns the row of a loan: its fields, one after another.
-abbrev pub row_text : Date → (notes : List (List ℕ)) → Side → List ℕ
-row_text today notes side = flat_map (field_text today notes side) ROW
+abbrev pub row_text : Date → AnnexRead → Side → List ℕ
+row_text today annex side = flat_map (field_text today annex side) ROW
 
 -- ---- the loans of a desk
 
@@ -105,32 +111,32 @@ abbrev pub heading : Work → List ℕ
 heading work = if wants_a_hand work then TASK.now else HEADING.now
 
 -- Returns the rows of the loans with this work.
-abbrev pub rows_text : Date → (notes : List (List ℕ)) → Work → List Side → List ℕ
-rows_text today notes work sides = flat_map (row_text today notes) (filter (has_work today SOON work) sides)
+abbrev pub rows_text : Date → AnnexRead → Work → List Side → List ℕ
+rows_text today annex work sides = flat_map (row_text today annex) (filter (has_work today SOON work) sides)
 
 -- Returns the words for this work, the number of its loans, and the head of their table.
 unfoldable pub table_head : Work → ℕ → List ℕ
 table_head work count = heading work ++ (work_words work ++ (counted COUNT.now count ++ TABLE.now))
 
 -- Returns the table of the loans with this work: its head, and a row for each.
-unfoldable pub table_text : Date → (notes : List (List ℕ)) → List Side → Work → List ℕ
-table_text today notes sides work =
-    table_head work (count_of today SOON work sides) ++ (rows_text today notes work sides ++ TABLE_END.now)
+unfoldable pub table_text : Date → AnnexRead → List Side → Work → List ℕ
+table_text today annex sides work =
+    table_head work (count_of today SOON work sides) ++ (rows_text today annex work sides ++ TABLE_END.now)
 
 -- Returns the table of the loans with this work, or nothing if there is no such loan.
-abbrev pub work_text : Date → (notes : List (List ℕ)) → List Side → Work → List ℕ
-work_text today notes sides work =
-    if count_of today SOON work sides == 0 then [] else table_text today notes sides work
+abbrev pub work_text : Date → AnnexRead → List Side → Work → List ℕ
+work_text today annex sides work =
+    if count_of today SOON work sides == 0 then [] else table_text today annex sides work
 
 -- Returns the loans of a desk: their counts, and a table for each kind of work that a loan has, the most pressing first.
-unfoldable pub loans_text : Date → (notes : List (List ℕ)) → List Side → List ℕ
-loans_text today notes sides = counts_text today sides ++ flat_map (work_text today notes sides) all_work
+unfoldable pub loans_text : Date → AnnexRead → List Side → List ℕ
+loans_text today annex sides = counts_text today sides ++ flat_map (work_text today annex sides) all_work
 
--- Returns the part of a page about a desk: its file, and its loans with the notes on them. In each table the most urgent
--- loan is first.
-unfoldable pub desk_text : Date → (file : List ℕ) → List Side → (notes : List (List ℕ)) → List ℕ
-desk_text today file sides notes =
-    DESK.now ++ (html_text file ++ (loans_text today notes (most_urgent_first sides) ++ DESK_END.now))
+-- Returns the part of a page about a desk: its file, and its loans with what the annex tells of them. In each table the
+-- most urgent loan is first.
+unfoldable pub desk_text : Date → (file : List ℕ) → List Side → AnnexRead → List ℕ
+desk_text today file sides annex =
+    DESK.now ++ (html_text file ++ (loans_text today annex (most_urgent_first sides) ++ DESK_END.now))
 
 -- ---- a page
 
@@ -138,14 +144,14 @@ desk_text today file sides notes =
 unfoldable pub unread_text : List ℕ → List ℕ → List ℕ
 unread_text file words = DESK.now ++ (html_text file ++ (UNREAD.now ++ (html_text words ++ UNREAD_END.now)))
 
--- A part of a page is about the desk in a file. It has the loans of the desk and the lines of its notes, or the fault with
--- which it cannot be read and the text of the fault.
+-- A part of a page is about the desk in a file. It has the loans of the desk and its annex, or the fault with which it
+-- cannot be read and the text of the fault.
 abbrev pub Part : Type 0
-Part = List ℕ × Result (List Side × List (List ℕ)) (ToolFault × List ℕ)
+Part = List ℕ × Result (List Side × AnnexRead) (ToolFault × List ℕ)
 
 -- Returns the text of a part.
 abbrev pub part_text : Date → Part → List ℕ
-part_text today (file, Ok (sides, notes)) = desk_text today file sides notes
+part_text today (file, Ok (sides, annex)) = desk_text today file sides annex
 part_text today (file, Err (fault, words)) = unread_text file words
 
 -- Returns true if the desk of a part was read, else its fault.

@@ -5,7 +5,8 @@ ghost use Rattle.std.specs.Prelude.{◌≡◌, ◌==◌, ◌++◌, ◌∷◌, []
 ghost use Rattle.std.specs.List.{flat_map, list_any};
 ghost use Rattle.std.specs.Fmt.{decimal};
 ghost use Rattle.ill_text.specs.Diary.{message_key};
-ghost use Rattle.ill_show.specs.Diary.{at_space, body_verb, has_key, history_lines, history_of, is_named, issued_named, messages_of, named, named_by, part_at, part_line, part_said, request_taken, said, said_by, said_in, said_on, taken_named, told};
+ghost use Rattle.ill_text.specs.Json.{array, joined, member, optional, quoted, value_text};
+ghost use Rattle.ill_show.specs.Diary.{at_space, body_verb, has_key, history_fields, history_lines, history_of, is_named, issued_named, messages_of, named, named_by, part_at, part_fields, part_line, part_object, part_said, person, request_taken, said, said_by, said_in, said_on, taken_named, told};
 ghost use Rattle.ill_show.specs.Heard.{is_heard};
 ghost use Rattle.ill_saved.specs.Side.{issued_of};
 
@@ -14,6 +15,7 @@ use ill_core::Verb;
 use ill_saved::Side;
 use ill_text::diary::message_key;
 use ill_text::escape::push_escaped;
+use ill_text::json::{ItemForm, Value, push_array, push_label, push_members, push_plain};
 use ill_text::lines::push_line;
 use ill_values::{Apdu, Body, Day, Number, OutOfMemory};
 use itoa::Buffer;
@@ -23,15 +25,15 @@ use std::alloc::Global;
 #[derive(Clone, Copy)]
 pub(crate) struct Entry<'a> {
     /// The day.
-    day: Day,
+    pub(crate) day: Day,
     /// The name of a person, or a dash.
     by: &'a str,
     /// The key of a message.
-    message: &'a str,
+    pub(crate) message: &'a str,
 }
 
 /// Returns what a line says, if it is UTF-8 and says something.
-fn said_by(line: &[u8]) -> Option<Entry<'_>>
+pub(crate) fn said_by(line: &[u8]) -> Option<Entry<'_>>
     ensures { option_map said result ≡ said_by line.now }
 {
     match str::from_utf8(line) {
@@ -192,6 +194,8 @@ fn verb_of(body: &Body) -> Verb
 pub(crate) struct Part<'a> {
     /// The day, as eight digits.
     day: [u8; 8],
+    /// The day, with hyphens.
+    iso: [u8; 10],
     /// The name of a person, or a dash.
     by: &'a str,
     /// The verb of a message that was issued, or the type of one that was taken.
@@ -255,6 +259,7 @@ fn part_said<'a>(messages: &[Message], later: &[Vec<u8>], entry: &Entry<'a>) -> 
     match message_with(messages, entry.message.as_bytes()) {
         Some(message) if !is_named(entry.message.as_bytes(), later) => Some(Part {
             day: entry.day.digits(),
+            iso: entry.day.iso(),
             by: entry.by,
             what: message.what,
             number: message.number.get(),
@@ -264,7 +269,7 @@ fn part_said<'a>(messages: &[Message], later: &[Vec<u8>], entry: &Entry<'a>) -> 
 }
 
 /// Returns the first of `messages` with the key `key`.
-fn message_with<'a>(messages: &'a [Message], key: &[u8]) -> Option<&'a Message>
+pub(crate) fn message_with<'a>(messages: &'a [Message], key: &[u8]) -> Option<&'a Message>
     ensures { option_map (λ message. named message.now) result
         ≡ find (λ message. bytes_eq message.key key.now) (map named messages.now) }
 {
@@ -331,4 +336,70 @@ fn push_what(value: &mut Vec<u8>, part: &Part<'_>) -> Result<(), OutOfMemory>
     value.extend_from_slice(part.what.as_bytes())?;
     value.push(b' ')?;
     value.extend_from_slice(Buffer::new().format(part.number).as_bytes())
+}
+
+/// Appends the field of the history `parts`.
+#[tactic(auto, unfolding(ill_text::specs::Json::joined))]
+pub(crate) fn push_history_field(text: &mut Vec<u8>, parts: &[Part<'_>]) -> Result<(), OutOfMemory>
+    ensures { OnOk result (text.new.items ≡ text.old.items
+        ++ joined member (codes ",") (history_fields (map told parts.now))) }
+{
+    push_plain(text, ",")?;
+    push_label(text, "history")?;
+    push_part_objects(text, parts)
+}
+
+/// Appends an array of the objects of `parts`.
+fn push_part_objects(text: &mut Vec<u8>, parts: &[Part<'_>]) -> Result<(), OutOfMemory>
+    ensures { OnOk result (text.new.items ≡ text.old.items ++ array part_object (map told parts.now)) }
+{
+    push_array(text, parts, &PartObjects)
+}
+
+/// The parts of a history as objects.
+struct PartObjects;
+
+impl<'a> ItemForm<Part<'a>> for PartObjects {
+    ghost text_of = { λ _ part. part_object (told part) };
+
+    fn push(&self, text: &mut Vec<u8>, part: &Part<'a>) -> Result<(), OutOfMemory> {
+        push_part_object(text, part)
+    }
+}
+
+/// Appends the object of `part`.
+fn push_part_object(text: &mut Vec<u8>, part: &Part<'_>) -> Result<(), OutOfMemory>
+    ensures { OnOk result (text.new.items ≡ text.old.items ++ part_object (told part.now)) }
+{
+    push_plain(text, "{")?;
+    push_part_fields(text, part)?;
+    push_plain(text, "}")
+}
+
+/// Appends the fields of `part`.
+#[tactic(auto, unfolding(ill_text::specs::Json::joined))]
+fn push_part_fields(text: &mut Vec<u8>, part: &Part<'_>) -> Result<(), OutOfMemory>
+    ensures { OnOk result (text.new.items ≡ text.old.items ++ joined member [] (part_fields (told part.now))) }
+{
+    push_members(
+        text,
+        b"",
+        &[
+            ("day", Value::Text(&part.iso)),
+            ("by", person(part.by)),
+            ("what", Value::Text(part.what.as_bytes())),
+            ("number", Value::Count(usize::from(part.number))),
+        ],
+    )
+}
+
+/// Returns the name `by` of a person, which is missing for a dash.
+fn person(by: &str) -> Value<'_>
+    ensures { value_text result ≡ optional quoted (person by.now) }
+{
+    if by == "-" {
+        Value::Missing
+    } else {
+        Value::Text(by.as_bytes())
+    }
 }

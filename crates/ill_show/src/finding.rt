@@ -6,6 +6,7 @@ ghost use Rattle.ill_show.specs.FileLines.{lines_of};
 ghost use Rattle.ill_show.specs.Notes.{note_of};
 ghost use Rattle.ill_show.specs.Finding.{folded, found_of, has_part, has_words, loan_number, seeking_of, tells, tells_any};
 
+use crate::annex::Annex;
 use crate::notes::Notes;
 use caseless::default_case_fold_str;
 use ill_saved::Side;
@@ -13,13 +14,13 @@ use ill_values::{OutOfMemory, TxnId};
 use ill_words::possible::item_asked;
 use std::alloc::Global;
 
-/// The words that are sought in the loans of a desk, if there are any, and the notes on these loans.
+/// The words that are sought in the loans of a desk, if there are any, and the annex of the desk.
 #[derive(Clone, Copy)]
 pub struct Sought<'a> {
     /// The words.
     pub find: Option<&'a str>,
-    /// The notes.
-    pub notes: &'a Notes,
+    /// The annex.
+    pub annex: &'a Annex,
 }
 
 /// Returns the loans of `sides` of which a text has the words that are sought, in their order. If there are
@@ -36,7 +37,7 @@ pub(crate) fn found_of<'a>(
         None => Ok(Vec::from_slice(alloc, sides)?),
         Some(words) => {
             let words = folded(alloc, words.as_bytes())?;
-            told_of(alloc, sides, &words, sought.notes)
+            told_of(alloc, sides, &words, &sought.annex.notes)
         }
     }
 }

@@ -1,10 +1,10 @@
 //! States the laws of what came to a desk, of the notes on its loans and of its diary, as contracts of functions that do
 //! nothing.
 
-ghost use Rattle.std.specs.Prelude.{◌≡◌, ◌++◌, ◌∷◌, ◌&&◌, ℕ, true, false, bytes_eq, find, List, [], Option, Some, None, IsUtf8};
+ghost use Rattle.std.specs.Prelude.{◌≡◌, ◌<◌, ◌^◌, ◌++◌, ◌∷◌, ◌&&◌, ℕ, Bool, true, false, bytes_eq, find, List, [], Option, Some, None, IsUtf8};
 ghost use Rattle.std.specs.List.{list_any};
-ghost use Rattle.ill_values.specs.Day.{Date};
-ghost use Rattle.ill_values.specs.TxnId.{Qualifiers};
+ghost use Rattle.ill_values.specs.Day.{Date, IsDate};
+ghost use Rattle.ill_values.specs.TxnId.{AreQualifiers, Qualifiers};
 ghost use Rattle.ill_values.specs.declared.apdu.Apdu.{Apdu};
 ghost use Rattle.ill_values.specs.Body.{Body};
 ghost use Rattle.ill_values.specs.Bodies.{is_unsupplied};
@@ -14,8 +14,13 @@ ghost use Rattle.ill_saved.specs.declared.side.Side.{Side};
 ghost use Rattle.ill_show.specs.BadNotes.{MisjudgesNote};
 ghost use Rattle.ill_saved.specs.Holdings.{DeskEntry};
 ghost use Rattle.ill_saved.specs.Ranges.{Each};
-ghost use Rattle.ill_show.specs.Diary.{Named, Said, history_lines, history_of, is_named, is_of_record, messages_of, part_of, said_by};
+ghost use Rattle.ill_show.specs.Diary.{EndsWith, IsWord, Named, Said, history_lines, history_of, is_named, is_of_record, messages_of, part_of, said_by, says_of};
+ghost use Rattle.ill_text.specs.Diary.{message_key, name_or_dash, stamp_text};
+ghost use Rattle.ill_show.specs.Since.{AnnexRead, day_told, last_day, notes_alone};
 ghost use Rattle.ill_show.specs.Heard.{requester_heard};
+ghost use Rattle.ill_show.specs.Listing.{listed_desk};
+ghost use Rattle.ill_show.specs.declared.wanted.Wanted.{Wanted};
+ghost use Rattle.ill_text.specs.declared.form.Form.TheVariants as forms;
 ghost use Rattle.ill_show.specs.Loan.{loan_text};
 ghost use Rattle.ill_show.specs.declared.loan.LoanForm.TheVariants.{Lines};
 ghost use Rattle.ill_show.specs.News.{heard_at, is_same, is_told, news_of};
@@ -101,4 +106,57 @@ pub fn a_diary_decides_nothing_else()
     ensures { (words : Option (List ℕ)) (diary : List (List ℕ)) (held : DeskEntry) (kept : List Apdu) →
         loan_text Lines words diary held kept
         ≡ loan_text Lines words [] held kept ++ history_lines (history_of (messages_of held.side kept) diary) }
+{}
+
+/// A line that was entered says its day, the text for the name, and its message. That text is the name with escapes, or a
+/// dash.
+#[tactic(auto, using(crate::proofs::ReadLemmas::written_says))]
+pub fn a_line_is_read_back()
+    ensures { (day : Date) (by : Option (List ℕ)) (txn : Qualifiers) (what : List ℕ) (number : ℕ) → IsDate day →
+        IsWord (name_or_dash by) → AreQualifiers txn → IsUtf8 what → number < 2 ^ 64 →
+        said_by (stamp_text day by ++ message_key txn what number)
+        ≡ Some (says_of day (name_or_dash by) (message_key txn what number)) }
+{}
+
+/// The line that was entered last ends the history of a loan that has its message: it tells the day, the name and the
+/// message.
+#[tactic(auto, using(crate::proofs::ReadLemmas::written_ends))]
+pub fn the_last_line_ends_the_history()
+    ensures { (messages : List Named) (before : List (List ℕ)) (day : Date) (by : Option (List ℕ)) (txn : Qualifiers)
+        (what : List ℕ) (number : ℕ) (message : Named) → IsDate day → IsWord (name_or_dash by) → AreQualifiers txn →
+        IsUtf8 what → number < 2 ^ 64 →
+        find (λ other. bytes_eq other.key (message_key txn what number)) messages ≡ Some message →
+        EndsWith (history_of messages (before ++ (stamp_text day by ++ message_key txn what number) ∷ []))
+        (part_of (says_of day (name_or_dash by) (message_key txn what number)) message) }
+{}
+
+/// A loan stands as it does since the day of the last line that names a message of its record.
+#[tactic(auto, using(crate::proofs::SinceLaws::last_counts))]
+pub fn the_last_line_tells_since_when()
+    ensures { (messages : List Named) (lines : List (List ℕ)) (line : List ℕ) (day : Date) →
+        day_told messages line ≡ Some day → last_day messages (lines ++ line ∷ []) ≡ Some day }
+{}
+
+/// A line that names no message of the record changes no day.
+#[tactic(auto, using(crate::proofs::SinceLaws::others_stay))]
+pub fn another_line_tells_no_day()
+    ensures { (messages : List Named) (lines : List (List ℕ)) (line : List ℕ) → day_told messages line ≡ None →
+        last_day messages (lines ++ line ∷ []) ≡ last_day messages lines }
+{}
+
+/// A line that was entered tells the day of its message, if the record has the message.
+#[tactic(auto, using(crate::proofs::SinceLaws::written_tells))]
+pub fn an_entered_line_tells_its_day()
+    ensures { (messages : List Named) (line : List ℕ) (says : Said) (message : Named) → said_by line ≡ Some says →
+        find (λ other. bytes_eq other.key says.message) messages ≡ Some message →
+        day_told messages line ≡ Some says.day }
+{}
+
+/// Lines of a list without days do not depend on the diary, nor on the messages that came.
+#[tactic(auto, using(crate::proofs::SinceLaws::no_list_depends))]
+pub fn no_list_without_days_depends_on_a_diary()
+    ensures { (is_headed : Bool) (wanted : Wanted) (find : Option (List ℕ)) (annex : AnnexRead) (path : List ℕ)
+        (sides : List Side) → wanted.has_since ≡ false →
+        listed_desk forms.Lines is_headed wanted (record { find = find; annex = annex }) path sides
+        ≡ listed_desk forms.Lines is_headed wanted (record { find = find; annex = notes_alone annex }) path sides }
 {}

@@ -2,6 +2,7 @@
 //! known here.
 #![tactic(auto)]
 
+pub mod annex;
 mod counts;
 mod diary;
 pub mod file_lines;
@@ -25,6 +26,7 @@ mod picture;
 pub mod report;
 mod report_parts;
 mod row;
+mod since;
 pub mod soon;
 mod state_words;
 pub mod status;

@@ -7,14 +7,17 @@ ghost use Rattle.ill_text.specs.Output.{WritesText};
 ghost use Rattle.ill_show.specs.List.{counts_line, counts_of, has_work, is_left_out, lacks_day, left_out};
 ghost use Rattle.ill_show.specs.Finding.{seeking_of};
 ghost use Rattle.ill_show.specs.FileLines.{lines_of};
-ghost use Rattle.ill_show.specs.Listing.{between, chosen_of, counts_text, file_told, gap, heading, list_lines, list_objects, listed_desk, note_shown, noted_row, ordered_lines, section, sections, work_heading, work_lines, work_objects, work_text};
+ghost use Rattle.ill_show.specs.Since.{annex_of};
+ghost use Rattle.ill_show.specs.Listing.{between, chosen_of, counts_text, dated_row, file_told, gap, heading, list_lines, list_objects, listed_desk, note_shown, noted_row, ordered_lines, section, sections, since_shown, work_heading, work_lines, work_objects, work_text};
 
+use crate::annex::Annex;
 use crate::counts::Counts;
 use crate::finding::{Sought, found_of};
 use crate::list_objects::{push_counts_object, push_row_object};
 use crate::listed::{Listed, heading};
 use crate::notes::{Notes, push_listed_note};
 use crate::row::{Columns, push_row};
+use crate::since::{push_since_line, since_of};
 use crate::wanted::{Wanted, has_work, is_to_do, is_wanted, listed_of};
 use ill_saved::{Desk, Side, Sides, Store};
 use ill_text::fault::ToolFault;
@@ -30,10 +33,10 @@ use std::io::Write;
 /// The form of a list.
 #[derive(Clone, Copy)]
 pub(crate) enum Rows<'a> {
-    /// A line for each loan, of these columns, and of its note if the list has notes.
-    Lines(Columns, &'a Notes),
-    /// An object for each loan and its note, with the path of its desk, if it is given.
-    Objects(Option<&'a str>, &'a Notes),
+    /// A line for each loan, of these columns, and those of its note and its day if the list has them.
+    Lines(Columns, &'a Annex),
+    /// An object for each loan, with the path of its desk, if it is given.
+    Objects(Option<&'a str>, &'a Annex),
 }
 
 /// Writes a line or an object of JSON for each wanted loan of `desk`, and one that counts all of its loans. Lines stand
@@ -121,7 +124,7 @@ fn push_ordered(
     let columns = Columns::of(alloc, &chosen, wanted)?;
     push_listed(
         lines,
-        &Rows::Lines(columns, sought.notes),
+        &Rows::Lines(columns, sought.annex),
         wanted,
         sides,
         &chosen,
@@ -144,7 +147,7 @@ fn push_list_objects(
     let chosen = chosen_of(alloc, &sides, wanted, sought)?;
     push_listed(
         text,
-        &Rows::Objects(file, sought.notes),
+        &Rows::Objects(file, sought.annex),
         wanted,
         &sides,
         &chosen,
@@ -256,8 +259,8 @@ fn push_work(
         ++ work_text rows.now wanted.now work (map (λ side. side.now) sides.now)) }
 {
     match rows {
-        Rows::Lines(columns, notes) => push_work_lines(text, columns, notes, wanted, work, sides),
-        Rows::Objects(file, notes) => push_work_objects(text, *file, notes, wanted, work, sides),
+        Rows::Lines(columns, annex) => push_work_lines(text, columns, annex, wanted, work, sides),
+        Rows::Objects(file, annex) => push_work_objects(text, *file, annex, wanted, work, sides),
     }
 }
 
@@ -265,19 +268,19 @@ fn push_work(
 fn push_work_lines(
     lines: &mut Vec<u8>,
     columns: &Columns,
-    notes: &Notes,
+    annex: &Annex,
     wanted: &Wanted,
     work: Work,
     sides: &[&Side],
 ) -> Result<(), OutOfMemory>
     ensures { OnOk result (lines.new.items ≡ lines.old.items
-        ++ work_lines columns.now (lines_of notes.now) wanted.now work (map (λ side. side.now) sides.now)) }
+        ++ work_lines columns.now (annex_of annex.now) wanted.now work (map (λ side. side.now) sides.now)) }
 {
     if sides.is_empty() {
         return Ok(());
     }
     push_work_heading(lines, work, sides.len())?;
-    push_rows(lines, columns, notes, wanted, sides)
+    push_rows(lines, columns, annex, wanted, sides)
 }
 
 /// Appends the heading of a kind of work with `count` listed loans.
@@ -294,15 +297,47 @@ fn push_work_heading(lines: &mut Vec<u8>, work: Work, count: usize) -> Result<()
 fn push_rows(
     lines: &mut Vec<u8>,
     columns: &Columns,
-    notes: &Notes,
+    annex: &Annex,
     wanted: &Wanted,
     sides: &[&Side],
 ) -> Result<(), OutOfMemory>
     ensures { OnOk result (lines.new.items ≡ lines.old.items
-        ++ flat_map (noted_row columns.now (lines_of notes.now) wanted.now) (map (λ side. side.now) sides.now)) }
+        ++ flat_map (dated_row columns.now (annex_of annex.now) wanted.now) (map (λ side. side.now) sides.now)) }
 {
     for side in sides {
-        push_noted_row(lines, columns, notes, wanted, side)?;
+        push_dated_row(lines, columns, annex, wanted, side)?;
+    }
+    Ok(())
+}
+
+/// Appends the line of the loan of `side`, and those of its note and its day if the list has them.
+fn push_dated_row(
+    lines: &mut Vec<u8>,
+    columns: &Columns,
+    annex: &Annex,
+    wanted: &Wanted,
+    side: &Side,
+) -> Result<(), OutOfMemory>
+    ensures { OnOk result (lines.new.items ≡ lines.old.items
+        ++ dated_row columns.now (annex_of annex.now) wanted.now side.now) }
+{
+    push_noted_row(lines, columns, &annex.notes, wanted, side)?;
+    push_since_shown(lines, annex, wanted, side)
+}
+
+/// Appends the line of the day since which the loan of `side` stands as it does, if the list has such lines and the day is
+/// known.
+fn push_since_shown(
+    lines: &mut Vec<u8>,
+    annex: &Annex,
+    wanted: &Wanted,
+    side: &Side,
+) -> Result<(), OutOfMemory>
+    ensures { OnOk result (lines.new.items ≡ lines.old.items ++ since_shown (annex_of annex.now) wanted.now side.now) }
+{
+    if wanted.has_since {
+        let since = since_of(*lines.allocator(), annex, side)?;
+        return push_since_line(lines, since);
     }
     Ok(())
 }
@@ -341,16 +376,16 @@ fn push_note_shown(
 fn push_work_objects(
     text: &mut Vec<u8>,
     file: Option<&str>,
-    notes: &Notes,
+    annex: &Annex,
     wanted: &Wanted,
     work: Work,
     sides: &[&Side],
 ) -> Result<(), OutOfMemory>
     ensures { OnOk result (text.new.items ≡ text.old.items
-        ++ work_objects (option_map (λ path. path.now) file.entry) (lines_of notes.now) wanted.now work (map (λ side. side.now) sides.now)) }
+        ++ work_objects (option_map (λ path. path.now) file.entry) (annex_of annex.now) wanted.now work (map (λ side. side.now) sides.now)) }
 {
     for side in sides {
-        push_row_object(text, file, notes, wanted.today, work, side)?;
+        push_row_object(text, file, annex, wanted.today, work, side)?;
     }
     Ok(())
 }

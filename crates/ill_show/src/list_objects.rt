@@ -2,12 +2,15 @@
 
 ghost use Rattle.std.specs.Prelude.{◌≡◌, [], ◌++◌, map, option_map, codes, OnOk};
 ghost use Rattle.ill_text.specs.Json.{joined, member};
-ghost use Rattle.ill_show.specs.Objects.{kind_fields, listed_fields, counts_fields, counts_object, file_fields, names_of, noted_fields, row_fields, row_object};
+ghost use Rattle.ill_show.specs.Objects.{kind_fields, listed_fields, counts_fields, counts_object, dated_fields, file_fields, names_of, noted_fields, row_fields, row_object};
 ghost use Rattle.ill_show.specs.FileLines.{lines_of};
+ghost use Rattle.ill_show.specs.Since.{annex_of};
 
+use crate::annex::Annex;
 use crate::counts::Counts;
 use crate::notes::{Notes, push_note_field};
 use crate::objects::title;
+use crate::since::{push_since_field, since_of};
 use ill_saved::Side;
 use ill_text::json::{Value, push_members, push_plain};
 use ill_values::{Day, OutOfMemory};
@@ -15,21 +18,22 @@ use ill_words::names::names;
 use ill_words::possible::possible_on;
 use ill_work::Work;
 
-/// Appends the object of the loan of `side` with this work on the day `today`, and of its note, on a line. It has the path
-/// `file` of the desk, if it is given.
+/// Appends the object of the loan of `side` with this work on the day `today`, with its note and its day, on a line.
+/// It has the path `file` of the desk, if it is given.
+#[tactic(auto, unfolding(crate::specs::Objects::row_object))]
 pub(crate) fn push_row_object(
     text: &mut Vec<u8>,
     file: Option<&str>,
-    notes: &Notes,
+    annex: &Annex,
     today: Option<Day>,
     work: Work,
     side: &Side,
 ) -> Result<(), OutOfMemory>
     ensures { OnOk result (text.new.items ≡ text.old.items
-        ++ row_object (option_map (λ path. path.now) file.entry) (lines_of notes.now) today work side.now) }
+        ++ row_object (option_map (λ path. path.now) file.entry) (annex_of annex.now) today work side.now) }
 {
     push_plain(text, "{")?;
-    push_row_and_file(text, file, notes, today, work, side)?;
+    push_row_and_file(text, file, annex, today, work, side)?;
     push_plain(text, "}\n")
 }
 
@@ -37,16 +41,32 @@ pub(crate) fn push_row_object(
 fn push_row_and_file(
     text: &mut Vec<u8>,
     file: Option<&str>,
-    notes: &Notes,
+    annex: &Annex,
     today: Option<Day>,
     work: Work,
     side: &Side,
 ) -> Result<(), OutOfMemory>
     ensures { OnOk result (text.new.items ≡ text.old.items
-        ++ joined member [] (noted_fields (lines_of notes.now) today work side.now ++ file_fields (option_map (λ path. path.now) file.entry))) }
+        ++ joined member [] (dated_fields (annex_of annex.now) today work side.now ++ file_fields (option_map (λ path. path.now) file.entry))) }
 {
-    push_noted_fields(text, notes, today, work, side)?;
+    push_dated_fields(text, annex, today, work, side)?;
     push_file(text, file)
+}
+
+/// Appends the fields of the loan of `side`, and those of its note and its day.
+fn push_dated_fields(
+    text: &mut Vec<u8>,
+    annex: &Annex,
+    today: Option<Day>,
+    work: Work,
+    side: &Side,
+) -> Result<(), OutOfMemory>
+    ensures { OnOk result (text.new.items ≡ text.old.items
+        ++ joined member [] (dated_fields (annex_of annex.now) today work side.now)) }
+{
+    let since = since_of(*text.allocator(), annex, side)?;
+    push_noted_fields(text, &annex.notes, today, work, side)?;
+    push_since_field(text, since)
 }
 
 /// Appends the fields of the loan of `side`, and the field of its note.

@@ -1,22 +1,25 @@
 //! The command `loan`.
 
-ghost use Rattle.std.specs.Prelude.{◌≡◌, map, option_map, IfOk};
+ghost use Rattle.std.specs.Prelude.{◌≡◌, [], ◌++◌, codes, map, option_map, IfOk, OnOk};
 ghost use Rattle.ill_saved.specs.Side.{txn_of};
 ghost use Rattle.ill_saved.specs.ManySides.{found_by, txn_held};
-ghost use Rattle.ill_show.specs.Loan.{IsTextOf, RunsLoan, beside_of, lines_with_history, loan_form, loan_text};
+ghost use Rattle.ill_text.specs.Json.{joined, member};
+ghost use Rattle.ill_show.specs.Diary.{history_fields, history_of, messages_of, told};
+ghost use Rattle.ill_show.specs.Loan.{IsTextOf, RunsLoan, beside_of, fields_with_history, lines_with_history, loan_form, loan_text};
 ghost use Rattle.ill_show.specs.FileLines.{lines_of};
 ghost use Rattle.ill_show.specs.declared.loan.LoanForm.TheVariants.{Object};
 ghost use Rattle.ill_show.specs.Notes.{note_of};
 
-use crate::diary::{history_of, messages_of, push_history};
+use crate::diary::{Part, history_of, messages_of, push_history, push_history_field};
 use crate::file_lines::FileLines;
 use crate::kept::{kept_of, push_kept_lines};
-use crate::objects::push_kept_object;
+use crate::objects::push_kept_and_note;
 use crate::picture::picture_of;
 use ill_saved::{Desk, DeskFault, Side, Store};
 use ill_text::fault::ToolFault;
 use ill_text::form::Form;
 use ill_text::input::apdus_in;
+use ill_text::json::push_plain;
 use ill_text::output::write_whole;
 use ill_values::{Apdu, OutOfMemory, TxnId};
 use std::alloc::Global;
@@ -159,13 +162,11 @@ fn lines_of_loan(
 {
     let mut text = Vec::new(alloc);
     push_kept_lines(&mut text, shown.note, shown.side, shown.released, kept)?;
-    let messages = messages_of(alloc, shown.side, kept)?;
-    let history = history_of(alloc, &messages, shown.diary)?;
-    push_history(&mut text, &history)?;
+    push_history(&mut text, &history(alloc, shown, kept)?)?;
     Ok(text)
 }
 
-/// Returns the object of the side in `shown`, and of the messages `kept` that came to it.
+/// Returns the object of the side in `shown`, of the messages `kept` that came to it, and of its history.
 fn object_of_loan(
     alloc: Global,
     shown: &ShownLoan<'_>,
@@ -176,6 +177,45 @@ fn object_of_loan(
         (record { side = shown.now.side.now; released = shown.now.released }) kept.now) }
 {
     let mut text = Vec::new(alloc);
-    push_kept_object(&mut text, shown.note, shown.side, shown.released, kept)?;
+    push_plain(&mut text, "{")?;
+    push_fields(&mut text, shown, kept)?;
+    push_plain(&mut text, "}\n")?;
     Ok(text)
+}
+
+/// Appends the fields of the side in `shown`, of the messages `kept` that came to it, and of its history.
+fn push_fields(text: &mut Vec<u8>, shown: &ShownLoan<'_>, kept: &[Apdu]) -> Result<(), OutOfMemory>
+    ensures { OnOk result (text.new.items ≡ text.old.items ++ joined member []
+        (fields_with_history (option_map (λ words. words.now) shown.now.note) (map (λ line. line.items) shown.now.diary.now)
+        (record { side = shown.now.side.now; released = shown.now.released }) kept.now)) }
+{
+    push_kept_and_note(text, shown.note, shown.side, shown.released, kept)?;
+    push_told_history(text, shown, kept)
+}
+
+/// Appends the field of the history of the side in `shown`, to which the messages `kept` came.
+fn push_told_history(
+    text: &mut Vec<u8>,
+    shown: &ShownLoan<'_>,
+    kept: &[Apdu],
+) -> Result<(), OutOfMemory>
+    ensures { OnOk result (text.new.items ≡ text.old.items ++ joined member (codes ",")
+        (history_fields (history_of (messages_of shown.now.side.now kept.now)
+        (map (λ line. line.items) shown.now.diary.now)))) }
+{
+    let history = history(*text.allocator(), shown, kept)?;
+    push_history_field(text, &history)
+}
+
+/// Returns the history of the side in `shown`, to which the messages `kept` came.
+fn history<'a>(
+    alloc: Global,
+    shown: &ShownLoan<'a>,
+    kept: &[Apdu],
+) -> Result<Vec<Part<'a>>, OutOfMemory>
+    ensures { IfOk result (λ parts. map told parts.items
+        ≡ history_of (messages_of shown.now.side.now kept.now) (map (λ line. line.items) shown.now.diary.now)) }
+{
+    let messages = messages_of(alloc, shown.side, kept)?;
+    history_of(alloc, &messages, shown.diary)
 }

@@ -77,25 +77,8 @@ fn push_loan(text: &mut Vec<u8>, side: &Side, released: u8) -> Result<(), OutOfM
     push_messages(text, "messages", side.all_issued(), Some(released))
 }
 
-/// Appends the object of `loan` for `side` and its note, and the messages `came`, on a line.
-pub(crate) fn push_kept_object(
-    text: &mut Vec<u8>,
-    note: Option<&str>,
-    side: &Side,
-    released: u8,
-    came: &[Apdu],
-) -> Result<(), OutOfMemory>
-    ensures { OnOk result (text.new.items ≡ text.old.items
-        ++ object_line (kept_fields (record { side = side.now; released = released }) came.now
-        ++ note_fields (option_copied note.entry))) }
-{
-    push_plain(text, "{")?;
-    push_kept_and_note(text, note, side, released, came)?;
-    push_plain(text, "}\n")
-}
-
 /// Appends the fields of `loan` for `side` and the messages `came`, and the field of its note.
-fn push_kept_and_note(
+pub(crate) fn push_kept_and_note(
     text: &mut Vec<u8>,
     note: Option<&str>,
     side: &Side,

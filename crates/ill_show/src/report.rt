@@ -8,18 +8,22 @@ ghost use Rattle.ill_saved.specs.Side.{txn_of};
 ghost use Rattle.ill_text.specs.Html.{html_escaped};
 ghost use Rattle.ill_words.specs.Possible.{possible_on, request_of, item_asked};
 ghost use Rattle.ill_work.specs.Order.{has_work};
-ghost use Rattle.ill_show.specs.declared.report_parts.TheConstants.{TIME_END};
+ghost use Rattle.ill_show.specs.declared.report_parts.TheConstants.{NOTE_END, SINCE, TIME_END};
 ghost use Rattle.ill_show.specs.List.{title_text};
 ghost use Rattle.ill_show.specs.FileLines.{lines_of};
 ghost use Rattle.ill_show.specs.Notes.{note_of};
-ghost use Rattle.ill_show.specs.Report.{action_text, counted, counts_text, deadline_text, desk_text, field_text, is_to_do, loans_text, noted_text, page_end, page_head, row_text, rows_text, table_head, table_text, unread_text, value_text, work_text};
+ghost use Rattle.ill_show.specs.Since.{annex_of, since_of};
+ghost use Rattle.ill_show.specs.StateWords.{state_words};
+ghost use Rattle.ill_show.specs.Report.{action_text, counted, counts_text, deadline_text, desk_text, field_text, is_to_do, loans_text, noted_text, page_end, page_head, row_text, rows_text, since_text, table_head, table_text, unread_text, value_text, work_text};
 
+use crate::annex::Annex;
 use crate::notes::Notes;
 use crate::report_parts::{
     COUNT, COUNTS_END, DESK, DESK_END, DESKS, END, Field, LOANS, NOTE, NOTE_END, OPEN, PAGE, ROOM,
-    ROW, TABLE, TABLE_END, TIME_END, TO_DO, UNREAD, UNREAD_END, heading,
+    ROW, SINCE, TABLE, TABLE_END, TIME_END, TO_DO, UNREAD, UNREAD_END, heading,
 };
 use crate::row::push_title;
+use crate::since::since_of;
 use crate::soon::SOON;
 use crate::state_words::words_of;
 use ill_core::Verb;
@@ -53,22 +57,22 @@ pub fn end_page<W: Write>(mut page: Vec<u8>, writer: &mut W) -> Result<(), ToolF
     write_whole(writer, &page)
 }
 
-/// Appends the part of the desk in `file`, with the notes on its loans.
+/// Appends the part of the desk in `file`, with what its annex tells of its loans.
 #[tactic(auto, unfolding(crate::specs::Report::desk_text))]
 pub fn push_desk(
     page: &mut Vec<u8>,
     today: Day,
     file: &str,
     sides: &Sides,
-    notes: &Notes,
+    annex: &Annex,
 ) -> Result<(), OutOfMemory>
     ensures { OnOk result (page.new.items ≡ page.old.items
-        ++ desk_text today file.now sides.now.sides (lines_of notes.now)) }
+        ++ desk_text today file.now sides.now.sides (annex_of annex.now)) }
 {
     let sides = most_urgent_first(*page.allocator(), sides)?;
     page.extend_from_slice(DESK.as_bytes())?;
     push_text(page, file.as_bytes())?;
-    push_loans(page, today, &sides, notes)?;
+    push_loans(page, today, &sides, annex)?;
     page.extend_from_slice(DESK_END.as_bytes())?;
     Ok(())
 }
@@ -101,13 +105,13 @@ fn push_loans(
     page: &mut Vec<u8>,
     today: Day,
     sides: &[&Side],
-    notes: &Notes,
+    annex: &Annex,
 ) -> Result<(), OutOfMemory>
     ensures { OnOk result (page.new.items ≡ page.old.items
-        ++ loans_text today (lines_of notes.now) (map (λ side. side.now) sides.now)) }
+        ++ loans_text today (annex_of annex.now) (map (λ side. side.now) sides.now)) }
 {
     push_counts(page, today, sides)?;
-    push_works(page, today, sides, notes, Work::all())
+    push_works(page, today, sides, annex, Work::all())
 }
 
 /// Appends the counts of a desk: loans that want a hand, open loans, all loans, and the room for further ones.
@@ -153,14 +157,14 @@ fn push_works(
     page: &mut Vec<u8>,
     today: Day,
     sides: &[&Side],
-    notes: &Notes,
+    annex: &Annex,
     works: &[Work],
 ) -> Result<(), OutOfMemory>
     ensures { OnOk result (page.new.items ≡ page.old.items
-        ++ flat_map (work_text today (lines_of notes.now) (map (λ side. side.now) sides.now)) works.now) }
+        ++ flat_map (work_text today (annex_of annex.now) (map (λ side. side.now) sides.now)) works.now) }
 {
     for work in works {
-        push_work(page, today, sides, notes, *work)?;
+        push_work(page, today, sides, annex, *work)?;
     }
     Ok(())
 }
@@ -170,16 +174,16 @@ fn push_work(
     page: &mut Vec<u8>,
     today: Day,
     sides: &[&Side],
-    notes: &Notes,
+    annex: &Annex,
     work: Work,
 ) -> Result<(), OutOfMemory>
     ensures { OnOk result (page.new.items ≡ page.old.items
-        ++ work_text today (lines_of notes.now) (map (λ side. side.now) sides.now) work) }
+        ++ work_text today (annex_of annex.now) (map (λ side. side.now) sides.now) work) }
 {
     if count(sides, work, today, SOON) == 0 {
         return Ok(());
     }
-    push_table(page, today, sides, notes, work)
+    push_table(page, today, sides, annex, work)
 }
 
 /// Appends the table of the loans with the work `work`: the words for it, their number, and a row for each.
@@ -188,14 +192,14 @@ fn push_table(
     page: &mut Vec<u8>,
     today: Day,
     sides: &[&Side],
-    notes: &Notes,
+    annex: &Annex,
     work: Work,
 ) -> Result<(), OutOfMemory>
     ensures { OnOk result (page.new.items ≡ page.old.items
-        ++ table_text today (lines_of notes.now) (map (λ side. side.now) sides.now) work) }
+        ++ table_text today (annex_of annex.now) (map (λ side. side.now) sides.now) work) }
 {
     push_table_head(page, work, count(sides, work, today, SOON))?;
-    push_rows(page, today, sides, notes, work)?;
+    push_rows(page, today, sides, annex, work)?;
     push_plain(page, TABLE_END)
 }
 
@@ -215,14 +219,14 @@ fn push_rows(
     page: &mut Vec<u8>,
     today: Day,
     sides: &[&Side],
-    notes: &Notes,
+    annex: &Annex,
     work: Work,
 ) -> Result<(), OutOfMemory>
     ensures { OnOk result (page.new.items ≡ page.old.items
-        ++ rows_text today (lines_of notes.now) work (map (λ side. side.now) sides.now)) }
+        ++ rows_text today (annex_of annex.now) work (map (λ side. side.now) sides.now)) }
 {
     for side in sides {
-        push_row_of(page, today, side, notes, work)?;
+        push_row_of(page, today, side, annex, work)?;
     }
     Ok(())
 }
@@ -232,14 +236,14 @@ fn push_row_of(
     page: &mut Vec<u8>,
     today: Day,
     side: &Side,
-    notes: &Notes,
+    annex: &Annex,
     work: Work,
 ) -> Result<(), OutOfMemory>
     ensures { OnOk result (page.new.items ≡ page.old.items
-        ++ rows_text today (lines_of notes.now) work (side.now ∷ [])) }
+        ++ rows_text today (annex_of annex.now) work (side.now ∷ [])) }
 {
     if has_work(today, side, work) {
-        return push_row(page, today, side, notes);
+        return push_row(page, today, side, annex);
     }
     Ok(())
 }
@@ -252,10 +256,10 @@ fn has_work(today: Day, side: &Side, work: Work) -> bool
 }
 
 /// Appends the row of the loan of `side`.
-fn push_row(page: &mut Vec<u8>, today: Day, side: &Side, notes: &Notes) -> Result<(), OutOfMemory>
-    ensures { OnOk result (page.new.items ≡ page.old.items ++ row_text today (lines_of notes.now) side.now) }
+fn push_row(page: &mut Vec<u8>, today: Day, side: &Side, annex: &Annex) -> Result<(), OutOfMemory>
+    ensures { OnOk result (page.new.items ≡ page.old.items ++ row_text today (annex_of annex.now) side.now) }
 {
-    push_fields(page, today, side, notes, &ROW)
+    push_fields(page, today, side, annex, &ROW)
 }
 
 /// Appends `fields` of the loan of `side`, one after another.
@@ -263,14 +267,14 @@ fn push_fields(
     page: &mut Vec<u8>,
     today: Day,
     side: &Side,
-    notes: &Notes,
+    annex: &Annex,
     fields: &[Field],
 ) -> Result<(), OutOfMemory>
     ensures { OnOk result (page.new.items ≡ page.old.items
-        ++ flat_map (field_text today (lines_of notes.now) side.now) fields.now) }
+        ++ flat_map (field_text today (annex_of annex.now) side.now) fields.now) }
 {
     for field in fields {
-        push_field(page, today, side, notes, *field)?;
+        push_field(page, today, side, annex, *field)?;
     }
     Ok(())
 }
@@ -280,13 +284,13 @@ fn push_field(
     page: &mut Vec<u8>,
     today: Day,
     side: &Side,
-    notes: &Notes,
+    annex: &Annex,
     field: Field,
 ) -> Result<(), OutOfMemory>
-    ensures { OnOk result (page.new.items ≡ page.old.items ++ field_text today (lines_of notes.now) side.now field) }
+    ensures { OnOk result (page.new.items ≡ page.old.items ++ field_text today (annex_of annex.now) side.now field) }
 {
     page.extend_from_slice(field.before().as_bytes())?;
-    push_value(page, today, side, notes, field)?;
+    push_value(page, today, side, annex, field)?;
     page.extend_from_slice(field.after().as_bytes())
 }
 
@@ -295,16 +299,16 @@ fn push_value(
     page: &mut Vec<u8>,
     today: Day,
     side: &Side,
-    notes: &Notes,
+    annex: &Annex,
     field: Field,
 ) -> Result<(), OutOfMemory>
-    ensures { OnOk result (page.new.items ≡ page.old.items ++ value_text today (lines_of notes.now) side.now field) }
+    ensures { OnOk result (page.new.items ≡ page.old.items ++ value_text today (annex_of annex.now) side.now field) }
 {
     match field {
-        Field::Title => push_noted_title(page, side, notes),
+        Field::Title => push_noted_title(page, side, &annex.notes),
         Field::Group => push_text(page, side.txn().group()),
         Field::Transaction => push_text(page, side.txn().transaction()),
-        Field::State => page.extend_from_slice(words_of(side).as_bytes()),
+        Field::State => push_state(page, side, annex),
         Field::Deadline => push_deadline(page, side.due(), expiry(side)),
         Field::Actions => push_possible(page, today, side),
     }
@@ -341,6 +345,35 @@ fn push_html_title(page: &mut Vec<u8>, side: &Side) -> Result<(), OutOfMemory>
     let mut title = Vec::new(*page.allocator());
     push_title(&mut title, side)?;
     push_html(page, &title)
+}
+
+/// Appends the state of the loan of `side`, in words, and the day since which it stands so, if `annex` tells it.
+fn push_state(page: &mut Vec<u8>, side: &Side, annex: &Annex) -> Result<(), OutOfMemory>
+    ensures { OnOk result (page.new.items ≡ page.old.items
+        ++ (state_words side.now ++ since_text (since_of (annex_of annex.now) side.now))) }
+{
+    let since = since_of(*page.allocator(), annex, side)?;
+    page.extend_from_slice(words_of(side).as_bytes())?;
+    push_since(page, since)
+}
+
+/// Appends the day `since` which a loan stands as it does, if it is known.
+fn push_since(page: &mut Vec<u8>, since: Option<Day>) -> Result<(), OutOfMemory>
+    ensures { OnOk result (page.new.items ≡ page.old.items ++ since_text since) }
+{
+    match since {
+        Some(day) => push_since_day(page, day),
+        None => Ok(()),
+    }
+}
+
+/// Appends the day since which a loan stands as it does.
+fn push_since_day(page: &mut Vec<u8>, day: Day) -> Result<(), OutOfMemory>
+    ensures { OnOk result (page.new.items ≡ page.old.items
+        ++ ((SINCE.now ++ (iso_text day ++ TIME_END.now)) ++ NOTE_END.now)) }
+{
+    push_day(page, SINCE, day)?;
+    page.extend_from_slice(NOTE_END.as_bytes())
 }
 
 /// Appends the words of a deadline: the due date, or else the expiry date of the request, if there is one.

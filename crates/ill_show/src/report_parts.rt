@@ -15,7 +15,7 @@ pub(crate) enum Field {
     Group,
     /// The transaction qualifier.
     Transaction,
-    /// The state, in words.
+    /// The state, in words, and the day since which the loan stands so.
     State,
     /// The due date, or else the expiry date of the request.
     Deadline,
@@ -172,7 +172,10 @@ pub(crate) const TABLE: &str = "\
 /// The text before the note on a loan.
 pub(crate) const NOTE: &str = "<small dir=\"auto\">";
 
-/// The text after the note on a loan.
+/// The text before the day since which a loan stands as it does.
+pub(crate) const SINCE: &str = "<small>since <time>";
+
+/// The text after the note on a loan, or after the day since which it stands as it does.
 pub(crate) const NOTE_END: &str = "</small>";
 
 /// The text after the rows of the loans of a kind of work.

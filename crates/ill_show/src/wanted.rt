@@ -38,6 +38,8 @@ pub struct Wanted {
     pub has_actions: bool,
     /// Set if each line has the note of its loan below it.
     pub has_notes: bool,
+    /// Set if each line has the day since which its loan stands as it does below it.
+    pub has_since: bool,
 }
 
 impl Which {

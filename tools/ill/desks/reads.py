@@ -121,7 +121,7 @@ def loan_object(side, note=None):
     """Returns the object of all of a loan, with its note."""
     return {**status_object(side), "next": side.turn(), "now": side.possible(), "item": side.asked()["item"],
             "expiry": iso(side.expiry()), **taken(side), "messages": [message_object(side, it) for it in side.issued],
-            "came": [], "note": note}
+            "came": [], "note": note, "history": []}
 
 
 def slip_parts(side):
@@ -216,7 +216,7 @@ def list_objects(sides, flag, today=None, due_before=None, state=None, ahead=AHE
     """Returns the objects of `list`."""
     return [{"kind": "loan", "work": name, "state": side.state, "due": iso(side.due), "group": side.txn[0],
              "transaction": side.txn[1], "now": side.possible(today), "item": side.asked()["item"],
-             "note": (notes or {}).get(tuple(side.txn))}
+             "note": (notes or {}).get(tuple(side.txn)), "since": None}
             for name, side in listed(sides, flag, today, due_before, state, ahead, find, notes)
             ] + [{"kind": "counts", **counts(sides, today, ahead)}]
 

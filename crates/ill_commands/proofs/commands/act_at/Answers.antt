@@ -12,10 +12,10 @@ use Rattle.ill_commands.proofs.commands.act_at.Goals.{then-is_ok, else-is_ok}
 pub returns : goal.returns
 returns g c =
     let found = c.get.ensures ∙ ap (λ (sides : SidesOf). side_with c.args.view.now.txn.now sides.sides) c.sides.ensures.value in
-    let told = subst (λ (side : Option Side). TellsItem c.args.is_long (item_of side) c.run_desk_act_as-acted.result
-    (g.W.Write.contents c.run_desk_act_as-acted.new.writer) (g.W.Write.contents c.tell_item-told.new.writer)
+    let told = subst (λ (side : Option Side). TellsItem c.args.is_long (item_of side) c.act_and_enter-acted.result
+    (g.W.Write.contents c.act_and_enter-acted.new.machine.writer) (g.W.Write.contents c.tell_item-told.new.writer)
     c.tell_item-told.result) found c.tell_item-told.ensures in
     elim c.if-is_ok.branch [
-      | then-is_ok w ↦ rw w.machine-is (inr (_, _, _, _, c.run_desk_act_as-acted.ensures.runs, told))
-      | else-is_ok w ↦ rw w.machine-is (inr (_, _, _, _, c.run_desk_act_as-acted.ensures.runs, told))
+      | then-is_ok w ↦ rw w.machine-is (inr (_, _, _, _, c.act_and_enter-acted.ensures, told))
+      | else-is_ok w ↦ rw w.machine-is (inr (_, _, _, _, c.act_and_enter-acted.ensures, told))
     ]

@@ -1,12 +1,12 @@
 -- Answers the contract of `push_file` (`src/commands.rt`).
 use Rattle.std.proofs.Common.{Ok, Err, refl}
-use Rattle.ill_show.specs.FileLines.{lines_of}
+use Rattle.ill_show.specs.Since.{annex_of}
 use Rattle.ill_commands.proofs.commands.push_file.Goals as goal
 
 -- Proves the contract of `push_file` if the desk is opened. The part has its loans.
 pub returns-in_ok-told-in-Ok-clause-told : goal.returns-in_ok-told-in-Ok-clause-told
 returns-in_ok-told-in-Ok-clause-told g c =
-    ((c.args.file.now, Ok (c.sides.result.now.sides, lines_of c.in-Ok.notes)), refl, c.in_ok-told-in-Ok.ensures, refl)
+    ((c.args.file.now, Ok (c.sides.result.now.sides, annex_of c.in-Ok.annex)), refl, c.in_ok-told-in-Ok.ensures, refl)
 
 -- Proves the contract of `push_file` if the desk is not opened. The part has the fault, in the words of `push_fault`.
 pub returns-in_ok-push_fault-in-Err-clause-told : goal.returns-in_ok-push_fault-in-Err-clause-told

@@ -4,8 +4,8 @@ use Rattle.std.specs.List.{flat_map}
 use Rattle.std.proofs.lemmas.List.{take_all}
 use Rattle.std.proofs.lemmas.List.Folds.{flat_map-map}
 use Rattle.ill_saved.specs.declared.side.Side.{Side}
-use Rattle.ill_show.specs.FileLines.{lines_of}
 use Rattle.ill_show.specs.Objects.{row_object}
+use Rattle.ill_show.specs.Since.{annex_of}
 use Rattle.ill_show.proofs.list.push_work_objects.Goals as goal
 
 -- Proves the contract of `push_work_objects`. After the loop each side has added its object.
@@ -13,7 +13,7 @@ pub returns : goal.returns
 returns c =
     let sides = c.args.sides.now in
     let old = c.args.text.now.items in
-    let text = row_object (option_map (λ path. path.now) c.args.file) (lines_of c.args.notes.now) c.args.wanted.now.today
+    let text = row_object (option_map (λ path. path.now) c.args.file) (annex_of c.args.annex.now) c.args.wanted.now.today
     c.args.work in
     c.loop-side.invariant.listed
     ∙ ap (λ (shown : _). old ++ flat_map (λ (side : Bor Side). text side.now) shown)

@@ -2,8 +2,8 @@
 use Rattle.std.proofs.Common.{◌≡◌, ◌++◌, take, Bor, option_map}
 use Rattle.std.specs.List.{flat_map}
 use Rattle.ill_saved.specs.declared.side.Side.{Side}
-use Rattle.ill_show.specs.FileLines.{lines_of}
 use Rattle.ill_show.specs.Objects.{row_object}
+use Rattle.ill_show.specs.Since.{annex_of}
 use Rattle.ill_show.proofs.list.push_work_objects.Given as goal
 
 -- The objects of the sides so far are appended.
@@ -11,6 +11,6 @@ abbrev pub invariant-loop-side : goal.invariant-loop-side
 invariant-loop-side l = record {
   listed : l.text.items ≡ l.initial.text.items
       ++ flat_map (λ (side : Bor Side).
-      row_object (option_map (λ path. path.now) l.file) (lines_of l.notes) l.wanted.today l.work side.now)
+      row_object (option_map (λ path. path.now) l.file) (annex_of l.annex) l.wanted.today l.work side.now)
       (take l.side-index l.sides);
 }

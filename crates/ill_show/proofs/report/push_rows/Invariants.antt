@@ -2,7 +2,7 @@
 use Rattle.std.proofs.Common.{◌≡◌, ◌++◌, take, ◌∷◌, [], Bor}
 use Rattle.std.specs.List.{flat_map}
 use Rattle.ill_saved.specs.declared.side.Side.{Side}
-use Rattle.ill_show.specs.FileLines.{lines_of}
+use Rattle.ill_show.specs.Since.{annex_of}
 use Rattle.ill_show.specs.Report.{rows_text}
 use Rattle.ill_show.proofs.report.push_rows.Given as goal
 
@@ -10,5 +10,5 @@ use Rattle.ill_show.proofs.report.push_rows.Given as goal
 abbrev pub invariant-loop-side : goal.invariant-loop-side
 invariant-loop-side l = record {
   told : l.page.items ≡ l.initial.page.items
-      ++ flat_map (λ (side : Bor Side). rows_text l.today (lines_of l.notes) l.work (side.now ∷ [])) (take l.side-index l.sides);
+      ++ flat_map (λ (side : Bor Side). rows_text l.today (annex_of l.annex) l.work (side.now ∷ [])) (take l.side-index l.sides);
 }

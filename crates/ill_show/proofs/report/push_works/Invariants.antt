@@ -2,7 +2,7 @@
 use Rattle.std.proofs.Common.{◌≡◌, ◌++◌, take, map, Bor}
 use Rattle.std.specs.List.{flat_map}
 use Rattle.ill_saved.specs.declared.side.Side.{Side}
-use Rattle.ill_show.specs.FileLines.{lines_of}
+use Rattle.ill_show.specs.Since.{annex_of}
 use Rattle.ill_show.specs.Report.{work_text}
 use Rattle.ill_show.proofs.report.push_works.Given as goal
 
@@ -10,6 +10,6 @@ use Rattle.ill_show.proofs.report.push_works.Given as goal
 abbrev pub invariant-loop-work : goal.invariant-loop-work
 invariant-loop-work l = record {
   told : l.page.items ≡ l.initial.page.items
-      ++ flat_map (work_text l.today (lines_of l.notes) (map (λ (side : Bor Side). side.now) l.sides))
+      ++ flat_map (work_text l.today (annex_of l.annex) (map (λ (side : Bor Side). side.now) l.sides))
       (take l.work-index l.works);
 }

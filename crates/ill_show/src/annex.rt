@@ -1,0 +1,31 @@
+//! The annex of a desk: the notes of staff, the diary, and the messages that came.
+
+ghost use Rattle.std.specs.Prelude.{◌≡◌};
+
+use crate::file_lines::FileLines;
+use ill_values::Apdu;
+use std::alloc::Global;
+
+/// The annex of a desk, as it was read.
+#[derive(Drop)]
+pub struct Annex {
+    /// The notes of staff.
+    pub notes: FileLines,
+    /// The diary.
+    pub diary: FileLines,
+    /// The messages that came.
+    pub came: Vec<Apdu>,
+}
+
+impl Annex {
+    /// Returns `notes` alone.
+    pub fn of_notes(alloc: Global, notes: FileLines) -> Annex
+        ensures { result.notes ≡ notes }
+    {
+        Annex {
+            notes,
+            diary: FileLines::none(alloc),
+            came: Vec::new(alloc),
+        }
+    }
+}

@@ -73,7 +73,7 @@ _ill_parts() {
     outbox) parts=(file folder) options='--stream --explain --help' ;;
     exchange) parts=(file folder folder) options='--today --by --overdue --expire --copy --beat --explain --help' ;;
     key) parts=(file) options='--show --read --explain --help' ;;
-    verify) parts=(file) options='--explain --help' ;;
+    verify) parts=(file) options='--json --explain --help' ;;
     show) parts=() options='--json --explain --help' ;;
     check) parts=() options='--explain --help' ;;
     simulate) parts=(none none) options='--explain --help' ;;

@@ -220,6 +220,11 @@ def news_lines(rows):
               for row, texts in zip(rows, cells)), f"messages {len(rows)}, shown {len(rows)}"]
 
 
+def record_lines(record):
+    """The lines of a record."""
+    return [f"{label} {record[label]}" for label in "version role loans messages room".split()]
+
+
 def each(lines_of):
     """The lines of some objects, one after another."""
     return lambda objects: [line for value in objects for line in lines_of(value)]
@@ -322,6 +327,7 @@ def compare_desks():
     compare("news", ["news", "there"], news_lines)
     for desk in "here", "there":
         compare("status", ["status", desk], each(status_lines))
+        compare("verify", ["verify", desk], each(record_lines))
         for txn in txns if desk == "here" else txns[:len(TITLES)] + txns[len(TITLES) + 1:]:
             compare("loan", ["loan", desk, *txn], each(loan_lines))
 

@@ -147,10 +147,10 @@ SlipAtFile txn before after result =
     ⊎ ((held : List DeskEntry) × GoesWell (RunsSlip (found_by txn_held txn held) before after) result)
 
 -- The record in a file was verified. Or the file could not be opened.
-abbrev pub VerifiesFile : Option (List ℕ) → Option (List ℕ) → Result Bool ToolFault → Type 0
-VerifiesFile before after result =
+abbrev pub VerifiesFile : Form → Option (List ℕ) → Option (List ℕ) → Result Bool ToolFault → Type 0
+VerifiesFile form before after result =
     FailsToOpen before after result
-    ⊎ ((loaded : Result (Option (List ℕ)) StoreFault) × GoesWell (VerifiesLoaded loaded before after) result)
+    ⊎ ((loaded : Result (Option (List ℕ)) StoreFault) × GoesWell (VerifiesLoaded form loaded before after) result)
 
 -- A page of the desks at the paths was written, with a part for each. The result is the gravest of the faults of
 -- desks that could not be opened, and of that about the names in the folders. Or memory ran out before the page.

@@ -467,11 +467,12 @@ pub fn slip<T: Files, W: Write, E: Write>(
 pub fn verify<T: Files, W: Write, E: Write>(
     machine: &mut Machine<'_, T, W, E>,
     file: &str,
+    form: Form,
 ) -> Result<bool, ToolFault>
-    ensures { VerifiesFile (W.contents machine.old.writer) (W.contents machine.new.writer) result }
+    ensures { VerifiesFile form (W.contents machine.old.writer) (W.contents machine.new.writer) result }
 {
     let mut store = FileStore::at(machine.rt, machine.alloc, file, RECORD_LIMIT)?;
-    let verified = run_desk_verify(machine.alloc, &mut store, &mut machine.writer);
+    let verified = run_desk_verify(machine.alloc, &mut store, form, &mut machine.writer);
     drop(store);
     all_well(verified)
 }

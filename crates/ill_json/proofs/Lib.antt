@@ -11,4 +11,5 @@ pub mod Sides
 pub mod HistoryLines
 pub mod LineLemmas
 pub mod NewsLines
+pub mod RecordLines
 pub mod BadLines

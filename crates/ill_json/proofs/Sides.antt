@@ -60,7 +60,7 @@ each_append P (x ∷ xs) more each others = (each.0, each_append P xs more each.
 -- ---- parts
 
 -- A name of printing characters has a value.
-name_value : (most : ℕ) (name : List ℕ) → are_printable name ≡ true → HasValue most (quoted name)
+pub name_value : (most : ℕ) (name : List ℕ) → are_printable name ≡ true → HasValue most (quoted name)
 name_value most name plain = text_value most name (printable_shown name plain).utf8
 
 -- The number of a message has a value.

@@ -1,6 +1,6 @@
 //! The laws of `--json`: each line that a command writes is an object of JSON. Its definition lists the members.
 
-ghost use Rattle.std.specs.Prelude.{◌≡◌, ◌<◌, ◌^◌, ◌++◌, ℕ, Bool, List, map, IsUtf8, Option, Some, None, option_map, decimal};
+ghost use Rattle.std.specs.Prelude.{◌≡◌, ◌<◌, ◌^◌, ◌++◌, ℕ, Bool, List, map, IsUtf8, Option, Some, None, option_map, decimal, IfSome};
 ghost use Rattle.std.specs.List.{flat_map};
 ghost use Rattle.json.specs.Find.{get};
 ghost use Rattle.json.specs.Json.{Json, null, boolean, number, string, array, document};
@@ -11,9 +11,11 @@ ghost use Rattle.ill_saved.specs.declared.side.Side.{Side};
 ghost use Rattle.ill_saved.specs.Holdings.{DeskEntry, whole};
 ghost use Rattle.ill_saved.specs.Ranges.{Each, IsSide};
 ghost use Rattle.ill_saved.specs.RecordsV2.{AreSides};
+ghost use Rattle.ill_saved.specs.Faults.{place_of};
+ghost use Rattle.ill_saved.specs.declared.fault.RecordFault.{RecordFault};
 ghost use Rattle.ill_saved.specs.Sides.{SidesOf};
 ghost use Rattle.ill_text.specs.declared.form.Form.TheVariants as forms;
-ghost use Rattle.ill_text.specs.ApduObject.{apdu_fields, apdu_text};
+ghost use Rattle.ill_text.specs.ApduObject.{apdu_fields, apdu_text, object_line};
 ghost use Rattle.ill_text.specs.Json as texts;
 ghost use Rattle.ill_text.specs.Json.{Field, flag, quoted};
 ghost use Rattle.ill_show.specs.declared.loan.LoanForm.TheVariants.{Object};
@@ -26,6 +28,7 @@ ghost use Rattle.ill_show.specs.Notes.{note_of};
 ghost use Rattle.ill_saved.specs.Side.{txn_of};
 ghost use Rattle.ill_show.specs.News.{last_of, news_of, news_text};
 ghost use Rattle.ill_show.specs.Objects.{message_object, status_of_desk};
+ghost use Rattle.ill_show.specs.Verify.{fault_fields, record_fields, record_text};
 ghost use Rattle.ill_json.specs.BadLines.{AreBadLines, IsBadLine, broken_texts};
 ghost use Rattle.ill_json.specs.Lines.{IsEntry, fields_of_list, fields_of_loan, fields_of_message, fields_of_news, fields_of_status};
 ghost use Rattle.ill_json.specs.Objects.{AreObjectLines, IsObject, IsObjectLine, items_of, strings};
@@ -67,6 +70,16 @@ pub fn loan_is_json()
 pub fn histories_are_json()
     ensures { (side : Side) (kept : List Apdu) (diary : List (List ℕ)) → IsSide side → Each IsApdu kept →
         Each (λ part. IsObject (part_object part) (part_fields part)) (history_of (messages_of side kept) diary) }
+{}
+
+/// The line of `verify` is an object of JSON with the fields of a record, or of its fault. The place of a fault has 32
+/// bits.
+#[tactic(auto, using(crate::proofs::RecordLines::fault_is))]
+pub fn verify_is_json()
+    ensures record { (bytes : List ℕ) (held : SidesOf) → AreSides held →
+        IsObjectLine (record_text forms.Json bytes held) (record_fields bytes held) }
+    ensures fault { (fault : RecordFault) → IfSome (place_of fault) (λ at. at < 2 ^ 32) →
+        IsObjectLine (object_line (fault_fields fault)) (fault_fields fault) }
 {}
 
 /// Each line of `show` is an object of JSON with the fields of an APDU.

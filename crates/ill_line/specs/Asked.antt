@@ -302,7 +302,7 @@ pub data Asked : Type 0 where
   Slip : (file : List ℕ) → (txn : Qualifiers) → Asked
   Report : (paths : List (List ℕ)) → (today : Date) → Asked
   Retire : (file group : List ℕ) → Asked
-  Verify : (file : List ℕ) → Asked
+  Verify : (file : List ℕ) → (form : Form) → Asked
 
 -- Returns the request that a `Request` of the code holds.
 abbrev pub asked : Request → Asked
@@ -337,7 +337,7 @@ asked (requests.Note file txn words) = Note file.now txn (map (λ word. word.now
 asked (requests.Slip file txn) = Slip file.now txn
 asked (requests.Report paths today) = Report (map (λ path. path.now) paths.items) today
 asked (requests.Retire file group) = Retire file.now group.now
-asked (requests.Verify file) = Verify file.now
+asked (requests.Verify file form) = Verify file.now form
 
 -- Returns the file of the desk that a request may change, from which it sends, or beside which it keeps a note. Or it
 -- returns the file of a key.
@@ -440,7 +440,7 @@ asked_of names.Retire found = do
   Some (Retire file group)
 asked_of names.Verify found = do
   file ← text_of File found
-  Some (Verify file)
+  Some (Verify file (form_of found))
 
 -- Returns the request of the command with the word `word` and these arguments.
 abbrev pub asked_by : List ℕ → Found → Option Asked

@@ -234,7 +234,7 @@ impl Name {
             Name::Key => &[Argument::KeyFile, Argument::ShowKey, Argument::ReadKey],
             Name::Status => &[Argument::File, Argument::Json],
             Name::Retire => &[Argument::File, Argument::Group],
-            Name::Verify => &[Argument::File],
+            Name::Verify => &[Argument::File, Argument::Json],
             Name::Send => &[
                 Argument::File,
                 Argument::Group,

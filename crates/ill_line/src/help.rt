@@ -842,7 +842,9 @@ These lines are written to standard output:
   room                   for how many more loans there is room
 
 A record that is none, or was damaged, is a fault, which tells the place of the
-first wrong byte if there is one.";
+first wrong byte if there is one. With --json `kind` is record, or else fault:
+then the object has the word of the fault, as `fault`, and its place, as `at`.
+The fault is told on standard error, too.";
 
 pub const VERIFY_EXAMPLE: &str = "Example:
   $ ill new box requester

@@ -194,6 +194,8 @@ pub enum Request<'a> {
     Verify {
         /// The path of the file.
         file: &'a str,
+        /// The form of what is told of the record.
+        form: Form,
     },
     /// Write a page of the loans of desks: `ill report`.
     Report {
@@ -778,7 +780,8 @@ fn verify_request<'a>(alloc: Global, matches: &ArgMatches<'a>) -> Result<Request
     ensures { ReadsValue asked (asked_of names.Verify (rows_of (found_of matches.now))) result }
 {
     let file = text(alloc, matches, Argument::File)?;
-    Ok(Request::Verify { file })
+    let form = form(matches);
+    Ok(Request::Verify { file, form })
 }
 
 /// Returns the request of `ill report`.

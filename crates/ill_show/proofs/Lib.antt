@@ -10,3 +10,4 @@ pub mod ReadLemmas
 pub mod ReportLemmas
 pub mod SinceLaws
 pub mod StatusLemmas
+pub mod VerifyLemmas

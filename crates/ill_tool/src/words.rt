@@ -318,7 +318,7 @@ fn run<T: LockFiles, R: Read, W: Write, E: Write>(
         Request::Note { file, txn, words } => note(machine, file, &NoteView { txn, words }),
         Request::Slip { file, txn } => slip(machine, file, txn),
         Request::Retire { .. } => Err(ToolFault::Arguments),
-        Request::Verify { file } => verify(machine, file),
+        Request::Verify { file, form } => verify(machine, file, *form),
         Request::Report { paths, today } => { report(machine, paths, *today) }
     }
 }

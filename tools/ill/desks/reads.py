@@ -487,8 +487,9 @@ def check_rest(judge, path, role, sides):
     judge.lines(["status", path], [line for side in sides for line in status_lines(side)])
     judge.objects(["status", path, "--json"], map(status_object, sides))
     issued = sum(len(side.issued) for side in sides)
-    judge.lines(["verify", path], ["version 2", f"role {ROLES[role]}", f"loans {len(sides)}", f"messages {issued}",
-                                   f"room {1000 - len(sides)}"])
+    record = {"version": 2, "role": ROLES[role], "loans": len(sides), "messages": issued, "room": 1000 - len(sides)}
+    judge.lines(["verify", path], [f"{label} {value}" for label, value in record.items()])
+    judge.objects(["verify", path, "--json"], [{"kind": "record", **record}])
     morning = Morning(TODAY)
     loans = [page_loan(side, morning) for side in sides]
     counts, tables = read_page(judge.text(["report", path, "--today", TODAY]))
@@ -499,7 +500,7 @@ def check_rest(judge, path, role, sides):
 def reading(path, sides):
     """Returns the commands that read a desk."""
     commands = [["list", path], ["news", path], ["list", path, "--mine", "--today", TODAY], ["list", path, "--json"], ["status", path],
-                ["status", path, "--json"], ["report", path, "--today", TODAY], ["verify", path]]
+                ["status", path, "--json"], ["report", path, "--today", TODAY], ["verify", path], ["verify", path, "--json"]]
     for side in sides[:1]:
         commands += [["slip", path, *side.txn]]
         commands += [["loan", path, *side.txn, *option] for option in ([], ["--picture"], ["--json"])]

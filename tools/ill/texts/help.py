@@ -592,7 +592,7 @@ def compare_words(named_texts, words, arguments):
     verbs_known = {form.split()[0] for forms in actions().values() for form in forms}
     files = re.findall(r"^  \$ ill new (\w+)", read(HELP), re.M)
     objects = "".join(map(read, (f"{TEXT}/apdu_object.rt", f"{SHOW}/objects.rt", f"{SHOW}/list_objects.rt",
-                                 f"{SHOW}/diary.rt", f"{SHOW}/since.rt", f"{SHOW}/news.rt")))
+                                 f"{SHOW}/diary.rt", f"{SHOW}/since.rt", f"{SHOW}/news.rt", f"{SHOW}/verify.rt")))
     labels = set(re.findall(r'(?:\(|\(text, )"([\w-]+)"(?:, |\)\?;)', objects))
     counted = set(re.findall(r"(\w+) \{\1\}", read(f"{NIGHT}/tally.rt")))
     staying = {f"NAME {word} REASON" for word in re.findall(r'b" (\w+) "', read(f"{NIGHT}/verdict.rt"))}

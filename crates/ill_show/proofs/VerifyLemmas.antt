@@ -1,0 +1,22 @@
+-- Proves what is told of bytes that are no record, or for which memory ran out.
+use Rattle.std.proofs.Common.{◌≡◌, ℕ, List, Option, Result, Ok, Err, refl, sym, inl, inr, subst}
+use Rattle.std.proofs.KnownBytes.{Appends-nil}
+use Rattle.ill_saved.specs.Sides.{SidesOf}
+use Rattle.ill_saved.specs.declared.fault.RecordFault.{RecordFault}
+use Rattle.ill_text.specs.declared.form.Form.{Form}
+use Rattle.ill_text.specs.declared.fault.ToolFault.{ToolFault}
+use Rattle.ill_text.specs.declared.fault.ToolFault.TheVariants.{OutOfMemory}
+use Rattle.ill_show.specs.Verify.{TellsFault, Verifies}
+
+-- If memory ran out before anything was written, that is right of whichever bytes.
+pub memory_wanted : (form : Form) (bytes : List ℕ) (read : Result SidesOf RecordFault) (written : Option (List ℕ))
+    → Verifies form bytes read written written (Err OutOfMemory)
+memory_wanted form bytes (Ok all) written = Appends-nil written
+memory_wanted form bytes (Err fault) written = inl (refl, Appends-nil written)
+
+-- If the fault of the bytes was told, that is right of them.
+pub fault_told : (form : Form) (bytes : List ℕ) (read : Result SidesOf RecordFault) (fault : RecordFault)
+    (before after : Option (List ℕ)) (result : Result (Unit {0}) ToolFault)
+    → read ≡ Err fault → TellsFault form fault before after result → Verifies form bytes read before after result
+fault_told form bytes read fault before after result is told =
+    subst (λ (read : Result SidesOf RecordFault). Verifies form bytes read before after result) (sym is) (inr told)

@@ -67,6 +67,7 @@ _ill_parts() {
     slip) parts=(file loan loan) options='--explain --help' ;;
     status) parts=(file) options='--json --explain --help' ;;
     report) parts=(files) options='--today --explain --help' ;;
+    figures) parts=(files) options='--from --to --csv --explain --help' ;;
     take) parts=(file) options='--long --keep --today --by --key --explain --help' ;;
     send) parts=(file loan loan none) options='--key --explain --help' ;;
     inbox) parts=(file folder) options='--today --by --explain --help' ;;
@@ -106,7 +107,7 @@ _ill_read() {
       day-= | count-= | text-= | state-= | file-=) ;;     # bash takes --today=DAY for three words
       day-* | count-* | text-* | state-* | file-*) wanted=any ;;
       any---) wanted=argument ;;
-      any---today | any---due-before) wanted=day ;;
+      any---today | any---due-before | any---from | any---to) wanted=day ;;
       any---by | any---seen | any---find) wanted=text ;;
       any---ahead | any---last) wanted=count ;;
       any---state) wanted=state ;;
@@ -148,8 +149,8 @@ _ill() {
     state) offered='IDLE PENDING IN-PROCESS CONDITIONAL CANCEL-PENDING CANCELLED NOT-SUPPLIED SHIPPED RECEIVED
       RENEW/PENDING OVERDUE RENEW/OVERDUE NOT-RECEIVED/OVERDUE RECALL RETURNED CHECKED-IN' ;;
     role) offered='requester responder' ;;
-    command) offered='new act list news loan note slip status report take send inbox outbox exchange key verify show
-      check simulate simulate-desks shelf help' ;;
+    command) offered='new act list news loan note slip status report figures take send inbox outbox exchange key
+      verify show check simulate simulate-desks shelf help' ;;
     shelf-command) offered='new act loan note slip status take send inbox outbox exchange retire help' ;;
     words) offered=$(_ill_words "${arguments[0]}") ;;
     loan)

@@ -31,7 +31,7 @@ function __ill_read
                 set wanted any
             case any---
                 set wanted argument
-            case any---today any---due-before
+            case any---today any---due-before any---from any---to
                 set wanted day
             case any---by any---seen any---find
                 set wanted text
@@ -122,6 +122,7 @@ complete -c ill -n "__ill_at 0 ''" -a note -d 'Keep a note on one loan, for staf
 complete -c ill -n "__ill_at 0 ''" -a slip -d 'Write a slip of one loan, to print and to lay in its item'
 complete -c ill -n "__ill_at 0 ''" -a status -d 'Show how each loan in a file stands'
 complete -c ill -n "__ill_at 0 ''" -a report -d 'Write a page for a browser of the loans of desks'
+complete -c ill -n "__ill_at 0 ''" -a figures -d 'Count the loans of desks that were asked in a span of days'
 complete -c ill -n "__ill_at 0 ''" -a take -d 'Take the APDUs on standard input, and save what they change'
 complete -c ill -n "__ill_at 0 ''" -a send -d 'Write the bytes of one message of a loan'
 complete -c ill -n "__ill_at 0 ''" -a inbox -d 'Take the mails of a folder, and save what they change once'
@@ -135,7 +136,7 @@ complete -c ill -n "__ill_at 0 ''" -a simulate -d 'Perform a script of both side
 complete -c ill -n "__ill_at 0 ''" -a simulate-desks -d 'Perform a script of two desks, from standard input'
 complete -c ill -n "__ill_at 0 ''" -a shelf -d 'Keep a folder of desks, one for each group of loans'
 complete -c ill -n "__ill_at 0 ''" -a help -d 'Print the help of a command'
-complete -c ill -n '__ill_at 0 help' -a 'new act list news loan note slip status report take send inbox outbox exchange key verify show check simulate simulate-desks shelf help'
+complete -c ill -n '__ill_at 0 help' -a 'new act list news loan note slip status report figures take send inbox outbox exchange key verify show check simulate simulate-desks shelf help'
 complete -c ill -n '__ill_at 0 shelf' -a new -d 'Begin a shelf of one role, in a folder'
 complete -c ill -n '__ill_at 0 shelf' -a act -d 'Perform one action in a loan, at the desk of its group'
 complete -c ill -n '__ill_at 0 shelf' -a loan -d 'Show all of one loan: request, messages, what may be done'
@@ -151,7 +152,7 @@ complete -c ill -n '__ill_at 0 shelf' -a retire -d 'Replace a desk whose loans a
 complete -c ill -n '__ill_at 0 shelf' -a help -d 'Print the help of a command'
 complete -c ill -n '__ill_at 0 shelf-help' -a 'new act loan note slip status take send inbox outbox exchange retire help'
 complete -c ill -n '__ill_at 0 new act loan note slip status take send inbox outbox exchange key verify' -F
-complete -c ill -n '__ill_any list news report' -F
+complete -c ill -n '__ill_any list news report figures' -F
 complete -c ill -n '__ill_at 0 shelf-new shelf-act shelf-loan shelf-note shelf-slip shelf-status shelf-take shelf-send shelf-inbox shelf-outbox shelf-exchange shelf-retire' -x -a '(__fish_complete_directories)'
 complete -c ill -n '__ill_at 1 inbox outbox exchange shelf-inbox shelf-outbox shelf-exchange' -x -a '(__fish_complete_directories)'
 complete -c ill -n '__ill_at 2 exchange shelf-exchange' -x -a '(__fish_complete_directories)'
@@ -159,8 +160,8 @@ complete -c ill -n '__ill_at 1 new shelf-new' -a 'requester responder'
 complete -c ill -n '__ill_at 1 act loan note slip send shelf-act shelf-loan shelf-note shelf-slip shelf-send shelf-retire' -a '(__ill_loans)'
 complete -c ill -n '__ill_at 2 act loan note slip send shelf-act shelf-loan shelf-note shelf-slip shelf-send' -a '(__ill_loans)'
 complete -c ill -n '__ill_at 3 act shelf-act' -a '(__ill_words)'
-complete -c ill -n "__ill_option any '' new act list news loan note slip status report take send inbox outbox exchange key verify show check simulate simulate-desks shelf shelf-new shelf-act shelf-loan shelf-note shelf-slip shelf-status shelf-take shelf-send shelf-inbox shelf-outbox shelf-exchange shelf-retire" -l explain -d 'Say more of what is wrong'
-complete -c ill -n "__ill_option any '' new act list news loan note slip status report take send inbox outbox exchange key verify show check simulate simulate-desks shelf shelf-new shelf-act shelf-loan shelf-note shelf-slip shelf-status shelf-take shelf-send shelf-inbox shelf-outbox shelf-exchange shelf-retire" -s h -l help -d 'Print help'
+complete -c ill -n "__ill_option any '' new act list news loan note slip status report figures take send inbox outbox exchange key verify show check simulate simulate-desks shelf shelf-new shelf-act shelf-loan shelf-note shelf-slip shelf-status shelf-take shelf-send shelf-inbox shelf-outbox shelf-exchange shelf-retire" -l explain -d 'Say more of what is wrong'
+complete -c ill -n "__ill_option any '' new act list news loan note slip status report figures take send inbox outbox exchange key verify show check simulate simulate-desks shelf shelf-new shelf-act shelf-loan shelf-note shelf-slip shelf-status shelf-take shelf-send shelf-inbox shelf-outbox shelf-exchange shelf-retire" -s h -l help -d 'Print help'
 complete -c ill -n "__ill_option any ''" -s V -l version -d 'Print the version'
 complete -c ill -n '__ill_option day act shelf-act' -l today -x -d 'The day of the action, as 20250301; a responder needs it'
 complete -c ill -n '__ill_option text act take inbox exchange shelf-act shelf-take shelf-inbox shelf-exchange' -l by -x -d 'The name of who gives the command, for FILE.diary'
@@ -181,6 +182,9 @@ complete -c ill -n '__ill_option any list news loan status verify show shelf-loa
 complete -c ill -n '__ill_option count news' -l last -x -d 'Tell only the last N messages, 1 to 255'
 complete -c ill -n '__ill_option any loan shelf-loan' -l picture -d 'Draw the messages of the loan, for Mermaid'
 complete -c ill -n '__ill_option day report' -l today -x -d 'The day of the report, as 20250301'
+complete -c ill -n '__ill_option day figures' -l from -x -d 'The first day of the span, as 20250301'
+complete -c ill -n '__ill_option day figures' -l to -x -d 'The last day of the span, which is in it, too'
+complete -c ill -n '__ill_option any figures' -l csv -d 'Write records of CSV, one for each desk'
 complete -c ill -n '__ill_option any take shelf-take' -l long -d 'Tell which message each was, and what it said'
 complete -c ill -n '__ill_option any take shelf-take' -l keep -d 'Keep each message that is taken, in FILE.came'
 complete -c ill -n '__ill_option day take inbox exchange shelf-take shelf-inbox shelf-exchange' -l today -x -d 'The day of the run, as 20250301'

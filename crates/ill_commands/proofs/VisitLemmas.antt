@@ -24,3 +24,5 @@ nothing_written (visits.List wanted find) form is_headed is_first path written a
     inr ([], record { notes = []; diary = []; came = [] }, (Err Write, (0, Appends-nil written), failed))
 nothing_written (visits.News last) form is_headed is_first path written answer failed =
     inr ([], [], (Err Write, ([], nothing_in, (0, Appends-nil written)), failed))
+nothing_written (visits.Figures view) form is_headed is_first path written answer failed =
+    inr ([], [], [], (Err Write, ([], nothing_in, (0, Appends-nil written)), failed))

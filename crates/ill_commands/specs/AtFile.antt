@@ -13,7 +13,7 @@ use Rattle.ill_text.specs.declared.fault.ToolFault.TheVariants.{OutOfMemory}
 use Rattle.ill_files.specs.Opening.{GoesWell, FailsToOpen, names_answer}
 use Rattle.ill_desk.specs.Performing.{HeldAndLanded, command_state, with_input}
 use Rattle.ill_text.specs.Fault.{IsOpenFault}
-use Rattle.ill_text.specs.Output.{WritesText}
+use Rattle.ill_text.specs.Output.{WritesPrefix, WritesText}
 use Rattle.ill_desk.specs.New.{RunsNew}
 use Rattle.ill_desk.specs.ActAs.{Asking, RunsActAs}
 use Rattle.ill_desk.specs.Telling.{wording}
@@ -23,6 +23,9 @@ use Rattle.ill_desk.specs.Send.{RunsSend}
 use Rattle.ill_show.specs.Loan.{FilesBeside, RunsLoan}
 use Rattle.ill_show.specs.declared.loan.LoanForm.{LoanForm}
 use Rattle.ill_slip.specs.Slip.{RunsSlip}
+use Rattle.ill_figures.specs.Figures.{figures_of}
+use Rattle.ill_figures.specs.Texts.{figures_text, head_text}
+use Rattle.ill_figures.specs.declared.figures.FiguresView.{FiguresView}
 use Rattle.ill_show.specs.Verify.{VerifiesLoaded}
 use Rattle.ill_show.specs.declared.wanted.Wanted.{Wanted}
 use Rattle.ill_show.specs.Listing.{between, listed_desk}
@@ -101,10 +104,20 @@ TellsDesk form last is_headed is_first stop =
     ⊎ ((sides : List Side) × (came : List ℕ)
     × GoesWell (WritesNews (news_text form is_headed is_first last stop.path sides) came stop.before stop.after) stop.answer)
 
+-- The figures of a desk were written in a visit, by its diary and by what came. Or a file could not be opened, and nothing was
+-- written.
+abbrev pub CountsDesk : FiguresView → (is_headed is_first : Bool) → Stop → Type 0
+CountsDesk view is_headed is_first stop =
+    FailsToOpen stop.before stop.after stop.answer
+    ⊎ ((sides : List Side) × (diary : List (List ℕ)) × (bytes : List ℕ)
+    × GoesWell (WritesNews (λ came. figures_text view is_headed is_first stop.path (figures_of view.span diary sides came)) bytes
+    stop.before stop.after) stop.answer)
+
 -- A visit has the effect of its command at one desk.
 abbrev pub RunsVisit : Visit → Form → (is_headed is_first : Bool) → Stop → Type 0
 RunsVisit (visits.List wanted find) form = ListsDesk form wanted.now (option_map (λ words. words.now) find)
 RunsVisit (visits.News last) form = TellsDesk form last
+RunsVisit (visits.Figures view) form = CountsDesk view.now
 
 -- Returns true if there are several desks to visit.
 abbrev pub are_several : List (List ℕ) → Bool
@@ -131,6 +144,19 @@ ListsPaths form wanted find before after result = VisitsPaths (ListsDesk form wa
 -- What came to the desks at the paths was told.
 abbrev pub TellsPaths : Form → Option ℕ → Option (List ℕ) → Option (List ℕ) → Result Bool ToolFault → Type 0
 TellsPaths form last before after result = VisitsPaths (TellsDesk form last) before after result
+
+-- After the text before the first desk, which was written with this result, the desks were visited. If that failed, none was.
+abbrev pub VisitsAfter : Result (Unit {0}) ToolFault → (Bool → Bool → Stop → Type 0) → Option (List ℕ) → Option (List ℕ) →
+    Result Bool ToolFault → Type 0
+VisitsAfter (Ok done) Runs between after result = VisitsPaths Runs between after result
+VisitsAfter (Err fault) Runs between after result = (result ≡ Err fault) × (after ≡ between)
+
+-- The figures of the desks at the paths were written. In CSV the names of the fields come first.
+abbrev pub CountsPaths : FiguresView → Option (List ℕ) → Option (List ℕ) → Result Bool ToolFault → Type 0
+CountsPaths view before after result =
+    (between : Option (List ℕ)) × (written : Result (Unit {0}) ToolFault)
+    × WritesPrefix before between (head_text view.is_csv) written
+    × VisitsAfter written (CountsDesk view) between after result
 
 -- The transaction `txn` at a desk was shown or drawn, with its note, its history and the messages that came. Or a file could
 -- not be opened.

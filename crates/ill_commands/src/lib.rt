@@ -2,6 +2,7 @@
 #![tactic(auto)]
 
 pub mod commands;
+pub mod counting;
 mod late_diary;
 pub mod letters;
 pub mod note;

@@ -5,7 +5,9 @@ ghost use Rattle.std.specs.Prelude.{map, string_bytes};
 ghost use Rattle.ill_commands.specs.AtFile.{RunsVisit, VisitsFiles, VisitsPaths};
 
 use crate::commands::list_file;
+use crate::counting::count_file;
 use crate::telling::tell_file;
+use ill_figures::figures::FiguresView;
 use ill_files::folder::{desk_paths, warn_of_names};
 use ill_files::machine::Machine;
 use ill_show::listed::Listed;
@@ -23,6 +25,8 @@ pub(crate) enum Visit<'a> {
     List(&'a Wanted, Option<&'a str>),
     /// The last of the messages that came to it are told, or all of them.
     News(Option<Number>),
+    /// Its figures are written.
+    Figures(&'a FiguresView),
 }
 
 /// Visits the desks at `paths`, and returns the gravest of their answers and of that about the names in the folders.
@@ -112,5 +116,6 @@ fn visit_file<T: Files, W: Write, E: Write>(
     match visit {
         Visit::List(wanted, find) => list_file(machine, listed, wanted, *find),
         Visit::News(last) => tell_file(machine, listed, *last),
+        Visit::Figures(view) => count_file(machine, listed, view),
     }
 }

@@ -60,6 +60,7 @@ fn tell_together<T: LockFiles>(
             text,
             "  A key is shown or read: --show or --read, and not both."
         ),
+        Name::Figures => writeln!(text, "  --to may not be before --from."),
         Name::Exchange => writeln!(
             text,
             "  --overdue and --expire want the day: `--today 20250301`."
@@ -90,6 +91,8 @@ fn tell_argument(
         | Argument::OnDay
         | Argument::DueBefore
         | Argument::ReportDay
+        | Argument::From
+        | Argument::To
         | Argument::NightDay => tell_day(text, word),
         Argument::By => tell_name(text, word),
         Argument::InState => tell_state(alloc, text, word),

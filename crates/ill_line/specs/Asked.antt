@@ -19,6 +19,9 @@ use Rattle.ill_desk.specs.ActAs.{Asking}
 use Rattle.ill_desk.specs.declared.take.TakeForm.{TakeForm}
 use Rattle.ill_key.specs.declared.key.KeyDeed.{KeyDeed}
 use Rattle.ill_key.specs.declared.key.KeyDeed.TheVariants as deeds
+use Rattle.ill_figures.specs.Days.{span_between}
+use Rattle.ill_figures.specs.declared.days.Span.{Span}
+use Rattle.ill_figures.specs.declared.figures.FiguresView.{FiguresView}
 use Rattle.ill_show.specs.Loan.{loan_form}
 use Rattle.ill_show.specs.Notes.{is_note, note_text}
 use Rattle.ill_show.specs.declared.loan.LoanForm.{LoanForm}
@@ -44,7 +47,7 @@ use Rattle.ill_line.specs.declared.command_line.Argument.TheVariants.{OnDay, Due
 use Rattle.ill_line.specs.declared.command_line.Argument.TheVariants.{Out, NightDay, Overdue, Expire, Copy, Beat, NewGroup, Ahead}
 use Rattle.ill_line.specs.declared.command_line.Argument.TheVariants.{By, DryRun, Seen}
 use Rattle.ill_line.specs.declared.command_line.Argument.TheVariants.{Actions, Last, Title, NoteWords, Find, Notes, SinceWhen}
-use Rattle.ill_line.specs.declared.command_line.Argument.TheVariants.{KeyFile, ShowKey, ReadKey}
+use Rattle.ill_line.specs.declared.command_line.Argument.TheVariants.{KeyFile, ShowKey, ReadKey, From, To, Csv}
 use Rattle.ill_line.specs.CommandLine.{name_read, id_of, is_option}
 use Rattle.ill_files.specs.Paths.{is_beside}
 use Rattle.ill_core.specs.State.{state_named}
@@ -140,9 +143,13 @@ stamp_unless false (Some stamp) = None
 abbrev pub stamp_if : (is_kept : Bool) → Found → Option (Option Stamped)
 stamp_if is_kept found = stamp_of found >>= stamp_unless is_kept
 
--- Returns the day of a report, if it is one.
-abbrev pub report_day_of : Found → Option Date
-report_day_of found = text_of ReportDay found >>= day_of
+-- Returns the day of an argument that must be given, if it is one.
+abbrev pub day_given : Argument → Found → Option Date
+day_given argument found = text_of argument found >>= day_of
+
+-- Returns the span of figures, if both days are valid and the last is not before the first.
+abbrev pub span_of : Found → Option Span
+span_of found = day_given From found >>= λ first. day_given To found >>= span_between first
 
 -- Returns the state that an optional word names. It is Some None without a word, and None if the word is no
 -- state.
@@ -296,6 +303,7 @@ pub data Asked : Type 0 where
   Send : (file : List ℕ) → (txn : Qualifiers) → (number : ℕ) → (key : Option (List ℕ)) → Asked
   Listing : (paths : List (List ℕ)) → (wanted : Wanted) → (find : Option (List ℕ)) → (form : Form) → Asked
   News : (paths : List (List ℕ)) → (last : Option ℕ) → (form : Form) → Asked
+  Figures : (paths : List (List ℕ)) → (view : FiguresView) → Asked
   Status : (file : List ℕ) → (form : Form) → Asked
   Loan : (file : List ℕ) → (txn : Qualifiers) → (form : LoanForm) → Asked
   Note : (file : List ℕ) → (txn : Qualifiers) → (words : List (List ℕ)) → Asked
@@ -331,6 +339,7 @@ asked (requests.Send file txn number key) = Send file.now txn number (option_map
 asked (requests.List paths wanted find form) =
     Listing (map (λ path. path.now) paths.items) wanted (option_map (λ text. text.now) find) form
 asked (requests.News paths last form) = News (map (λ path. path.now) paths.items) last form
+asked (requests.Figures paths view) = Figures (map (λ path. path.now) paths.items) view
 asked (requests.Status file form) = Status file.now form
 asked (requests.Loan file txn form) = Loan file.now txn form
 asked (requests.Note file txn words) = Note file.now txn (map (λ word. word.now) words.items)
@@ -414,6 +423,10 @@ asked_of names.News found = do
   paths ← texts_of Paths found
   last ← last_in found
   Some (News paths last (form_of found))
+asked_of names.Figures found = do
+  paths ← texts_of Paths found
+  span ← span_of found
+  Some (Figures paths (record { span = span; is_csv = is_set Csv found }))
 asked_of names.Status found = do
   file ← text_of File found
   Some (Status file (form_of found))
@@ -432,7 +445,7 @@ asked_of names.Slip found = do
   Some (Slip file txn)
 asked_of names.Report found = do
   paths ← texts_of Paths found
-  today ← report_day_of found
+  today ← day_given ReportDay found
   Some (Report paths today)
 asked_of names.Retire found = do
   file ← text_of File found

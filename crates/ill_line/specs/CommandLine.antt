@@ -4,6 +4,7 @@ use Rattle.std.specs.List.{before_first, list_any}
 use Rattle.ill_line.specs.declared.command_line.Name.{Name}
 use Rattle.ill_line.specs.declared.command_line.Name.TheVariants.{New, Act, Take, Inbox, Outbox, Exchange, Send, Status, Loan}
 use Rattle.ill_line.specs.declared.command_line.Name.TheVariants.{Slip, Report, Retire, Verify, Show, Check, Simulate, News}
+use Rattle.ill_line.specs.declared.command_line.Name.TheVariants.{Figures}
 use Rattle.ill_line.specs.declared.command_line.Name.TheVariants.{SimulateDesks, Note, Key}
 use Rattle.ill_line.specs.declared.command_line.Name.TheVariants as names
 use Rattle.ill_line.specs.declared.command_line.Argument.{Argument}
@@ -13,7 +14,7 @@ use Rattle.ill_line.specs.declared.command_line.Argument.TheVariants.{OnDay, Due
 use Rattle.ill_line.specs.declared.command_line.Argument.TheVariants.{Out, NightDay, Overdue, Expire, Copy, Beat, NewGroup, Ahead}
 use Rattle.ill_line.specs.declared.command_line.Argument.TheVariants.{By, DryRun, Seen}
 use Rattle.ill_line.specs.declared.command_line.Argument.TheVariants.{Actions, Last, Title, NoteWords, Find, Notes, SinceWhen}
-use Rattle.ill_line.specs.declared.command_line.Argument.TheVariants.{KeyFile, ShowKey, ReadKey}
+use Rattle.ill_line.specs.declared.command_line.Argument.TheVariants.{KeyFile, ShowKey, ReadKey, From, To, Csv}
 use Rattle.ill_line.specs.declared.command_line.Argument.TheVariants as arguments
 
 -- Returns the word of a command on the command line.
@@ -28,6 +29,7 @@ word_of Key = codes "key"
 word_of Send = codes "send"
 word_of names.List = codes "list"
 word_of News = codes "news"
+word_of Figures = codes "figures"
 word_of Status = codes "status"
 word_of Loan = codes "loan"
 word_of Note = codes "note"
@@ -43,8 +45,8 @@ word_of SimulateDesks = codes "simulate-desks"
 -- Returns the command that has the word `word`.
 abbrev pub name_read : List ℕ → Option Name
 name_read word = find (λ name. bytes_eq (word_of name) word)
-    (New ∷ Act ∷ names.List ∷ News ∷ Loan ∷ Note ∷ Slip ∷ Status ∷ Report ∷ Take ∷ Send ∷ Inbox ∷ Outbox ∷ Exchange ∷ Key
-    ∷ Verify ∷ Show ∷ Check ∷ Simulate ∷ SimulateDesks ∷ Retire ∷ [])
+    (New ∷ Act ∷ names.List ∷ News ∷ Loan ∷ Note ∷ Slip ∷ Status ∷ Report ∷ Figures ∷ Take ∷ Send ∷ Inbox ∷ Outbox ∷ Exchange
+    ∷ Key ∷ Verify ∷ Show ∷ Check ∷ Simulate ∷ SimulateDesks ∷ Retire ∷ [])
 
 -- Returns the name that `clap` has for an argument.
 abbrev pub id_of : Argument → List ℕ
@@ -89,6 +91,9 @@ id_of Actions = codes "actions"
 id_of Notes = codes "notes"
 id_of SinceWhen = codes "since-when"
 id_of Last = codes "last"
+id_of From = codes "from"
+id_of To = codes "to"
+id_of Csv = codes "csv"
 id_of arguments.Key = codes "key"
 id_of KeyFile = codes "KEYFILE"
 id_of ShowKey = codes "show"
@@ -102,8 +107,8 @@ options =
     ∷ codes "--copy" ∷ codes "--beat"
     ∷ codes "--stream" ∷ codes "--overdue" ∷ codes "--expire" ∷ codes "--long" ∷ codes "--keep" ∷ codes "--picture"
     ∷ codes "--open" ∷ codes "--mine" ∷ codes "--actions" ∷ codes "--notes" ∷ codes "--since-when" ∷ codes "--json"
-        ∷ codes "--new-group"
-    ∷ codes "--last" ∷ codes "--key" ∷ codes "--show" ∷ codes "--read"
+    ∷ codes "--new-group"
+    ∷ codes "--last" ∷ codes "--from" ∷ codes "--to" ∷ codes "--csv" ∷ codes "--key" ∷ codes "--show" ∷ codes "--read"
     ∷ codes "--explain" ∷ codes "--help" ∷ codes "--version" ∷ codes "-h" ∷ codes "-V" ∷ []
 
 -- Returns `word` before its first `=`, which is the byte 61.

@@ -21,6 +21,7 @@ pub enum Name {
     Send,
     List,
     News,
+    Figures,
     Status,
     Loan,
     Note,
@@ -39,7 +40,7 @@ pub const SHELF: &str = "shelf";
 
 /// All commands, in the order of the help. First come the commands for staff, then the commands for the exchange with
 /// other libraries. The last are for looking inside, and one is for shelves alone. `clap` has these and no others.
-const NAMES: [Name; 21] = [
+const NAMES: [Name; 22] = [
     Name::New,
     Name::Act,
     Name::List,
@@ -49,6 +50,7 @@ const NAMES: [Name; 21] = [
     Name::Slip,
     Name::Status,
     Name::Report,
+    Name::Figures,
     Name::Take,
     Name::Send,
     Name::Inbox,
@@ -95,6 +97,7 @@ impl Name {
             Name::Send => "send",
             Name::List => "list",
             Name::News => "news",
+            Name::Figures => "figures",
             Name::Status => "status",
             Name::Loan => "loan",
             Name::Note => "note",
@@ -122,6 +125,7 @@ impl Name {
             Name::Send => "Write the bytes of one message of a loan",
             Name::List => "List the loans of desks by the work of the day",
             Name::News => "Tell what came to desks, in the order in which it came",
+            Name::Figures => "Count the loans of desks that were asked in a span of days",
             Name::Status => "Show how each loan in a file stands",
             Name::Loan => "Show all of one loan: request, messages, what may be done",
             Name::Note => "Keep a note on one loan, for staff alone",
@@ -149,6 +153,7 @@ impl Name {
             Name::Send => help::SEND,
             Name::List => help::LIST,
             Name::News => help::NEWS,
+            Name::Figures => help::FIGURES,
             Name::Status => help::STATUS,
             Name::Loan => help::LOAN,
             Name::Note => help::NOTE,
@@ -176,6 +181,7 @@ impl Name {
             Name::Send => help::SEND_EXAMPLE,
             Name::List => help::LIST_EXAMPLE,
             Name::News => help::NEWS_EXAMPLE,
+            Name::Figures => help::FIGURES_EXAMPLE,
             Name::Status => help::STATUS_EXAMPLE,
             Name::Loan => help::LOAN_EXAMPLE,
             Name::Note => help::NOTE_EXAMPLE,
@@ -272,6 +278,7 @@ impl Name {
                 Argument::Json,
             ],
             Name::News => &[Argument::Paths, Argument::Last, Argument::Json],
+            Name::Figures => &[Argument::Paths, Argument::From, Argument::To, Argument::Csv],
             Name::Simulate => &[Argument::Group, Argument::Transaction],
             Name::Show => &[Argument::Json],
             Name::Check | Name::SimulateDesks => &[],
@@ -402,6 +409,12 @@ pub enum Argument {
     InState,
     /// The day of a report.
     ReportDay,
+    /// The first day of figures.
+    From,
+    /// The last day of figures.
+    To,
+    /// Set if figures are records of CSV.
+    Csv,
     /// The number of messages that are shown.
     Last,
     /// Set if a shelf may begin a desk for the group of a loan.
@@ -454,6 +467,9 @@ impl Argument {
             Argument::Ahead => "ahead",
             Argument::DueBefore => "due-before",
             Argument::InState => "state",
+            Argument::From => "from",
+            Argument::To => "to",
+            Argument::Csv => "csv",
             Argument::NewGroup => "new-group",
             Argument::Last => "last",
             Argument::Key => "key",
@@ -504,6 +520,9 @@ impl Argument {
             Argument::DueBefore => "List only the loans that are due before this day",
             Argument::InState => "List only the loans in this state, as SHIPPED",
             Argument::ReportDay => "The day of the report, as 20250301",
+            Argument::From => "The first day of the span, as 20250301",
+            Argument::To => "The last day of the span, which is in it, too",
+            Argument::Csv => "Write records of CSV, one for each desk",
             Argument::Last => "Tell only the last N messages, 1 to 255",
             Argument::NewGroup => "Begin the group of the loan, if the shelf has none",
             Argument::Key => "Open or seal a letter with the key in this file",
@@ -533,6 +552,9 @@ impl Argument {
             Argument::Find => valued(arg, "find", "WORDS"),
             Argument::Last => valued(arg, "last", "N"),
             Argument::ReportDay => valued(arg, "today", "DAY").required(true),
+            Argument::From => valued(arg, "from", "DAY").required(true),
+            Argument::To => valued(arg, "to", "DAY").required(true),
+            Argument::Csv => arg.long("csv").action(ArgAction::SetTrue),
             Argument::Paths => arg.required(true).action(ArgAction::Append).num_args(1..),
             Argument::Words | Argument::NoteWords => arg
                 .required(true)
@@ -586,7 +608,7 @@ fn valued<'a>(arg: Arg<'a>, name: &'a str, value: &'a str) -> Arg<'a> {
 }
 
 /// All options of the program, also those that `clap` adds.
-const OPTIONS: [&str; 32] = [
+const OPTIONS: [&str; 35] = [
     "--today",
     "--by",
     "--seen",
@@ -611,6 +633,9 @@ const OPTIONS: [&str; 32] = [
     "--json",
     "--new-group",
     "--last",
+    "--from",
+    "--to",
+    "--csv",
     "--key",
     "--show",
     "--read",

@@ -4,7 +4,8 @@ pub const VERSION: &str = "0.2.0";
 
 pub const ILL: &str = "\
 The commands stand in groups:
-  for staff             new, act, list, news, loan, note, slip, status, report
+  for staff             new, act, list, news, loan, note, slip, status, report,
+                        figures
   for the exchange      take, send, inbox, outbox, exchange, key
   for over 1,000 loans  shelf, which has commands of its own
   to look inside        verify, show, check, simulate, simulate-desks
@@ -24,17 +25,18 @@ write no file. `key` makes or reads KEYFILE, the file of a key, and no other.
 Several commands may be started at once on one file. `new`, `act`, `note`,
 `take`, `inbox`, `outbox` and `exchange` wait for each other: ten seconds, and
 then they end with `store failed`. Each holds the file until it ends, `take`
-until its input ends. `list`, `news`, `loan`, `slip`, `status`, `report`, `send`
-and `verify` wait for nobody.
+until its input ends. `list`, `news`, `loan`, `slip`, `status`, `report`,
+`figures`, `send` and `verify` wait for nobody.
 
 PATH is the file of a desk, or a folder of desks. A folder's desks come in the
 order of their names: all regular files, but for those that begin with a dot or
 that lie beside a desk, as `ill new --help` names them. Of a folder with a
-shelf, only the desks of its groups come. Of several desks `list` and `news`
-write a line `PATH:` before each of which they tell something, and an empty line
-before each but the first. A desk that cannot be read is told on standard error,
-and the others come. So is a name in a folder that is no UTF-8, which counts as
-`store failed`. The exit status is that of the first desk that fails.
+shelf, only the desks of its groups come. Of several desks `list`, `news` and
+`figures` write a line `PATH:` before each of which they tell something, and an
+empty line before each but the first. A desk that cannot be read is told on
+standard error, and the others come. So is a name in a folder that is no UTF-8,
+which counts as `store failed`. The exit status is that of the first desk that
+fails.
 
 Only `take`, `key`, `show`, `check`, `simulate` and `simulate-desks` read
 standard input. `take`, `show` and `check` read APDUs, in the short form, one
@@ -655,6 +657,74 @@ pub const NEWS_EXAMPLE: &str = "Example:
   $ ill news here
     G1  T1  1    shipped, due 2025-03-15  Maps
   messages 1, shown 1";
+
+pub const FIGURES: &str = "\
+Count the loans of desks that were asked in a span of days, and how long they
+took.
+
+The days are those of FILE.diary, where `act`, `take`, `inbox` and `exchange`
+enter them if they are given --today. All else is in FILE and in FILE.came,
+where `take` with --keep, `inbox` and `exchange` keep what came. A line of the
+diary counts only if the loan has the message that it names; of several lines
+that name one message, the last counts. --from and --to are days of the span,
+too, and --to may not be before --from. The lines of a desk:
+  from DAY to DAY        the span
+  asked                  the loans whose request has a day in the span
+  filled                 those whose item was shipped
+  open                   those that have no end yet
+  cancelled              those that were cancelled
+  refused                those that ended without the item, by their reason:
+    unfilled             ILL-Answer unfilled
+    retry                ILL-Answer retry
+    estimate             ILL-Answer estimate
+    locations-provided   ILL-Answer locations-provided
+    expired              Expired
+    unknown              the message with the reason was not kept
+  days to answer         from the request to the first ILL-Answer or Shipped
+  days to arrive         from the request to the Received
+  days out               from the Shipped to the Checked-In
+  without a day          the loans of the desk whose request has no day: they
+                         are in no span, and no other line counts them
+
+Each loan that was asked is one of filled, open, cancelled and refused. Days are
+shown as the mean of the loans in which both days are known, to a tenth of a
+day. The number of these loans comes after it. Without one the line has `-`.
+
+With --csv a record of CSV (RFC 4180) comes for each desk, after one with the
+names of the fields. Its first field is the path, in quotes. A mean is a field
+of its own after its number of loans, and is empty without a loan.
+
+`ill --help` tells which desks a PATH has, and what comes of several.";
+
+pub const FIGURES_EXAMPLE: &str = "Example:
+  $ ill new here requester
+  done
+  $ ill act here G1 T1 --today 20250301 request none Maps
+  done PENDING - 1/1
+  $ ill send here G1 T1 1 > message
+  $ ill new there responder
+  done
+  $ ill take there --keep --today 20250303 < message
+  taken IN-PROCESS - 0/0
+  $ ill act there G1 T1 --today 20250304 ship +14
+  done SHIPPED 20250318 1/1
+  $ ill figures there --from 20250301 --to 20250331
+    from 2025-03-01 to 2025-03-31
+    asked                 1
+    filled                1
+    open                  0
+    cancelled             0
+    refused               0
+      unfilled            0
+      retry               0
+      estimate            0
+      locations-provided  0
+      expired             0
+      unknown             0
+    days to answer        1.0 of 1
+    days to arrive        -
+    days out              -
+    without a day         0";
 
 pub const STATUS: &str = "\
 Show how each loan in a file stands.

@@ -9,13 +9,14 @@ ghost use Rattle.ill_line.specs.declared.request.Refusal.TheVariants.{Usage, Fau
 ghost use Rattle.ill_text.specs.declared.fault.ToolFault.TheVariants.{OutOfMemory};
 ghost use Rattle.ill_line.specs.declared.command_line.Name.TheVariants as names;
 ghost use Rattle.ill_text.specs.Diary.{stamped};
-ghost use Rattle.ill_line.specs.Asked.{dates_and_stamp_of, day_and_name_of, name_in, stamp_if, stamp_of, GivesId, ReadsValue, IsRefusal, asked_by, asked_in, asked_of, text_of, texts_of, role_of, loan_of, group_of, new_file_of, day_in, last_in, state_in, number_of_message, dates_of, outlet_of, is_set, which_of, form_of, wanted_of, wanted_on, ahead_in, due_in, day_or_days, days_on, report_day_of, asked, desk_at_stake, end_with_dashes, has_option, note_words_of, said_free, unless_option, deed_by, deed_of};
+ghost use Rattle.ill_line.specs.Asked.{dates_and_stamp_of, day_and_name_of, name_in, stamp_if, stamp_of, GivesId, ReadsValue, IsRefusal, asked_by, asked_in, asked_of, text_of, texts_of, role_of, loan_of, group_of, new_file_of, day_in, last_in, state_in, number_of_message, dates_of, outlet_of, is_set, which_of, form_of, wanted_of, wanted_on, ahead_in, due_in, day_or_days, days_on, day_given, span_of, asked, desk_at_stake, end_with_dashes, has_option, note_words_of, said_free, unless_option, deed_by, deed_of};
 
 use crate::command_line::{Argument, Name, SHELF, command, is_option};
 use clap::error::ErrorKind;
 use clap::{ArgMatches, Command, Error};
 use ill_core::State;
 use ill_desk::take::TakeForm;
+use ill_figures::figures::{FiguresView, Span};
 use ill_files::paths::is_beside;
 use ill_key::key::KeyDeed;
 use ill_night::dates::Dates;
@@ -150,6 +151,13 @@ pub enum Request<'a> {
         last: Option<Number>,
         /// The form of the messages that are shown.
         form: Form,
+    },
+    /// Count the loans of desks: `ill figures`.
+    Figures {
+        /// The paths of the desks, or of folders of them.
+        paths: Vec<&'a str>,
+        /// The span of the figures, and their form.
+        view: FiguresView,
     },
     /// Show the sides in a file: `ill status`.
     Status {
@@ -372,6 +380,7 @@ fn requested<'a>(
         Name::Send => send_request(alloc, matches),
         Name::List => list_request(alloc, matches),
         Name::News => news_request(alloc, matches),
+        Name::Figures => figures_request(alloc, matches),
         Name::Status => status_request(alloc, matches),
         Name::Loan => loan_request(alloc, matches),
         Name::Note => note_request(alloc, matches),
@@ -703,6 +712,40 @@ fn news_request<'a>(alloc: Global, matches: &ArgMatches<'a>) -> Result<Request<'
     })
 }
 
+/// Returns the request of `ill figures`.
+fn figures_request<'a>(alloc: Global, matches: &ArgMatches<'a>) -> Result<Request<'a>, Refusal>
+    ensures { ReadsValue asked (asked_of names.Figures (rows_of (found_of matches.now))) result }
+{
+    let paths = texts(alloc, matches, Argument::Paths)?;
+    let span = match span(alloc, matches) {
+        Ok(span) => span,
+        Err(refusal) => return Err(refusal),
+    };
+    let view = FiguresView {
+        span,
+        is_csv: is_set(matches, Argument::Csv),
+    };
+    Ok(Request::Figures { paths, view })
+}
+
+/// Returns the span of figures. The last day may not be before the first.
+fn span(alloc: Global, matches: &ArgMatches<'_>) -> Result<Span, Refusal>
+    ensures { ReadsValue (λ span. span) (span_of (rows_of (found_of matches.now))) result }
+{
+    let first = match day_given(alloc, matches, Argument::From) {
+        Ok(first) => first,
+        Err(refusal) => return Err(refusal),
+    };
+    let last = match day_given(alloc, matches, Argument::To) {
+        Ok(last) => last,
+        Err(refusal) => return Err(refusal),
+    };
+    match Span::new(first, last) {
+        Some(span) => Ok(span),
+        None => Err(Refusal::Fault(ToolFault::Arguments)),
+    }
+}
+
 /// Returns the request of `ill status`.
 fn status_request<'a>(alloc: Global, matches: &ArgMatches<'a>) -> Result<Request<'a>, Refusal>
     ensures { ReadsValue asked (asked_of names.Status (rows_of (found_of matches.now))) result }
@@ -789,7 +832,7 @@ fn report_request<'a>(alloc: Global, matches: &ArgMatches<'a>) -> Result<Request
     ensures { ReadsValue asked (asked_of names.Report (rows_of (found_of matches.now))) result }
 {
     let paths = texts(alloc, matches, Argument::Paths)?;
-    let today = report_day(alloc, matches)?;
+    let today = day_given(alloc, matches, Argument::ReportDay)?;
     Ok(Request::Report { paths, today })
 }
 
@@ -944,11 +987,11 @@ fn day(matches: &ArgMatches<'_>, argument: Argument) -> Result<Option<Day>, Refu
     }
 }
 
-/// Returns the day of a report.
-fn report_day(alloc: Global, matches: &ArgMatches<'_>) -> Result<Day, Refusal>
-    ensures { ReadsValue (λ today. today) (report_day_of (rows_of (found_of matches.now))) result }
+/// Returns the day of an argument that must be given.
+fn day_given(alloc: Global, matches: &ArgMatches<'_>, argument: Argument) -> Result<Day, Refusal>
+    ensures { ReadsValue (λ day. day) (day_given argument (rows_of (found_of matches.now))) result }
 {
-    let word = text(alloc, matches, Argument::ReportDay)?;
+    let word = text(alloc, matches, argument)?;
     match Day::read(word.as_bytes()) {
         Ok(day) => Ok(day),
         Err(_) => Err(Refusal::Fault(ToolFault::Arguments)),

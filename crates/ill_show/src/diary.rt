@@ -23,17 +23,17 @@ use std::alloc::Global;
 
 /// What a line of a diary says.
 #[derive(Clone, Copy)]
-pub(crate) struct Entry<'a> {
+pub struct Entry<'a> {
     /// The day.
-    pub(crate) day: Day,
+    pub day: Day,
     /// The name of a person, or a dash.
-    by: &'a str,
+    pub by: &'a str,
     /// The key of a message.
-    pub(crate) message: &'a str,
+    pub message: &'a str,
 }
 
 /// Returns what a line says, if it is UTF-8 and says something.
-pub(crate) fn said_by(line: &[u8]) -> Option<Entry<'_>>
+pub fn said_by(line: &[u8]) -> Option<Entry<'_>>
     ensures { option_map said result ≡ said_by line.now }
 {
     match str::from_utf8(line) {
@@ -168,7 +168,7 @@ fn push_message(
 }
 
 /// Returns the verb of the action that issued a message with this body.
-fn verb_of(body: &Body) -> Verb
+pub fn verb_of(body: &Body) -> Verb
     ensures { result ≡ body_verb body.now }
 {
     match body {

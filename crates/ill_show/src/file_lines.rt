@@ -55,7 +55,7 @@ impl FileLines {
     }
 
     /// Returns the lines, without their ends.
-    pub(crate) fn lines(&self) -> &[Vec<u8>]
+    pub fn lines(&self) -> &[Vec<u8>]
         ensures { map (λ line. line.items) result.now ≡ lines_of self.now }
     {
         &self.lines

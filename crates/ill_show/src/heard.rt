@@ -15,7 +15,7 @@ use ill_saved::Side;
 use ill_values::{AnswerResult, Apdu, Body, Day, Number};
 
 /// Returns true if the record of `side` shows that `apdu` was taken.
-pub(crate) fn is_heard(side: &Side, apdu: &Apdu) -> bool
+pub fn is_heard(side: &Side, apdu: &Apdu) -> bool
     ensures { result ≡ is_heard side.now apdu.now }
 {
     match side {

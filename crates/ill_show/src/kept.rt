@@ -27,7 +27,7 @@ pub(crate) fn push_kept_lines(
 }
 
 /// Returns the messages of the transaction `txn` in `came`, each once.
-pub(crate) fn kept_of(alloc: Global, txn: &TxnId, came: &[Apdu]) -> Result<Vec<Apdu>, OutOfMemory>
+pub fn kept_of(alloc: Global, txn: &TxnId, came: &[Apdu]) -> Result<Vec<Apdu>, OutOfMemory>
     ensures { IfOk result (λ kept. kept.items ≡ kept_of txn.now came.now) }
 {
     let mut kept = Vec::new(alloc);

@@ -4,12 +4,12 @@
 
 pub mod annex;
 mod counts;
-mod diary;
+pub mod diary;
 pub mod file_lines;
 pub mod finding;
-mod heard;
+pub mod heard;
 pub mod item_line;
-mod kept;
+pub mod kept;
 pub mod laws;
 pub mod list;
 mod list_objects;

@@ -15,7 +15,7 @@ use Rattle.ill_line.specs.declared.request.Refusal.{Refusal}
 use Rattle.ill_line.specs.declared.request.Refusal.TheVariants.{Usage, Fault}
 use Rattle.ill_tool.specs.ExitStatus.{IsFlushed, TellsKind, exit_status, status_of}
 use Rattle.ill_commands.specs.AtFile.{NewAtFile, ActsAtFile, ShowsFile, ListsPaths, LoanAtFile}
-use Rattle.ill_commands.specs.AtFile.{SlipAtFile, TakesAtFile, TellsPaths}
+use Rattle.ill_commands.specs.AtFile.{CountsPaths, SlipAtFile, TakesAtFile, TellsPaths}
 use Rattle.ill_commands.specs.Letters.{SendsWith, TakesWith}
 use Rattle.ill_commands.specs.Note.{NotesAtFile}
 use Rattle.ill_commands.specs.Streams.{streams_of}
@@ -53,6 +53,7 @@ Runs (asks.Listing paths wanted find form) left rest before after result =
     (rest ≡ left) × ListsPaths form wanted find before after result
 Runs (asks.News paths last form) left rest before after result =
     (rest ≡ left) × TellsPaths form last before after result
+Runs (asks.Figures paths view) left rest before after result = (rest ≡ left) × CountsPaths view before after result
 Runs (asks.Status file form) left rest before after result = (rest ≡ left) × ShowsFile form before after result
 Runs (asks.Loan file txn form) left rest before after result =
     (rest ≡ left) × LoanAtFile form txn before after result

@@ -9,6 +9,7 @@ pub use ill_desk::act::{run_act, run_desk_act};
 pub use ill_desk::new::run_desk_new;
 pub use ill_desk::send::{run_desk_send, run_send};
 pub use ill_desk::take::{TakeForm, run_desk_take, run_desk_take_as, run_take};
+pub use ill_figures::figures::run_desk_figures;
 pub use ill_files::shelf::{desk_name, groups_have_their_own_desks};
 pub use ill_night::asked::asked_by;
 pub use ill_night::copy::run_desk_copy;

@@ -11,6 +11,7 @@ use crate::simulate::{run_simulate, run_simulate_desks};
 use clap::Error;
 use clap::error::ErrorKind;
 use ill_commands::commands::{TakeView, act, list, loan, new, report, slip, status, verify};
+use ill_commands::counting::figures;
 use ill_commands::letters::{send_with, take_with};
 use ill_commands::note::{NoteView, note};
 use ill_commands::telling::news;
@@ -313,6 +314,7 @@ fn run<T: LockFiles, R: Read, W: Write, E: Write>(
             form,
         } => list(machine, paths, wanted, *find, *form),
         Request::News { paths, last, form } => news(machine, paths, *last, *form),
+        Request::Figures { paths, view } => figures(machine, paths, view),
         Request::Status { file, form } => status(machine, file, *form),
         Request::Loan { file, txn, form } => loan(machine, file, &LoanView { txn, form: *form }),
         Request::Note { file, txn, words } => note(machine, file, &NoteView { txn, words }),

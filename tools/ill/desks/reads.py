@@ -8,6 +8,7 @@ same courses must have the same bytes. Of each desk the program writes
 - `list` and its objects with each combination of its options, in the order, with the columns and counts of the model;
 - `loan`, its picture and its object, and `slip`, of each loan or, on the large desks, of some;
 - what shows the notes that are written beside the desk, and what is found in them, and the notes that `note` keeps,
+- `figures` and its records of CSV, by a diary with lines that count and lines that do not;
 - `news` and its objects of what came, which is written beside the desk once, twice and torn, with `--last` too;
 - `status`, its objects, `report` and `verify`;
 
@@ -19,7 +20,9 @@ commands. A verb that `loan` and `list --actions` show must never be answered `n
 The model is written from the documents and shares nothing with the program.
 """
 import concurrent.futures
+import csv
 import html
+import io
 import itertools
 import json
 import os
@@ -29,6 +32,7 @@ import subprocess
 import tempfile
 
 from ill import harness
+from ill.counting import FIELDS, Figures, diary_line, messages
 from ill.der import ASKED, shipped, spelled
 from ill.harness import CLOSED, FULL, read, write
 from ill.model import REQUESTER, RESPONDER, ROLES, FORMS, Fault, Side
@@ -453,6 +457,49 @@ def check_news(judge, path, sides):
     judge.objects(["news", path, "--json"], [])
 
 
+# Lines of a diary that name no message of any loan, or are none.
+NO_LINES = [b"20250301 - no loan ship 1\n", b"2025-03-01 - G1 T1 ship 1\n", b"20250230 - G1 T1 ship 1\n", b"\xff\n", b"\n",
+            b"20250301 -\n", b"20250301 - G1 T1 request\n"]
+MOST_BYTES = 67108864  # of a diary that is read
+SPANS = [("19000101", "99991231"), ("20250301", "20250331"), ("20250310", "20250310"), ("20260101", "20261231")]
+
+
+def check_figures(judge, path, sides):
+    """Compares `figures` by a diary that names most messages of the record, some twice, and by what came. Other lines name
+    what no record has, or nothing. The last line has no end. A diary that is too long is as none. Then the file of what came
+    is away, and at last the diary."""
+    days, lines = {}, list(NO_LINES)
+    for place, (side, number, what) in enumerate((side, apdu["number"], what) for side in sides
+                                                 for apdu, what in messages(side, True)):
+        if place % 7 == 3:
+            continue
+        for day in range(1 + (place % 5 == 0)):
+            days[(tuple(side.txn), what, number)] = f"2025{place % 3 + 2:02}{(place * 5 + day * 9) % 28 + 1:02}"
+            lines.append(diary_line(days[(tuple(side.txn), what, number)], "-" if place % 2 else "anna", side.txn, what, number))
+        lines.append(diary_line("20250101", "-", side.txn, what, number + 100))
+    diary = b"".join(lines) + diary_line("20250101", "-", ("G1", "T1"), "request", 1)[:-1]
+    days = days if len(diary) <= MOST_BYTES else {}
+    write(f"{path}.diary", diary)
+    write(f"{path}.came", came_bytes(sides))
+    for is_kept in (True, False):
+        for span in SPANS[:1 if is_longest(sides) else None]:
+            compare_figures(judge, path, Figures(sides, days, span, is_kept))
+        if is_kept:
+            os.remove(f"{path}.came")
+    os.remove(f"{path}.diary")
+    compare_figures(judge, path, Figures(sides, {}, SPANS[0]))
+
+
+def compare_figures(judge, path, figures):
+    """Compares the lines and the records of CSV of figures."""
+    words = ["figures", path, "--from", figures.span[0], "--to", figures.span[1]]
+    judge.lines(words, figures.lines())
+    text = judge.text([*words, "--csv"])
+    judge.same(f"the records of {path}", list(csv.reader(io.StringIO(text, newline=""), strict=True)),
+               [FIELDS, figures.fields(path)])
+    judge.same(f"the ends of the records of {path}", (text.count("\r\n"), text.count("\n")), (2, 2))
+
+
 # Words of notes, some of which a terminal would act on, and words that are sought.
 NOTES = ["for Prof. Noether, by Friday", "STRASSE 12 \u202e", "shelf 7\\3", "\\u{20}", "G1 T1 nobody", "ﬃ", "-"]
 SOUGHT = ["strasse", "Straße", "NOETHER", "FFI", "maps", "g1 t", "u{202e}", " ", "nobody has this"]
@@ -500,7 +547,8 @@ def check_rest(judge, path, role, sides):
 def reading(path, sides):
     """Returns the commands that read a desk."""
     commands = [["list", path], ["news", path], ["list", path, "--mine", "--today", TODAY], ["list", path, "--json"], ["status", path],
-                ["status", path, "--json"], ["report", path, "--today", TODAY], ["verify", path], ["verify", path, "--json"]]
+                ["status", path, "--json"], ["report", path, "--today", TODAY], ["verify", path], ["verify", path, "--json"],
+                ["figures", path, "--from", "20250301", "--to", TODAY]]
     for side in sides[:1]:
         commands += [["slip", path, *side.txn]]
         commands += [["loan", path, *side.txn, *option] for option in ([], ["--picture"], ["--json"])]
@@ -743,6 +791,7 @@ def check_desks(judge):
         check_list(judge, name, sides)
         check_loans(judge, name, sides)
         check_news(judge, name, sides)
+        check_figures(judge, name, sides)
         if not is_longest(sides):
             check_notes(judge, name, sides)
         check_rest(judge, name, role, sides)

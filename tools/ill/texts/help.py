@@ -20,15 +20,15 @@ from ill.texts import words as command_line
 from ill.texts.words import HELP, LINE, MAN, body, find, named
 
 EXPLAIN = "crates/ill_explain/src"
-WORLD, WORDS, TEXT, SHOW, SLIP, DESK, NIGHT, FILES, KEY, COMMANDS, MAIL, SHELF = (
+WORLD, WORDS, TEXT, SHOW, SLIP, COUNTED, DESK, NIGHT, FILES, KEY, COMMANDS, MAIL, SHELF = (
     f"crates/ill_{room}/src"
-    for room in ("world", "words", "text", "show", "slip", "desk", "night", "files", "key", "commands", "mail",
+    for room in ("world", "words", "text", "show", "slip", "figures", "desk", "night", "files", "key", "commands", "mail",
                  "shelf"))
 FILE_KINDS = {"File", "NewFile", "Paths", "Folder"}
 KEY_KINDS = {"KeyFile", "Key"}
-FLAGS = {"Long", "Keep", "Picture", "Open", "Mine", "Actions", "Json"}
+FLAGS = {"Long", "Keep", "Picture", "Open", "Mine", "Actions", "Json", "Csv"}
 # The sources of the commands on a file: what locks it is told by their bodies.
-FILED = (f"{COMMANDS}/commands.rt", f"{COMMANDS}/telling.rt", f"{COMMANDS}/note.rt", f"{MAIL}/exchange.rt",
+FILED = (f"{COMMANDS}/commands.rt", f"{COMMANDS}/telling.rt", f"{COMMANDS}/counting.rt", f"{COMMANDS}/note.rt", f"{MAIL}/exchange.rt",
          f"{MAIL}/rooms.rt")
 # The source of what a command does after it has opened what it works on.
 ENGINES = {"exchange": (f"{MAIL}/rooms.rt",)}
@@ -51,6 +51,7 @@ more than {record} bytes; at most {record} bytes; FILE {record} bytes
 wait for each other: {wait} seconds; held FILE for {wait} seconds
 {day_digits} digits, as {day}, of the years {first_year} to {last_year}; A day is {day_digits} digits, as {day}
 The day of the action, as {day}; The day of the report, as {day}; The day of the run, as {day}
+The first day of the span, as {day}
 want the day: `--today {day}`; DAY is {day_digits} digits, as {day}; The day of the work, as {day}
 at most DAYS days away: {first} to {last}, or {ahead} without this option; a due date is soon, or {ahead}
 N days after that day, {first} to {last}; the last N messages, {first} to {last}
@@ -85,7 +86,7 @@ If DIR is no shelf, it is {refused} with `no-record`
 A due date is soon if it is at most {soon} days away
 """
 # Numbers in names, and what they are no numbers of: standards, letters, versions of this program.
-NAMES = r"`\+14` is the day 14|UTF-8|Code 128|`[0-9a-f]{32}-\d{3}`|SHA-256|ISO \d+(?:-\d)?|X\.690|U\+00\d\d" \
+NAMES = r"`\+14` is the day 14|UTF-8|Code 128|`[0-9a-f]{32}-\d{3}`|SHA-256|ISO \d+(?:-\d)?|RFC 4180|X\.690|U\+00\d\d" \
         r"|ill 0\.1\b|\b0\.1 does|simple two-party profile"
 
 # The faults of a key.
@@ -126,8 +127,8 @@ AT_DESKS = ["NoSuchTransaction", "DeskFull"]
 FORMS = {"yes": ["yes", "no"], "landed": ["old", "new"], "optional_day": ["WISHED"], "read": ["RESULT"],
          "due": ["DUE"], "number": ["NUMBER"], "bytes": ["HEX"], "request": ["EXPIRY ITEM"], "bare": [""]}
 # Words in capitals that stand for others.
-CAPITALS = set("ACL APDU APDUs ASCII COMMAND DAY DAYS DER DESK DIGEST DIR DUE EXPIRY FILE FOLDER GROUP HEX HTML ILL IN "
-               "ISO ISSUED ITEM ITU JSON KEYFILE LOCK N NAME NUMBER OUT OUTCOME PATH REASON RELEASED RESULT ROLE SIDE STATE "
+CAPITALS = set("ACL APDU APDUs ASCII COMMAND CSV DAY DAYS DER DESK DIGEST DIR DUE EXPIRY FILE FOLDER GROUP HEX HTML ILL IN "
+               "ISO ISSUED ITEM ITU JSON KEYFILE LOCK N NAME NUMBER OUT OUTCOME PATH REASON RELEASED RESULT RFC ROLE SIDE STATE "
                "TODAY SHA TRANSACTION TYPE U UTF VERB WISHED WORDS X".split())
 
 COMPARED = repository.Comparison()
@@ -260,7 +261,7 @@ def statuses():
 
 def source_of(command):
     """Returns the path of the source of a command: it stands in one of the crates of the program."""
-    crates = (TEXT, SHOW, SLIP, DESK, NIGHT, FILES, KEY, COMMANDS, MAIL, SHELF, "crates/ill_tool/src")
+    crates = (TEXT, SHOW, SLIP, COUNTED, DESK, NIGHT, FILES, KEY, COMMANDS, MAIL, SHELF, "crates/ill_tool/src")
     found = [path for path in (f"{crate}/{command}.rt" for crate in crates) if os.path.exists(repository.full(path))]
     if len(found) != 1:
         raise Unread(f"{command}.rt: it stands {len(found)} times in {', '.join(crates)}")

@@ -165,7 +165,8 @@ def text_of(name):
 
 def groups():
     """Returns the groups of commands, as the help has them: the title, and the words."""
-    rows = re.findall(r"(?m)^  ((?:for|to) \S.*?)  +(.*)$", text_of("ILL").partition("\n\n")[0])
+    text = re.sub(r",\n {4,}", ", ", text_of("ILL").partition("\n\n")[0])
+    rows = re.findall(r"(?m)^  ((?:for|to) \S.*?)  +(.*)$", text)
     return [(title, said.partition(", which")[0].split(", ")) for title, said in rows]
 
 

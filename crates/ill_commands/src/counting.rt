@@ -1,0 +1,64 @@
+//! The command `figures`, on desks in files. It takes no lock, as no command does that only reads.
+
+ghost use Rattle.ill_commands.specs.AtFile.{CountsDesk, CountsPaths};
+
+use crate::visit::{Visit, visit_paths};
+use ill_figures::figures::{FiguresBeside, FiguresView, run_desk_figures};
+use ill_files::came::came_bytes;
+use ill_files::diary::diary_bytes;
+use ill_files::machine::Machine;
+use ill_files::open::{all_well, open};
+use ill_show::file_lines::FileLines;
+use ill_show::listed::Listed;
+use ill_text::fault::ToolFault;
+use ill_text::form::Form;
+use ill_text::output::write_whole;
+use std::io::Write;
+use std::rt::Files;
+
+/// `ill figures`: writes the figures of the desks at `paths`. After a failure at one desk, the others are still written.
+pub fn figures<T: Files, W: Write, E: Write>(
+    machine: &mut Machine<'_, T, W, E>,
+    paths: &[&str],
+    view: &FiguresView,
+) -> Result<bool, ToolFault>
+    ensures { CountsPaths view.now (W.contents machine.old.writer) (W.contents machine.new.writer) result }
+{
+    match write_whole(&mut machine.writer, view.head().as_bytes()) {
+        Ok(()) => visit_paths(machine, paths, &Visit::Figures(view), Form::Lines),
+        Err(fault) => Err(fault),
+    }
+}
+
+/// Writes the figures of the desk in a file.
+pub(crate) fn count_file<T: Files, W: Write, E: Write>(
+    machine: &mut Machine<'_, T, W, E>,
+    listed: &Listed<'_>,
+    view: &FiguresView,
+) -> Result<bool, ToolFault>
+    ensures { CountsDesk view.now listed.now.is_headed listed.now.is_first (record {
+      path = listed.now.path.now;
+      before = W.contents machine.old.writer;
+      after = W.contents machine.new.writer;
+      answer = result;
+    }) }
+{
+    let bytes = diary_bytes(machine.rt, machine.alloc, listed.path, &mut machine.errors)?;
+    let diary = FileLines::read(machine.alloc, &bytes)?;
+    let desk = open(machine.rt, machine.alloc, listed.path)?;
+    let came = came_bytes(machine.rt, machine.alloc, listed.path)?;
+    let beside = FiguresBeside {
+        diary: &diary,
+        came: &came,
+    };
+    let counted = run_desk_figures(
+        machine.alloc,
+        &desk,
+        listed,
+        view,
+        &beside,
+        &mut machine.writer,
+    );
+    drop(desk);
+    all_well(counted)
+}

@@ -1,0 +1,6 @@
+pub mod CountLaws
+pub mod DaysLaws
+pub mod DiaryLaws
+pub mod FewLemmas
+pub mod TextLaws
+pub mod GrowLemmas

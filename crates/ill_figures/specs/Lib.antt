@@ -1,0 +1,5 @@
+pub mod Bad
+pub mod Days
+pub mod Figures
+pub mod LoanFigures
+pub mod Texts

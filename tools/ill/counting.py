@@ -1,0 +1,106 @@
+"""The figures of a desk, as the help of `ill figures` has them, and a diary for it. The sources have no part in it.
+
+A side of the model tells which messages it has taken. So nothing here asks a record whether it shows a message.
+"""
+import datetime
+import statistics
+
+from ill.model import LATER, RESPONDER
+from ill.notes import key
+from ill.tidings import iso
+
+# The verbs of the actions that issue each type of message, as the diary names what was issued.
+VERBS = {"ILL-Request": "request", "ILL-Answer": "answer", "Conditional-Reply": "reply", "Cancel": "cancel",
+         "Cancel-Reply": "cancel-reply", "Shipped": "ship", "Received": "receive", "Recall": "recall",
+         "Returned": "return", "Checked-In": "check-in", "Overdue": "overdue", "Renew": "renew",
+         "Renew-Answer": "renew-answer", "Expired": "expire"}
+REASONS = ("unfilled", "retry", "estimate", "locations-provided", "expired", "unknown")
+WAITS = {"days to answer": ("asked", "answered"), "days to arrive": ("asked", "arrived"), "days out": ("shipped", "back")}
+# The types of message that take a step of a loan.
+STEPS = {"asked": ["ILL-Request"], "answered": ["ILL-Answer", "Shipped"], "shipped": ["Shipped"], "arrived": ["Received"],
+         "back": ["Checked-In"]}
+FIELDS = ["desk", "from", "to", "asked", "filled", "open", "cancelled", "refused",
+          *(reason.replace("-", "_") for reason in REASONS), "answered", "days_to_answer", "arrived", "days_to_arrive",
+          "returned", "days_out", "without_a_day"]
+
+
+def messages(side, is_kept):
+    """Returns the messages of a loan, each with the word by which a diary names it. Without the file of what came these are
+    those of the record."""
+    request = [side.request] if side.role == RESPONDER and side.request else []
+    came = [apdu for apdu in side.came if is_kept and apdu not in request]
+    return ([(apdu, VERBS[apdu["apdu"]]) for apdu in side.issued] + [(apdu, apdu["apdu"]) for apdu in request + came])
+
+
+def diary_line(day, name, txn, what, number):
+    """Returns a line of a diary."""
+    return f"{day} {name} {key(txn[0])} {key(txn[1])} {what} {number}\n".encode()
+
+
+class Counted:
+    """The figures of one loan."""
+
+    def __init__(self, side, days, is_kept):
+        """`days` has the day of each message that a diary names, by its loan, its word and its number."""
+        told = [(apdu, days.get((tuple(side.txn), what, apdu["number"]))) for apdu, what in messages(side, is_kept)]
+        first = {step: next((day for apdu, day in told if apdu["apdu"] in types), None) for step, types in STEPS.items()}
+        self.asked = first["asked"]
+        self.end = self.ended(side.state, [apdu for apdu, _ in told])
+        self.waits = {wait: passed(first[start], first[end]) for wait, (start, end) in WAITS.items()}
+
+    @staticmethod
+    def ended(state, told):
+        """Returns how a loan ended: `filled`, `open`, `cancelled` or the reason of a refusal."""
+        if state == "NOT-SUPPLIED":
+            reasons = [apdu.get("result", "expired" if apdu["apdu"] == "Expired" else None) for apdu in told]
+            return next((reason for reason in reasons if reason in REASONS), "unknown")
+        return "filled" if state in LATER else "cancelled" if state == "CANCELLED" else "open"
+
+
+def passed(start, end):
+    """Returns the days from one day to another that is not before it, or None."""
+    if start is None or end is None or end < start:
+        return None
+    day = datetime.date.fromisoformat
+    return (day(iso(end)) - day(iso(start))).days
+
+
+def mean(numbers):
+    """Returns the mean to a tenth, a half rounded up, or None of no numbers."""
+    tenths = statistics.fsum(numbers) * 10 / len(numbers) if numbers else None
+    return None if tenths is None else "{}.{}".format(*divmod(int(tenths + 0.5), 10))
+
+
+class Figures:
+    """The figures of a desk over a span of days."""
+
+    def __init__(self, sides, days, span, is_kept=True):
+        loans = [Counted(side, days, is_kept) for side in sides]
+        self.span = span
+        self.undated = sum(loan.asked is None for loan in loans)
+        self.loans = [loan for loan in loans if loan.asked and span[0] <= loan.asked <= span[1]]
+
+    def count(self, *ends):
+        """Returns how many of the loans ended so."""
+        return sum(loan.end in ends for loan in self.loans)
+
+    def counts(self):
+        """Returns each count, by its label."""
+        return {"asked": len(self.loans), **{end: self.count(end) for end in ("filled", "open", "cancelled")},
+                "refused": self.count(*REASONS), **{f"  {reason}": self.count(reason) for reason in REASONS}}
+
+    def means(self):
+        """Returns of each wait the number of loans and the mean."""
+        known = {wait: [loan.waits[wait] for loan in self.loans if loan.waits[wait] is not None] for wait in WAITS}
+        return {wait: (len(days), mean(days)) for wait, days in known.items()}
+
+    def lines(self):
+        """Returns the lines of the figures."""
+        rows = [*self.counts().items(), *((wait, f"{days} of {count}" if count else "-")
+                                          for wait, (count, days) in self.means().items()), ("without a day", self.undated)]
+        return ["  from {} to {}".format(*map(iso, self.span)), *(f"  {label:22}{value}" for label, value in rows)]
+
+    def fields(self, path):
+        """Returns the fields of the record of CSV."""
+        return [path, *map(iso, self.span), *map(str, self.counts().values()),
+                *(str(it or "") if it != 0 else "0" for pair in self.means().values() for it in pair), str(self.undated)]

@@ -1,0 +1,58 @@
+//! The faults with which a request is refused.
+
+ghost use Rattle.std.specs.Prelude.{◌≡◌};
+ghost use Rattle.ill_browser.specs.declared.fault.VisitFault.TheVariants.{OutOfMemory};
+
+use std::alloc::{AllocError, AllocFailed};
+use thiserror::Error;
+
+/// The reason why a request is refused. The first that holds is told.
+#[derive(Clone, Copy, Debug, Drop, PartialEq, Eq, Error)]
+pub enum VisitFault {
+    /// The path is not that of the program.
+    #[error("no such page")]
+    NoPage,
+    /// The method is neither GET nor POST.
+    #[error("no such method")]
+    Method,
+    /// No page of this program sent the form.
+    #[error("foreign")]
+    Foreign,
+    /// Nobody is named who sent the form.
+    #[error("nobody")]
+    NoUser,
+    /// The body is no form.
+    #[error("no form")]
+    NoForm,
+    /// The number of bytes in the body is not said.
+    #[error("no length")]
+    NoLength,
+    /// The body has more than `BODY_LIMIT` bytes.
+    #[error("too long")]
+    TooLong,
+    /// The body broke off, or could not be read.
+    #[error("cut")]
+    Cut,
+    /// The fields name no loan, or no act. Or a name is there twice, or is none of a field, or a form has a query.
+    #[error("fields")]
+    Fields,
+    /// Memory ran out.
+    #[error("memory")]
+    OutOfMemory,
+}
+
+impl From<AllocError> for VisitFault {
+    ghost from_gives = { λ _ refusal. refusal ≡ OutOfMemory };
+
+    fn from(_error: AllocError) -> VisitFault {
+        VisitFault::OutOfMemory
+    }
+}
+
+impl<T: Drop> From<AllocFailed<T>> for VisitFault {
+    ghost from_gives = { λ _ refusal. refusal ≡ OutOfMemory };
+
+    fn from(_error: AllocFailed<T>) -> VisitFault {
+        VisitFault::OutOfMemory
+    }
+}

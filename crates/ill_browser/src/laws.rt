@@ -1,0 +1,22 @@
+//! States the laws of requests, as contracts of functions that do nothing.
+
+ghost use Rattle.std.specs.Prelude.{◌≡◌, ℕ, List, Ok};
+ghost use Rattle.ill_browser.specs.BadAsking.{MisreadsVisit};
+ghost use Rattle.ill_browser.specs.OwnForm.{IsOwnForm};
+ghost use Rattle.ill_browser.specs.Visit.{RulesShown, VisitShown};
+ghost use Rattle.ill_browser.specs.Wanted.{Act, LoanAsked, wanted_of};
+
+/// An act is asked for by a form alone. A page of this program sent it to the program itself, with a name of its sender
+/// unless the operator wants none. The words of the act are those of its fields, in their order.
+pub fn an_act_is_asked_by_an_own_form()
+    ensures { (rules : RulesShown) (v : VisitShown) (body : List ℕ) (loan : LoanAsked) (stamp : List ℕ)
+        (words : List (List ℕ)) → wanted_of rules v body ≡ Ok (Act loan stamp words) →
+        IsOwnForm rules v body words }
+{}
+
+/// No request is misread: what it asks for is none of the wrong readings.
+#[tactic(auto, using(crate::proofs::BadAskings::not_misread))]
+pub fn no_request_is_misread()
+    ensures { (rules : RulesShown) (v : VisitShown) (body : List ℕ) →
+        MisreadsVisit rules v body (wanted_of rules v body) → ⊥ }
+{}

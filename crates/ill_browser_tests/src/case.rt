@@ -1,0 +1,91 @@
+//! A case: a request, its body, and the rules of the operator.
+
+use ill_browser::{Rules, Visit};
+use std::alloc::Global;
+
+/// The rules of an operator who wants a name.
+const RULES: Rules<'static> = Rules {
+    origin: "https://ill.example",
+    is_open: false,
+};
+
+/// A request with its rules. Each text that a case does not say is that of a form of this desk.
+#[derive(Drop)]
+pub struct Case<'a> {
+    /// What the web server says.
+    pub visit: Visit<'a>,
+    /// What the operator says.
+    pub rules: Rules<'a>,
+    /// The body.
+    pub body: &'a str,
+}
+
+impl<'a> Case<'a> {
+    /// Returns a request of a page.
+    pub fn look() -> Case<'a> {
+        Case {
+            visit: Visit {
+                method: "GET",
+                path: "",
+                query: "",
+                site: "",
+                origin: "",
+                user: "",
+                content_type: "",
+                content_length: "",
+            },
+            rules: RULES,
+            body: "",
+        }
+    }
+
+    /// Returns a form with this body.
+    pub fn post(body: &'a str, length: &'a str) -> Case<'a> {
+        Case {
+            visit: Visit {
+                method: "POST",
+                path: "",
+                query: "",
+                site: "same-origin",
+                origin: "",
+                user: "anna",
+                content_type: "application/x-www-form-urlencoded",
+                content_length: length,
+            },
+            rules: RULES,
+            body: if body == "-" { "" } else { body },
+        }
+    }
+
+    /// Puts in what `word` says. Returns `None` if it says nothing.
+    pub fn set(&mut self, word: &'a str) -> Option<()> {
+        let (name, text) = word.split_once(":")?;
+        match name {
+            "open" => self.rules.is_open = true,
+            "method" => self.visit.method = text,
+            "path" => self.visit.path = text,
+            "query" => self.visit.query = text,
+            other => self.set_header(other, text)?,
+        }
+        Some(())
+    }
+
+    /// Puts in the text of a header, or of the user.
+    fn set_header(&mut self, name: &str, text: &'a str) -> Option<()> {
+        match name {
+            "site" => self.visit.site = text,
+            "origin" => self.visit.origin = text,
+            "user" => self.visit.user = text,
+            "type" => self.visit.content_type = text,
+            "length" => self.visit.content_length = text,
+            _ => return None,
+        }
+        Some(())
+    }
+}
+
+/// Returns the number of bytes in a body, in digits.
+pub fn length_text(alloc: Global, body: &str) -> Option<String> {
+    let size = if body == "-" { 0 } else { body.len() };
+    format!(in alloc; "{size}").ok()
+}

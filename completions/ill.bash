@@ -60,8 +60,8 @@ _ill_parts() {
     help) parts=(command) options='' ;;
     new) parts=(file role) options='--explain --help' ;;
     act) parts=(file loan loan words) options='--today --by --seen --dry-run --long --explain --help' ;;
-    list) parts=(files) options='--open --mine --today --ahead --due-before --state --find --actions --notes --since-when --json --explain --help' ;;
-    news) parts=(files) options='--last --json --explain --help' ;;
+    list) parts=(files) options='--open --mine --today --ahead --due-before --state --find --since --actions --notes --since-when --json --explain --help' ;;
+    news) parts=(files) options='--since --last --json --explain --help' ;;
     loan) parts=(file loan loan) options='--picture --json --explain --help' ;;
     note) parts=(file loan loan none) options='--explain --help' ;;
     slip) parts=(file loan loan) options='--explain --help' ;;
@@ -107,7 +107,7 @@ _ill_read() {
       day-= | count-= | text-= | state-= | file-=) ;;     # bash takes --today=DAY for three words
       day-* | count-* | text-* | state-* | file-*) wanted=any ;;
       any---) wanted=argument ;;
-      any---today | any---due-before | any---from | any---to) wanted=day ;;
+      any---today | any---due-before | any---since | any---from | any---to) wanted=day ;;
       any---by | any---seen | any---find) wanted=text ;;
       any---ahead | any---last) wanted=count ;;
       any---state) wanted=state ;;

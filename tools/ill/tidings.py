@@ -45,15 +45,40 @@ def came_bytes(sides):
     return b"".join(spelled(side.txn, apdu) for side in sides for apdu in side.came)
 
 
-def told(sides, last):
+class Since:
+    """A day since which news are told, and the days of some messages, by their transactions and numbers."""
+
+    def __init__(self, day, days):
+        self.day, self.days = day, days
+
+    def day_of(self, side, apdu):
+        """Returns the day of a message, or the day itself if it has none."""
+        return self.days.get((tuple(side.txn), apdu["number"]), self.day)
+
+    def of(self, messages):
+        """Returns the messages after the last one of an earlier day."""
+        older = [place for place, message in enumerate(messages) if self.day_of(*message) < self.day]
+        return messages[older[-1] + 1:] if older else messages
+
+
+def told(sides, last=None, since=None):
     """Returns what is told: of each message its side and itself, and how many there are in all."""
     all_of = [(side, apdu) for side in sides for apdu in side.came]
+    all_of = since.of(all_of) if since else all_of
     return all_of[-last:] if last else all_of, len(all_of)
 
 
-def news_lines(sides, last=None):
+def heard(sides, since):
+    """Returns what is told since a day in each loan: the number and the words of each message."""
+    loans = {tuple(side.txn): [] for side in sides}
+    for side, apdu in told(sides, since=since)[0]:
+        loans[tuple(side.txn)].append((apdu["number"], words_of(side, apdu)))
+    return loans
+
+
+def news_lines(sides, last=None, since=None):
     """Returns the lines of `news`."""
-    rows, count = told(sides, last)
+    rows, count = told(sides, last, since)
     cells = [[*map(column, side.txn), str(apdu["number"]), words_of(side, apdu)] for side, apdu in rows]
     widths = [max(map(len, texts)) for texts in zip(*cells)]
     widths[2:3] = [3] if widths else []
@@ -62,8 +87,8 @@ def news_lines(sides, last=None):
     return [*lines, f"messages {count}, shown {len(rows)}"]
 
 
-def news_objects(sides, last=None, file=None):
+def news_objects(sides, last=None, file=None, since=None):
     """Returns the objects of `news`."""
     return [{"kind": "news", "group": side.txn[0], "transaction": side.txn[1], "number": apdu["number"],
              "words": words_of(side, apdu), "item": side.asked()["item"], **({"file": file} if file else {})}
-            for side, apdu in told(sides, last)[0]]
+            for side, apdu in told(sides, last, since)[0]]

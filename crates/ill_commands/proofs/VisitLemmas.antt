@@ -1,8 +1,11 @@
 -- Proves that a visit may write nothing if the writer has failed (`src/visit.rt`).
-use Rattle.std.proofs.Common.{◌≡◌, ℕ, Bool, List, [], Option, Result, Ok, Err, refl, inr}
+use Rattle.std.proofs.Common.{◌≡◌, ℕ, Bool, List, [], Option, Some, option_map, Result, Ok, Err, refl, inr}
 use Rattle.std.proofs.KnownBytes.{Appends-nil}
 use Rattle.ill_der.specs.ShortForm.{header_at, outer_at, apdu_at}
 use Rattle.ill_text.specs.Input.{AreIn}
+use Rattle.ill_show.specs.CameSince.{came_since}
+use Rattle.ill_show.specs.News.{news_of}
+use Rattle.ill_show.specs.Since.{AnnexRead}
 use Rattle.ill_text.specs.declared.fault.ToolFault.{ToolFault}
 use Rattle.ill_text.specs.declared.fault.ToolFault.TheVariants.{Write}
 use Rattle.ill_text.specs.declared.form.Form.{Form}
@@ -21,8 +24,10 @@ pub nothing_written : (visit : Visit) (form : Form) (is_headed is_first : Bool) 
     → RunsVisit visit form is_headed is_first
     (record { path = path; before = written; after = written; answer = answer })
 nothing_written (visits.List wanted find) form is_headed is_first path written answer failed =
-    inr ([], record { notes = []; diary = []; came = [] }, (Err Write, (0, Appends-nil written), failed))
-nothing_written (visits.News last) form is_headed is_first path written answer failed =
-    inr ([], [], (Err Write, ([], nothing_in, (0, Appends-nil written)), failed))
+    let news = option_map (λ day. news_of [] (came_since (Some day) [] [])) wanted.now.since in
+    let annex : AnnexRead = record { notes = []; diary = []; came = []; news = news } in
+    inr ([], annex, refl, (Err Write, (0, Appends-nil written), failed))
+nothing_written (visits.News last since) form is_headed is_first path written answer failed =
+    inr ([], [], [], (Err Write, ([], nothing_in, (0, Appends-nil written)), failed))
 nothing_written (visits.Figures view) form is_headed is_first path written answer failed =
     inr ([], [], [], (Err Write, ([], nothing_in, (0, Appends-nil written)), failed))

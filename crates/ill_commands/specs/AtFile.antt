@@ -31,6 +31,7 @@ use Rattle.ill_show.specs.declared.wanted.Wanted.{Wanted}
 use Rattle.ill_show.specs.Listing.{between, listed_desk}
 use Rattle.ill_show.specs.ItemLine.{item_line}
 use Rattle.ill_show.specs.News.{WritesNews, item_of, news_text}
+use Rattle.ill_show.specs.CameSince.{came_since, news_since}
 use Rattle.ill_show.specs.Since.{AnnexRead}
 use Rattle.ill_show.specs.Report.{Part, gravest_part, report_page}
 use Rattle.ill_text.specs.declared.form.Form.{Form}
@@ -87,22 +88,25 @@ ShowsFile form before after result =
     FailsToOpen before after result
     ⊎ ((held : List DeskEntry) × GoesWell (WritesText before after (status_of_desk form held)) result)
 
--- Those of the wanted sides of a desk that have the words `find`, if there are any, were listed in a visit. If `is_first`,
--- no desk is before it. If `is_headed`, the path is written first. Or a file could not be opened, and nothing was written.
+-- Those of the wanted sides of a desk that have the words `find`, if there are any, were listed in a visit, with what came
+-- to them since the wanted day. If `is_first`, no desk is before it. If `is_headed`, the path is written first. Or a file
+-- could not be opened, and nothing was written.
 abbrev pub ListsDesk : Form → Wanted → (find : Option (List ℕ)) → (is_headed is_first : Bool) → Stop → Type 0
 ListsDesk form wanted find is_headed is_first stop =
     FailsToOpen stop.before stop.after stop.answer
-    ⊎ ((sides : List Side) × (annex : AnnexRead)
+    ⊎ ((sides : List Side) × (annex : AnnexRead) × (annex.news ≡ news_since wanted.since annex sides)
     × GoesWell (WritesText stop.before stop.after
     (between form is_first ++ listed_desk form is_headed wanted (record { find = find; annex = annex }) stop.path sides))
     stop.answer)
 
--- What came to a desk was told in a visit, as `news_text` does. Or a file could not be opened, and nothing was written.
-abbrev pub TellsDesk : Form → Option ℕ → (is_headed is_first : Bool) → Stop → Type 0
-TellsDesk form last is_headed is_first stop =
+-- What came to a desk since the day, if one is given, was told in a visit, as `news_text` does. Or a file could not be opened,
+-- and nothing was written.
+abbrev pub TellsDesk : Form → Option ℕ → (since : Option Date) → (is_headed is_first : Bool) → Stop → Type 0
+TellsDesk form last since is_headed is_first stop =
     FailsToOpen stop.before stop.after stop.answer
-    ⊎ ((sides : List Side) × (came : List ℕ)
-    × GoesWell (WritesNews (news_text form is_headed is_first last stop.path sides) came stop.before stop.after) stop.answer)
+    ⊎ ((sides : List Side) × (came : List ℕ) × (lines : List (List ℕ))
+    × GoesWell (WritesNews (λ apdus. news_text form is_headed is_first last stop.path sides (came_since since lines apdus))
+    came stop.before stop.after) stop.answer)
 
 -- The figures of a desk were written in a visit, by its diary and by what came. Or a file could not be opened, and nothing was
 -- written.
@@ -116,7 +120,7 @@ CountsDesk view is_headed is_first stop =
 -- A visit has the effect of its command at one desk.
 abbrev pub RunsVisit : Visit → Form → (is_headed is_first : Bool) → Stop → Type 0
 RunsVisit (visits.List wanted find) form = ListsDesk form wanted.now (option_map (λ words. words.now) find)
-RunsVisit (visits.News last) form = TellsDesk form last
+RunsVisit (visits.News last since) form = TellsDesk form last since
 RunsVisit (visits.Figures view) form = CountsDesk view.now
 
 -- Returns true if there are several desks to visit.
@@ -142,8 +146,9 @@ abbrev pub ListsPaths : Form → Wanted → (find : Option (List ℕ)) → Optio
 ListsPaths form wanted find before after result = VisitsPaths (ListsDesk form wanted find) before after result
 
 -- What came to the desks at the paths was told.
-abbrev pub TellsPaths : Form → Option ℕ → Option (List ℕ) → Option (List ℕ) → Result Bool ToolFault → Type 0
-TellsPaths form last before after result = VisitsPaths (TellsDesk form last) before after result
+abbrev pub TellsPaths : Form → Option ℕ → (since : Option Date) → Option (List ℕ) → Option (List ℕ) → Result Bool ToolFault →
+    Type 0
+TellsPaths form last since before after result = VisitsPaths (TellsDesk form last since) before after result
 
 -- After the text before the first desk, which was written with this result, the desks were visited. If that failed, none was.
 abbrev pub VisitsAfter : Result (Unit {0}) ToolFault → (Bool → Bool → Stop → Type 0) → Option (List ℕ) → Option (List ℕ) →

@@ -33,6 +33,7 @@ use ill_show::item_line::write_item;
 use ill_show::list::{count_left_out, run_desk_list};
 use ill_show::listed::{Listed, left_out_line, warning};
 use ill_show::loan::{Beside, LoanView, run_desk_loan};
+use ill_show::news::news_since;
 use ill_show::notes::Notes;
 use ill_show::numbers::{numbers_lines, push_told};
 use ill_show::report::{end_page, push_desk, push_fault, push_head};
@@ -276,7 +277,7 @@ pub(crate) fn list_file<T: Files, W: Write, E: Write>(
       answer = result;
     }) }
 {
-    let annex = listed_annex(
+    let mut annex = listed_annex(
         machine.rt,
         machine.alloc,
         listed,
@@ -284,6 +285,8 @@ pub(crate) fn list_file<T: Files, W: Write, E: Write>(
         &mut machine.errors,
     )?;
     let desk = open(machine.rt, machine.alloc, listed.path)?;
+    let news = news_since(machine.alloc, desk.sides(), &annex, wanted.since)?;
+    annex.news = news;
     let sought = Sought {
         find,
         annex: &annex,
@@ -319,7 +322,7 @@ pub(crate) fn list_file<T: Files, W: Write, E: Write>(
     all_well(answer)
 }
 
-/// Reads what a list shows of the annex of the desk in `listed`. Lines without days show its notes alone.
+/// Reads what a list shows of the annex of the desk in `listed`. Lines without days and news show its notes alone.
 fn listed_annex<T: Files, E: Write>(
     rt: &T,
     alloc: Global,
@@ -330,7 +333,7 @@ fn listed_annex<T: Files, E: Write>(
     ensures { IfErr result IsOpenFault }
 {
     match listed.form {
-        Form::Lines if !wanted.has_since => {
+        Form::Lines if !wanted.has_since && wanted.since.is_none() => {
             let notes = read_notes(rt, alloc, listed.path)?;
             Ok(Annex::of_notes(alloc, notes))
         }
@@ -361,12 +364,13 @@ fn read_annex<T: Files, E: Write>(
 ) -> Result<Annex, ToolFault>
     ensures { IfErr result IsOpenFault }
 {
-    let diary = diary_bytes(rt, alloc, file, errors)?;
+    let diary = read_diary(rt, alloc, file, errors)?;
     let came = came_bytes(rt, alloc, file)?;
     Ok(Annex {
         notes: read_notes(rt, alloc, file)?,
-        diary: FileLines::read(alloc, &diary)?,
+        diary,
         came: apdus_in(alloc, &came)?,
+        news: None,
     })
 }
 
@@ -376,6 +380,19 @@ fn read_notes<T: Files>(rt: &T, alloc: Global, file: &str) -> Result<Notes, Tool
 {
     let bytes = notes_bytes(rt, alloc, file)?;
     Ok(Notes::read(alloc, &bytes)?)
+}
+
+/// Reads the diary of the desk in `file`.
+pub(crate) fn read_diary<T: Files, E: Write>(
+    rt: &T,
+    alloc: Global,
+    file: &str,
+    errors: &mut E,
+) -> Result<FileLines, ToolFault>
+    ensures { IfErr result IsOpenFault }
+{
+    let bytes = diary_bytes(rt, alloc, file, errors)?;
+    Ok(FileLines::read(alloc, &bytes)?)
 }
 
 /// Writes to `errors` which loans of a desk have few numbers left, and how many.
@@ -434,8 +451,7 @@ pub fn loan<T: Files, W: Write, E: Write>(
 ) -> Result<bool, ToolFault>
     ensures { LoanAtFile view.now.form view.now.txn.now (W.contents machine.old.writer) (W.contents machine.new.writer) result }
 {
-    let diary = diary_bytes(machine.rt, machine.alloc, file, &mut machine.errors)?;
-    let diary = FileLines::read(machine.alloc, &diary)?;
+    let diary = read_diary(machine.rt, machine.alloc, file, &mut machine.errors)?;
     let notes = read_notes(machine.rt, machine.alloc, file)?;
     let desk = open(machine.rt, machine.alloc, file)?;
     let came = came_bytes(machine.rt, machine.alloc, file)?;

@@ -2,13 +2,12 @@
 
 ghost use Rattle.ill_commands.specs.AtFile.{CountsDesk, CountsPaths};
 
+use crate::commands::read_diary;
 use crate::visit::{Visit, visit_paths};
 use ill_figures::figures::{FiguresBeside, FiguresView, run_desk_figures};
 use ill_files::came::came_bytes;
-use ill_files::diary::diary_bytes;
 use ill_files::machine::Machine;
 use ill_files::open::{all_well, open};
-use ill_show::file_lines::FileLines;
 use ill_show::listed::Listed;
 use ill_text::fault::ToolFault;
 use ill_text::form::Form;
@@ -43,8 +42,12 @@ pub(crate) fn count_file<T: Files, W: Write, E: Write>(
       answer = result;
     }) }
 {
-    let bytes = diary_bytes(machine.rt, machine.alloc, listed.path, &mut machine.errors)?;
-    let diary = FileLines::read(machine.alloc, &bytes)?;
+    let diary = read_diary(
+        machine.rt,
+        machine.alloc,
+        listed.path,
+        &mut machine.errors,
+    )?;
     let desk = open(machine.rt, machine.alloc, listed.path)?;
     let came = came_bytes(machine.rt, machine.alloc, listed.path)?;
     let beside = FiguresBeside {

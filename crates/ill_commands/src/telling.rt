@@ -1,29 +1,37 @@
 //! The command `news`, on desks in files. It takes no lock, as no command does that only reads.
 
+ghost use Rattle.std.specs.Prelude.{IfErr};
+ghost use Rattle.ill_text.specs.Fault.{IsOpenFault};
 ghost use Rattle.ill_commands.specs.AtFile.{TellsDesk, TellsPaths};
 
+use crate::commands::read_diary;
 use crate::visit::{Visit, visit_paths};
 use ill_files::came::came_bytes;
 use ill_files::machine::Machine;
 use ill_files::open::{all_well, open};
+use ill_show::came_since::Came;
+use ill_show::file_lines::FileLines;
 use ill_show::listed::Listed;
 use ill_show::news::run_desk_news;
 use ill_text::fault::ToolFault;
 use ill_text::form::Form;
-use ill_values::Number;
+use ill_values::{Day, Number};
+use std::alloc::Global;
 use std::io::Write;
 use std::rt::Files;
 
-/// `ill news`: tells what came to the desks at `paths`. After a failure at one desk, the others are still told.
+/// `ill news`: tells what came to the desks at `paths`, on the day `since` or later if it is given. After a failure at one
+/// desk, the others are still told.
 pub fn news<T: Files, W: Write, E: Write>(
     machine: &mut Machine<'_, T, W, E>,
     paths: &[&str],
     last: Option<Number>,
+    since: Option<Day>,
     form: Form,
 ) -> Result<bool, ToolFault>
-    ensures { TellsPaths form last (W.contents machine.old.writer) (W.contents machine.new.writer) result }
+    ensures { TellsPaths form last since (W.contents machine.old.writer) (W.contents machine.new.writer) result }
 {
-    visit_paths(machine, paths, &Visit::News(last), form)
+    visit_paths(machine, paths, &Visit::News(last, since), form)
 }
 
 /// Tells what came to the desk in a file.
@@ -31,16 +39,29 @@ pub(crate) fn tell_file<T: Files, W: Write, E: Write>(
     machine: &mut Machine<'_, T, W, E>,
     listed: &Listed<'_>,
     last: Option<Number>,
+    since: Option<Day>,
 ) -> Result<bool, ToolFault>
-    ensures { TellsDesk listed.now.form last listed.now.is_headed listed.now.is_first (record {
+    ensures { TellsDesk listed.now.form last since listed.now.is_headed listed.now.is_first (record {
       path = listed.now.path.now;
       before = W.contents machine.old.writer;
       after = W.contents machine.new.writer;
       answer = result;
     }) }
 {
+    let diary = diary_since(
+        machine.rt,
+        machine.alloc,
+        listed.path,
+        since,
+        &mut machine.errors,
+    )?;
     let desk = open(machine.rt, machine.alloc, listed.path)?;
-    let came = came_bytes(machine.rt, machine.alloc, listed.path)?;
+    let bytes = came_bytes(machine.rt, machine.alloc, listed.path)?;
+    let came = Came {
+        bytes: &bytes,
+        diary: &diary,
+        since,
+    };
     let told = run_desk_news(
         machine.alloc,
         &desk,
@@ -51,4 +72,20 @@ pub(crate) fn tell_file<T: Files, W: Write, E: Write>(
     );
     drop(desk);
     all_well(told)
+}
+
+/// Reads the diary of the desk in `file` if a day is given. Without one no line is read.
+fn diary_since<T: Files, E: Write>(
+    rt: &T,
+    alloc: Global,
+    file: &str,
+    since: Option<Day>,
+    errors: &mut E,
+) -> Result<FileLines, ToolFault>
+    ensures { IfErr result IsOpenFault }
+{
+    match since {
+        Some(_) => read_diary(rt, alloc, file, errors),
+        None => Ok(FileLines::none(alloc)),
+    }
 }

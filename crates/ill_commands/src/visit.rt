@@ -14,7 +14,7 @@ use ill_show::listed::Listed;
 use ill_show::wanted::Wanted;
 use ill_text::fault::{ToolFault, graver};
 use ill_text::form::Form;
-use ill_values::Number;
+use ill_values::{Day, Number};
 use std::io::Write;
 use std::rt::Files;
 
@@ -23,8 +23,8 @@ use std::rt::Files;
 pub(crate) enum Visit<'a> {
     /// Those of its wanted loans are listed that have the words, if there are any.
     List(&'a Wanted, Option<&'a str>),
-    /// The last of the messages that came to it are told, or all of them.
-    News(Option<Number>),
+    /// The last of the messages that came to it are told, or all of them. With a day, these are what came since.
+    News(Option<Number>, Option<Day>),
     /// Its figures are written.
     Figures(&'a FiguresView),
 }
@@ -115,7 +115,7 @@ fn visit_file<T: Files, W: Write, E: Write>(
 {
     match visit {
         Visit::List(wanted, find) => list_file(machine, listed, wanted, *find),
-        Visit::News(last) => tell_file(machine, listed, *last),
+        Visit::News(last, since) => tell_file(machine, listed, *last, *since),
         Visit::Figures(view) => count_file(machine, listed, view),
     }
 }

@@ -90,6 +90,7 @@ fn tell_argument(
         Argument::Today
         | Argument::OnDay
         | Argument::DueBefore
+        | Argument::Since
         | Argument::ReportDay
         | Argument::From
         | Argument::To

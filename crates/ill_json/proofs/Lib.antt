@@ -9,6 +9,8 @@ pub mod Names
 pub mod NoteLemmas
 pub mod Sides
 pub mod HistoryLines
+pub mod NewsTexts
+pub mod ListedNewsLines
 pub mod LineLemmas
 pub mod NewsLines
 pub mod RecordLines

@@ -33,8 +33,11 @@ use Rattle.ill_show.specs.Notes.{note_fields, note_of}
 use Rattle.ill_show.specs.Since.{AnnexRead, since_fields, since_of}
 use Rattle.ill_show.specs.Loan.{loan_text}
 use Rattle.ill_show.specs.Objects.{came_fields, counts_fields, counts_object, file_fields, kept_fields, loan_fields}
-use Rattle.ill_show.specs.Objects.{message_object, dated_fields, names_of, noted_fields, row_fields, row_object, status_of_desk}
-use Rattle.ill_json.specs.Lines.{IsEntry, fields_of_list, fields_of_loan, fields_of_message, fields_in_order, fields_of_row}
+use Rattle.ill_show.specs.ListedNews.{listed_news_fields}
+use Rattle.ill_show.specs.Objects.{dated_fields, full_row_fields, message_object, names_of, noted_fields, row_fields, row_object}
+use Rattle.ill_show.specs.Objects.{status_of_desk}
+use Rattle.ill_json.specs.Lines.{AreToldNews, IsEntry, fields_of_list, fields_of_loan, fields_of_message, fields_in_order}
+use Rattle.ill_json.specs.Lines.{fields_of_row}
 use Rattle.ill_json.specs.Lines.{fields_of_status, fields_of_work}
 use Rattle.ill_json.specs.Objects.{AreObjectLines, IsObject, IsObjectLine, items_of, strings}
 use Rattle.ill_json.proofs.Labels.{labels, are_apart}
@@ -47,6 +50,7 @@ use Rattle.ill_json.proofs.Sides.{messages_values, row_apart, status_reads, loan
 use Rattle.ill_json.proofs.Sides.{counts_reads, note_reads, since_reads}
 use Rattle.ill_json.proofs.NoteLemmas.{note_utf8}
 use Rattle.ill_json.proofs.HistoryLines.{IsTold, history_reads, history_told, part_reads}
+use Rattle.ill_json.proofs.ListedNewsLines.{listed_news_reads}
 
 -- ---- lines
 
@@ -150,60 +154,62 @@ kept_each P Q keeps (x ∷ xs) so each = go (keeps x) (kept_each P Q keeps xs so
 
 -- The line of a listed loan is an object line.
 row_is : (file : Option (List ℕ)) (annex : AnnexRead) (today : Option Date) (work : Work) (side : Side)
-    → IfSome file IsUtf8 → IsSide side
+    → IfSome file IsUtf8 → AreToldNews annex → IsSide side
     → IsObjectLine (row_object file annex today work side) (fields_of_row file annex today work side)
 unfolding row_object
-row_is file annex today work side u is =
+row_is file annex today work side u told is =
     line_is (fields_of_row file annex today work side)
-    (each_append (FieldReads 2) (dated_fields annex today work side) (file_fields file)
+    (each_append (FieldReads 2) (full_row_fields annex today work side) (file_fields file)
+    (each_append (FieldReads 2) (dated_fields annex today work side) (listed_news_fields annex.news side)
     (each_append (FieldReads 2) (noted_fields annex.notes today work side) (since_fields (since_of annex side))
     (each_append (FieldReads 2) (row_fields work side (names_of today side)) (note_fields (note_of annex.notes (txn_of side)))
     (row_reads today work side is.1) (note_reads _ (note_utf8 annex.notes (txn_of side))))
-    (since_reads (since_of annex side))) (file_reads file u))
+    (since_reads (since_of annex side))) (listed_news_reads annex.news side told)) (file_reads file u))
     (row_apart file annex today work side)
 
 -- The rows of one kind of work are object lines.
 rows_are : (file : Option (List ℕ)) (annex : AnnexRead) (wanted : Wanted) (shown : List Side) → IfSome file IsUtf8
-    → Each IsSide shown → (work : Work)
+    → AreToldNews annex → Each IsSide shown → (work : Work)
     → AreObjectLines (section (work_objects file annex) wanted shown work) (fields_of_work file annex wanted shown work)
 unfolding row_object
-rows_are file annex wanted shown u each work =
+rows_are file annex wanted shown u told each work =
     lines_each (fields_of_row file annex wanted.today work) (filter (has_work wanted work) shown)
     (kept_each IsSide
     (λ side. IsObjectLine (row_object file annex wanted.today work side) (fields_of_row file annex wanted.today work side))
-    (has_work wanted work) shown (λ side is. row_is file annex wanted.today work side u is) each)
+    (has_work wanted work) shown (λ side is. row_is file annex wanted.today work side u told is) each)
 
 -- A list in order is object lines.
 ordered_are : (file : Option (List ℕ)) (wanted : Wanted) (seeking : Seeking) (held : List Side) → IfSome file IsUtf8
-    → Each IsSide held → length held ≤ most_sides
+    → AreToldNews seeking.annex → Each IsSide held → length held ≤ most_sides
     → AreObjectLines (listed (work_objects file seeking.annex) (counts_object file) wanted seeking held)
     (fields_in_order file wanted seeking held)
-ordered_are file wanted seeking held u each few =
+ordered_are file wanted seeking held u told each few =
     let shown = chosen_of wanted seeking held in
     let objects = work_objects file seeking.annex in
     let fields = fields_of_work file seeking.annex wanted shown in
     let listed_each = kept_each IsSide IsSide (is_listed wanted) held (λ side is. is) each in
     lines_append (sections objects wanted shown) _ (flat_map fields all_work) _
     (lines_flat (section objects wanted shown) fields all_work
-    (rows_are file seeking.annex wanted shown u
+    (rows_are file seeking.annex wanted shown u told
     (kept_each IsSide IsSide (is_found seeking.find seeking.annex.notes) (listed_of wanted held) (λ side is. is) listed_each)))
     (lines_one _ (line_is _ (each_append (FieldReads 2) (counts_fields (counts_of wanted held)) (file_fields file)
     (counts_reads wanted held few) (file_reads file u)) (counts_apart file wanted held)))
 
 -- The objects of a desk are object lines.
-objects_are : (file : Option (List ℕ)) (wanted : Wanted) (seeking : Seeking) (held : SidesOf) → IfSome file IsUtf8 → AreSides held
+objects_are : (file : Option (List ℕ)) (wanted : Wanted) (seeking : Seeking) (held : SidesOf) → IfSome file IsUtf8
+    → AreToldNews seeking.annex → AreSides held
     → AreObjectLines (list_objects file wanted seeking held.sides) (fields_of_list file wanted seeking held.sides)
-objects_are file wanted seeking held u are =
-    ordered_are file wanted seeking (most_urgent_first held.sides) u (ordered_each IsSide is_more_urgent held.sides are.each)
+objects_are file wanted seeking held u told are =
+    ordered_are file wanted seeking (most_urgent_first held.sides) u told (ordered_each IsSide is_more_urgent held.sides are.each)
     (subst (λ n. n ≤ most_sides) (sym (ordered_length is_more_urgent held.sides)) are.few)
 
 -- The text of `list` is object lines, at the first desk and at others, with its path and without it.
 pub list_are : (is_first is_headed : Bool) (wanted : Wanted) (seeking : Seeking) (path : List ℕ) (held : SidesOf) → IsUtf8 path
-    → AreSides held
+    → AreSides held → AreToldNews seeking.annex
     → AreObjectLines (between forms.Json is_first ++ listed_desk forms.Json is_headed wanted seeking path held.sides)
     (fields_of_list (file_told is_headed path) wanted seeking held.sides)
-list_are is_first false wanted seeking path held u are = objects_are None wanted seeking held tt are
-list_are is_first true wanted seeking path held u are = objects_are (Some path) wanted seeking held u are
+list_are is_first false wanted seeking path held u are told = objects_are None wanted seeking held tt told are
+list_are is_first true wanted seeking path held u are told = objects_are (Some path) wanted seeking held u told are
 
 -- ---- other commands
 

@@ -64,7 +64,7 @@ pub name_value : (most : ℕ) (name : List ℕ) → are_printable name ≡ true 
 name_value most name plain = text_value most name (printable_shown name plain).utf8
 
 -- The number of a message has a value.
-message_number : (most n : ℕ) → IsNumber n → HasValue most (decimal n)
+pub message_number : (most n : ℕ) → IsNumber n → HasValue most (decimal n)
 message_number most n is = number_value most n (omega (arith, is))
 
 -- The number of a message that may be missing has a value.

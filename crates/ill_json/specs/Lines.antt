@@ -1,11 +1,12 @@
 -- The fields of each line of the commands that write objects of JSON, in the order of the lines.
-use Rattle.std.specs.Prelude.{ℕ, ◌≤◌, List, [], ◌∷◌, ◌++◌, map, filter, Option}
+use Rattle.std.specs.Prelude.{ℕ, ◌≤◌, List, [], ◌∷◌, ◌++◌, map, filter, Option, IfSome}
 use Rattle.std.specs.List.{flat_map}
 use Rattle.ill_values.specs.Day.{Date}
 use Rattle.ill_values.specs.declared.apdu.Apdu.{Apdu}
 use Rattle.ill_saved.specs.declared.side.Side.{Side}
 use Rattle.ill_saved.specs.Holdings.{DeskEntry}
-use Rattle.ill_saved.specs.Ranges.{IsSide}
+use Rattle.ill_values.specs.Apdu.{IsApdu}
+use Rattle.ill_saved.specs.Ranges.{Each, IsSide}
 use Rattle.ill_text.specs.Json.{Field}
 use Rattle.ill_text.specs.ApduObject.{apdu_fields}
 use Rattle.ill_words.specs.Waiting.{most_urgent_first}
@@ -19,14 +20,18 @@ use Rattle.ill_show.specs.Listing.{chosen_of}
 use Rattle.ill_show.specs.Notes.{note_fields}
 use Rattle.ill_show.specs.News.{news_fields}
 use Rattle.ill_show.specs.Since.{AnnexRead}
-use Rattle.ill_show.specs.Objects.{dated_fields, counts_fields, file_fields, status_fields, kept_fields}
+use Rattle.ill_show.specs.Objects.{full_row_fields, counts_fields, file_fields, status_fields, kept_fields}
 use Rattle.ill_show.specs.Objects.{leaves_fields}
 
 -- ---- `list`
 
+-- If news are told, each message is in range.
+abbrev pub AreToldNews : AnnexRead → Type 0
+AreToldNews annex = IfSome annex.news (Each IsApdu)
+
 -- Returns the fields in the line of a listed loan with this work.
 abbrev pub fields_of_row : Option (List ℕ) → AnnexRead → Option Date → Work → Side → List Field
-fields_of_row file annex today work side = dated_fields annex today work side ++ file_fields file
+fields_of_row file annex today work side = full_row_fields annex today work side ++ file_fields file
 
 -- Returns the fields in the line of each of the `listed` loans that have this work.
 abbrev pub fields_of_work : Option (List ℕ) → AnnexRead → Wanted → List Side → Work → List (List Field)

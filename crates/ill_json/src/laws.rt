@@ -30,14 +30,14 @@ ghost use Rattle.ill_show.specs.News.{last_of, news_of, news_text};
 ghost use Rattle.ill_show.specs.Objects.{message_object, status_of_desk};
 ghost use Rattle.ill_show.specs.Verify.{fault_fields, record_fields, record_text};
 ghost use Rattle.ill_json.specs.BadLines.{AreBadLines, IsBadLine, broken_texts};
-ghost use Rattle.ill_json.specs.Lines.{IsEntry, fields_of_list, fields_of_loan, fields_of_message, fields_of_news, fields_of_status};
+ghost use Rattle.ill_json.specs.Lines.{AreToldNews, IsEntry, fields_of_list, fields_of_loan, fields_of_message, fields_of_news, fields_of_status};
 ghost use Rattle.ill_json.specs.Objects.{AreObjectLines, IsObject, IsObjectLine, items_of, strings};
 
 /// Each line of `list` is an object of JSON with the fields of a loan. The last line of a desk has the counts. The path
-/// of the desk is UTF-8.
+/// of the desk is UTF-8, and news that are told are messages.
 pub fn list_is_json()
     ensures { (is_first is_headed : Bool) (wanted : Wanted) (seeking : Seeking) (path : List ℕ) (held : SidesOf) →
-        IsUtf8 path → AreSides held →
+        IsUtf8 path → AreSides held → AreToldNews seeking.annex →
         AreObjectLines (between forms.Json is_first ++ listed_desk forms.Json is_headed wanted seeking path held.sides)
         (fields_of_list (file_told is_headed path) wanted seeking held.sides) }
 {}

@@ -46,7 +46,8 @@ use Rattle.ill_line.specs.declared.command_line.Argument.TheVariants.{Words, Num
 use Rattle.ill_line.specs.declared.command_line.Argument.TheVariants.{OnDay, DueBefore, InState, ReportDay, OutFolder, Stream, In}
 use Rattle.ill_line.specs.declared.command_line.Argument.TheVariants.{Out, NightDay, Overdue, Expire, Copy, Beat, NewGroup, Ahead}
 use Rattle.ill_line.specs.declared.command_line.Argument.TheVariants.{By, DryRun, Seen}
-use Rattle.ill_line.specs.declared.command_line.Argument.TheVariants.{Actions, Last, Title, NoteWords, Find, Notes, SinceWhen}
+use Rattle.ill_line.specs.declared.command_line.Argument.TheVariants.{Actions, Last, Since, Title, NoteWords, Find, Notes}
+use Rattle.ill_line.specs.declared.command_line.Argument.TheVariants.{SinceWhen}
 use Rattle.ill_line.specs.declared.command_line.Argument.TheVariants.{KeyFile, ShowKey, ReadKey, From, To, Csv}
 use Rattle.ill_line.specs.CommandLine.{name_read, id_of, is_option}
 use Rattle.ill_files.specs.Paths.{is_beside}
@@ -219,9 +220,9 @@ abbrev pub due_in : Option Date → Found → Option (Option Date)
 due_in today found = due_said today (text_of DueBefore found)
 
 -- Returns the conditions on the loans to list on the day `today`, if each argument is valid. A listed loan meets all of
--- them.
-abbrev pub wanted_on : Option Date → Found → Option Wanted
-wanted_on today found = do
+-- them. News are told from the day `since` on.
+abbrev pub wanted_on : (today since : Option Date) → Found → Option Wanted
+wanted_on today since found = do
   ahead ← ahead_in found
   due_before ← due_in today found
   state ← state_in found
@@ -234,11 +235,12 @@ wanted_on today found = do
     has_actions = is_set Actions found;
     has_notes = is_set Notes found;
     has_since = is_set SinceWhen found;
+    since = since;
   })
 
 -- Returns the conditions on the loans to list, on the day that is given, if one is.
 abbrev pub wanted_of : Found → Option Wanted
-wanted_of found = day_in OnDay found >>= λ today. wanted_on today found
+wanted_of found = day_in OnDay found >>= λ today. day_in Since found >>= λ since. wanted_on today since found
 
 -- Returns the form of the output.
 abbrev pub form_of : Found → Form
@@ -302,7 +304,7 @@ pub data Asked : Type 0 where
   Key : (file : List ℕ) → (deed : KeyDeed) → Asked
   Send : (file : List ℕ) → (txn : Qualifiers) → (number : ℕ) → (key : Option (List ℕ)) → Asked
   Listing : (paths : List (List ℕ)) → (wanted : Wanted) → (find : Option (List ℕ)) → (form : Form) → Asked
-  News : (paths : List (List ℕ)) → (last : Option ℕ) → (form : Form) → Asked
+  News : (paths : List (List ℕ)) → (last : Option ℕ) → (since : Option Date) → (form : Form) → Asked
   Figures : (paths : List (List ℕ)) → (view : FiguresView) → Asked
   Status : (file : List ℕ) → (form : Form) → Asked
   Loan : (file : List ℕ) → (txn : Qualifiers) → (form : LoanForm) → Asked
@@ -338,7 +340,7 @@ asked (requests.Key file deed) = Key file.now deed
 asked (requests.Send file txn number key) = Send file.now txn number (option_map (λ text. text.now) key)
 asked (requests.List paths wanted find form) =
     Listing (map (λ path. path.now) paths.items) wanted (option_map (λ text. text.now) find) form
-asked (requests.News paths last form) = News (map (λ path. path.now) paths.items) last form
+asked (requests.News paths last since form) = News (map (λ path. path.now) paths.items) last since form
 asked (requests.Figures paths view) = Figures (map (λ path. path.now) paths.items) view
 asked (requests.Status file form) = Status file.now form
 asked (requests.Loan file txn form) = Loan file.now txn form
@@ -422,7 +424,8 @@ asked_of names.List found = do
 asked_of names.News found = do
   paths ← texts_of Paths found
   last ← last_in found
-  Some (News paths last (form_of found))
+  since ← day_in Since found
+  Some (News paths last since (form_of found))
 asked_of names.Figures found = do
   paths ← texts_of Paths found
   span ← span_of found

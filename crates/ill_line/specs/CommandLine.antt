@@ -13,7 +13,8 @@ use Rattle.ill_line.specs.declared.command_line.Argument.TheVariants.{Words, Num
 use Rattle.ill_line.specs.declared.command_line.Argument.TheVariants.{OnDay, DueBefore, InState, ReportDay, OutFolder, Stream, In}
 use Rattle.ill_line.specs.declared.command_line.Argument.TheVariants.{Out, NightDay, Overdue, Expire, Copy, Beat, NewGroup, Ahead}
 use Rattle.ill_line.specs.declared.command_line.Argument.TheVariants.{By, DryRun, Seen}
-use Rattle.ill_line.specs.declared.command_line.Argument.TheVariants.{Actions, Last, Title, NoteWords, Find, Notes, SinceWhen}
+use Rattle.ill_line.specs.declared.command_line.Argument.TheVariants.{Actions, Last, Since, Title, NoteWords, Find, Notes}
+use Rattle.ill_line.specs.declared.command_line.Argument.TheVariants.{SinceWhen}
 use Rattle.ill_line.specs.declared.command_line.Argument.TheVariants.{KeyFile, ShowKey, ReadKey, From, To, Csv}
 use Rattle.ill_line.specs.declared.command_line.Argument.TheVariants as arguments
 
@@ -90,6 +91,7 @@ id_of Find = codes "find"
 id_of Actions = codes "actions"
 id_of Notes = codes "notes"
 id_of SinceWhen = codes "since-when"
+id_of Since = codes "since"
 id_of Last = codes "last"
 id_of From = codes "from"
 id_of To = codes "to"
@@ -107,7 +109,7 @@ options =
     ∷ codes "--copy" ∷ codes "--beat"
     ∷ codes "--stream" ∷ codes "--overdue" ∷ codes "--expire" ∷ codes "--long" ∷ codes "--keep" ∷ codes "--picture"
     ∷ codes "--open" ∷ codes "--mine" ∷ codes "--actions" ∷ codes "--notes" ∷ codes "--since-when" ∷ codes "--json"
-    ∷ codes "--new-group"
+    ∷ codes "--new-group" ∷ codes "--since"
     ∷ codes "--last" ∷ codes "--from" ∷ codes "--to" ∷ codes "--csv" ∷ codes "--key" ∷ codes "--show" ∷ codes "--read"
     ∷ codes "--explain" ∷ codes "--help" ∷ codes "--version" ∷ codes "-h" ∷ codes "-V" ∷ []
 

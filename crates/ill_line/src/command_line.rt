@@ -272,12 +272,18 @@ impl Name {
                 Argument::DueBefore,
                 Argument::InState,
                 Argument::Find,
+                Argument::Since,
                 Argument::Actions,
                 Argument::Notes,
                 Argument::SinceWhen,
                 Argument::Json,
             ],
-            Name::News => &[Argument::Paths, Argument::Last, Argument::Json],
+            Name::News => &[
+                Argument::Paths,
+                Argument::Since,
+                Argument::Last,
+                Argument::Json,
+            ],
             Name::Figures => &[Argument::Paths, Argument::From, Argument::To, Argument::Csv],
             Name::Simulate => &[Argument::Group, Argument::Transaction],
             Name::Show => &[Argument::Json],
@@ -415,6 +421,8 @@ pub enum Argument {
     To,
     /// Set if figures are records of CSV.
     Csv,
+    /// The day from which on news are told.
+    Since,
     /// The number of messages that are shown.
     Last,
     /// Set if a shelf may begin a desk for the group of a loan.
@@ -471,6 +479,7 @@ impl Argument {
             Argument::To => "to",
             Argument::Csv => "csv",
             Argument::NewGroup => "new-group",
+            Argument::Since => "since",
             Argument::Last => "last",
             Argument::Key => "key",
             Argument::KeyFile => "KEYFILE",
@@ -523,6 +532,7 @@ impl Argument {
             Argument::From => "The first day of the span, as 20250301",
             Argument::To => "The last day of the span, which is in it, too",
             Argument::Csv => "Write records of CSV, one for each desk",
+            Argument::Since => "Tell what came on this day or later, as 20250301",
             Argument::Last => "Tell only the last N messages, 1 to 255",
             Argument::NewGroup => "Begin the group of the loan, if the shelf has none",
             Argument::Key => "Open or seal a letter with the key in this file",
@@ -550,6 +560,7 @@ impl Argument {
             Argument::DueBefore => valued(arg, "due-before", "DAY"),
             Argument::InState => valued(arg, "state", "STATE"),
             Argument::Find => valued(arg, "find", "WORDS"),
+            Argument::Since => valued(arg, "since", "DAY"),
             Argument::Last => valued(arg, "last", "N"),
             Argument::ReportDay => valued(arg, "today", "DAY").required(true),
             Argument::From => valued(arg, "from", "DAY").required(true),
@@ -608,7 +619,7 @@ fn valued<'a>(arg: Arg<'a>, name: &'a str, value: &'a str) -> Arg<'a> {
 }
 
 /// All options of the program, also those that `clap` adds.
-const OPTIONS: [&str; 35] = [
+const OPTIONS: [&str; 36] = [
     "--today",
     "--by",
     "--seen",
@@ -632,6 +643,7 @@ const OPTIONS: [&str; 35] = [
     "--since-when",
     "--json",
     "--new-group",
+    "--since",
     "--last",
     "--from",
     "--to",

@@ -555,6 +555,10 @@ With --notes the note on a loan stands on a line below it, after `note`. With
 --since-when such a line has the day of its last message, after `since`. It is
 there if FILE.diary tells that day, as `ill loan` does.
 
+With --since DAY what came to a loan on DAY or later stands below it, on a line
+for each message, after `news`. The words are those of `ill news`, whose help
+says what came since.
+
 The last line counts all loans of the desk, whichever are listed. It says how
 many want a hand, to do, and for how many more there is room. From 900 loans on
 a line on standard error says so too. With --mine and no day, such a line
@@ -563,8 +567,10 @@ at most 10 numbers left for its messages has such a line, whichever loans are
 listed.
 
 With --json a loan has `kind`, which is loan, `work`, `state`, `due`, `group`,
-`transaction`, `now` (what `act` takes now), `item`, `note` and `since`. After
-them an object whose `kind` is counts has `loans`, `open`, `todo` and `room`.
+`transaction`, `now` (what `act` takes now), `item`, `note`, `since` and `news`.
+With --since `news` is an array, and each message in it has `number` and
+`words`. Without it `news` is null. After the loans an object whose `kind` is
+counts has `loans`, `open`, `todo` and `room`.
 
 `ill --help` tells which desks a PATH has, and what comes of several.";
 
@@ -628,6 +634,11 @@ The words of what a responder hears:
   asks to renew                    Renew
   asks to renew, until DAY         Renew with a wished day
   on its way back                  Returned
+
+With --since only what came on DAY or later is told. FILE.diary says on which
+day a message came, if the command that took it had --today. Told is all that
+stands after the last message of an earlier day. So a message without a day is
+told with those around it.
 
 With --last only the last N messages are told, 1 to 255. The last line counts
 the messages, and those of them that are shown.

@@ -149,6 +149,8 @@ pub enum Request<'a> {
         paths: Vec<&'a str>,
         /// The number of messages that are shown, if it is given.
         last: Option<Number>,
+        /// The day from which on messages are told, if it is given.
+        since: Option<Day>,
         /// The form of the messages that are shown.
         form: Form,
     },
@@ -705,9 +707,14 @@ fn news_request<'a>(alloc: Global, matches: &ArgMatches<'a>) -> Result<Request<'
         Ok(last) => last,
         Err(refusal) => return Err(refusal),
     };
+    let since = match day(matches, Argument::Since) {
+        Ok(since) => since,
+        Err(refusal) => return Err(refusal),
+    };
     Ok(Request::News {
         paths,
         last,
+        since,
         form: form(matches),
     })
 }
@@ -872,13 +879,24 @@ fn loan(alloc: Global, matches: &ArgMatches<'_>) -> Result<TxnId, Refusal>
 fn wanted(matches: &ArgMatches<'_>) -> Result<Wanted, Refusal>
     ensures { ReadsValue (λ wanted. wanted) (wanted_of (rows_of (found_of matches.now))) result }
 {
-    let today = day(matches, Argument::OnDay)?;
-    wanted_on(matches, &today)
+    let today = match day(matches, Argument::OnDay) {
+        Ok(today) => today,
+        Err(refusal) => return Err(refusal),
+    };
+    let since = match day(matches, Argument::Since) {
+        Ok(since) => since,
+        Err(refusal) => return Err(refusal),
+    };
+    wanted_on(matches, &today, &since)
 }
 
-/// Returns the conditions on the loans to list on the day `today`, if it is given.
-fn wanted_on(matches: &ArgMatches<'_>, today: &Option<Day>) -> Result<Wanted, Refusal>
-    ensures { ReadsValue (λ wanted. wanted) (wanted_on today.now (rows_of (found_of matches.now))) result }
+/// Returns the conditions on the loans to list on the day `today`, if it is given. News are told from the day `since` on.
+fn wanted_on(
+    matches: &ArgMatches<'_>,
+    today: &Option<Day>,
+    since: &Option<Day>,
+) -> Result<Wanted, Refusal>
+    ensures { ReadsValue (λ wanted. wanted) (wanted_on today.now since.now (rows_of (found_of matches.now))) result }
 {
     let which = which(matches);
     let ahead = match ahead(matches) {
@@ -902,6 +920,7 @@ fn wanted_on(matches: &ArgMatches<'_>, today: &Option<Day>) -> Result<Wanted, Re
         has_actions: is_set(matches, Argument::Actions),
         has_notes: is_set(matches, Argument::Notes),
         has_since: is_set(matches, Argument::SinceWhen),
+        since: *since,
     })
 }
 

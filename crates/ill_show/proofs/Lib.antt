@@ -1,3 +1,4 @@
+pub mod CameSinceLemmas
 pub mod DiaryLaws
 pub mod DiaryLemmas
 pub mod FindingLemmas

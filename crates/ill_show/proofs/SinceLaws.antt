@@ -10,9 +10,10 @@ use Rattle.ill_show.specs.Diary.{Named, Said, said_by}
 use Rattle.ill_show.specs.declared.row.Columns.{Columns}
 use Rattle.ill_show.specs.declared.wanted.Wanted.{Wanted}
 use Rattle.ill_show.specs.Finding.{Seeking}
+use Rattle.ill_show.specs.ListedNews.{listed_news}
 use Rattle.ill_show.specs.List.{columns_of, counts_line, counts_of, has_work}
-use Rattle.ill_show.specs.Listing.{chosen_of, dated_row, heading, list_lines, listed_desk, noted_row, section, since_shown}
-use Rattle.ill_show.specs.Listing.{work_heading, work_lines}
+use Rattle.ill_show.specs.Listing.{chosen_of, heading, list_lines, listed_desk, noted_row, section, since_shown}
+use Rattle.ill_show.specs.Listing.{told_row, work_heading, work_lines}
 use Rattle.ill_show.specs.Since.{AnnexRead, day_said, day_told, last_day, notes_alone, since_line, since_of}
 use Rattle.ill_text.specs.declared.form.Form.TheVariants.{Lines}
 use Rattle.ill_saved.specs.declared.side.Side.{Side}
@@ -60,9 +61,9 @@ module _ (wanted : Wanted) (off : wanted.has_since ≡ false) where
 
   -- The lines of a loan are those by the notes alone.
   row_stays : (columns : Columns) (annex : AnnexRead) (side : Side)
-      → dated_row columns annex wanted side ≡ dated_row columns (notes_alone annex) wanted side
+      → told_row columns annex wanted side ≡ told_row columns (notes_alone annex) wanted side
   row_stays columns annex side =
-      ap (λ (day : List ℕ). noted_row columns annex.notes wanted side ++ day)
+      ap (λ (day : List ℕ). (noted_row columns annex.notes wanted side ++ day) ++ listed_news annex.news side)
       (no_day annex side ∙ sym (no_day (notes_alone annex) side))
 
   -- The lines of a kind of work are those by the notes alone.
@@ -71,7 +72,7 @@ module _ (wanted : Wanted) (off : wanted.has_since ≡ false) where
   work_stays columns annex work [] = refl
   work_stays columns annex work (first ∷ others) =
       ap (λ (rows : List ℕ). work_heading work (length (first ∷ others)) ++ rows)
-      (same_texts (dated_row columns annex wanted) (dated_row columns (notes_alone annex) wanted) (first ∷ others)
+      (same_texts (told_row columns annex wanted) (told_row columns (notes_alone annex) wanted) (first ∷ others)
       (row_stays columns annex))
 
   -- The lines of a list are those by the notes alone.

@@ -1,4 +1,5 @@
 pub mod BadNotes
+pub mod CameSince
 pub mod Diary
 pub mod FileLines
 pub mod Finding
@@ -6,6 +7,7 @@ pub mod Heard
 pub mod ItemLine
 pub mod Kept
 pub mod List
+pub mod ListedNews
 pub mod Listing
 pub mod Loan
 pub mod LoanLines

@@ -20,6 +20,7 @@ use Rattle.ill_work.specs.Work.{all_work, work_words}
 use Rattle.ill_show.specs.List.{columns_of, row, has_work, listed_of, counts_of, counts_line}
 use Rattle.ill_show.specs.Objects.{row_object, counts_object}
 use Rattle.ill_show.specs.Finding.{Seeking, found_of}
+use Rattle.ill_show.specs.ListedNews.{listed_news}
 use Rattle.ill_show.specs.Notes.{listed_note, note_of}
 use Rattle.ill_show.specs.Since.{AnnexRead, annex_of, since_line, since_of}
 
@@ -45,11 +46,15 @@ since_shown annex wanted side = if wanted.has_since then since_line (since_of an
 abbrev pub dated_row : Columns → AnnexRead → Wanted → Side → List ℕ
 dated_row columns annex wanted side = noted_row columns annex.notes wanted side ++ since_shown annex wanted side
 
+-- Returns the line of a loan, those of its note and its day below it, and then those of its news.
+abbrev pub told_row : Columns → AnnexRead → Wanted → Side → List ℕ
+told_row columns annex wanted side = dated_row columns annex wanted side ++ listed_news annex.news side
+
 -- Returns the lines of the loans with this work: a heading, and those of each. Without a loan there is no line.
 abbrev pub work_lines : Columns → AnnexRead → Wanted → Work → List Side → List ℕ
 work_lines columns annex wanted work [] = []
 work_lines columns annex wanted work (first ∷ others) =
-    work_heading work (length (first ∷ others)) ++ flat_map (dated_row columns annex wanted) (first ∷ others)
+    work_heading work (length (first ∷ others)) ++ flat_map (told_row columns annex wanted) (first ∷ others)
 
 -- Returns the objects of the loans with this work.
 abbrev pub work_objects : Option (List ℕ) → AnnexRead → Wanted → Work → List Side → List ℕ

@@ -23,6 +23,7 @@ use Rattle.ill_work.specs.declared.work.Work.{Work}
 use Rattle.ill_work.specs.Work.{work_words}
 use Rattle.ill_words.specs.Possible.{possible_on, request_of, item_asked}
 use Rattle.ill_text.specs.ApduObject.{object_line, apdu_fields}
+use Rattle.ill_show.specs.ListedNews.{listed_news_fields}
 use Rattle.ill_show.specs.Notes.{note_fields, note_of}
 use Rattle.ill_show.specs.Since.{AnnexRead, since_fields, since_of}
 
@@ -142,9 +143,13 @@ noted_fields notes today work side = row_fields work side (names_of today side) 
 abbrev pub dated_fields : AnnexRead → Option Date → Work → Side → List Field
 dated_fields annex today work side = noted_fields annex.notes today work side ++ since_fields (since_of annex side)
 
+-- Returns these fields, and the field of the news of the loan.
+abbrev pub full_row_fields : AnnexRead → Option Date → Work → Side → List Field
+full_row_fields annex today work side = dated_fields annex today work side ++ listed_news_fields annex.news side
+
 -- Returns the object of a listed loan with this work, with the actions of the day `today`.
 unfoldable pub row_object : Option (List ℕ) → AnnexRead → Option Date → Work → Side → List ℕ
-row_object file annex today work side = object_line (dated_fields annex today work side ++ file_fields file)
+row_object file annex today work side = object_line (full_row_fields annex today work side ++ file_fields file)
 
 -- Returns the fields of the counts of a desk.
 abbrev pub counts_fields : Counts → List Field

@@ -14,19 +14,26 @@ use Rattle.ill_show.specs.Diary.{Named, Said, messages_of, said_by}
 use Rattle.ill_show.specs.FileLines.{lines_of}
 use Rattle.ill_show.specs.Kept.{kept_of}
 
--- The annex of a desk: the lines of the notes of staff and of the diary, and the messages that came.
+-- The annex of a desk: the lines of the notes of staff and of the diary, the messages that came, and those of them that are
+-- told as news, if news are told.
 pub record AnnexRead : Type 0 where
   pub notes : List (List ℕ)
   pub diary : List (List ℕ)
   pub came : List Apdu
+  pub news : Option (List Apdu)
 
 -- Returns the annex that was read.
 abbrev pub annex_of : Annex → AnnexRead
-annex_of annex = record { notes = lines_of annex.notes; diary = lines_of annex.diary; came = annex.came.items }
+annex_of annex = record {
+  notes = lines_of annex.notes;
+  diary = lines_of annex.diary;
+  came = annex.came.items;
+  news = option_map (λ apdus. apdus.items) annex.news;
+}
 
--- Returns the annex with its notes alone.
+-- Returns the annex with its notes alone, and the news that are told.
 abbrev pub notes_alone : AnnexRead → AnnexRead
-notes_alone annex = record { notes = annex.notes; diary = []; came = [] }
+notes_alone annex = record { notes = annex.notes; diary = []; came = []; news = annex.news }
 
 -- Returns the day of what a line says, if one of `messages` is the one that it names.
 abbrev pub day_said : (messages : List Named) → Said → Option Date

@@ -1,4 +1,4 @@
-//! The annex of a desk: the notes of staff, the diary, and the messages that came.
+//! The annex of a desk: the notes of staff, the diary, the messages that came, and the news that are told.
 
 ghost use Rattle.std.specs.Prelude.{◌≡◌};
 
@@ -15,6 +15,8 @@ pub struct Annex {
     pub diary: FileLines,
     /// The messages that came.
     pub came: Vec<Apdu>,
+    /// Those of the messages that are told as news, if news are told.
+    pub news: Option<Vec<Apdu>>,
 }
 
 impl Annex {
@@ -26,6 +28,7 @@ impl Annex {
             notes,
             diary: FileLines::none(alloc),
             came: Vec::new(alloc),
+            news: None,
         }
     }
 }

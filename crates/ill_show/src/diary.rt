@@ -1,5 +1,4 @@
-//! The history of a loan: the lines of a diary that name a message which the record of the loan has. Nothing else that
-//! is shown depends on a diary.
+//! The history of a loan: the lines of a diary that name a message which the record of the loan has.
 
 ghost use Rattle.std.specs.Prelude.{◌≡◌, ◌==◌, ◌++◌, ◌∷◌, [], bytes_eq, codes, filter, find, map, option_map, option_to_list, IfOk, OnOk};
 ghost use Rattle.std.specs.List.{flat_map, list_any};
@@ -279,7 +278,7 @@ pub(crate) fn message_with<'a>(messages: &'a [Message], key: &[u8]) -> Option<&'
 }
 
 /// Returns true if one of `lines` names the message with the key `key`.
-fn is_named(key: &[u8], lines: &[Vec<u8>]) -> bool
+pub(crate) fn is_named(key: &[u8], lines: &[Vec<u8>]) -> bool
     ensures { result ≡ is_named key.now (map (λ line. line.items) lines.now) }
 {
     lines.iter().any(|line| has_key(key, line))

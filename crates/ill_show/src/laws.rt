@@ -12,6 +12,7 @@ ghost use Rattle.ill_core.specs.declared.state.State.TheVariants.{NotSupplied};
 ghost use Rattle.ill_core.specs.Requester.{RequesterRecord};
 ghost use Rattle.ill_saved.specs.declared.side.Side.{Side};
 ghost use Rattle.ill_show.specs.BadNotes.{MisjudgesNote};
+ghost use Rattle.ill_show.specs.CameSince.{came_before, came_key, came_since, is_named_since};
 ghost use Rattle.ill_saved.specs.Holdings.{DeskEntry};
 ghost use Rattle.ill_saved.specs.Ranges.{Each};
 ghost use Rattle.ill_show.specs.Diary.{EndsWith, IsWord, Named, Said, history_lines, history_of, is_named, is_of_record, messages_of, part_of, said_by, says_of};
@@ -39,6 +40,21 @@ pub fn what_was_taken_is_news()
 pub fn nothing_else_is_news()
     ensures { (sides : List Side) (came : List Apdu) (a : Apdu) → is_told (news_of sides came) a ≡ true →
         list_any (λ b. is_same b a && heard_at sides b) came ≡ true }
+{}
+
+/// What came since a day is told: all after the last message that came before, or all if none did. A message came before if
+/// a line of the diary names it, and no line of the day or later does.
+#[tactic(auto, using(crate::proofs::CameSinceLemmas::all_told, crate::proofs::CameSinceLemmas::later_told, crate::proofs::CameSinceLemmas::unnamed_told, crate::proofs::CameSinceLemmas::named_told))]
+pub fn what_came_since_is_told()
+    ensures all { (day : Date) (lines : List (List ℕ)) (came : List Apdu) →
+        list_any (came_before day lines) came ≡ false → came_since (Some day) lines came ≡ came }
+    ensures later { (day : Date) (lines : List (List ℕ)) (came later : List Apdu) (a : Apdu) →
+        came_before day lines a ≡ true → list_any (came_before day lines) later ≡ false →
+        came_since (Some day) lines (came ++ a ∷ later) ≡ later }
+    ensures unnamed { (day : Date) (lines : List (List ℕ)) (a : Apdu) → is_named (came_key a) lines ≡ false →
+        came_before day lines a ≡ false }
+    ensures named { (day : Date) (lines : List (List ℕ)) (a : Apdu) → is_named_since day (came_key a) lines ≡ true →
+        came_before day lines a ≡ false }
 {}
 
 /// Words begin with `no: ` if, and only if, the message ends the request without the item. If the requester's record shows
@@ -152,7 +168,7 @@ pub fn an_entered_line_tells_its_day()
         day_told messages line ≡ Some says.day }
 {}
 
-/// Lines of a list without days do not depend on the diary, nor on the messages that came.
+/// Lines of a list without days do not depend on the diary, nor on the messages that came, but for the news that are told.
 #[tactic(auto, using(crate::proofs::SinceLaws::no_list_depends))]
 pub fn no_list_without_days_depends_on_a_diary()
     ensures { (is_headed : Bool) (wanted : Wanted) (find : Option (List ℕ)) (annex : AnnexRead) (path : List ℕ)

@@ -3,6 +3,7 @@
 #![tactic(auto)]
 
 pub mod annex;
+pub mod came_since;
 mod counts;
 pub mod diary;
 pub mod file_lines;
@@ -14,6 +15,7 @@ pub mod laws;
 pub mod list;
 mod list_objects;
 pub mod listed;
+mod listed_news;
 pub mod loan;
 mod loan_lines;
 mod marks;

@@ -8,13 +8,14 @@ ghost use Rattle.ill_show.specs.List.{counts_line, counts_of, has_work, is_left_
 ghost use Rattle.ill_show.specs.Finding.{seeking_of};
 ghost use Rattle.ill_show.specs.FileLines.{lines_of};
 ghost use Rattle.ill_show.specs.Since.{annex_of};
-ghost use Rattle.ill_show.specs.Listing.{between, chosen_of, counts_text, dated_row, file_told, gap, heading, list_lines, list_objects, listed_desk, note_shown, noted_row, ordered_lines, section, sections, since_shown, work_heading, work_lines, work_objects, work_text};
+ghost use Rattle.ill_show.specs.Listing.{between, chosen_of, counts_text, dated_row, file_told, gap, heading, list_lines, list_objects, listed_desk, note_shown, noted_row, ordered_lines, section, sections, since_shown, told_row, work_heading, work_lines, work_objects, work_text};
 
 use crate::annex::Annex;
 use crate::counts::Counts;
 use crate::finding::{Sought, found_of};
 use crate::list_objects::{push_counts_object, push_row_object};
 use crate::listed::{Listed, heading};
+use crate::listed_news::push_listed_news;
 use crate::notes::{Notes, push_listed_note};
 use crate::row::{Columns, push_row};
 use crate::since::{push_since_line, since_of};
@@ -33,7 +34,7 @@ use std::io::Write;
 /// The form of a list.
 #[derive(Clone, Copy)]
 pub(crate) enum Rows<'a> {
-    /// A line for each loan, of these columns, and those of its note and its day if the list has them.
+    /// A line for each loan, of these columns, and those of its note, its day and its news if the list has them.
     Lines(Columns, &'a Annex),
     /// An object for each loan, with the path of its desk, if it is given.
     Objects(Option<&'a str>, &'a Annex),
@@ -293,7 +294,7 @@ fn push_work_heading(lines: &mut Vec<u8>, work: Work, count: usize) -> Result<()
     Ok(())
 }
 
-/// Appends a line for each loan of `sides`, and that of its note if the list has notes.
+/// Appends a line for each loan of `sides`, and those of its note, its day and its news if the list has them.
 fn push_rows(
     lines: &mut Vec<u8>,
     columns: &Columns,
@@ -302,12 +303,27 @@ fn push_rows(
     sides: &[&Side],
 ) -> Result<(), OutOfMemory>
     ensures { OnOk result (lines.new.items ≡ lines.old.items
-        ++ flat_map (dated_row columns.now (annex_of annex.now) wanted.now) (map (λ side. side.now) sides.now)) }
+        ++ flat_map (told_row columns.now (annex_of annex.now) wanted.now) (map (λ side. side.now) sides.now)) }
 {
     for side in sides {
-        push_dated_row(lines, columns, annex, wanted, side)?;
+        push_told_row(lines, columns, annex, wanted, side)?;
     }
     Ok(())
+}
+
+/// Appends the line of the loan of `side`, and those of its note, its day and its news if the list has them.
+fn push_told_row(
+    lines: &mut Vec<u8>,
+    columns: &Columns,
+    annex: &Annex,
+    wanted: &Wanted,
+    side: &Side,
+) -> Result<(), OutOfMemory>
+    ensures { OnOk result (lines.new.items ≡ lines.old.items
+        ++ told_row columns.now (annex_of annex.now) wanted.now side.now) }
+{
+    push_dated_row(lines, columns, annex, wanted, side)?;
+    push_listed_news(lines, annex, side)
 }
 
 /// Appends the line of the loan of `side`, and those of its note and its day if the list has them.

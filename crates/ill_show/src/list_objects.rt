@@ -2,12 +2,13 @@
 
 ghost use Rattle.std.specs.Prelude.{◌≡◌, [], ◌++◌, map, option_map, codes, OnOk};
 ghost use Rattle.ill_text.specs.Json.{joined, member};
-ghost use Rattle.ill_show.specs.Objects.{kind_fields, listed_fields, counts_fields, counts_object, dated_fields, file_fields, names_of, noted_fields, row_fields, row_object};
+ghost use Rattle.ill_show.specs.Objects.{kind_fields, listed_fields, counts_fields, counts_object, dated_fields, file_fields, full_row_fields, names_of, noted_fields, row_fields, row_object};
 ghost use Rattle.ill_show.specs.FileLines.{lines_of};
 ghost use Rattle.ill_show.specs.Since.{annex_of};
 
 use crate::annex::Annex;
 use crate::counts::Counts;
+use crate::listed_news::push_news_field;
 use crate::notes::{Notes, push_note_field};
 use crate::objects::title;
 use crate::since::{push_since_field, since_of};
@@ -18,8 +19,8 @@ use ill_words::names::names;
 use ill_words::possible::possible_on;
 use ill_work::Work;
 
-/// Appends the object of the loan of `side` with this work on the day `today`, with its note and its day, on a line.
-/// It has the path `file` of the desk, if it is given.
+/// Appends the object of the loan of `side` with this work on the day `today`, with its note, its day and its news,
+/// on a line. It has the path `file` of the desk, if it is given.
 #[tactic(auto, unfolding(crate::specs::Objects::row_object))]
 pub(crate) fn push_row_object(
     text: &mut Vec<u8>,
@@ -47,10 +48,25 @@ fn push_row_and_file(
     side: &Side,
 ) -> Result<(), OutOfMemory>
     ensures { OnOk result (text.new.items ≡ text.old.items
-        ++ joined member [] (dated_fields (annex_of annex.now) today work side.now ++ file_fields (option_map (λ path. path.now) file.entry))) }
+        ++ joined member [] (full_row_fields (annex_of annex.now) today work side.now ++ file_fields (option_map (λ path. path.now) file.entry))) }
+{
+    push_full_row(text, annex, today, work, side)?;
+    push_file(text, file)
+}
+
+/// Appends the fields of the loan of `side`, and those of its note, its day and its news.
+fn push_full_row(
+    text: &mut Vec<u8>,
+    annex: &Annex,
+    today: Option<Day>,
+    work: Work,
+    side: &Side,
+) -> Result<(), OutOfMemory>
+    ensures { OnOk result (text.new.items ≡ text.old.items
+        ++ joined member [] (full_row_fields (annex_of annex.now) today work side.now)) }
 {
     push_dated_fields(text, annex, today, work, side)?;
-    push_file(text, file)
+    push_news_field(text, annex, side)
 }
 
 /// Appends the fields of the loan of `side`, and those of its note and its day.

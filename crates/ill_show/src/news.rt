@@ -9,8 +9,13 @@ ghost use Rattle.ill_text.specs.Json.{joined, member, optional, quoted, value_te
 ghost use Rattle.ill_show.specs.List.{title_text};
 ghost use Rattle.ill_show.specs.Listing.{between, file_told, gap, heading};
 ghost use Rattle.ill_show.specs.Objects.{file_fields};
+ghost use Rattle.ill_show.specs.FileLines.{lines_of};
+ghost use Rattle.ill_show.specs.CameSince.{came_since, news_since};
+ghost use Rattle.ill_show.specs.Since.{annex_of};
 ghost use Rattle.ill_show.specs.News.{IsTextOf, WritesNews, columns_of, due_of, heard_at, heard_by, is_same, is_told, item_of, last_of, named, news_counts, news_desk, news_fields, news_lines, news_object, news_objects, news_of, news_row, news_text, no_columns, told_fields, widened, with_news, words_at};
 
+use crate::annex::Annex;
+use crate::came_since::{Came, later};
 use crate::heard::is_heard;
 use crate::list_objects::push_file;
 use crate::listed::{Listed, heading};
@@ -47,17 +52,20 @@ pub(crate) struct NewsColumns {
 /// that counts the messages.
 ///
 /// `came` has the bytes that `take --keep`, `inbox` and `exchange` have kept. A part that is no message, and all bytes
-/// after it, are ignored.
+/// after it, are ignored. With a day, only what came since is written: all after the last message that the diary names
+/// before that day.
 pub fn run_desk_news<S: Store, W: Write>(
     alloc: Global,
     desk: &Desk<S>,
     listed: &Listed<'_>,
     last: Option<Number>,
-    came: &[u8],
+    came: &Came<'_>,
     writer: &mut W,
 ) -> Result<(), ToolFault>
-    ensures { WritesNews (news_text listed.now.form listed.now.is_headed listed.now.is_first last listed.now.path.now
-        (sides_held desk.now.live).sides) came.now (W.contents writer.old) (W.contents writer.new) result }
+    ensures { WritesNews (λ apdus. news_text listed.now.form listed.now.is_headed listed.now.is_first last
+        listed.now.path.now (sides_held desk.now.live).sides
+        (came_since came.now.since (lines_of came.now.diary.now) apdus))
+        came.now.bytes.now (W.contents writer.old) (W.contents writer.new) result }
 {
     match text_of_news(alloc, desk.sides(), listed, last, came) {
         Ok(text) => write_whole(writer, &text),
@@ -71,14 +79,36 @@ fn text_of_news(
     sides: &Sides,
     listed: &Listed<'_>,
     last: Option<Number>,
-    came: &[u8],
+    came: &Came<'_>,
 ) -> Result<Vec<u8>, OutOfMemory>
-    ensures { IfOk result (λ text. IsTextOf (news_text listed.now.form listed.now.is_headed listed.now.is_first last
-        listed.now.path.now sides.now.sides) came.now text.items) }
+    ensures { IfOk result (λ text. IsTextOf (λ apdus. news_text listed.now.form listed.now.is_headed listed.now.is_first
+        last listed.now.path.now sides.now.sides (came_since came.now.since (lines_of came.now.diary.now) apdus))
+        came.now.bytes.now text.items) }
 {
-    let came = apdus_in(alloc, came)?;
-    let news = news_of(alloc, sides, &came)?;
+    let apdus = apdus_in(alloc, came.bytes)?;
+    let told = came.told(alloc, &apdus)?;
+    let news = news_of(alloc, sides, told)?;
     desk_text(alloc, sides, listed, last, &news)
+}
+
+/// Returns the news of a desk with these sides since a day: the messages that they have taken since, by `annex`, each once.
+/// Without a day no news are told.
+pub fn news_since(
+    alloc: Global,
+    sides: &Sides,
+    annex: &Annex,
+    since: Option<Day>,
+) -> Result<Option<Vec<Apdu>>, OutOfMemory>
+    ensures { IfOk result (λ news. option_map (λ apdus. apdus.items) news
+        ≡ news_since since (annex_of annex.now) sides.now.sides) }
+{
+    match since {
+        None => Ok(None),
+        Some(day) => {
+            let came = later(alloc, day, annex.diary.lines(), &annex.came)?;
+            Ok(Some(news_of(alloc, sides, came)?))
+        }
+    }
 }
 
 /// Returns the messages in `came` that a side of `sides` has taken, each once.

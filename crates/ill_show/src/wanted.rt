@@ -40,6 +40,8 @@ pub struct Wanted {
     pub has_notes: bool,
     /// Set if each line has the day since which its loan stands as it does below it.
     pub has_since: bool,
+    /// The day, if it is given, from which on what came to the loans is told.
+    pub since: Option<Day>,
 }
 
 impl Which {

@@ -51,8 +51,8 @@ Runs (asks.Send file txn number key) left rest before after result =
     (rest ≡ left) × SendsWith key txn number before after result
 Runs (asks.Listing paths wanted find form) left rest before after result =
     (rest ≡ left) × ListsPaths form wanted find before after result
-Runs (asks.News paths last form) left rest before after result =
-    (rest ≡ left) × TellsPaths form last before after result
+Runs (asks.News paths last since form) left rest before after result =
+    (rest ≡ left) × TellsPaths form last since before after result
 Runs (asks.Figures paths view) left rest before after result = (rest ≡ left) × CountsPaths view before after result
 Runs (asks.Status file form) left rest before after result = (rest ≡ left) × ShowsFile form before after result
 Runs (asks.Loan file txn form) left rest before after result =

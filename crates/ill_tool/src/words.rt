@@ -313,7 +313,12 @@ fn run<T: LockFiles, R: Read, W: Write, E: Write>(
             find,
             form,
         } => list(machine, paths, wanted, *find, *form),
-        Request::News { paths, last, form } => news(machine, paths, *last, *form),
+        Request::News {
+            paths,
+            last,
+            since,
+            form,
+        } => news(machine, paths, *last, *since, *form),
         Request::Figures { paths, view } => figures(machine, paths, view),
         Request::Status { file, form } => status(machine, file, *form),
         Request::Loan { file, txn, form } => loan(machine, file, &LoanView { txn, form: *form }),

@@ -10,6 +10,7 @@ same courses must have the same bytes. Of each desk the program writes
 - what shows the notes that are written beside the desk, and what is found in them, and the notes that `note` keeps,
 - `figures` and its records of CSV, by a diary with lines that count and lines that do not;
 - `news` and its objects of what came, which is written beside the desk once, twice and torn, with `--last` too;
+- `news` and `list` since a day, by a diary that lacks some messages and has older lines of others;
 - `status`, its objects, `report` and `verify`;
 
 and all but the slowest once more to a full device, to a closed output and to a pipe that is read byte by byte.
@@ -37,11 +38,11 @@ from ill.der import ASKED, shipped, spelled
 from ill.harness import CLOSED, FULL, read, write
 from ill.model import REQUESTER, RESPONDER, ROLES, FORMS, Fault, Side
 from ill.morning import AHEAD, Loan, Morning, work_with, works
-from ill.notes import is_found, kept, note_line, notes_of
+from ill.notes import is_found, kept, key, note_line, notes_of
 from ill.records import desk_record
 from ill.screen import ACTING, shown
 from ill.slips import Slip
-from ill.tidings import came_bytes, column, iso, news_lines, news_objects
+from ill.tidings import Since, came_bytes, column, heard, iso, news_lines, news_objects
 
 REPORT = harness.Report()
 
@@ -197,8 +198,8 @@ def counts(sides, today=None, ahead=AHEAD):
 
 
 def list_lines(sides, flag, today=None, due_before=None, state=None, ahead=AHEAD, has_actions=False, find=None,
-               notes=None, has_notes=False):
-    """Returns the lines of `list`."""
+               notes=None, has_notes=False, news=None, days=None):
+    """Returns the lines of `list`. `news` has what is told of each loan, and `days` since when it stands so."""
     rows = list(listed(sides, flag, today, due_before, state, ahead, find, notes))
     cells = [[side.state, side.due or "-", column(side.txn[0]), column(side.txn[1]),
               *([",".join(side.possible(today))] if has_actions else [])] for _, side in rows]
@@ -212,17 +213,27 @@ def list_lines(sides, flag, today=None, due_before=None, state=None, ahead=AHEAD
         lines.append("  " + "".join(map(padded, texts, widths)) + shown(side.asked()["item"]))
         if has_notes and tuple(side.txn) in notes:
             lines.append(f"    note {notes[tuple(side.txn)]}")
+        if days and tuple(side.txn) in days:
+            lines.append(f"    since {days[tuple(side.txn)]}")
+        lines += [f"    news {words}" for _, words in (news or {}).get(tuple(side.txn), [])]
     told = counts(sides, today, ahead)
     return [*lines, "loans {loans}, open {open}, to do {todo}, room for {room}".format(**told)]
 
 
-def list_objects(sides, flag, today=None, due_before=None, state=None, ahead=AHEAD, find=None, notes=None):
+def list_objects(sides, flag, today=None, due_before=None, state=None, ahead=AHEAD, find=None, notes=None, news=None,
+                 days=None):
     """Returns the objects of `list`."""
     return [{"kind": "loan", "work": name, "state": side.state, "due": iso(side.due), "group": side.txn[0],
              "transaction": side.txn[1], "now": side.possible(today), "item": side.asked()["item"],
-             "note": (notes or {}).get(tuple(side.txn)), "since": None}
+             "note": (notes or {}).get(tuple(side.txn)), "since": iso((days or {}).get(tuple(side.txn))),
+             "news": heard_objects(side, news)}
             for name, side in listed(sides, flag, today, due_before, state, ahead, find, notes)
             ] + [{"kind": "counts", **counts(sides, today, ahead)}]
+
+
+def heard_objects(side, news):
+    """Returns what is told of a loan, as objects, if news are told."""
+    return news and [{"number": number, "words": words} for number, words in news[tuple(side.txn)]]
 
 
 def numbers_lines(path, sides):
@@ -498,6 +509,30 @@ def compare_figures(judge, path, figures):
     judge.same(f"the records of {path}", list(csv.reader(io.StringIO(text, newline=""), strict=True)),
                [FIELDS, figures.fields(path)])
     judge.same(f"the ends of the records of {path}", (text.count("\r\n"), text.count("\n")), (2, 2))
+
+
+def check_since(judge, path, sides):
+    """Compares `news` and `list` since a day. The diary lacks each third message, and has an older line of each fourth, after
+    which the right one counts."""
+    names = [(tuple(side.txn), apdu["apdu"], apdu["number"]) for side in sides for apdu in side.came]
+    days = {(txn, number): f"202503{1 + 9 * place // len(names):02}" for place, (txn, _, number) in enumerate(names) if place % 3}
+    lines = [f"{day} - {key(txn[0])} {key(txn[1])} {apdu} {number}\n" for place, (txn, apdu, number) in enumerate(names)
+             for day in ["20250101"] * (place % 4 == 0) + [days[txn, number]] if (txn, number) in days]
+    last_days = {txn: days[txn, number] for txn, _, number in names if (txn, number) in days}
+    write(f"{path}.came", came_bytes(sides))
+    write(f"{path}.diary", "".join(lines).encode())
+    for day in ("20250228", "20250304", "20250309", "20250401"):
+        since = Since(day, days)
+        for last in (None, 3):
+            words = ["news", path, "--since", day, *(["--last", str(last)] if last else [])]
+            judge.lines(words, news_lines(sides, last, since))
+            judge.objects([*words, "--json"], news_objects(sides, last, since=since))
+        news = heard(sides, since)
+        judge.lines(["list", path, "--since", day], list_lines(sides, "", news=news))
+        judge.lines(["list", path, "--since", day, "--since-when"], list_lines(sides, "", news=news, days=last_days))
+        judge.objects(["list", path, "--json", "--since", day], list_objects(sides, "", news=news, days=last_days))
+    os.remove(f"{path}.came")
+    os.remove(f"{path}.diary")
 
 
 # Words of notes, some of which a terminal would act on, and words that are sought.
@@ -793,6 +828,7 @@ def check_desks(judge):
         check_news(judge, name, sides)
         check_figures(judge, name, sides)
         if not is_longest(sides):
+            check_since(judge, name, sides)
             check_notes(judge, name, sides)
         check_rest(judge, name, role, sides)
         if len(sides) < 900 or is_longest(sides):

@@ -52,7 +52,7 @@ wait for each other: {wait} seconds; held FILE for {wait} seconds
 {day_digits} digits, as {day}, of the years {first_year} to {last_year}; A day is {day_digits} digits, as {day}
 The day of the action, as {day}; The day of the report, as {day}; The day of the run, as {day}
 The first day of the span, as {day}
-want the day: `--today {day}`; DAY is {day_digits} digits, as {day}; The day of the work, as {day}
+want the day: `--today {day}`; DAY is {day_digits} digits, as {day}; The day of the work, as {day}; came on this day or later, as {day}
 at most DAYS days away: {first} to {last}, or {ahead} without this option; a due date is soon, or {ahead}
 N days after that day, {first} to {last}; the last N messages, {first} to {last}
 only the last N messages are told, {first} to {last}; no count of messages: it is {first} to {last}
@@ -593,7 +593,8 @@ def compare_words(named_texts, words, arguments):
     verbs_known = {form.split()[0] for forms in actions().values() for form in forms}
     files = re.findall(r"^  \$ ill new (\w+)", read(HELP), re.M)
     objects = "".join(map(read, (f"{TEXT}/apdu_object.rt", f"{SHOW}/objects.rt", f"{SHOW}/list_objects.rt",
-                                 f"{SHOW}/diary.rt", f"{SHOW}/since.rt", f"{SHOW}/news.rt", f"{SHOW}/verify.rt")))
+                                 f"{SHOW}/diary.rt", f"{SHOW}/since.rt", f"{SHOW}/news.rt", f"{SHOW}/listed_news.rt",
+                                 f"{SHOW}/verify.rt")))
     labels = set(re.findall(r'(?:\(|\(text, )"([\w-]+)"(?:, |\)\?;)', objects))
     counted = set(re.findall(r"(\w+) \{\1\}", read(f"{NIGHT}/tally.rt")))
     staying = {f"NAME {word} REASON" for word in re.findall(r'b" (\w+) "', read(f"{NIGHT}/verdict.rt"))}

@@ -2,7 +2,7 @@
 use Rattle.std.proofs.Common.{◌≡◌, ◌++◌, take, Bor}
 use Rattle.std.specs.List.{flat_map}
 use Rattle.ill_saved.specs.declared.side.Side.{Side}
-use Rattle.ill_show.specs.Listing.{dated_row}
+use Rattle.ill_show.specs.Listing.{told_row}
 use Rattle.ill_show.specs.Since.{annex_of}
 use Rattle.ill_show.proofs.list.push_rows.Given as goal
 
@@ -10,5 +10,5 @@ use Rattle.ill_show.proofs.list.push_rows.Given as goal
 abbrev pub invariant-loop-side : goal.invariant-loop-side
 invariant-loop-side l = record {
   listed : l.lines.items ≡ l.initial.lines.items
-      ++ flat_map (λ (side : Bor Side). dated_row l.columns (annex_of l.annex) l.wanted side.now) (take l.side-index l.sides);
+      ++ flat_map (λ (side : Bor Side). told_row l.columns (annex_of l.annex) l.wanted side.now) (take l.side-index l.sides);
 }

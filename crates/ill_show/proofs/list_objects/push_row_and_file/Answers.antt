@@ -8,5 +8,5 @@ use Rattle.ill_show.proofs.list_objects.push_row_and_file.Goals as goal
 pub returns : goal.returns
 returns c =
     subst (λ (shown : List ℕ). OnOk c.push_file.result (c.push_file.new.text.items ≡ shown))
-    (joined_further member [] c.args.text.now.items c.push_dated_fields.new.text.items _ _ _ c.in_ok-push_dated_fields.ensures)
+    (joined_further member [] c.args.text.now.items c.push_full_row.new.text.items _ _ _ c.in_ok-push_full_row.ensures)
     c.push_file.ensures

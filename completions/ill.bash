@@ -70,9 +70,9 @@ _ill_parts() {
     figures) parts=(files) options='--from --to --csv --explain --help' ;;
     take) parts=(file) options='--long --keep --today --by --key --explain --help' ;;
     send) parts=(file loan loan none) options='--key --explain --help' ;;
-    inbox) parts=(file folder) options='--today --by --explain --help' ;;
-    outbox) parts=(file folder) options='--stream --explain --help' ;;
-    exchange) parts=(file folder folder) options='--today --by --overdue --expire --copy --beat --explain --help' ;;
+    inbox) parts=(file folder) options='--today --by --key --explain --help' ;;
+    outbox) parts=(file folder) options='--stream --key --explain --help' ;;
+    exchange) parts=(file folder folder) options='--today --by --overdue --expire --copy --beat --key --explain --help' ;;
     key) parts=(file) options='--show --read --explain --help' ;;
     verify) parts=(file) options='--json --explain --help' ;;
     show) parts=() options='--json --explain --help' ;;

@@ -20,8 +20,16 @@ fn mail_of(alloc: Global, names: &Names, one: &[Word]) -> Option<Mail> {
     let word = one.first()?;
     let name = Vec::from_slice(alloc, word.text.as_bytes()).ok()?;
     if word.is("-") {
-        return Some(Mail { name, bytes: None });
+        return Some(Mail {
+            name,
+            bytes: None,
+            letter: None,
+        });
     }
     let bytes = Some(names.bytes(one)?);
-    Some(Mail { name, bytes })
+    Some(Mail {
+        name,
+        bytes,
+        letter: None,
+    })
 }

@@ -50,7 +50,7 @@ fn tell_together<T: LockFiles>(
         Name::Note => tell_note(alloc, text, matches),
         Name::Outbox => writeln!(
             text,
-            "  Say where the messages go: a folder, or --stream, and not both."
+            "  Say where the messages go: a folder, or --stream, and not both. Letters want a folder."
         ),
         Name::Take => writeln!(
             text,

@@ -47,7 +47,7 @@ use Rattle.ill_line.specs.declared.command_line.Argument.TheVariants.{OnDay, Due
 use Rattle.ill_line.specs.declared.command_line.Argument.TheVariants.{Out, NightDay, Overdue, Expire, Copy, Beat, NewGroup, Ahead}
 use Rattle.ill_line.specs.declared.command_line.Argument.TheVariants.{By, DryRun, Seen}
 use Rattle.ill_line.specs.declared.command_line.Argument.TheVariants.{Actions, Last, Since, Title, NoteWords, Find, Notes}
-use Rattle.ill_line.specs.declared.command_line.Argument.TheVariants.{SinceWhen}
+use Rattle.ill_line.specs.declared.command_line.Argument.TheVariants.{SinceWhen, NightKey}
 use Rattle.ill_line.specs.declared.command_line.Argument.TheVariants.{KeyFile, ShowKey, ReadKey, From, To, Csv}
 use Rattle.ill_line.specs.CommandLine.{name_read, id_of, is_option}
 use Rattle.ill_files.specs.Paths.{is_beside}
@@ -257,6 +257,16 @@ outlet is_stream folder = None
 abbrev pub outlet_of : Found → Option (Option (List ℕ))
 outlet_of found = outlet (is_set Stream found) (text_of OutFolder found)
 
+-- Returns the key of letters. It is Some None if none is given, and None if one is given for messages that are streamed.
+abbrev pub key_if : (is_streamed : Bool) → Option (List ℕ) → Option (Option (List ℕ))
+key_if true (Some key) = None
+key_if true None = Some None
+key_if false key = Some key
+
+-- Returns the key of the letters that leave, as `key_if` does.
+abbrev pub key_of_outlet : Found → Option (Option (List ℕ))
+key_of_outlet found = key_if (is_set Stream found) (text_of NightKey found)
+
 -- Returns the deeds that the flags ask of a responder.
 abbrev pub wanted_dates : Found → Dates
 wanted_dates found = record { overdue = is_set Overdue found; expire = is_set Expire found }
@@ -297,10 +307,10 @@ pub data Asked : Type 0 where
   New : (file : List ℕ) → (role : Role) → Asked
   Act : (file : List ℕ) → (asking : Asking) → (by : Option (List ℕ)) → (is_long is_new_group : Bool) → Asked
   Take : (file : List ℕ) → (form : TakeForm) → (stamp : Option Stamped) → (key : Option (List ℕ)) → Asked
-  Inbox : (file folder : List ℕ) → (stamp : Option Stamped) → Asked
-  Outbox : (file : List ℕ) → (folder : Option (List ℕ)) → Asked
+  Inbox : (file folder : List ℕ) → (stamp : Option Stamped) → (key : Option (List ℕ)) → Asked
+  Outbox : (file : List ℕ) → (folder key : Option (List ℕ)) → Asked
   Exchange : (file incoming outgoing : List ℕ) → (dates : Option (Date × Dates)) → (stamp : Option Stamped) →
-      (copy beat : Option (List ℕ)) → Asked
+      (copy beat key : Option (List ℕ)) → Asked
   Key : (file : List ℕ) → (deed : KeyDeed) → Asked
   Send : (file : List ℕ) → (txn : Qualifiers) → (number : ℕ) → (key : Option (List ℕ)) → Asked
   Listing : (paths : List (List ℕ)) → (wanted : Wanted) → (find : Option (List ℕ)) → (form : Form) → Asked
@@ -331,11 +341,13 @@ asked (requests.Act file txn today by seen is_trial is_long is_new_group words) 
     }) (option_map (λ name. name.now) by) is_long is_new_group
 asked (requests.Take file form stamp key) =
     Take file.now form (option_map stamped stamp) (option_map (λ text. text.now) key)
-asked (requests.Inbox file folder stamp) = Inbox file.now folder.now (option_map stamped stamp)
-asked (requests.Outbox file folder) = Outbox file.now (option_map (λ text. text.now) folder)
-asked (requests.Exchange file night) =
+asked (requests.Inbox file folder stamp key) =
+    Inbox file.now folder.now (option_map stamped stamp) (option_map (λ text. text.now) key)
+asked (requests.Outbox file folder key) =
+    Outbox file.now (option_map (λ text. text.now) folder) (option_map (λ text. text.now) key)
+asked (requests.Exchange file night key) =
     Exchange file.now night.incoming.now night.outgoing.now night.dates (option_map stamped night.stamp)
-    (option_map (λ text. text.now) night.copy) (option_map (λ text. text.now) night.beat)
+    (option_map (λ text. text.now) night.copy) (option_map (λ text. text.now) night.beat) (option_map (λ text. text.now) key)
 asked (requests.Key file deed) = Key file.now deed
 asked (requests.Send file txn number key) = Send file.now txn number (option_map (λ text. text.now) key)
 asked (requests.List paths wanted find form) =
@@ -356,9 +368,9 @@ abbrev pub desk_at_stake : Asked → Option (List ℕ)
 desk_at_stake (New file role) = Some file
 desk_at_stake (Act file asking by is_long is_new_group) = Some file
 desk_at_stake (Take file form stamp key) = Some file
-desk_at_stake (Inbox file folder stamp) = Some file
-desk_at_stake (Outbox file folder) = Some file
-desk_at_stake (Exchange file incoming outgoing dates stamp copy beat) = Some file
+desk_at_stake (Inbox file folder stamp key) = Some file
+desk_at_stake (Outbox file folder key) = Some file
+desk_at_stake (Exchange file incoming outgoing dates stamp copy beat key) = Some file
 desk_at_stake (Key file deed) = Some file
 desk_at_stake (Send file txn number key) = Some file
 desk_at_stake (Note file txn words) = Some file
@@ -397,17 +409,19 @@ asked_of names.Inbox found = do
   file ← text_of File found
   folder ← text_of Folder found
   stamp ← stamp_of found
-  Some (Inbox file folder stamp)
+  Some (Inbox file folder stamp (text_of NightKey found))
 asked_of names.Outbox found = do
   file ← text_of File found
   folder ← outlet_of found
-  Some (Outbox file folder)
+  key ← key_of_outlet found
+  Some (Outbox file folder key)
 asked_of names.Exchange found = do
   file ← text_of File found
   incoming ← text_of In found
   outgoing ← text_of Out found
   both ← dates_and_stamp_of found
-  Some (Exchange file incoming outgoing both.0 both.1 (text_of Copy found) (text_of Beat found))
+  Some (Exchange file incoming outgoing both.0 both.1 (text_of Copy found) (text_of Beat found)
+      (text_of NightKey found))
 asked_of names.Key found = do
   file ← new_file_of KeyFile found
   deed ← deed_of found

@@ -14,7 +14,7 @@ use Rattle.ill_line.specs.declared.command_line.Argument.TheVariants.{OnDay, Due
 use Rattle.ill_line.specs.declared.command_line.Argument.TheVariants.{Out, NightDay, Overdue, Expire, Copy, Beat, NewGroup, Ahead}
 use Rattle.ill_line.specs.declared.command_line.Argument.TheVariants.{By, DryRun, Seen}
 use Rattle.ill_line.specs.declared.command_line.Argument.TheVariants.{Actions, Last, Since, Title, NoteWords, Find, Notes}
-use Rattle.ill_line.specs.declared.command_line.Argument.TheVariants.{SinceWhen}
+use Rattle.ill_line.specs.declared.command_line.Argument.TheVariants.{SinceWhen, NightKey}
 use Rattle.ill_line.specs.declared.command_line.Argument.TheVariants.{KeyFile, ShowKey, ReadKey, From, To, Csv}
 use Rattle.ill_line.specs.declared.command_line.Argument.TheVariants as arguments
 
@@ -97,6 +97,7 @@ id_of From = codes "from"
 id_of To = codes "to"
 id_of Csv = codes "csv"
 id_of arguments.Key = codes "key"
+id_of NightKey = codes "key"
 id_of KeyFile = codes "KEYFILE"
 id_of ShowKey = codes "show"
 id_of ReadKey = codes "read"

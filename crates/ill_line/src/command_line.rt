@@ -429,6 +429,8 @@ pub enum Argument {
     NewGroup,
     /// The file of the key of sealed letters.
     Key,
+    /// The file of the key of a night's letters. No command on a shelf has it.
+    NightKey,
     /// The file of a key that is made, shown or read.
     KeyFile,
     /// Set if a key is shown.
@@ -481,7 +483,7 @@ impl Argument {
             Argument::NewGroup => "new-group",
             Argument::Since => "since",
             Argument::Last => "last",
-            Argument::Key => "key",
+            Argument::Key | Argument::NightKey => "key",
             Argument::KeyFile => "KEYFILE",
             Argument::ShowKey => "show",
             Argument::ReadKey => "read",
@@ -536,6 +538,7 @@ impl Argument {
             Argument::Last => "Tell only the last N messages, 1 to 255",
             Argument::NewGroup => "Begin the group of the loan, if the shelf has none",
             Argument::Key => "Open or seal a letter with the key in this file",
+            Argument::NightKey => "Carry all messages in letters sealed with the key in this file",
             Argument::KeyFile => "The file of the key",
             Argument::ShowKey => "Write the key in groups, for the other library",
             Argument::ReadKey => "Read the key in groups on standard input",
@@ -584,7 +587,7 @@ impl Argument {
             Argument::SinceWhen => arg.long("since-when").action(ArgAction::SetTrue),
             Argument::Json => arg.long("json").action(ArgAction::SetTrue),
             Argument::NewGroup => arg.long("new-group").action(ArgAction::SetTrue),
-            Argument::Key => arg.long("key").value_name("KEYFILE"),
+            Argument::Key | Argument::NightKey => arg.long("key").value_name("KEYFILE"),
             Argument::ShowKey => arg.long("show").action(ArgAction::SetTrue),
             Argument::ReadKey => arg.long("read").action(ArgAction::SetTrue),
             _ => arg.required(true),
@@ -714,6 +717,10 @@ fn subcommand<'a>(alloc: Global, name: Name) -> Result<Command<'a>, Error> {
     for argument in name.arguments() {
         command = command.arg(argument.arg(alloc))?;
     }
+    command = match name {
+        Name::Inbox | Name::Outbox | Name::Exchange => command.arg(Argument::NightKey.arg(alloc))?,
+        _ => command,
+    };
     Ok(command.arg(explain(alloc))?)
 }
 

@@ -321,6 +321,14 @@ Any other mail goes back to FOLDER. If a fault comes, all stay in FILE.mail/in
 for the next run: to take a message twice does no harm. FILE.mail/asked has the
 messages that came for loans that are over, which `ill outbox` answers.
 
+With --key each file of FOLDER is to be a sealed letter of the other library,
+as its `ill outbox --key` makes it. Each message in it is taken as a mail of its
+own is, under the name of the letter. Any other file changes nothing, and is put
+aside as `not-sealed`; but the record of a desk stays. The file of a letter goes
+back to FOLDER if one of its messages stays. Else it is put aside if one is put
+aside, and else removed. What then comes again does no harm. DIGEST is that of
+at most the first 1,048,614 bytes of the letter.
+
 Once the desk is saved, the lines of `ill take --long` are written to standard
 output for each mail with a message. They tell how the loan stood after that
 message, before those that come after it. Of a mail that is put aside or stays,
@@ -332,6 +340,7 @@ to put a mail aside:
   field at N             it is none: a wrong value, at its byte N
   too-long               it is longer than 359 bytes
   trailing               more than a line end stands after its message
+  not-sealed             with --key: it is no letter that is sealed with the key
   wrong-role             its message is of a kind that this desk sends
   numbers-used           it wants an answer, and all 255 numbers are used
 
@@ -387,8 +396,13 @@ that nobody has fetched is there once. It is written to a file with a dot before
 this name, and renamed once the disk has it. A line `sent N` tells how many they
 are. FOLDER may be what `ill inbox` lets it be.
 
+With --key the messages leave in a sealed letter, as many as fit into 1,048,576
+bytes, and further ones in another. Its name is `letter-` and 32 digits of its
+SHA-256, so it tells no number of loans. A run with the same messages makes the
+same letter. Without messages there is none.
+
 With --stream the messages are written to standard output in place of FOLDER,
-one after another and nothing else.
+one after another and nothing else. No key may be given then.
 
 The exit status is 0 if all messages are there. Else the first ones may be.";
 
@@ -438,6 +452,9 @@ Standard output has the lines of `ill inbox`, those of the second step and the
 line `sent N`. Standard error has a line for each mail that wants a person: one
 that is put aside or stays, and a conflict that no lost, late or repeated mail
 explains. So cron mails only these.
+
+With --key all messages come and go in sealed letters, as `ill inbox --key` and
+`ill outbox --key` tell. No other file of IN is taken.
 
 The exit status is 0 if nothing wants a person, 1 if something does, and 3 if a
 mail stays for the next run (`left`).";
@@ -490,8 +507,9 @@ pub const SEND_EXAMPLE: &str = "Example:
 pub const KEY: &str = "\
 Make, show or read a key, which two libraries hold.
 
-The key seals letters: with --key the messages of `ill send` leave in a letter
-that `ill take` opens at the other library alone.
+The key seals letters: with --key the messages of `ill send`, `ill outbox` and
+`ill exchange` leave in letters. The commands `ill take`, `ill inbox` and `ill
+exchange` of the other library alone open them.
 
 With neither --show nor --read a new key is made in KEYFILE, of the randomness
 of the system, and `done` is written. KEYFILE must not be there yet. It has 32

@@ -9,7 +9,7 @@ ghost use Rattle.ill_line.specs.declared.request.Refusal.TheVariants.{Usage, Fau
 ghost use Rattle.ill_text.specs.declared.fault.ToolFault.TheVariants.{OutOfMemory};
 ghost use Rattle.ill_line.specs.declared.command_line.Name.TheVariants as names;
 ghost use Rattle.ill_text.specs.Diary.{stamped};
-ghost use Rattle.ill_line.specs.Asked.{dates_and_stamp_of, day_and_name_of, name_in, stamp_if, stamp_of, GivesId, ReadsValue, IsRefusal, asked_by, asked_in, asked_of, text_of, texts_of, role_of, loan_of, group_of, new_file_of, day_in, last_in, state_in, number_of_message, dates_of, outlet_of, is_set, which_of, form_of, wanted_of, wanted_on, ahead_in, due_in, day_or_days, days_on, day_given, span_of, asked, desk_at_stake, end_with_dashes, has_option, note_words_of, said_free, unless_option, deed_by, deed_of};
+ghost use Rattle.ill_line.specs.Asked.{dates_and_stamp_of, day_and_name_of, name_in, stamp_if, stamp_of, GivesId, ReadsValue, IsRefusal, asked_by, asked_in, asked_of, text_of, texts_of, role_of, loan_of, group_of, new_file_of, day_in, last_in, state_in, number_of_message, dates_of, outlet_of, is_set, which_of, form_of, wanted_of, wanted_on, ahead_in, due_in, day_or_days, days_on, day_given, span_of, asked, desk_at_stake, end_with_dashes, has_option, note_words_of, said_free, unless_option, deed_by, deed_of, key_of_outlet};
 
 use crate::command_line::{Argument, Name, SHELF, command, is_option};
 use clap::error::ErrorKind;
@@ -99,6 +99,8 @@ pub enum Request<'a> {
         folder: &'a str,
         /// The stamp of the lines of the diary, if a day is given.
         stamp: Option<Stamp<'a>>,
+        /// The path of the key, if the mails are sealed letters.
+        key: Option<&'a str>,
     },
     /// Send the messages of the loans that want sending: `ill outbox`.
     Outbox {
@@ -106,6 +108,8 @@ pub enum Request<'a> {
         file: &'a str,
         /// The path of the folder, or none for the output.
         folder: Option<&'a str>,
+        /// The path of the key, if the mails are sealed letters. Then there is a folder.
+        key: Option<&'a str>,
     },
     /// Exchange the mail of a desk: `ill exchange`.
     Exchange {
@@ -113,6 +117,8 @@ pub enum Request<'a> {
         file: &'a str,
         /// The arguments of the night.
         night: Night<'a>,
+        /// The path of the key, if the mails are sealed letters.
+        key: Option<&'a str>,
     },
     /// Make, show or read a key: `ill key`.
     Key {
@@ -537,10 +543,12 @@ fn inbox_request<'a>(alloc: Global, matches: &ArgMatches<'a>) -> Result<Request<
         Ok(stamp) => stamp,
         Err(refusal) => return Err(refusal),
     };
+    let key = said(matches, Argument::NightKey);
     Ok(Request::Inbox {
         file,
         folder,
         stamp,
+        key,
     })
 }
 
@@ -550,7 +558,21 @@ fn outbox_request<'a>(alloc: Global, matches: &ArgMatches<'a>) -> Result<Request
 {
     let file = text(alloc, matches, Argument::File)?;
     let folder = outlet(matches)?;
-    Ok(Request::Outbox { file, folder })
+    let key = key_of_outlet(matches)?;
+    Ok(Request::Outbox { file, folder, key })
+}
+
+/// Returns the path of the key of the letters that leave, if one is given. None may be given for messages that go to the
+/// output.
+fn key_of_outlet<'a>(matches: &ArgMatches<'a>) -> Result<Option<&'a str>, Refusal>
+    ensures { ReadsValue (λ key. option_map (λ text. text.now) key) (key_of_outlet (rows_of (found_of matches.now))) result }
+{
+    let key = said(matches, Argument::NightKey);
+    match (is_set(matches, Argument::Stream), key) {
+        (true, Some(_)) => Err(Refusal::Fault(ToolFault::Arguments)),
+        (true, None) => Ok(None),
+        (false, key) => Ok(key),
+    }
 }
 
 /// Returns the folder into which an outbox sends, or none for the output. Exactly one of the flag and the folder must
@@ -589,6 +611,7 @@ fn exchange_request<'a>(alloc: Global, matches: &ArgMatches<'a>) -> Result<Reque
     };
     let copy = said(matches, Argument::Copy);
     let beat = said(matches, Argument::Beat);
+    let key = said(matches, Argument::NightKey);
     Ok(Request::Exchange {
         file,
         night: Night {
@@ -600,6 +623,7 @@ fn exchange_request<'a>(alloc: Global, matches: &ArgMatches<'a>) -> Result<Reque
             beat,
             is_on_shelf: false,
         },
+        key,
     })
 }
 

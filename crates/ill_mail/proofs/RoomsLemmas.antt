@@ -7,7 +7,7 @@ use Rattle.ill_text.specs.Fault.{IsOpenFault}
 use Rattle.ill_desk.specs.Performing.{CommandState, HeldAndLanded, command_state}
 use Rattle.ill_night.specs.declared.dates.Dates.{Dates}
 use Rattle.ill_night.specs.declared.verdict.Mail.{Mail}
-use Rattle.ill_night.specs.Outbox.{Letter}
+use Rattle.ill_night.specs.Outbox.{Putting}
 use Rattle.ill_room.specs.Room.{Answers}
 use Rattle.ill_room.specs.Backup.{BackupState, CopiesDesk, HasCopy, IsSameWish, Signs, is_honest_backup}
 use Rattle.ill_mail.specs.Nights.{ExchangesAt, FinishesNight, Night, TakesMails}
@@ -26,11 +26,11 @@ signs_as_before x y z same (inl stays) = inl (stays ∙ same)
 signs_as_before x y z same (inr all) = inr all
 
 -- After a copy the messages are sent.
-pub sends_copied : {M A : Type 0} (put : M → Letter → M) (asked : List ℕ) (desk : DeskContents) (old new : OutState M)
+pub sends_copied : {M A : Type 0} (Puts : Putting M) (asked : List ℕ) (desk : DeskContents) (old new : OutState M)
     (copy : BackupState) (done : A) →
     Answers is_honest_backup (CopiesDesk (sides_held desk)) old.backup (Ok done) copy →
-    SendsThenSigns put asked desk (record old { backup = copy }) new → SendsInRooms put asked desk old new
-sends_copied put asked desk old new copy done copies sending = record {
+    SendsThenSigns Puts asked desk (record old { backup = copy }) new → SendsInRooms Puts asked desk old new
+sends_copied Puts asked desk old new copy done copies sending = record {
   sends = sending.sends;
   copy_first = λ honest. let there = copies.honest ∙ honest in
       inr (still_copied desk copy new.backup (sending.copied there) (sending.wish there) (copies.done honest).has);
@@ -39,22 +39,22 @@ sends_copied put asked desk old new copy done copies sending = record {
 }
 
 -- If the copy fails, nothing is sent.
-pub sends_nothing : {M : Type 0} (put : M → Letter → M) (asked : List ℕ) (desk : DeskContents) (old : OutState M)
+pub sends_nothing : {M : Type 0} (Puts : Putting M) (asked : List ℕ) (desk : DeskContents) (old : OutState M)
     (copy : BackupState) (fault : ToolFault)
     → Answers is_honest_backup (CopiesDesk {A = Unit {0}} (sides_held desk)) old.backup (Err fault) copy →
-    SendsInRooms put asked desk old (record old { backup = copy })
-sends_nothing put asked desk old copy fault copies = record {
+    SendsInRooms Puts asked desk old (record old { backup = copy })
+sends_nothing Puts asked desk old copy fault copies = record {
   sends = inl refl;
   copy_first = λ honest. inl refl;
   sign_last = λ honest. inl (copies.done honest).signs;
 }
 
 -- After all messages were sent, a sign of life is given, or that fails.
-pub signs_after : {M A : Type 0} (put : M → Letter → M) (asked : List ℕ) (desk : DeskContents) (old : OutState M)
-    (sign : BackupState) (after : Option M) (done : A) → PutsAsked put asked desk old.out after (Ok done) →
+pub signs_after : {M A : Type 0} (Puts : Putting M) (asked : List ℕ) (desk : DeskContents) (old : OutState M)
+    (sign : BackupState) (after : Option M) (done : A) → PutsAsked Puts asked desk old.out after (Ok done) →
     ((answer : Result (Unit {0}) ToolFault) × Answers is_honest_backup Signs old.backup answer sign) →
-    SendsThenSigns put asked desk old (record old { backup = sign; out = after })
-signs_after put asked desk old sign after done puts (answer, signs) = record {
+    SendsThenSigns Puts asked desk old (record old { backup = sign; out = after })
+signs_after Puts asked desk old sign after done puts (answer, signs) = record {
   sends = inr (Ok puts.0, puts.1);
   sign_last = λ honest. inr puts;
   copied = λ honest. (signs.done honest).copied;
@@ -62,10 +62,10 @@ signs_after put asked desk old sign after done puts (answer, signs) = record {
 }
 
 -- If not all messages were sent, no sign of life is given.
-pub signs_never : {M : Type 0} (put : M → Letter → M) (asked : List ℕ) (desk : DeskContents) (old : OutState M)
-    (after : Option M) (fault : ToolFault) → PutsAsked {A = Unit {0}} put asked desk old.out after (Err fault) →
-    SendsThenSigns put asked desk old (record old { out = after })
-signs_never put asked desk old after fault puts = record {
+pub signs_never : {M : Type 0} (Puts : Putting M) (asked : List ℕ) (desk : DeskContents) (old : OutState M)
+    (after : Option M) (fault : ToolFault) → PutsAsked {A = Unit {0}} Puts asked desk old.out after (Err fault) →
+    SendsThenSigns Puts asked desk old (record old { out = after })
+signs_never Puts asked desk old after fault puts = record {
   sends = inr puts;
   sign_last = λ honest. inl refl;
   copied = λ honest. refl;

@@ -7,7 +7,7 @@ use Rattle.ill_desk.specs.Performing.{HeldAndLanded}
 use Rattle.ill_night.specs.declared.verdict.Mail.{Mail}
 use Rattle.ill_night.specs.declared.verdict.Verdict.{Verdict}
 use Rattle.ill_night.specs.Inbox.{EndedWell}
-use Rattle.ill_night.specs.Outbox.{Letter, RunsOutbox}
+use Rattle.ill_night.specs.Outbox.{Putting, RunsOutbox}
 use Rattle.ill_room.specs.Room.{RoomState}
 use Rattle.ill_mail.specs.Rooms.{OutState}
 
@@ -18,14 +18,14 @@ pub data IsBadTaking (mails : List Mail) (desk : HeldAndLanded DeskContents) (ol
 
 -- The messages of a desk cannot leave so. A message left that the copy has not, a sign of life was given before all had
 -- left, or what left is no outbox of the desk.
-pub data IsBadSending {M : Type 0} (put : M → Letter → M) (asked : List ℕ) (desk : DeskContents) (old new : OutState M)
+pub data IsBadSending {M : Type 0} (Puts : Putting M) (asked : List ℕ) (desk : DeskContents) (old new : OutState M)
     : Type 0 where
   uncopied : old.backup.is_honest ≡ true → new.backup.keeps_copy ≡ true →
       (new.backup.copied ≡ Some (sides_spelling (sides_held desk)) → ⊥) → (new.out ≡ old.out → ⊥) →
-      IsBadSending put asked desk old new
+      IsBadSending Puts asked desk old new
   signed_early : old.backup.is_honest ≡ true → (new.backup.signs ≡ old.backup.signs → ⊥) →
-      ((count : ℕ) → RunsOutbox put asked desk.held old.out new.out (Ok count) → ⊥) →
-      IsBadSending put asked desk old new
+      ((count : ℕ) → RunsOutbox Puts asked desk.held old.out new.out (Ok count) → ⊥) →
+      IsBadSending Puts asked desk old new
   no_outbox : (new.out ≡ old.out → ⊥) →
-      ((answer : Result ℕ ToolFault) → RunsOutbox put asked desk.held old.out new.out answer → ⊥) →
-      IsBadSending put asked desk old new
+      ((answer : Result ℕ ToolFault) → RunsOutbox Puts asked desk.held old.out new.out answer → ⊥) →
+      IsBadSending Puts asked desk old new

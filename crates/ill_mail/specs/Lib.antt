@@ -1,4 +1,5 @@
 pub mod Nights
+pub mod Keyed
 pub mod Rooms
 pub mod BadRooms
 pub mod HostRooms

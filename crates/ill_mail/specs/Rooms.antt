@@ -12,9 +12,10 @@ use Rattle.ill_night.specs.declared.verdict.Mail.{Mail}
 use Rattle.ill_night.specs.declared.verdict.Verdict.{Verdict}
 use Rattle.ill_night.specs.declared.verdict.Verdict.TheVariants.{Done}
 use Rattle.ill_night.specs.Inbox.{EndedWell, RunsInbox}
-use Rattle.ill_night.specs.Outbox.{Letter, RunsOutbox, asked_by}
+use Rattle.ill_night.specs.Outbox.{Putting, RunsOutbox, asked_by}
 use Rattle.ill_room.specs.Room.{RoomState, Answers, EndsRun, is_honest_room}
 use Rattle.ill_room.specs.Backup.{BackupState, HasCopy, IsSameWish}
+use Rattle.ill_room.specs.Letters.{file_verdicts}
 use Rattle.ill_mail.specs.declared.rooms.Rooms.{Rooms}
 use Rattle.ill_mail.specs.Nights.{Night, FinishesNight, SettlesRun}
 
@@ -31,11 +32,12 @@ TakesFound mails waiting old result new =
     × SettlesRun mails waiting answer result
 
 -- A run over `mails` ended well with these verdicts, at a desk that is `desk` then. So it is saved. After that the messages
--- that ask were kept, and then the files of the mails settled.
+-- that ask were kept, and then the files of the mails settled. The mails of a letter share its file.
 pub record SettlesSaved {A : Type 0} (mails : List Mail) (verdicts : List Verdict) (desk : HeldAndLanded DeskContents)
     (old : RoomState) (answer : Result A ToolFault) (new : RoomState) : Type 0 where
   pub saved : EndedWell mails verdicts desk
-  pub ends : Answers is_honest_room (EndsRun (asked_by desk.live (zip mails verdicts)) verdicts) old answer new
+  pub ends : Answers is_honest_room (EndsRun (asked_by desk.live (zip mails verdicts)) (file_verdicts (zip mails verdicts)))
+      old answer new
 
 -- The mails of a room were taken at a desk, which is `desk` then. After a fault nothing was done in the room, or the run
 -- was saved, and its files settled as far as they could be.
@@ -79,28 +81,28 @@ rooms_state mail backup out rooms = record { mail = mail rooms.mail; leaving = o
 
 -- The messages of a desk that holds `desk` were put into the outlet, or some of them. They leave after the copy is made.
 -- A sign of life is given after all have left. `asked` has the messages that ask.
-pub record SendsInRooms {M : Type 0} (put : M → Letter → M) (asked : List ℕ) (desk : DeskContents) (old new : OutState M)
+pub record SendsInRooms {M : Type 0} (Puts : Putting M) (asked : List ℕ) (desk : DeskContents) (old new : OutState M)
     : Type 0 where
   pub sends : (new.out ≡ old.out)
-      ⊎ ((answer : Result ℕ ToolFault) × RunsOutbox put asked desk.held old.out new.out answer)
+      ⊎ ((answer : Result ℕ ToolFault) × RunsOutbox Puts asked desk.held old.out new.out answer)
   pub copy_first : old.backup.is_honest ≡ true → (new.out ≡ old.out) ⊎ HasCopy (sides_held desk) new.backup
   pub sign_last : old.backup.is_honest ≡ true → (new.backup.signs ≡ old.backup.signs)
-      ⊎ ((count : ℕ) × RunsOutbox put asked desk.held old.out new.out (Ok count))
+      ⊎ ((count : ℕ) × RunsOutbox Puts asked desk.held old.out new.out (Ok count))
 
 -- The messages of a desk that holds `desk` were put into an outlet. If that is done, all were. Else some were.
-abbrev pub PutsAsked : {M A : Type 0} → (M → Letter → M) → List ℕ → DeskContents → Option M → Option M → Result A ToolFault →
+abbrev pub PutsAsked : {M A : Type 0} → Putting M → List ℕ → DeskContents → Option M → Option M → Result A ToolFault →
     Type 0
-PutsAsked put asked desk before after (Ok done) = (count : ℕ) × RunsOutbox put asked desk.held before after (Ok count)
-PutsAsked put asked desk before after (Err fault) =
-    (answer : Result ℕ ToolFault) × RunsOutbox put asked desk.held before after answer
+PutsAsked Puts asked desk before after (Ok done) = (count : ℕ) × RunsOutbox Puts asked desk.held before after (Ok count)
+PutsAsked Puts asked desk before after (Err fault) =
+    (answer : Result ℕ ToolFault) × RunsOutbox Puts asked desk.held before after answer
 
 -- The same messages leave, and then a sign of life is given. The copy stays.
-pub record SendsThenSigns {M : Type 0} (put : M → Letter → M) (asked : List ℕ) (desk : DeskContents)
+pub record SendsThenSigns {M : Type 0} (Puts : Putting M) (asked : List ℕ) (desk : DeskContents)
     (old new : OutState M) : Type 0 where
   pub sends : (new.out ≡ old.out)
-      ⊎ ((answer : Result ℕ ToolFault) × RunsOutbox put asked desk.held old.out new.out answer)
+      ⊎ ((answer : Result ℕ ToolFault) × RunsOutbox Puts asked desk.held old.out new.out answer)
   pub sign_last : old.backup.is_honest ≡ true → (new.backup.signs ≡ old.backup.signs)
-      ⊎ ((count : ℕ) × RunsOutbox put asked desk.held old.out new.out (Ok count))
+      ⊎ ((count : ℕ) × RunsOutbox Puts asked desk.held old.out new.out (Ok count))
   pub copied : old.backup.is_honest ≡ true → new.backup.copied ≡ old.backup.copied
   pub wish : old.backup.is_honest ≡ true → IsSameWish old.backup new.backup
 
@@ -112,18 +114,18 @@ pub record IsSilent {M : Type 0} (old new : OutState M) : Type 0 where
   pub out : new.out ≡ old.out
 
 -- After the mails were taken, the messages of a desk were sent, which is `desk` then. If they could not be taken, none was.
-abbrev pub SendsAfter : {M : Type 0} → (M → Letter → M) → List Mail → Result (List Verdict) ToolFault → DeskContents →
+abbrev pub SendsAfter : {M : Type 0} → Putting M → List Mail → Result (List Verdict) ToolFault → DeskContents →
     OutState M → OutState M → Type 0
-SendsAfter put mails (Ok verdicts) desk old new =
-    IsSilent old new ⊎ SendsInRooms put (asked_by desk (zip mails verdicts)) desk old new
-SendsAfter put mails (Err fault) desk old new = IsSilent old new
+SendsAfter Puts mails (Ok verdicts) desk old new =
+    IsSilent old new ⊎ SendsInRooms Puts (asked_by desk (zip mails verdicts)) desk old new
+SendsAfter Puts mails (Err fault) desk old new = IsSilent old new
 
 -- A night over `mails` in its rooms. The desk is `desk` at the end.
-abbrev pub NightInRooms : {M : Type 0} → (M → Letter → M) → List Mail → HeldAndLanded DeskContents → RoomsState M →
+abbrev pub NightInRooms : {M : Type 0} → Putting M → List Mail → HeldAndLanded DeskContents → RoomsState M →
     RoomsState M → Type 0
-NightInRooms put mails desk old new =
+NightInRooms Puts mails desk old new =
     (met : HeldAndLanded DeskContents) × (taken : Result (List Verdict) ToolFault)
-    × TakesInRoom mails met old.mail taken new.mail × SendsAfter put mails taken desk.live old.leaving new.leaving
+    × TakesInRoom mails met old.mail taken new.mail × SendsAfter Puts mails taken desk.live old.leaving new.leaving
 
 -- The same night at its desk: `mails` were taken, with `waiting` further ones, and then the deeds of the day performed,
 -- and the messages of the desk sent. After the mails were taken nothing more is kept.

@@ -10,7 +10,7 @@ ghost use Rattle.ill_text.specs.Fault.{IsOpenFault};
 use crate::backup::HostBackup;
 use crate::fault_lines::{NO_BOX, NO_RUN, NOT_READ, report_fault_of_mail};
 use crate::host_room::{HostRoom, NOT_ASKED};
-use crate::mail::{Incoming, Mails, begin_run, claim_mails, sorted_mails};
+use crate::mail::{Incoming, Mails, Opening, Source, begin_run, claim_mails, sorted_mails};
 use crate::mail_box::{MailBox, MailPaths, asked_bytes, open_box};
 use crate::mail_folder::MailFolder;
 use crate::places::{Places, look_at_out, look_at_places};
@@ -21,10 +21,13 @@ use ill_files::diary::{DiaryFile, open_came_diary, warn_of_diary};
 use ill_files::machine::Machine;
 use ill_files::open::{all_well, open_locked};
 use ill_files::paths::folder_of;
+use ill_key::Key;
+use ill_key::role::{other_sender, own_sender};
 use ill_night::night::Night;
 use ill_night::outbox::run_desk_outbox_stream;
 use ill_night::tally::Tally;
 use ill_night::verdict::{Batch, Verdict};
+use ill_room::sealed::Seal;
 use ill_saved::{Desk, LockFiles, Role, Store};
 use ill_text::diary::{CameDiary, WithDiary, begin_text};
 use ill_text::fault::ToolFault;
@@ -149,7 +152,7 @@ fn open_mail<T: Files, W: Write, E: Write>(
         folder: incoming.folder,
         mail_box: &mail_box,
     };
-    let found = find_mails(machine, &place, incoming.is_sorted, role)?;
+    let found = find_mails(machine, &place, incoming, role)?;
     Ok(OpenedMail {
         mail_box,
         came,
@@ -173,37 +176,72 @@ fn warn_of_streams<T, F, W, E: Write>(
     }
 }
 
-/// Reads the mails of a desk, from a folder or, if `is_sorted` is set, from the mails that a shelf has sorted to it.
+/// Reads the mails of a desk: from the folder of `incoming`, or those that a shelf has sorted to it.
 fn find_mails<T: Files, W: Write, E: Write>(
     machine: &mut Machine<'_, T, W, E>,
     place: &MailPaths<'_>,
-    is_sorted: bool,
+    incoming: Incoming<'_, '_, '_>,
     role: Role,
 ) -> Result<Mails, ToolFault>
     ensures faults { IfErr result IsOpenFault }
     ensures silent { machine.new.writer ≡ machine.old.writer }
 {
-    if is_sorted {
+    if incoming.is_sorted {
         let found = sorted_mails(machine.rt, machine.alloc, place, role);
         return machine.report_fault_at(found, place.file, NO_BOX);
     }
     let run = begin_run(machine.rt, machine.alloc, place.mail_box);
     let run = machine.report_fault_at(run, place.file, NO_RUN)?;
+    let source = Source {
+        folder: place.folder,
+        opening: open_with(incoming.key, role),
+    };
     let found = claim_mails(
         machine.rt,
         machine.alloc,
         place.mail_box,
-        place.folder,
+        source,
         run.as_str(),
     );
     machine.report_fault_at(found, place.folder, NOT_READ)
+}
+
+/// The folder into which messages are put, and the key with which they are sealed, if there is one.
+#[derive(Clone, Copy)]
+pub struct Outlet<'a> {
+    /// The path of the folder.
+    pub folder: &'a str,
+    /// The key of the letters in which they leave, if there is one.
+    pub key: Option<&'a Key>,
+}
+
+/// Returns the key and the sender of the letters that come to a desk of this role, if there is a key.
+fn open_with<'k>(key: Option<&'k Key>, role: Role) -> Option<Opening<'k>> {
+    match key {
+        Some(key) => Some(Opening {
+            key,
+            sender: other_sender(role),
+        }),
+        None => None,
+    }
+}
+
+/// Returns the key and the sender of the letters that leave a desk of this role, if there is a key.
+fn seal_with<'k>(key: Option<&'k Key>, role: Role) -> Option<Seal<'k>> {
+    match key {
+        Some(key) => Some(Seal {
+            key,
+            sender: own_sender(role),
+        }),
+        None => None,
+    }
 }
 
 /// `ill outbox`: puts the messages of the loans that want sending into a folder, or writes them one after another.
 pub fn outbox<T: LockFiles, W: Write, E: Write>(
     machine: &mut Machine<'_, T, W, E>,
     file: &str,
-    folder: Option<&str>,
+    folder: Option<Outlet<'_>>,
 ) -> Result<bool, ToolFault>
     ensures { OutboxAtFile (is_some folder.entry) (W.contents machine.old.writer) (W.contents machine.new.writer) result }
 {
@@ -218,7 +256,7 @@ fn send_from<T: Files, S: Store, W: Write, E: Write>(
     machine: &mut Machine<'_, T, W, E>,
     file: &str,
     desk: &Desk<S>,
-    folder: Option<&str>,
+    folder: Option<Outlet<'_>>,
 ) -> Result<(), ToolFault>
     ensures { SendsFrom (is_some folder.entry) desk.now.live.held (W.contents machine.old.writer) (W.contents machine.new.writer) result }
 {
@@ -240,30 +278,31 @@ fn send_on<T: Files, S: Store, W: Write, E: Write>(
     run_desk_outbox_stream(machine.alloc, desk, &asking, &mut machine.writer)
 }
 
-/// Puts the messages of the loans that want sending into `folder`, and writes their number.
+/// Puts the messages of the loans that want sending into the folder of `outlet`, and writes their number.
 fn send_to<T: Files, S: Store, W: Write, E: Write>(
     machine: &mut Machine<'_, T, W, E>,
     file: &str,
     desk: &Desk<S>,
-    folder: &str,
+    outlet: Outlet<'_>,
 ) -> Result<(), ToolFault>
     ensures { SendsTo desk.now.live.held (W.contents machine.old.writer) (W.contents machine.new.writer) result }
 {
     let asking = machine.report_fault_at(asking(machine.rt, machine.alloc, file), file, NOT_ASKED)?;
-    send_asked(machine, desk, &asking, folder)
+    let seal = seal_with(outlet.key, desk.sides().role());
+    send_asked(machine, desk, &asking, seal, outlet.folder)
 }
 
-/// Puts the messages of the loans that want sending into `folder`, if it exists, as `send_to` does.
+/// Puts the messages of the loans that want sending into the folder of `outlet`, if it exists, as `send_to` does.
 fn send_into<T: Files, S: Store, W: Write, E: Write>(
     machine: &mut Machine<'_, T, W, E>,
     file: &str,
     desk: &Desk<S>,
-    folder: &str,
+    outlet: Outlet<'_>,
 ) -> Result<(), ToolFault>
     ensures { SendsTo desk.now.live.held (W.contents machine.old.writer) (W.contents machine.new.writer) result }
 {
-    look_at_out(machine, file, folder)?;
-    send_to(machine, file, desk, folder)
+    look_at_out(machine, file, outlet.folder)?;
+    send_to(machine, file, desk, outlet)
 }
 
 /// Returns the messages that ask at the desk in `file`.
@@ -274,17 +313,18 @@ fn asking<T: Files>(rt: &T, alloc: Global, file: &str) -> Result<Vec<u8>, ToolFa
 }
 
 /// `ill exchange`: takes the mails that have come, performs the deeds of the day, copies the desk, and sends its
-/// messages.
+/// messages. With `key`, mails come and go in sealed letters alone.
 pub fn exchange<T: LockFiles, W: Write, E: Write>(
     machine: &mut Machine<'_, T, W, E>,
     file: &str,
     night: &Night<'_>,
+    key: Option<&Key>,
 ) -> Result<bool, ToolFault>
     ensures { ExchangesAtFile night.now.dates (W.contents machine.old.writer) (W.contents machine.new.writer) result }
 {
     let mut locked = open_locked(machine.rt, machine.alloc, file)?;
     look_at_night(machine, file, night)?;
-    let done = exchange_at(machine, file, night, &mut locked.desk);
+    let done = exchange_at(machine, file, night, key, &mut locked.desk);
     drop(locked);
     done
 }
@@ -314,6 +354,7 @@ fn exchange_at<'a, T: Files, S: Store, W: Write, E: Write>(
     machine: &mut Machine<'_, T, W, E>,
     file: &'a str,
     night: &'a Night<'a>,
+    key: Option<&'a Key>,
     desk: &mut Desk<S>,
 ) -> Result<bool, ToolFault>
     ensures { ExchangesAt night.now.dates
@@ -324,8 +365,10 @@ fn exchange_at<'a, T: Files, S: Store, W: Write, E: Write>(
         folder: night.incoming,
         is_sorted: night.is_on_shelf,
         stamp: &night.stamp,
+        key,
     };
-    let opened = match open_mail(machine, file, incoming, desk.sides().role()) {
+    let role = desk.sides().role();
+    let opened = match open_mail(machine, file, incoming, role) {
         Ok(opened) => opened,
         Err(fault) => return Err(fault),
     };
@@ -342,6 +385,7 @@ fn exchange_at<'a, T: Files, S: Store, W: Write, E: Write>(
     let plan = Plan {
         batch: batch_of(&found),
         dates: night.dates,
+        seal: seal_with(key, role),
     };
     let place = MailPaths {
         file,

@@ -1,6 +1,6 @@
 //! The laws of nights in rooms are the contracts of functions that do nothing.
 
-ghost use Rattle.std.specs.Prelude.{◌≡◌, ℕ, true, List, Some, Result};
+ghost use Rattle.std.specs.Prelude.{◌≡◌, ℕ, true, List, Option, Some, Result};
 ghost use Rattle.ill_saved.specs.ManySides.{DeskContents};
 ghost use Rattle.ill_text.specs.declared.fault.ToolFault.{ToolFault};
 ghost use Rattle.ill_desk.specs.Performing.{HeldAndLanded};
@@ -8,6 +8,7 @@ ghost use Rattle.ill_night.specs.declared.verdict.Mail.{Mail};
 ghost use Rattle.ill_night.specs.declared.verdict.Verdict.{Verdict};
 ghost use Rattle.ill_room.specs.declared.room.Place.TheVariants.{Claimed, Gone};
 ghost use Rattle.ill_room.specs.Room.{RoomState, place_of};
+ghost use Rattle.ill_room.specs.Sealed.{PutsWith, Sealing};
 ghost use Rattle.ill_mail.specs.Rooms.{IsDoneInSaved, OutState, SendsInRooms, TakesInRoom};
 ghost use Rattle.ill_mail.specs.BadRooms.{IsBadSending, IsBadTaking};
 
@@ -33,6 +34,7 @@ pub fn no_mail_is_settled_unsaved()
 /// No message leaves that a wanted copy has not. No sign of life comes before all have left. Only an outbox of the desk
 /// leaves.
 pub fn nothing_leaves_uncopied<O: Outgoing>(_out: &O)
-    ensures { (asked : List ℕ) (desk : DeskContents) (old new : OutState O.Mails) →
-        IsBadSending O.after asked desk old new → SendsInRooms O.after asked desk old new → ⊥ }
+    ensures { (sealing : Option Sealing) (asked : List ℕ) (desk : DeskContents) (old new : OutState O.Mails) →
+        IsBadSending (PutsWith O.after sealing) asked desk old new →
+        SendsInRooms (PutsWith O.after sealing) asked desk old new → ⊥ }
 {}

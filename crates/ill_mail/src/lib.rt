@@ -5,6 +5,7 @@ pub mod backup;
 pub mod exchange;
 pub mod fault_lines;
 pub mod host_room;
+pub mod keyed;
 pub mod laws;
 pub mod mail;
 pub mod mail_box;

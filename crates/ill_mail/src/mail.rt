@@ -5,6 +5,8 @@
 //! mail only there, and reads it once. It gives back anything that is no regular file. If the folder of mails may have
 //! folders in it, the run looks at each entry before the claim. So it moves no folder, except one that was put there at
 //! that moment.
+//!
+//! With a key, the mails of a run are the messages in sealed letters. A file that is no letter gives no bytes.
 
 ghost use Rattle.std.specs.Prelude.{◌≡◌, IfErr};
 ghost use Rattle.ill_night.specs.Inbox.{is_line_end, without_line_end};
@@ -14,12 +16,16 @@ use crate::mail_box::{MailBox, MailPaths, give_back};
 use ill_der::{APDU_LIMIT, view};
 use ill_files::paths::{joined, path_of, raw_names};
 use ill_files::shelf::is_for_desk;
+use ill_key::letter::LETTER_LIMIT;
+use ill_key::{Key, Sender};
 use ill_night::inbox::message_in;
-use ill_night::verdict::Mail;
+use ill_night::verdict::{InLetter, Mail, is_record};
+use ill_room::letters::messages_in;
 use ill_saved::Role;
 use ill_text::diary::Stamp;
 use ill_text::fault::ToolFault;
 use ill_values::OutOfMemory;
+use sha2::{Digest, Sha256};
 use std::alloc::Global;
 use std::fs::Metadata;
 use std::io::{ErrorKind, Read};
@@ -51,6 +57,26 @@ pub struct Mails {
     pub waiting: usize,
     /// The folders of the runs that have claimed mails. The folder of this run is the last.
     pub runs: Vec<String>,
+    /// The number of letters among the files.
+    letters: usize,
+}
+
+/// The key and the sender of the letters that come.
+#[derive(Clone, Copy)]
+pub struct Opening<'k> {
+    /// The key, which the other library holds too.
+    pub key: &'k Key,
+    /// The other library.
+    pub sender: Sender,
+}
+
+/// The folder from which mails come, and how they are opened.
+#[derive(Clone, Copy)]
+pub struct Source<'a> {
+    /// The path of the folder.
+    pub folder: &'a str,
+    /// The key and the sender of the letters, if sealed letters alone are taken.
+    pub opening: Option<Opening<'a>>,
 }
 
 impl Mails {
@@ -59,16 +85,78 @@ impl Mails {
         self.mails.len() >= MAILS
     }
 
-    /// Adds a mail of this name, with its bytes and the path of its file.
-    fn add(
-        &mut self,
-        name: Vec<u8>,
-        bytes: Option<Vec<u8>>,
-        file: Option<String>,
-    ) -> io::Result<()> {
-        self.mails.push(Mail { name, bytes })?;
+    /// Adds `mail`, with the path of its file.
+    fn add(&mut self, mail: Mail, file: Option<String>) -> io::Result<()> {
+        self.mails.push(mail)?;
         self.files.push(file)?;
         Ok(())
+    }
+
+    /// Adds the messages of the letter in `file`, whose first bytes are `bytes`. Each is a mail of its own, with the name of
+    /// the letter. If `opening` opens no letter there, it is a mail without bytes. The record of a desk, which came by
+    /// mistake, is a mail as it is without a key.
+    fn add_letter(
+        &mut self,
+        opening: Opening<'_>,
+        name: Vec<u8>,
+        bytes: &[u8],
+        file: String,
+    ) -> io::Result<()> {
+        let alloc = *name.allocator();
+        if is_record(bytes) {
+            let bytes = Vec::from_slice(alloc, &bytes[..bytes.len().min(MOST)])?;
+            return self.add(whole_mail(name, Some(bytes)), Some(file));
+        }
+        let opened = if bytes.len() > LETTER_LIMIT {
+            None
+        } else {
+            messages_in(alloc, opening.key, opening.sender, bytes)?
+        };
+        let letter = InLetter {
+            number: self.letters,
+            digest: Sha256::digest(bytes),
+            is_sealed: opened.is_some(),
+        };
+        self.letters = self.letters.saturating_add(1);
+        match opened {
+            Some(messages) => self.add_messages(&name, messages, file.as_str(), letter),
+            None => self.add_part(&name, None, file.as_str(), letter),
+        }
+    }
+
+    /// Adds `messages`, those of one letter. A letter without any is a mail without a message.
+    fn add_messages(
+        &mut self,
+        name: &[u8],
+        messages: Vec<Vec<u8>>,
+        file: &str,
+        letter: InLetter,
+    ) -> io::Result<()> {
+        if messages.is_empty() {
+            let nothing = Vec::new(*messages.allocator());
+            return self.add_part(name, Some(nothing), file, letter);
+        }
+        for message in messages {
+            self.add_part(name, Some(message), file, letter)?;
+        }
+        Ok(())
+    }
+
+    /// Adds a mail of a letter.
+    fn add_part(
+        &mut self,
+        name: &[u8],
+        bytes: Option<Vec<u8>>,
+        file: &str,
+        letter: InLetter,
+    ) -> io::Result<()> {
+        let alloc = *self.mails.allocator();
+        let mail = Mail {
+            name: Vec::from_slice(alloc, name)?,
+            bytes,
+            letter: Some(letter),
+        };
+        self.add(mail, Some(String::from_str(alloc, file)?))
     }
 
     /// Puts the mails into the order of their loans and numbers. Mails without a message come first.
@@ -78,6 +166,7 @@ impl Mails {
             files,
             waiting,
             runs,
+            letters,
         } = self;
         let alloc = *mails.allocator();
         let mut placed = Vec::new(alloc);
@@ -91,6 +180,7 @@ impl Mails {
             files: Vec::new(alloc),
             waiting,
             runs,
+            letters,
         };
         for placed in placed {
             ordered.mails.push(placed.mail)?;
@@ -105,25 +195,51 @@ impl Mails {
             self.waiting = self.waiting.saturating_add(1);
             return Ok(());
         }
-        self.add(name, None, None)
+        self.add(whole_mail(name, None), None)
     }
 
-    /// Adds the claimed mail in `file`, or gives it back to `folder` if it is no regular file.
+    /// Adds the claimed mail in `file`, or gives it back to its folder if it is no regular file.
     fn add_claimed<T: Files>(
         &mut self,
         rt: &T,
-        folder: &str,
+        source: Source<'_>,
         name: Vec<u8>,
         file: String,
     ) -> io::Result<()> {
         let alloc = *name.allocator();
         let read = match lookup(rt, file.as_str()) {
-            Ok(None) => return no_failure(give_back(rt, alloc, folder, file.as_str(), &name)),
-            Ok(Some(found)) => first_bytes(rt, alloc, file.as_str(), found.len()),
+            Ok(None) => {
+                return no_failure(give_back(rt, alloc, source.folder, file.as_str(), &name));
+            }
+            Ok(Some(found)) if source.opening.is_none() => {
+                first_bytes(rt, alloc, file.as_str(), found.len())
+            }
+            Ok(Some(_)) => letter_bytes(rt, alloc, file.as_str()),
             Err(error) => Err(error),
         };
-        self.add(name, bytes_if_read(read)?, Some(file))
+        match (bytes_if_read(read)?, source.opening) {
+            (Some(bytes), Some(opening)) => self.add_letter(opening, name, &bytes, file),
+            (bytes, _) => self.add(whole_mail(name, bytes), Some(file)),
+        }
     }
+}
+
+/// Returns the mail that is all of a file.
+fn whole_mail(name: Vec<u8>, bytes: Option<Vec<u8>>) -> Mail {
+    Mail {
+        name,
+        bytes,
+        letter: None,
+    }
+}
+
+/// Returns the first bytes of the file at `path`, one more than a letter has.
+fn letter_bytes<T: Files>(rt: &T, alloc: Global, path: &str) -> io::Result<Vec<u8>> {
+    let mut bytes = Vec::new(alloc);
+    fs::open(rt, path)?
+        .take(LETTER_LIMIT as u64 + 1)
+        .read_to_end(&mut bytes)?;
+    Ok(bytes)
 }
 
 /// A mail, the path of its file, and its place in the order of the mails of a run.
@@ -160,6 +276,8 @@ pub struct Incoming<'a, 'b, 'c> {
     pub is_sorted: bool,
     /// The stamp of the lines of the diary, if a day is given.
     pub stamp: &'b Option<Stamp<'c>>,
+    /// The key of the letters, if sealed letters alone are taken. A shelf has none.
+    pub key: Option<&'a Key>,
 }
 
 /// Makes the folder of a run.
@@ -169,18 +287,18 @@ pub fn begin_run<T: Files>(rt: &T, alloc: Global, mail_box: &MailBox) -> Result<
     Ok(new_run(rt, alloc, mail_box)?)
 }
 
-/// Reads the mails that earlier runs have claimed. Then it claims the mails of `folder` into the folder `run`, and
+/// Reads the mails that earlier runs have claimed. Then it claims the mails of `source` into the folder `run`, and
 /// reads these.
 pub fn claim_mails<T: Files>(
     rt: &T,
     alloc: Global,
     mail_box: &MailBox,
-    folder: &str,
+    source: Source<'_>,
     run: &str,
 ) -> Result<Mails, ToolFault>
     ensures { IfErr result IsOpenFault }
 {
-    Ok(all_mails(rt, alloc, mail_box, folder, Some(run))?)
+    Ok(all_mails(rt, alloc, mail_box, source, Some(run))?)
 }
 
 /// Reads the mails that a shelf has sorted from the folder of `place` to the desk there. A carrier that opened a mail before the
@@ -193,7 +311,11 @@ pub fn sorted_mails<T: Files>(
 ) -> Result<Mails, ToolFault>
     ensures { IfErr result IsOpenFault }
 {
-    let mut mails = all_mails(rt, alloc, place.mail_box, place.folder, None)?;
+    let source = Source {
+        folder: place.folder,
+        opening: None,
+    };
+    let mut mails = all_mails(rt, alloc, place.mail_box, source, None)?;
     hide_others(alloc, place.file, role, &mut mails)?;
     Ok(mails)
 }
@@ -225,12 +347,12 @@ fn may_be_own(alloc: Global, file: &str, role: Role, mail: &Mail) -> Result<bool
 }
 
 /// Reads the mails of a desk, as many as one run takes. First come the mails that earlier runs have claimed. Then it
-/// claims mails from `folder` into the folder `run`, if there is one.
+/// claims mails from `source` into the folder `run`, if there is one.
 fn all_mails<T: Files>(
     rt: &T,
     alloc: Global,
     mail_box: &MailBox,
-    folder: &str,
+    source: Source<'_>,
     run: Option<&str>,
 ) -> io::Result<Mails> {
     let mut mails = Mails {
@@ -238,34 +360,35 @@ fn all_mails<T: Files>(
         files: Vec::new(alloc),
         waiting: 0,
         runs: Vec::new(alloc),
+        letters: 0,
     };
     for earlier in names_in(rt, alloc, mail_box.claimed())? {
-        add_run(rt, mail_box.claimed(), &earlier, folder, &mut mails)?;
+        add_run(rt, mail_box.claimed(), &earlier, source, &mut mails)?;
     }
     if let Some(run) = run {
-        claim_from(rt, mail_box, folder, run, &mut mails)?;
+        claim_from(rt, mail_box, source, run, &mut mails)?;
     }
     mails.by_loan()
 }
 
-/// Claims the mails of `folder` into the folder `run`, up to the room of a run, and reads them.
+/// Claims the mails of `source` into the folder `run`, up to the room of a run, and reads them.
 fn claim_from<T: Files>(
     rt: &T,
     mail_box: &MailBox,
-    folder: &str,
+    source: Source<'_>,
     run: &str,
     mails: &mut Mails,
 ) -> io::Result<()> {
     let alloc = *mails.mails.allocator();
-    if mail_box.is_at(rt, alloc, folder)? {
+    if mail_box.is_at(rt, alloc, source.folder)? {
         return Err(ErrorKind::InvalidInput.into());
     }
     let claiming = Claiming {
-        folder,
+        source,
         run,
-        looks_first: may_have_folders(rt, folder)?,
+        looks_first: may_have_folders(rt, source.folder)?,
     };
-    for name in names_in(rt, alloc, folder)? {
+    for name in names_in(rt, alloc, source.folder)? {
         add_mail(rt, &claiming, name, mails)?;
     }
     Ok(())
@@ -274,9 +397,9 @@ fn claim_from<T: Files>(
 /// A folder of mails, and the folder of the run that claims them.
 #[derive(Clone, Copy)]
 struct Claiming<'a> {
-    folder: &'a str,
+    source: Source<'a>,
     run: &'a str,
-    /// Set if each entry of `folder` is looked at before it is claimed.
+    /// Set if each entry of the folder is looked at before it is claimed.
     looks_first: bool,
 }
 
@@ -317,7 +440,7 @@ fn add_run<T: Files>(
     rt: &T,
     claimed: &str,
     run: &[u8],
-    folder: &str,
+    source: Source<'_>,
     mails: &mut Mails,
 ) -> io::Result<()> {
     let alloc = *mails.mails.allocator();
@@ -329,7 +452,7 @@ fn add_run<T: Files>(
         return Ok(());
     }
     for name in names_in(rt, alloc, run.as_str())? {
-        add_again(rt, folder, run.as_str(), name, mails)?;
+        add_again(rt, source, run.as_str(), name, mails)?;
     }
     mails.runs.push(run)?;
     Ok(())
@@ -351,7 +474,7 @@ fn number_of(run: &[u8]) -> Option<u32> {
 /// Adds a mail in the folder `run` of an earlier run, or counts it if this run is full.
 fn add_again<T: Files>(
     rt: &T,
-    folder: &str,
+    source: Source<'_>,
     run: &str,
     name: Vec<u8>,
     mails: &mut Mails,
@@ -361,7 +484,7 @@ fn add_again<T: Files>(
         return Ok(());
     }
     match path_of(*name.allocator(), run, &name)? {
-        Some(file) => mails.add_claimed(rt, folder, name, file),
+        Some(file) => mails.add_claimed(rt, source, name, file),
         None => Ok(()),
     }
 }
@@ -374,7 +497,7 @@ fn add_mail<T: Files>(
     mails: &mut Mails,
 ) -> io::Result<()> {
     let alloc = *name.allocator();
-    let Some(path) = path_of(alloc, claiming.folder, &name)? else {
+    let Some(path) = path_of(alloc, claiming.source.folder, &name)? else {
         return mails.add_or_count(as_text(alloc, &name)?);
     };
     if !claiming.looks_first && !mails.is_full() {
@@ -397,7 +520,7 @@ fn add_claimed<T: Files>(
     mails: &mut Mails,
 ) -> io::Result<()> {
     match claim(rt, *name.allocator(), path, claiming.run, &name) {
-        Ok(file) => mails.add_claimed(rt, claiming.folder, name, file),
+        Ok(file) => mails.add_claimed(rt, claiming.source, name, file),
         Err(error) if error.kind() == ErrorKind::OutOfMemory => Err(error),
         Err(_) => match lookup(rt, path) {
             Ok(None) => Ok(()),

@@ -1,7 +1,7 @@
 //! A night in its rooms: mails are taken and settled, the desk is copied, and its messages are sent. No file is named
 //! here.
 
-ghost use Rattle.std.specs.Prelude.{◌≡◌, Ok, Result};
+ghost use Rattle.std.specs.Prelude.{◌≡◌, Ok, Result, option_map};
 ghost use Rattle.std.specs.List.{zip};
 ghost use Rattle.ill_desk.specs.Performing.{command_state, view_of, with_kept};
 ghost use Rattle.ill_mail.specs.Nights.{EndsAfterSending, FinishesNight, PerformsDueDeeds, SendsAll, SendsAsked, SettlesRun, night_ending};
@@ -10,19 +10,21 @@ ghost use Rattle.ill_night.specs.Inbox.{EndedWell, answered_with};
 ghost use Rattle.ill_night.specs.Outbox.{asked_by};
 ghost use Rattle.ill_room.specs.Room.{Answers};
 ghost use Rattle.ill_room.specs.Backup.{Signs, is_honest_backup};
+ghost use Rattle.ill_room.specs.Sealed.{PutsWith, sealing_of};
 ghost use Rattle.ill_text.specs.declared.fault.ToolFault.{ToolFault};
 
 use ill_files::machine::Machine;
 use ill_night::asked::asked_by;
 use ill_night::dates::{Dates, run_desk_dates};
 use ill_night::inbox::run_desk_inbox;
-use ill_night::outbox::run_desk_outbox;
 use ill_night::outgoing::Outgoing;
 use ill_night::person::wants_person;
 use ill_night::tally::Tally;
 use ill_night::verdict::{Batch, Verdict};
 use ill_room::backup::Backup;
+use ill_room::letters::file_verdicts;
 use ill_room::room::Room;
+use ill_room::sealed::{Seal, run_outbox_with};
 use ill_room::settle::{Judged, end_run};
 use ill_saved::{Desk, Store};
 use ill_text::fault::ToolFault;
@@ -49,12 +51,15 @@ pub struct Plan<'a> {
     pub batch: Batch<'a>,
     /// The day of the run, and the deeds that it makes a responder do.
     pub dates: Option<(Day, Dates)>,
+    /// The key and the sender of the letters in which the messages leave, if there is a key.
+    pub seal: Option<Seal<'a>>,
 }
 
 /// Performs a night of `desk` in `rooms`: takes the mails of `plan`, performs the deeds of its day, copies the desk, sends
 /// its messages, and gives a sign of life.
 ///
-/// The file of a mail is removed, put aside or given back only after the desk is saved with all that the mails have
+/// The mails of a letter share its file, which is settled by the worst of their verdicts. The file of a mail is removed, put
+/// aside or given back only after the desk is saved with all that the mails have
 /// brought. If the mails cannot be taken, nothing is sent. If the copy fails, nothing is sent. The sign of life is given
 /// only after all messages were sent. All this holds whichever call fails.
 pub fn night_in<T, S: Store, R: Room, B: Backup, O: Outgoing, F: Write, W: Write, E: Write>(
@@ -67,7 +72,7 @@ pub fn night_in<T, S: Store, R: Room, B: Backup, O: Outgoing, F: Write, W: Write
     ensures over { NightOver plan.now.batch.mails.now plan.now.batch.waiting plan.now.dates
         (with_kept (F.contents came.old) (command_state (view_of S.state desk.old) (W.contents machine.old.writer))) result
         (with_kept (F.contents came.new) (command_state (view_of S.state desk.new) (W.contents machine.new.writer))) }
-    ensures rooms { NightInRooms O.after plan.now.batch.mails.now (view_of S.state desk.new)
+    ensures rooms { NightInRooms (PutsWith O.after (option_map sealing_of plan.now.seal)) plan.now.batch.mails.now (view_of S.state desk.new)
         (rooms_state R.state B.state O.mails rooms.old) (rooms_state R.state B.state O.mails rooms.new) }
 {
     match take_in(machine, desk, &mut rooms.mail, &plan.batch, came) {
@@ -119,9 +124,13 @@ fn settle_run<T, S: Store, R: Room, W: Write, E: Write>(
         Ok(asked) => asked,
         Err(_) => return Err(ToolFault::OutOfMemory),
     };
+    let settled = match file_verdicts(machine.alloc, batch.mails, &verdicts) {
+        Ok(settled) => settled,
+        Err(_) => return Err(ToolFault::OutOfMemory),
+    };
     let judged = Judged {
         mails: batch.mails,
-        verdicts: &verdicts,
+        verdicts: &settled,
     };
     match end_run(machine.alloc, room, judged, &asked, &mut machine.errors) {
         Ok(()) => Ok(verdicts),
@@ -140,7 +149,7 @@ fn finish_in<T, S: Store, R: Room, B: Backup, O: Outgoing, W: Write, E: Write>(
     ensures finishes { FinishesNight plan.now.dates (Ok (night_of plan.now.batch.mails.now plan.now.batch.waiting verdicts.now))
         (command_state (view_of S.state desk.old) (W.contents machine.old.writer)) result
         (command_state (view_of S.state desk.new) (W.contents machine.new.writer)) }
-    ensures sends { SendsAfter O.after plan.now.batch.mails.now (Ok verdicts.now) desk.new.live
+    ensures sends { SendsAfter (PutsWith O.after (option_map sealing_of plan.now.seal)) plan.now.batch.mails.now (Ok verdicts.now) desk.new.live
         (out_state B.state O.mails rooms.old) (out_state B.state O.mails rooms.new) }
     ensures mail { rooms.new.mail ≡ rooms.old.mail }
 {
@@ -178,7 +187,7 @@ fn send_in<T, S: Store, R: Room, B: Backup, O: Outgoing, W: Write, E: Write>(
 ) -> Result<bool, ToolFault>
     ensures all { SendsAll (night_of plan.now.batch.mails.now plan.now.batch.waiting verdicts.now) desk.now.live
         (W.contents machine.old.writer) (W.contents machine.new.writer) (Ok tt) result }
-    ensures sends { SendsInRooms O.after (asked_by desk.now.live (zip plan.now.batch.mails.now verdicts.now)) desk.now.live
+    ensures sends { SendsInRooms (PutsWith O.after (option_map sealing_of plan.now.seal)) (asked_by desk.now.live (zip plan.now.batch.mails.now verdicts.now)) desk.now.live
         (out_state B.state O.mails rooms.old) (out_state B.state O.mails rooms.new) }
     ensures mail { rooms.new.mail ≡ rooms.old.mail }
 {
@@ -200,7 +209,7 @@ fn send_copied<T, S: Store, R: Room, B: Backup, O: Outgoing, W: Write, E: Write>
 ) -> Result<bool, ToolFault>
     ensures all { SendsAll (night_of plan.now.batch.mails.now plan.now.batch.waiting verdicts.now) desk.now.live
         (W.contents machine.old.writer) (W.contents machine.new.writer) (Ok tt) result }
-    ensures sends { SendsThenSigns O.after (asked_by desk.now.live (zip plan.now.batch.mails.now verdicts.now)) desk.now.live
+    ensures sends { SendsThenSigns (PutsWith O.after (option_map sealing_of plan.now.seal)) (asked_by desk.now.live (zip plan.now.batch.mails.now verdicts.now)) desk.now.live
         (out_state B.state O.mails rooms.old) (out_state B.state O.mails rooms.new) }
     ensures mail { rooms.new.mail ≡ rooms.old.mail }
 {
@@ -208,7 +217,7 @@ fn send_copied<T, S: Store, R: Room, B: Backup, O: Outgoing, W: Write, E: Write>
         Ok(asked) => asked,
         Err(_) => return Err(ToolFault::OutOfMemory),
     };
-    match put_asked(machine, desk, &asked, &mut rooms.out) {
+    match put_asked(machine, desk, &asked, plan.seal, &mut rooms.out) {
         Ok(()) => sign(
             machine,
             &mut rooms.backup,
@@ -218,18 +227,20 @@ fn send_copied<T, S: Store, R: Room, B: Backup, O: Outgoing, W: Write, E: Write>
     }
 }
 
-/// Puts the messages of the loans that want sending into `out`, and writes their number. `asking` has the messages that
-/// ask, one after another.
+/// Puts the messages of the loans that want sending into `out`, and writes their number. With `seal` they leave in sealed
+/// letters. `asking` has the messages that ask, one after another.
 pub(crate) fn put_asked<T, S: Store, O: Outgoing, W: Write, E>(
     machine: &mut Machine<'_, T, W, E>,
     desk: &Desk<S>,
     asking: &[u8],
+    seal: Option<Seal<'_>>,
     out: &mut O,
 ) -> Result<(), ToolFault>
     ensures sends { SendsAsked asking.now desk.now.live.held (W.contents machine.old.writer) (W.contents machine.new.writer) result }
-    ensures puts { PutsAsked O.after asking.now desk.now.live (O.mails out.old) (O.mails out.new) result }
+    ensures puts { PutsAsked (PutsWith O.after (option_map sealing_of seal.entry)) asking.now desk.now.live (O.mails out.old)
+        (O.mails out.new) result }
 {
-    let sent = match run_desk_outbox(machine.alloc, desk, asking, out) {
+    let sent = match run_outbox_with(machine.alloc, desk, asking, seal, out) {
         Ok(sent) => sent,
         Err(fault) => return Err(fault),
     };

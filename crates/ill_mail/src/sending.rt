@@ -11,6 +11,7 @@ use ill_der::encode;
 use ill_files::machine::Machine;
 use ill_night::outbox::mail_name;
 use ill_night::outgoing::Outgoing;
+use ill_room::sealed::Seal;
 use ill_saved::{Desk, Role, Store};
 use ill_text::fault::ToolFault;
 use ill_values::Apdu;
@@ -35,18 +36,19 @@ impl SentAll {
     }
 }
 
-/// Puts the messages of the loans that want sending into `folder`, and writes their number. `asking` has the messages
-/// that ask, one after another.
+/// Puts the messages of the loans that want sending into `folder`, and writes their number. With `seal` they leave in
+/// sealed letters. `asking` has the messages that ask, one after another.
 pub(crate) fn send_asked<T: Files, S: Store, W: Write, E: Write>(
     machine: &mut Machine<'_, T, W, E>,
     desk: &Desk<S>,
     asking: &[u8],
+    seal: Option<Seal<'_>>,
     folder: &str,
 ) -> Result<(), ToolFault>
     ensures { SendsAsked asking.now desk.now.live.held (W.contents machine.old.writer) (W.contents machine.new.writer) result }
 {
     let mut out = MailFolder::at(machine.rt, machine.alloc, folder);
-    let sent = put_asked(machine, desk, asking, &mut out);
+    let sent = put_asked(machine, desk, asking, seal, &mut out);
     report_fault_of_mail(machine, sent, &out)
 }
 

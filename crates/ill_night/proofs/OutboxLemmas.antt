@@ -13,7 +13,7 @@ use Rattle.ill_night.specs.declared.verdict.Mail.{Mail}
 use Rattle.ill_night.specs.declared.verdict.Verdict.{Verdict}
 use Rattle.ill_text.specs.Output.{WritesPrefix}
 use Rattle.ill_night.specs.declared.outbox.Leaving.{Leaving}
-use Rattle.ill_night.specs.Outbox.{Letter, RunsOutbox, StreamsOutbox, after_all, after_one, asked_by, asking_bytes_at, issue_of}
+use Rattle.ill_night.specs.Outbox.{Letter, PutsAll, RunsOutbox, StreamsOutbox, after_all, after_one, asked_by, asking_bytes_at, issue_of}
 use Rattle.ill_night.specs.Outbox.{letter_of, letters_of, stream_of}
 
 -- Putting the mails of `leaving` into an outlet equals putting the mail of each message in turn.
@@ -48,7 +48,7 @@ stream_has letters start bytes empty put =
 pub stream_written : (asking : List ℕ) (held : List DeskEntry) (start bytes gathered : List ℕ) (count : ℕ)
     (before after : Option (List ℕ)) (result : Result (Unit {0}) ToolFault)
     → start ≡ [] → gathered ≡ bytes
-    → RunsOutbox (λ there letter. there ++ letter.bytes) asking held (Some start) (Some bytes) (Ok count)
+    → RunsOutbox (PutsAll (λ there letter. there ++ letter.bytes)) asking held (Some start) (Some bytes) (Ok count)
     → WritesPrefix before after gathered result → StreamsOutbox asking held before after result
 stream_written asking held start bytes gathered count before after (Ok done) empty same (a, are, (counted, put)) written =
     (a, are, subst (λ text. Appends before after text) (same ∙ stream_has (letters_of a held) start bytes empty put) written)

@@ -20,6 +20,7 @@ use Rattle.ill_words.specs.Outcome.{desk_outcome_word}
 use Rattle.ill_text.specs.declared.fault.ToolFault.{ToolFault}
 use Rattle.ill_text.specs.declared.fault.ToolFault.TheVariants as faults
 use Rattle.ill_night.specs.declared.verdict.Mail.{Mail}
+use Rattle.ill_night.specs.declared.verdict.InLetter.{InLetter}
 use Rattle.ill_night.specs.declared.verdict.Unfit.{Unfit}
 use Rattle.ill_night.specs.declared.verdict.Unfit.TheVariants as unfits
 use Rattle.ill_night.specs.declared.verdict.Delay.{Delay}
@@ -83,6 +84,12 @@ begins_as_record bytes = starts_with nat_eq bytes (codes "ILL1") || starts_with 
 abbrev pub verdict_without_message : List ℕ → Unfit → Verdict
 verdict_without_message bytes unfit = if begins_as_record bytes then Left delays.Record else Aside unfit
 
+-- Returns the verdict of a mail that gave no bytes to read. If it should be a sealed letter and is none, it is put aside.
+-- Else its file cannot be read, and it waits.
+abbrev pub verdict_unread : Option InLetter → Verdict
+verdict_unread None = Left delays.NotRead
+verdict_unread (Some letter) = if letter.is_sealed then Left delays.NotRead else Aside unfits.NotSealed
+
 -- ---- the words of it
 
 -- Returns the word of a fault in the bytes of a mail.
@@ -103,6 +110,7 @@ abbrev pub unfit_text : Unfit → List ℕ
 unfit_text (unfits.NoMessage fault) = der_word fault ++ place_text (place_of fault)
 unfit_text unfits.TooLong = codes "too-long"
 unfit_text unfits.Trailing = codes "trailing"
+unfit_text unfits.NotSealed = codes "not-sealed"
 unfit_text (unfits.Refused refusal) = desk_outcome_word (seen.Plain (outcomes.Refused refusal))
 
 -- Returns the text of the reason why a mail waits for the next run.
@@ -180,15 +188,15 @@ abbrev pub after_message : {L K : Type 0} → Effects L K → List ℕ → List 
 after_message effects name bytes (Ok a) old = after_handing effects name bytes a (handed effects old.live a) old
 after_message effects name bytes (Err unfit) old = with_verdict name (verdict_without_message bytes unfit) old
 
--- Returns the state after a mail with these bytes, or after one that could not be read.
-abbrev pub after_bytes : {L K : Type 0} → Effects L K → List ℕ → Option (List ℕ) → Sorting L → Sorting L
-after_bytes effects name None old = with_verdict name (Left delays.NotRead) old
-after_bytes effects name (Some bytes) old = after_message effects name bytes (message_in bytes) old
+-- Returns the state after a mail with these bytes, or after one without bytes, which has the verdict `unread`.
+abbrev pub after_bytes : {L K : Type 0} → Effects L K → (unread : Verdict) → List ℕ → Option (List ℕ) → Sorting L → Sorting L
+after_bytes effects unread name None old = with_verdict name unread old
+after_bytes effects unread name (Some bytes) old = after_message effects name bytes (message_in bytes) old
 
 -- Returns the state after one mail.
 abbrev pub after_mail : {L K : Type 0} → Effects L K → Sorting L → Mail → Sorting L
 after_mail effects old mail =
-    after_bytes effects mail.name.items (option_map (λ bytes. bytes.items) mail.bytes) old
+    after_bytes effects (verdict_unread mail.letter) mail.name.items (option_map (λ bytes. bytes.items) mail.bytes) old
 
 -- Returns the state after all of `mails`, in their order.
 abbrev pub after_mails : {L K : Type 0} → Effects L K → L → List Mail → Sorting L

@@ -125,24 +125,33 @@ PutsOne after letter old new (Err fault) = IsFileFault fault × (new ≡ old)
 abbrev pub after_all : {M : Type 0} → (M → Letter → M) → List Letter → Option M → Option M
 after_all after letters there = fold (after_one after) there letters
 
--- All mails were put into the outlet, and the answer is their number. Or a prefix of them was, and the next
--- one failed.
+-- The messages in `letters` were put into the outlet in mails of the form `form`, and the answer is the number of messages.
+-- Or a prefix of these mails was, and the next one failed.
+abbrev pub PutsAs : {M : Type 0} → (M → Letter → M) → (form : List Letter → List Letter) → List Letter → Option M → Option M →
+    Result ℕ ToolFault → Type 0
+PutsAs after form letters old new (Ok count) = (count ≡ length letters) × (new ≡ after_all after (form letters) old)
+PutsAs after form letters old new (Err fault) =
+    IsFileFault fault × ((size : ℕ) × (new ≡ after_all after (take size (form letters)) old))
+
+-- Each message was put into the outlet in a mail of its own, and the answer is the number of messages. Or a prefix of these
+-- mails was, and the next one failed.
 abbrev pub PutsAll : {M : Type 0} → (M → Letter → M) → List Letter → Option M → Option M → Result ℕ ToolFault → Type 0
-PutsAll after letters old new (Ok count) = (count ≡ length letters) × (new ≡ after_all after letters old)
-PutsAll after letters old new (Err fault) =
-    IsFileFault fault × ((size : ℕ) × (new ≡ after_all after (take size letters) old))
+PutsAll after letters old new result = PutsAs after (λ mails. mails) letters old new result
 
 -- ---- the command
 
--- The command: the messages of `held` that want sending were put into the outlet. `bytes` has the messages
--- that ask. If memory ran out to read these, the outlet is unchanged.
-abbrev pub RunsOutbox : {M : Type 0} → (M → Letter → M) → List ℕ → List DeskEntry → Option M → Option M →
-    Result ℕ ToolFault → Type 0
-RunsOutbox after bytes held old new (Ok count) =
-    (asking : List Apdu) × AreIn bytes asking × PutsAll after (letters_of asking held) old new (Ok count)
-RunsOutbox after bytes held old new (Err fault) =
+-- A way in which messages are put into an outlet. The relation says what that leads to, and with which answer.
+abbrev pub Putting : Type 0 → Type 1
+Putting M = List Letter → Option M → Option M → Result ℕ ToolFault → Type 0
+
+-- The command: the messages of `held` that want sending were put into the outlet, as `Puts` says. `bytes` has the messages
+-- that ask. If memory ran out before the first mail, the outlet is unchanged.
+abbrev pub RunsOutbox : {M : Type 0} → (Puts : Putting M) → List ℕ → List DeskEntry → Option M → Option M → Result ℕ ToolFault → Type 0
+RunsOutbox Puts bytes held old new (Ok count) =
+    (asking : List Apdu) × AreIn bytes asking × Puts (letters_of asking held) old new (Ok count)
+RunsOutbox Puts bytes held old new (Err fault) =
     ((fault ≡ OutOfMemory) × (new ≡ old))
-    ⊎ ((asking : List Apdu) × AreIn bytes asking × PutsAll after (letters_of asking held) old new (Err fault))
+    ⊎ ((asking : List Apdu) × AreIn bytes asking × Puts (letters_of asking held) old new (Err fault))
 
 -- Returns the line with the number of mails that left.
 abbrev pub sent_line : ℕ → List ℕ

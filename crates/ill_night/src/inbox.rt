@@ -10,7 +10,7 @@ ghost use Rattle.ill_night.specs.Inbox.{EndedWell, HandsOver, RunsInbox, after_m
 ghost use Rattle.ill_desk.specs.Telling.{long};
 
 use crate::tally::{Tally, push_tally};
-use crate::verdict::{Batch, Delay, Mail, Unfit, Verdict, push_verdict};
+use crate::verdict::{Batch, Mail, Unfit, Verdict, push_verdict};
 use ill_core::Taking;
 use ill_der::{APDU_LIMIT, ApduView, view};
 use ill_desk::side_line::push_long;
@@ -145,7 +145,7 @@ impl Sorted {
     {
         match &mail.bytes {
             Some(bytes) => self.sort_bytes(alloc, desk, &mail.name, bytes),
-            None => self.settle(&mail.name, Verdict::Left(Delay::NotRead)),
+            None => self.settle(&mail.name, Verdict::unread(mail.letter)),
         }
     }
 

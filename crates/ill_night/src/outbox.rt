@@ -28,7 +28,7 @@ pub fn run_desk_outbox<S: Store, O: Outgoing>(
     asking: &[u8],
     out: &mut O,
 ) -> Result<usize, ToolFault>
-    ensures { RunsOutbox O.after asking.now desk.now.live.held (O.mails out.old) (O.mails out.new) result }
+    ensures { RunsOutbox (PutsAll O.after) asking.now desk.now.live.held (O.mails out.old) (O.mails out.new) result }
 {
     let asking = match apdus_in(alloc, asking) {
         Ok(asking) => asking,

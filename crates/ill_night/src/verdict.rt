@@ -2,7 +2,7 @@
 
 ghost use Rattle.std.specs.Prelude.{◌≡◌, ◌++◌, codes, OnOk};
 ghost use Rattle.ill_night.specs.declared.verdict.Unfit.TheVariants as unfits;
-ghost use Rattle.ill_night.specs.Inbox.{begins_as_record, delay_text, der_word, place_text, stays_line, unfit_text, verdict_line, verdict_of, verdict_without_message};
+ghost use Rattle.ill_night.specs.Inbox.{begins_as_record, delay_text, der_word, place_text, stays_line, unfit_text, verdict_line, verdict_of, verdict_unread, verdict_without_message};
 
 use ill_core::Refusal;
 use ill_der::DerFault;
@@ -14,13 +14,27 @@ use itoa::Buffer;
 use sha2::{Digest, Sha256};
 use std::alloc::Global;
 
-/// A mail: a file in a folder, which should have one message.
+/// A mail: a file in a folder, which should have one message. If a run takes sealed letters, each message in a letter is a
+/// mail of its own.
 #[derive(Drop)]
 pub struct Mail {
     /// The name of the file.
     pub name: Vec<u8>,
-    /// Its bytes, or the first ones if it has more than a message. None if it cannot be read.
+    /// Its bytes, or the first ones if it has more than a message. None if it cannot be read, or is no sealed letter.
     pub bytes: Option<Vec<u8>>,
+    /// The letter that it is in, if the run takes sealed letters.
+    pub letter: Option<InLetter>,
+}
+
+/// The letter that a mail is in.
+#[derive(Clone, Copy, Debug, PartialEq, Eq)]
+pub struct InLetter {
+    /// The number of the letter in the run. All mails of a letter have it, and no others.
+    pub number: usize,
+    /// The SHA-256 digest of the bytes that were read of the letter.
+    pub digest: [u8; 32],
+    /// Set if the other library has sealed the letter with the key of the run.
+    pub is_sealed: bool,
 }
 
 /// The mails of a run.
@@ -33,8 +47,11 @@ pub struct Batch<'a> {
 }
 
 impl Mail {
-    /// Returns the digest of the bytes that were read of it, in hexadecimal.
+    /// Returns the digest of the bytes that were read of its file, in hexadecimal.
     pub fn digest(&self, alloc: Global) -> Result<String, OutOfMemory> {
+        if let Some(letter) = &self.letter {
+            return Ok(hex::encode(alloc, letter.digest)?);
+        }
         let mut hasher = Sha256::new();
         if let Some(bytes) = &self.bytes {
             hasher.update(bytes.as_slice());
@@ -52,6 +69,8 @@ pub enum Unfit {
     TooLong,
     /// It has further bytes after its message.
     Trailing,
+    /// It is no letter that the other library has sealed with the key of the run.
+    NotSealed,
     /// The desk refuses its message for good.
     Refused(Refusal),
 }
@@ -97,11 +116,21 @@ impl Verdict {
         }
     }
 
+    /// Returns the verdict of a mail without bytes, by the letter that it is in.
+    pub fn unread(letter: Option<InLetter>) -> Verdict
+        ensures { result ≡ verdict_unread letter }
+    {
+        match letter {
+            Some(letter) if !letter.is_sealed => Verdict::Aside(Unfit::NotSealed),
+            _ => Verdict::Left(Delay::NotRead),
+        }
+    }
+
     /// Returns the verdict of a mail whose `bytes` have no message, for the reason `unfit`.
     pub fn without_message(bytes: &[u8], unfit: Unfit) -> Verdict
         ensures { result ≡ verdict_without_message bytes.now unfit }
     {
-        if begins_as_record(bytes) {
+        if is_record(bytes) {
             Verdict::Left(Delay::Record)
         } else {
             Verdict::Aside(unfit)
@@ -110,7 +139,7 @@ impl Verdict {
 }
 
 /// Returns true if `bytes` begin as the record of a desk does.
-fn begins_as_record(bytes: &[u8]) -> bool
+pub fn is_record(bytes: &[u8]) -> bool
     ensures { result ≡ begins_as_record bytes.now }
 {
     bytes.starts_with(b"ILL1") || bytes.starts_with(b"ILL2")
@@ -175,6 +204,7 @@ pub fn push_unfit(text: &mut Vec<u8>, unfit: Unfit) -> Result<(), OutOfMemory>
         Unfit::NoMessage(fault) => push_der_fault(text, fault),
         Unfit::TooLong => push_word(text, "too-long"),
         Unfit::Trailing => push_word(text, "trailing"),
+        Unfit::NotSealed => push_word(text, "not-sealed"),
         Unfit::Refused(refusal) => {
             push_word(text, DeskOutcome::Plain(Outcome::Refused(refusal)).word())
         }

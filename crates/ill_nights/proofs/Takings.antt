@@ -21,7 +21,9 @@ use Rattle.ill_words.specs.declared.outcome.Outcome.TheVariants.{Answered}
 use Rattle.ill_words.specs.declared.outcome.DeskOutcome.TheVariants.{Plain}
 use Rattle.ill_night.specs.declared.verdict.Mail.{Mail}
 use Rattle.ill_night.specs.declared.verdict.Unfit.{Unfit}
+use Rattle.ill_night.specs.declared.verdict.Verdict.{Verdict}
 use Rattle.ill_night.specs.Inbox.{Sorting, after_mail, after_bytes, after_handing, after_message, kept_bytes, message_in}
+use Rattle.ill_night.specs.Inbox.{verdict_unread}
 use Rattle.ill_world.specs.declared.event.DeskEvent.{DeskEvent}
 use Rattle.ill_world.specs.declared.event.DeskEvent.TheVariants.{Deliver}
 use Rattle.ill_world.specs.World.{Parties, party}
@@ -198,11 +200,12 @@ module _ (projects : EachProjects) (reaches : EachReaches) (stand : EachStands) 
         found_led name bytes (Err unfit) is_found were = stays_led w stands old.live is old.kept
 
         -- A mail leads on by its message, if it could be read and holds just one.
-        read_led : (name : List ℕ) (bytes : Option (List ℕ)) → Each (WasSent (party w (other role)).sent) (message_if_read bytes)
-            → Led role w (after_bytes many_sides name bytes old).live (messages_for txn (message_if_read bytes)) old.kept
-            (after_bytes many_sides name bytes old).kept
-        read_led name None were = stays_led w stands old.live is old.kept
-        read_led name (Some bytes) were = found_led name bytes (message_in bytes) refl were
+        read_led : (unread : Verdict) (name : List ℕ) (bytes : Option (List ℕ))
+            → Each (WasSent (party w (other role)).sent) (message_if_read bytes)
+            → Led role w (after_bytes many_sides unread name bytes old).live (messages_for txn (message_if_read bytes)) old.kept
+            (after_bytes many_sides unread name bytes old).kept
+        read_led unread name None were = stays_led w stands old.live is old.kept
+        read_led unread name (Some bytes) were = found_led name bytes (message_in bytes) refl were
 
     -- Mails lead on by all their messages, in order.
     pub mails_led : (w : DeskParties) → DesksInvariant w → (old : Sorting DeskContents) → (party w role).live ≡ old.live
@@ -214,7 +217,8 @@ module _ (projects : EachProjects) (reaches : EachReaches) (stand : EachStands) 
     mails_led w stands old is (mail ∷ mails) were =
         let next : Sorting DeskContents = after_mail many_sides old mail in
         let end : Sorting DeskContents = fold (after_mail many_sides) next mails in
-        let first = read_led w stands old is mail.name.items (option_map (λ bytes. bytes.items) mail.bytes) were.0 in
+        let first = read_led w stands old is (verdict_unread mail.letter) mail.name.items
+        (option_map (λ bytes. bytes.items) mail.bytes) were.0 in
         let further = mails_led first.now first.stands next (ap (λ (p : DeskParty). p.live) first.here) mails
         (subst (λ (p : DeskParty). Bring (WasSent p.sent) mails) (sym first.there) were.1) in
         subst (λ apdus. Led role w end.live apdus old.kept end.kept)

@@ -1,2 +1,5 @@
 pub mod RoomLemmas
 pub mod MemoryRoom
+pub mod SealedLemmas
+pub mod TextLemmas
+pub mod LettersLemmas

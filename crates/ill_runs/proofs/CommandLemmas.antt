@@ -30,7 +30,8 @@ use Rattle.ill_desk.specs.Take.{RunsTaking, TakesAndSaves, TakesMessage, Progres
 use Rattle.ill_desk.specs.Telling.{Wording}
 use Rattle.ill_night.specs.declared.verdict.Mail.{Mail}
 use Rattle.ill_night.specs.declared.verdict.Unfit.{Unfit}
-use Rattle.ill_night.specs.Inbox.{Sorting, after_mail, after_bytes, after_message, after_handing, message_in}
+use Rattle.ill_night.specs.declared.verdict.Verdict.{Verdict}
+use Rattle.ill_night.specs.Inbox.{Sorting, after_mail, after_bytes, after_message, after_handing, message_in, verdict_unread}
 use Rattle.ill_night.specs.Dates.{Doing, after_act, after_deed}
 use Rattle.ill_world.specs.declared.event.DeskEvent.TheVariants.{Wish, Deed}
 use Rattle.ill_world.specs.Desks.{DeskParty, Sending, desk_decides}
@@ -221,11 +222,11 @@ module _ (who : Role) (sent : List Sending) (p : DeskParty) where
   message_leads name bytes (Err unfit) old was = none_leads who sent (record p { live = old.live })
 
   -- Taking a mail is an event or none, whether the mail could be read or not.
-  content_leads : (name : List ℕ) (content : Option (List ℕ)) (old : Sorting DeskContents)
+  content_leads : (unread : Verdict) (name : List ℕ) (content : Option (List ℕ)) (old : Sorting DeskContents)
       → Each (WasSent sent) (message_if_read content)
-      → Leads who sent (record p { live = old.live }) (record p { live = (after_bytes many_sides name content old).live })
-  content_leads name (Some bytes) old was = message_leads name bytes (message_in bytes) old was
-  content_leads name None old was = none_leads who sent (record p { live = old.live })
+      → Leads who sent (record p { live = old.live }) (record p { live = (after_bytes many_sides unread name content old).live })
+  content_leads unread name (Some bytes) old was = message_leads name bytes (message_in bytes) old was
+  content_leads unread name None old was = none_leads who sent (record p { live = old.live })
 
   -- Taking mails is events, if the other desk has sent the message of each.
   pub mails_lead : (old : Sorting DeskContents) (mails : List Mail) → Each (λ mail. Each (WasSent sent) (message_of mail)) mails
@@ -233,7 +234,8 @@ module _ (who : Role) (sent : List Sending) (p : DeskParty) where
   unfolding Each
   mails_lead old [] were = none_leads who sent (record p { live = old.live })
   mails_lead old (mail ∷ mails) were =
-      then_leads (content_leads mail.name.items (option_map (λ bytes. bytes.items) mail.bytes) old were.0)
+      then_leads (content_leads (verdict_unread mail.letter) mail.name.items (option_map (λ bytes. bytes.items) mail.bytes) old
+      were.0)
       (mails_lead (after_mail many_sides old mail) mails were.1)
 
   -- ---- the deeds of a day

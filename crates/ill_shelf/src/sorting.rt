@@ -18,7 +18,7 @@ use ill_files::paths::{CAME, MAIL, RETIRED, path_of};
 use ill_files::shelf::{Shelf, names_of_desks, refuse_retired};
 use ill_mail::fault_lines::{NO_BOX, NO_RUN, NOT_READ};
 use ill_mail::host_room::remove_runs;
-use ill_mail::mail::{Mails, begin_run, claim_mails, new_run};
+use ill_mail::mail::{Mails, Source, begin_run, claim_mails, new_run};
 use ill_mail::mail_box::{MailBox, give_back, open_box, remove_if_there};
 use ill_mail::reserved::is_within;
 use ill_night::inbox::message_in;
@@ -143,7 +143,11 @@ fn claim_from_outside<T: Files>(
     if is_within(rt, alloc, folder, shelf.folder)? {
         return Err(STORE_FAILED);
     }
-    claim_mails(rt, alloc, mail_box, folder, run)
+    let source = Source {
+        folder,
+        opening: None,
+    };
+    claim_mails(rt, alloc, mail_box, source, run)
 }
 
 /// Sorts the claimed mails `found`, and writes a line about each lost desk. Returns true if a desk is lost, or a mail

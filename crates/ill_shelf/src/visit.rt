@@ -9,7 +9,8 @@ ghost use Rattle.ill_text.specs.Visits.{graver};
 
 use ill_commands::commands::status;
 use ill_files::machine::Machine;
-use ill_mail::exchange::{exchange, inbox, outbox};
+use ill_mail::exchange::{exchange, inbox};
+use ill_mail::keyed::outbox_with;
 use ill_mail::mail::Incoming;
 use ill_night::night::Night;
 use ill_saved::LockFiles;
@@ -136,7 +137,7 @@ fn run_visit<T: LockFiles, W: Write, E: Write>(
     match visit {
         Visit::Status(form) => status(machine, path, *form),
         Visit::Inbox(incoming) => inbox(machine, path, *incoming),
-        Visit::Outbox(folder) => outbox(machine, path, *folder),
-        Visit::Exchange(night) => exchange(machine, path, night),
+        Visit::Outbox(folder) => outbox_with(machine, path, None, *folder),
+        Visit::Exchange(night) => exchange(machine, path, night, None),
     }
 }

@@ -23,6 +23,7 @@ use Rattle.ill_key.specs.KeyCommand.{RunsKey}
 use Rattle.ill_files.specs.Opening.{GoesWell}
 use Rattle.ill_show.specs.Notes.{note_text}
 use Rattle.ill_commands.specs.AtFile.{VerifiesFile, ReportsPaths}
+use Rattle.ill_mail.specs.Keyed.{WithKey}
 use Rattle.ill_mail.specs.Nights.{InboxAtFile, OutboxAtFile, ExchangesAtFile}
 use Rattle.ill_line.specs.Guard.{IsGuarded}
 use Rattle.ill_shelf.specs.Shelf.{is_lines, VisitsShelf, RetiresAtFile, TakesAtShelf}
@@ -41,11 +42,12 @@ Runs (asks.Act file asking by is_long is_new_group) left rest before after resul
     (rest ≡ left) × ActsAtFile asking is_long before after result
 Runs (asks.Take file form stamp key) left rest before after result =
     TakesWith key (TakesAtFile form) (streams_of left before) result (streams_of rest after)
-Runs (asks.Inbox file folder stamp) left rest before after result = (rest ≡ left) × InboxAtFile before after result
-Runs (asks.Outbox file folder) left rest before after result =
-    (rest ≡ left) × OutboxAtFile (is_some folder) before after result
-Runs (asks.Exchange file incoming outgoing dates stamp copy beat) left rest before after result =
-    (rest ≡ left) × ExchangesAtFile dates before after result
+Runs (asks.Inbox file folder stamp key) left rest before after result =
+    (rest ≡ left) × WithKey key InboxAtFile before after result
+Runs (asks.Outbox file folder key) left rest before after result =
+    (rest ≡ left) × WithKey key (OutboxAtFile (is_some folder)) before after result
+Runs (asks.Exchange file incoming outgoing dates stamp copy beat key) left rest before after result =
+    (rest ≡ left) × WithKey key (ExchangesAtFile dates) before after result
 Runs (asks.Key file deed) left rest before after result = RunsKey deed left rest before after result
 Runs (asks.Send file txn number key) left rest before after result =
     (rest ≡ left) × SendsWith key txn number before after result
@@ -71,6 +73,12 @@ abbrev pub RunsGuarded : Asked → Option (List ℕ) → Option (List ℕ) → O
 RunsGuarded asked left rest before after result =
     (IsErrAnd result (IsGuarded asked) × (rest ≡ left) × (after ≡ before)) ⊎ Runs asked left rest before after result
 
+-- A command on a shelf, which `Does` something without a key. With a key it is refused, and nothing was written.
+abbrev pub UnlessKey : (key : Option (List ℕ)) → (Does : Option (List ℕ) → Option (List ℕ) → Result Bool ToolFault → Type 0) →
+    (before after : Option (List ℕ)) → Result Bool ToolFault → Type 0
+UnlessKey None Does before after result = Does before after result
+UnlessKey (Some key) Does before after result = (after ≡ before) × (result ≡ Err Arguments)
+
 -- A command on a shelf. In a transaction it has the effect of the command for one desk, whichever desk that is. The
 -- input goes from `left` to `rest`, and the output from `before` to `after`.
 abbrev pub RunsShelf : Asked → Option (List ℕ) → Option (List ℕ) → Option (List ℕ) → Option (List ℕ) →
@@ -89,12 +97,12 @@ RunsShelf (asks.Note folder txn words) left rest before after result =
 RunsShelf (asks.Slip folder txn) left rest before after result = (rest ≡ left) × SlipAtFile txn before after result
 RunsShelf (asks.Status folder form) left rest before after result =
     (rest ≡ left) × VisitsShelf (is_lines form) (ShowsFile form) before after result
-RunsShelf (asks.Inbox folder incoming stamp) left rest before after result =
-    (rest ≡ left) × VisitsShelf true InboxAtFile before after result
-RunsShelf (asks.Outbox folder outgoing) left rest before after result =
-    (rest ≡ left) × VisitsShelf (is_some outgoing) (OutboxAtFile (is_some outgoing)) before after result
-RunsShelf (asks.Exchange folder incoming outgoing dates stamp copy beat) left rest before after result =
-    (rest ≡ left) × VisitsShelf true (ExchangesAtFile dates) before after result
+RunsShelf (asks.Inbox folder incoming stamp key) left rest before after result =
+    (rest ≡ left) × UnlessKey key (VisitsShelf true InboxAtFile) before after result
+RunsShelf (asks.Outbox folder outgoing key) left rest before after result =
+    (rest ≡ left) × UnlessKey key (VisitsShelf (is_some outgoing) (OutboxAtFile (is_some outgoing))) before after result
+RunsShelf (asks.Exchange folder incoming outgoing dates stamp copy beat key) left rest before after result =
+    (rest ≡ left) × UnlessKey key (VisitsShelf true (ExchangesAtFile dates)) before after result
 RunsShelf (asks.Retire folder group) left rest before after result = (rest ≡ left) × RetiresAtFile before after result
 RunsShelf other left rest before after result = (rest ≡ left) × (after ≡ before) × (result ≡ Err Arguments)
 

@@ -18,7 +18,7 @@ pub use ill_night::inbox::run_desk_inbox;
 pub use ill_night::outbox::{run_desk_outbox, run_desk_outbox_stream};
 pub use ill_night::outgoing::Outgoing;
 pub use ill_night::retire::run_desk_retire;
-pub use ill_night::verdict::{Batch, Delay, Mail, Unfit, Verdict};
+pub use ill_night::verdict::{Batch, Delay, InLetter, Mail, Unfit, Verdict};
 pub use ill_saved::DeskFault;
 pub use ill_show::list::run_desk_list;
 pub use ill_show::listed::Listed;

@@ -20,12 +20,12 @@ from ill.texts import words as command_line
 from ill.texts.words import HELP, LINE, MAN, body, find, named
 
 EXPLAIN = "crates/ill_explain/src"
-WORLD, WORDS, TEXT, SHOW, SLIP, COUNTED, DESK, NIGHT, FILES, KEY, COMMANDS, MAIL, SHELF = (
+WORLD, WORDS, TEXT, SHOW, SLIP, COUNTED, DESK, NIGHT, FILES, KEY, COMMANDS, MAIL, SHELF, ROOM = (
     f"crates/ill_{room}/src"
     for room in ("world", "words", "text", "show", "slip", "figures", "desk", "night", "files", "key", "commands", "mail",
-                 "shelf"))
+                 "shelf", "room"))
 FILE_KINDS = {"File", "NewFile", "Paths", "Folder"}
-KEY_KINDS = {"KeyFile", "Key"}
+KEY_KINDS = {"KeyFile", "Key", "NightKey"}
 FLAGS = {"Long", "Keep", "Picture", "Open", "Mine", "Actions", "Json", "Csv"}
 # The sources of the commands on a file: what locks it is told by their bodies.
 FILED = (f"{COMMANDS}/commands.rt", f"{COMMANDS}/telling.rt", f"{COMMANDS}/counting.rt", f"{COMMANDS}/note.rt", f"{MAIL}/exchange.rt",
@@ -77,7 +77,8 @@ no number of a message: it is {first} to {last}; stand one to {days_digits} digi
 makes {made} desks at most; mail of one run makes {made} desks at most
 which {roles} libraries hold; {key_groups} groups of four digits; has {key_groups} groups of four
 It has {key} bytes, and nobody but its owner; a key, which has {key} bytes; no file of a key: that has {key} bytes
-It has {sealed} bytes more
+It has {sealed} bytes more; as many as fit into {letter} bytes; at most the first {letter_first} bytes of the letter
+`letter-` and {letter_digits} digits of its SHA
 so no loan can come to {roles} of them; as `%` and {escaped} digits; with % and {escaped} digits
 is {well} after `done`, and {refused} after `not-now`; is {well} if the shelf is saved, and {refused} with `exists`
 If none fails, it is {failed} if mails are left, {refused} if one was put aside or in conflict, else {well}.
@@ -180,6 +181,8 @@ def numbers_of():
         "number_digits": constant("NUMBER_DIGITS", f"{WORDS}/words.rt"),
         "status_lines": len(status_labels()), "side_fields": len(re.findall(r"\n    pub \w+:", shown)),
         "roles": len(roles), "desk_words": len(variants("DeskOutcome", f"{WORDS}/outcome.rt")) - 1,
+        "letter": constant("TEXT", f"{ROOM}/sealed.rt"), "letter_digits": constant("DIGITS", f"{ROOM}/sealed.rt"),
+        "letter_first": constant("LETTER_LIMIT", f"{KEY}/letter.rt") + 1,
         "sealed": constant("TEXT", "crates/ill_seal/src/letter.rt") + constant("SEAL", "crates/ill_seal/src/letter.rt"),
         "key": constant("SIZE", f"{KEY}/key_file.rt"), "key_groups": constant("DIGITS", "crates/ill_seal/src/key.rt") // 4,
         "made": constant("NEW_DESKS", f"{SHELF}/sorting.rt"), "escaped": 2,
@@ -603,7 +606,7 @@ def compare_words(named_texts, words, arguments):
     told |= set(re.findall(r'b"(changed) "', read("crates/ill_desk/src/act_as.rt")))
     known = words | labels | counted | staying | sent | verbs_known | set(arguments) | told | set(files) | {
         "done", "none", "-", "--", "--today", "--explain", "--help", "ill --help", "#", "+N", "ill: ",
-        "ill COMMAND --help", "act --new-group", "_", "%", "PATH:"}
+        "ill COMMAND --help", "act --new-group", "_", "%", "PATH:", "letter-"}
     for name, text in named_texts.items():
         text = joined(text)
         for word in re.findall(r"`([^`]+)`", text):

@@ -1,7 +1,8 @@
 -- Proves the contract of `nothing_leaves_uncopied` (`src/laws.rt`).
+use Rattle.ill_room.specs.Sealed.{PutsWith}
 use Rattle.ill_mail.proofs.BadRooms.{none_sends}
 use Rattle.ill_mail.proofs.laws.nothing_leaves_uncopied.Goals as goal
 
 -- No sending into this outlet is bad.
 pub returns : goal.returns
-returns g c = none_sends g.O.Outgoing.after
+returns g c sealing = none_sends (PutsWith g.O.Outgoing.after sealing)

@@ -1,6 +1,8 @@
 -- Answers the contract of `send_copied` (`src/rooms.rt`).
 use Rattle.std.proofs.Common.{ℕ, List, Option, Bool, Result, inr, Ok, ap, subst, sym, ◌∙◌}
 use Rattle.ill_text.specs.declared.fault.ToolFault.{ToolFault}
+use Rattle.std.specs.Prelude.{option_map}
+use Rattle.ill_room.specs.Sealed.{PutsWith, sealing_of}
 use Rattle.ill_mail.specs.Nights.{EndsAfterSending, SendsAsked}
 use Rattle.ill_mail.specs.Rooms.{PutsAsked, out_state}
 use Rattle.ill_mail.proofs.RoomsLemmas.{signs_after}
@@ -31,7 +33,8 @@ returns-in-Ok-put_asked-clause-sends g c =
     let old = out_state g.B.Backup.state g.O.Outgoing.mails c.args.rooms.now in
     let after = g.O.Outgoing.mails c.put_asked.new.out in
     let asks = c.deref.ensures.value ∙ c.in-Ok.ensures in
-    let puts = subst (λ (bytes : List ℕ). PutsAsked g.O.Outgoing.after bytes desk old.out after (Ok c.in-Ok-put_asked.field-0))
-    asks c.in-Ok-put_asked.ensures.puts in
-    signs_after g.O.Outgoing.after _ desk old (g.B.Backup.state c.sign.new.backup) after c.in-Ok-put_asked.field-0 puts
-    c.sign.ensures.signs
+    let sealing = option_map sealing_of c.args.plan.now.seal in
+    let puts = subst (λ (bytes : List ℕ). PutsAsked (PutsWith g.O.Outgoing.after sealing) bytes desk old.out after
+    (Ok c.in-Ok-put_asked.field-0)) asks c.in-Ok-put_asked.ensures.puts in
+    signs_after (PutsWith g.O.Outgoing.after sealing) _ desk old (g.B.Backup.state c.sign.new.backup) after
+    c.in-Ok-put_asked.field-0 puts c.sign.ensures.signs

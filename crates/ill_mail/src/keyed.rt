@@ -1,0 +1,115 @@
+//! The commands `inbox`, `outbox` and `exchange` with a key: all messages come and go in sealed letters.
+
+ghost use Rattle.std.specs.Prelude.{true, Some, is_some, option_map};
+ghost use Rattle.ill_mail.specs.Keyed.{WithKey};
+ghost use Rattle.ill_mail.specs.Nights.{ExchangesAtFile, InboxAtFile, OutboxAtFile};
+
+use crate::exchange::{Outlet, exchange, inbox, outbox};
+use crate::mail::Incoming;
+use ill_files::machine::Machine;
+use ill_key::key_file::read_key;
+use ill_night::night::Night;
+use ill_saved::LockFiles;
+use ill_text::fault::ToolFault;
+use std::io::Write;
+
+/// `ill inbox`: takes the mails of a folder, or the letters in it alone if there is a file of a key.
+pub fn inbox_with<T: LockFiles, W: Write, E: Write>(
+    machine: &mut Machine<'_, T, W, E>,
+    file: &str,
+    key_file: Option<&str>,
+    incoming: &Incoming<'_, '_, '_>,
+) -> Result<bool, ToolFault>
+    ensures { WithKey (option_map (λ file. file.now) key_file.entry) InboxAtFile (W.contents machine.old.writer)
+        (W.contents machine.new.writer) result }
+{
+    match key_file {
+        Some(key_file) => inbox_sealed(machine, file, key_file, incoming),
+        None => inbox(machine, file, *incoming),
+    }
+}
+
+/// `ill inbox --key`: takes the letters of a folder.
+fn inbox_sealed<T: LockFiles, W: Write, E: Write>(
+    machine: &mut Machine<'_, T, W, E>,
+    file: &str,
+    key_file: &str,
+    incoming: &Incoming<'_, '_, '_>,
+) -> Result<bool, ToolFault>
+    ensures { WithKey (Some key_file.now) InboxAtFile (W.contents machine.old.writer) (W.contents machine.new.writer) result }
+{
+    let key = read_key(machine.rt, key_file)?;
+    let sealed = Incoming {
+        folder: incoming.folder,
+        is_sorted: false,
+        stamp: incoming.stamp,
+        key: Some(&key),
+    };
+    inbox(machine, file, sealed)
+}
+
+/// `ill outbox`: puts the messages of the loans that want sending into a folder, in letters if there is a file of a key.
+/// Without a folder it writes them one after another.
+pub fn outbox_with<T: LockFiles, W: Write, E: Write>(
+    machine: &mut Machine<'_, T, W, E>,
+    file: &str,
+    key_file: Option<&str>,
+    folder: Option<&str>,
+) -> Result<bool, ToolFault>
+    ensures { WithKey (option_map (λ file. file.now) key_file.entry) (OutboxAtFile (is_some folder.entry))
+        (W.contents machine.old.writer) (W.contents machine.new.writer) result }
+{
+    match (folder, key_file) {
+        (Some(folder), Some(key_file)) => outbox_sealed(machine, file, key_file, folder),
+        (Some(folder), None) => outbox(machine, file, Some(Outlet { folder, key: None })),
+        (None, _) => outbox(machine, file, None),
+    }
+}
+
+/// `ill outbox --key`: puts the messages of the loans that want sending into `folder`, in letters.
+fn outbox_sealed<T: LockFiles, W: Write, E: Write>(
+    machine: &mut Machine<'_, T, W, E>,
+    file: &str,
+    key_file: &str,
+    folder: &str,
+) -> Result<bool, ToolFault>
+    ensures { WithKey (Some key_file.now) (OutboxAtFile true) (W.contents machine.old.writer) (W.contents machine.new.writer)
+        result }
+{
+    let key = read_key(machine.rt, key_file)?;
+    let outlet = Outlet {
+        folder,
+        key: Some(&key),
+    };
+    outbox(machine, file, Some(outlet))
+}
+
+/// `ill exchange`: performs a night. If there is a file of a key, all messages come and go in letters.
+pub fn exchange_with<T: LockFiles, W: Write, E: Write>(
+    machine: &mut Machine<'_, T, W, E>,
+    file: &str,
+    key_file: Option<&str>,
+    night: &Night<'_>,
+) -> Result<bool, ToolFault>
+    ensures { WithKey (option_map (λ file. file.now) key_file.entry) (ExchangesAtFile night.now.dates)
+        (W.contents machine.old.writer) (W.contents machine.new.writer) result }
+{
+    match key_file {
+        Some(key_file) => exchange_sealed(machine, file, key_file, night),
+        None => exchange(machine, file, night, None),
+    }
+}
+
+/// `ill exchange --key`: performs a night, whose messages come and go in letters.
+fn exchange_sealed<T: LockFiles, W: Write, E: Write>(
+    machine: &mut Machine<'_, T, W, E>,
+    file: &str,
+    key_file: &str,
+    night: &Night<'_>,
+) -> Result<bool, ToolFault>
+    ensures { WithKey (Some key_file.now) (ExchangesAtFile night.now.dates) (W.contents machine.old.writer)
+        (W.contents machine.new.writer) result }
+{
+    let key = read_key(machine.rt, key_file)?;
+    exchange(machine, file, night, Some(&key))
+}

@@ -1,0 +1,52 @@
+-- Splits mails with their verdicts at a place.
+use Rattle.std.proofs.Common.{◌≡◌, ℕ, zero, suc, List, [], ◌∷◌, ◌++◌, map, length, drop, Option, None, Some, Bor, refl, ap}
+use Rattle.std.proofs.Common.{sym, ◌∙◌}
+use Rattle.std.specs.Prelude.{slice_get, option_map}
+use Rattle.std.specs.Slice.{IsItemAt}
+use Rattle.std.proofs.lemmas.Option.{slice_get_past, slice_get_read}
+use Rattle.std.specs.List.{zip}
+use Rattle.ill_night.specs.declared.verdict.Mail.{Mail}
+use Rattle.ill_night.specs.declared.verdict.Verdict.{Verdict}
+use Rattle.ill_room.specs.Letters.{file_verdict, pair_at, verdict_at}
+
+-- Pairing a list with an empty list gives no pairs.
+zip_nothing : (mails : List Mail) → zip {X = Verdict} mails [] ≡ []
+zip_nothing [] = refl
+zip_nothing (mail ∷ mails) = refl
+
+-- A mail without a verdict makes no pair.
+no_pair : (mail : Option Mail) (rest : List (Mail × Verdict)) → pair_at mail None ++ rest ≡ rest
+no_pair None rest = refl
+no_pair (Some mail) rest = refl
+
+-- What is lent of a place in a list is what stands there, if anything does.
+pub item_at : {X : Type 0} (xs : List X) (place : ℕ) (found : Option (Bor X)) → IsItemAt xs place found
+    → option_map (λ (x : Bor X). x.now) found ≡ slice_get xs place
+item_at xs place (Some x) at = sym (slice_get_read xs (length xs) place x.now refl at.3.0 at.1)
+item_at xs place None at = sym (slice_get_past xs place at.3)
+
+-- A mail without a verdict has no verdict of its file.
+pub no_verdict : (all : List (Mail × Verdict)) (mail : Option Mail) → verdict_at all mail None ≡ []
+no_verdict all None = refl
+no_verdict all (Some mail) = refl
+
+-- The verdict of the file at a place is that of the pair there.
+pub verdict_of_pair : (all : List (Mail × Verdict)) (mail : Option Mail) (verdict : Option Verdict)
+    → verdict_at all mail verdict ≡ map (λ pair. file_verdict all pair.0.letter pair.1) (pair_at mail verdict)
+verdict_of_pair all None verdict = refl
+verdict_of_pair all (Some mail) None = refl
+verdict_of_pair all (Some mail) (Some verdict) = refl
+
+-- The pairs from `place` on are the pair at `place`, and the later ones.
+pub split_at : (mails : List Mail) (verdicts : List Verdict) (place : ℕ)
+    → pair_at (slice_get mails place) (slice_get verdicts place)
+    ++ zip (drop (suc place) mails) (drop (suc place) verdicts)
+    ≡ zip (drop place mails) (drop place verdicts)
+split_at [] verdicts zero = refl
+split_at [] verdicts (suc place) = refl
+split_at (mail ∷ mails) [] zero = zip_nothing mails
+split_at (mail ∷ mails) [] (suc place) =
+    no_pair (slice_get mails place) (zip (drop (suc place) mails) [])
+    ∙ (zip_nothing (drop (suc place) mails) ∙ sym (zip_nothing (drop place mails)))
+split_at (mail ∷ mails) (verdict ∷ verdicts) zero = refl
+split_at (mail ∷ mails) (verdict ∷ verdicts) (suc place) = split_at mails verdicts place

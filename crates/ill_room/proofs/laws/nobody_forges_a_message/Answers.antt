@@ -1,0 +1,8 @@
+-- Proves the contract of `nobody_forges_a_message` (`src/laws.rt`).
+use Rattle.std.specs.List.{concat}
+use Rattle.ill_room.proofs.laws.nobody_forges_a_message.Goals as goal
+
+-- The messages are a text that opens, and nobody forges that.
+pub returns : goal.returns
+returns c key letter messages texts came sender others comes opens =
+    c.nobody_forges_a_letter.ensures key letter (concat messages) texts came sender others comes opens

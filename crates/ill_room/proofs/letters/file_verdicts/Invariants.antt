@@ -1,0 +1,13 @@
+-- States the loop invariant of `file_verdicts` (`src/letters.rt`).
+use Rattle.std.proofs.Common.{◌≡◌, ◌++◌, drop, map}
+use Rattle.std.specs.List.{zip}
+use Rattle.ill_room.specs.Letters.{file_verdict, file_verdicts}
+use Rattle.ill_room.proofs.letters.file_verdicts.Given as goal
+
+-- The verdicts so far, and those of the mails that are left, are all verdicts of files.
+abbrev pub invariant-loop-place : goal.invariant-loop-place
+invariant-loop-place l = record {
+  there : l.settled.items ++ map (λ mail. file_verdict (zip l.mails l.verdicts) mail.0.letter mail.1)
+      (zip (drop l.place l.mails) (drop l.place l.verdicts))
+      ≡ file_verdicts (zip l.mails l.verdicts);
+}

@@ -2,8 +2,8 @@
 //! action. A command that may change the file holds its lock from before the load to its end.
 
 ghost use Rattle.std.specs.Prelude.{◌≡◌, map, option_copied, option_map, string_bytes, IfErr, IfOk};
-ghost use Rattle.ill_show.specs.News.{item_of};
-ghost use Rattle.ill_show.specs.Report.{AddsPart, AddsParts};
+ghost use Rattle.ill_show.specs.ItemLine.{item_of};
+ghost use Rattle.ill_list.specs.Report.{AddsPart, AddsParts};
 ghost use Rattle.ill_commands.specs.AtFile.{ActsAtFile, ListsDesk, ListsPaths, LoanAtFile, NewAtFile, ReportsPaths, SendsAtFile, ShowsFile, SlipAtFile, TakesAtFile, TellsItem, VerifiesFile, after_writing};
 ghost use Rattle.ill_commands.specs.Streams.{streams_of};
 ghost use Rattle.ill_desk.specs.ActAs.{RunsActAs, asking_of};
@@ -23,23 +23,23 @@ use ill_files::folder::{desk_paths, warn_of_names};
 use ill_files::machine::Machine;
 use ill_files::notes::notes_bytes;
 use ill_files::open::{all_well, end, lock, open, open_locked};
+use ill_list::finding::Sought;
+use ill_list::list::{count_left_out, run_desk_list};
+use ill_list::listed::{Listed, left_out_line, warning};
+use ill_list::news::news_since;
+use ill_list::report::{end_page, push_desk, push_fault, push_head};
+use ill_list::wanted::Wanted;
 use ill_saved::{
     Desk, FileStore, LockFiles, LockedDesk, RECORD_LIMIT, Role, SIDES_LIMIT, Side, Sides, Store,
 };
 use ill_show::annex::Annex;
 use ill_show::file_lines::FileLines;
-use ill_show::finding::Sought;
 use ill_show::item_line::write_item;
-use ill_show::list::{count_left_out, run_desk_list};
-use ill_show::listed::{Listed, left_out_line, warning};
 use ill_show::loan::{Beside, LoanView, run_desk_loan};
-use ill_show::news::news_since;
 use ill_show::notes::Notes;
 use ill_show::numbers::{numbers_lines, push_told};
-use ill_show::report::{end_page, push_desk, push_fault, push_head};
 use ill_show::status::run_desk_status_as;
 use ill_show::verify::run_desk_verify;
-use ill_show::wanted::Wanted;
 use ill_slip::slip::run_desk_slip;
 use ill_text::diary::{Stamp, WithDiary, begin_text};
 use ill_text::fault::{ToolFault, graver};

@@ -8,7 +8,7 @@ use ill_figures::figures::{FiguresBeside, FiguresView, run_desk_figures};
 use ill_files::came::came_bytes;
 use ill_files::machine::Machine;
 use ill_files::open::{all_well, open};
-use ill_show::listed::Listed;
+use ill_list::listed::Listed;
 use ill_text::fault::ToolFault;
 use ill_text::form::Form;
 use ill_text::output::write_whole;
@@ -42,12 +42,7 @@ pub(crate) fn count_file<T: Files, W: Write, E: Write>(
       answer = result;
     }) }
 {
-    let diary = read_diary(
-        machine.rt,
-        machine.alloc,
-        listed.path,
-        &mut machine.errors,
-    )?;
+    let diary = read_diary(machine.rt, machine.alloc, listed.path, &mut machine.errors)?;
     let desk = open(machine.rt, machine.alloc, listed.path)?;
     let came = came_bytes(machine.rt, machine.alloc, listed.path)?;
     let beside = FiguresBeside {

@@ -21,20 +21,22 @@ use Rattle.ill_text.specs.Json as texts
 use Rattle.ill_text.specs.Json.{Field, flag, quoted}
 use Rattle.ill_words.specs.Waiting.{placed, ordered, is_more_urgent, most_urgent_first}
 use Rattle.ill_show.specs.declared.loan.LoanForm.TheVariants.{Object}
-use Rattle.ill_show.specs.declared.wanted.Wanted.{Wanted}
+use Rattle.ill_list.specs.declared.wanted.Wanted.{Wanted}
 use Rattle.ill_work.specs.declared.work.Work.{Work}
 use Rattle.ill_work.specs.Work.{all_work}
-use Rattle.ill_show.specs.List.{counts_of, has_work, is_listed, listed_of}
-use Rattle.ill_show.specs.Finding.{Seeking, is_found}
-use Rattle.ill_show.specs.Listing.{between, chosen_of, file_told, list_objects, listed, listed_desk, section, sections}
-use Rattle.ill_show.specs.Listing.{work_objects}
+use Rattle.ill_list.specs.List.{counts_of, has_work, is_listed, listed_of}
+use Rattle.ill_list.specs.Finding.{Seeking, is_found}
+use Rattle.ill_list.specs.Listing.{between, chosen_of, file_told, list_objects, listed, listed_desk, section, sections}
+use Rattle.ill_list.specs.Listing.{work_objects}
 use Rattle.ill_show.specs.Diary.{Told, history_fields, history_of, messages_of, part_fields, part_object}
 use Rattle.ill_show.specs.Notes.{note_fields, note_of}
 use Rattle.ill_show.specs.Since.{AnnexRead, since_fields, since_of}
 use Rattle.ill_show.specs.Loan.{loan_text}
-use Rattle.ill_show.specs.Objects.{came_fields, counts_fields, counts_object, file_fields, kept_fields, loan_fields}
-use Rattle.ill_show.specs.ListedNews.{listed_news_fields}
-use Rattle.ill_show.specs.Objects.{dated_fields, full_row_fields, message_object, names_of, noted_fields, row_fields, row_object}
+use Rattle.ill_show.specs.Objects.{came_fields, kept_fields, loan_fields}
+use Rattle.ill_list.specs.ListObjects.{counts_fields, counts_object, file_fields}
+use Rattle.ill_list.specs.ListedNews.{listed_news_fields}
+use Rattle.ill_show.specs.Objects.{message_object, names_of}
+use Rattle.ill_list.specs.ListObjects.{dated_fields, full_row_fields, noted_fields, row_fields, row_object}
 use Rattle.ill_show.specs.Objects.{status_of_desk}
 use Rattle.ill_json.specs.Lines.{AreToldNews, IsEntry, fields_of_list, fields_of_loan, fields_of_message, fields_in_order}
 use Rattle.ill_json.specs.Lines.{fields_of_row}

@@ -1,5 +1,5 @@
 -- Proves that the field of the news of a listed loan is read.
-use Rattle.std.proofs.Common.{◌≡◌, ℕ, Bool, true, false, cond, not, ◌&&◌, List, [], ◌∷◌, ◌++◌, fold, Option, Some, None, refl}
+use Rattle.std.proofs.Common.{Bool, true, false, cond, not, ◌&&◌, List, [], ◌∷◌, ◌++◌, fold, Option, Some, None, refl}
 use Rattle.std.proofs.Common.{IfSome}
 use Rattle.ill_values.specs.Day.{Date}
 use Rattle.ill_values.specs.TxnId.{Qualifiers}
@@ -11,7 +11,7 @@ use Rattle.ill_saved.specs.Side.{due_date_of, txn_of}
 use Rattle.ill_saved.specs.Ranges.{Each}
 use Rattle.ill_text.specs.Json.{optional}
 use Rattle.ill_show.specs.Kept.{is_among, kept_of, with_new}
-use Rattle.ill_show.specs.ListedNews.{heard_array, heard_fields, heard_object, listed_news_fields}
+use Rattle.ill_list.specs.ListedNews.{heard_array, heard_fields, heard_object, listed_news_fields}
 use Rattle.ill_json.proofs.Fields.{array_value, field_reads, optional_value, text_value}
 use Rattle.ill_json.proofs.NewsTexts.{words_utf8}
 use Rattle.ill_json.proofs.Sides.{each_append, message_number}

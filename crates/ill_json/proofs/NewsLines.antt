@@ -1,7 +1,7 @@
 -- Proves that the lines of `news` are objects of JSON.
-use Rattle.std.proofs.Common.{◌≡◌, ℕ, zero, suc, ◌-◌, Bool, true, false, cond, not, ◌&&◌, List, [], ◌∷◌, ◌++◌, drop, fold, length}
+use Rattle.std.proofs.Common.{ℕ, zero, suc, ◌-◌, Bool, true, false, cond, not, ◌&&◌, List, [], ◌∷◌, ◌++◌, drop, fold, length}
 use Rattle.std.proofs.Common.{map}
-use Rattle.std.proofs.Common.{Option, Some, None, refl, IsUtf8, IfSome}
+use Rattle.std.proofs.Common.{Option, Some, None, IsUtf8, IfSome}
 use Rattle.ill_values.specs.TxnId.{Qualifiers}
 use Rattle.ill_values.specs.declared.apdu.Apdu.{Apdu}
 use Rattle.ill_values.specs.Apdu.{IsApdu}
@@ -13,9 +13,9 @@ use Rattle.ill_saved.specs.RecordsV2.{AreSides}
 use Rattle.ill_saved.specs.Sides.{SidesOf, found_by, side_with}
 use Rattle.ill_text.specs.declared.form.Form.TheVariants as forms
 use Rattle.ill_text.specs.ApduObject.{object_line}
-use Rattle.ill_show.specs.Listing.{file_told}
-use Rattle.ill_show.specs.News.{heard_at, is_told, last_of, news_fields, news_of, news_objects, news_text, with_news, words_at}
-use Rattle.ill_show.specs.Objects.{file_fields}
+use Rattle.ill_list.specs.Listing.{file_told}
+use Rattle.ill_list.specs.News.{heard_at, is_told, last_of, news_fields, news_of, news_objects, news_text, with_news, words_at}
+use Rattle.ill_list.specs.ListObjects.{file_fields}
 use Rattle.ill_json.specs.Lines.{fields_of_news}
 use Rattle.ill_json.specs.Objects.{AreObjectLines, IsObjectLine}
 use Rattle.ill_json.proofs.LineLemmas.{line_is, lines_each}

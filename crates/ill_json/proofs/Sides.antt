@@ -29,14 +29,17 @@ use Rattle.ill_saved.specs.Sides.{most_sides}
 use Rattle.ill_words.specs.Possible.{possible_on, request_of, item_in, item_asked}
 use Rattle.ill_text.specs.ApduObject.{head_fields, optional_date_fields, body_fields, apdu_fields}
 use Rattle.ill_text.specs.Json.{flag, optional, quoted}
-use Rattle.ill_show.specs.declared.wanted.Wanted.{Wanted}
-use Rattle.ill_show.specs.List.{counts_of, is_to_do}
+use Rattle.ill_list.specs.declared.wanted.Wanted.{Wanted}
+use Rattle.ill_list.specs.List.{counts_of, is_to_do}
 use Rattle.ill_show.specs.Notes.{note_fields}
-use Rattle.ill_show.specs.Objects.{counts_fields, file_fields, leaves_fields, loan_fields, message_object, messages_fields}
+use Rattle.ill_show.specs.Objects.{leaves_fields, loan_fields, message_object, messages_fields}
+use Rattle.ill_list.specs.ListObjects.{counts_fields, file_fields}
 use Rattle.ill_show.specs.Objects.{names_of}
-use Rattle.ill_show.specs.Objects.{came_fields, row_fields, status_fields, taken_fields, turn_fields}
+use Rattle.ill_show.specs.Objects.{came_fields, status_fields, taken_fields, turn_fields}
+use Rattle.ill_list.specs.ListObjects.{row_fields}
 use Rattle.ill_show.specs.Status.{mark, marks_of}
-use Rattle.ill_show.specs.News.{item_of, told_fields}
+use Rattle.ill_list.specs.News.{told_fields}
+use Rattle.ill_show.specs.ItemLine.{item_of}
 use Rattle.ill_show.specs.Since.{AnnexRead, since_fields}
 use Rattle.ill_json.specs.Lines.{fields_of_counts, fields_of_loan, fields_of_message, fields_of_news, fields_of_row}
 use Rattle.ill_json.proofs.Labels.{labels, are_apart, apart_before}

@@ -10,17 +10,18 @@ use Rattle.ill_saved.specs.Ranges.{Each, IsSide}
 use Rattle.ill_text.specs.Json.{Field}
 use Rattle.ill_text.specs.ApduObject.{apdu_fields}
 use Rattle.ill_words.specs.Waiting.{most_urgent_first}
-use Rattle.ill_show.specs.declared.wanted.Wanted.{Wanted}
+use Rattle.ill_list.specs.declared.wanted.Wanted.{Wanted}
 use Rattle.ill_work.specs.declared.work.Work.{Work}
 use Rattle.ill_work.specs.Work.{all_work}
 use Rattle.ill_show.specs.Diary.{history_fields, history_of, messages_of}
-use Rattle.ill_show.specs.Finding.{Seeking}
-use Rattle.ill_show.specs.List.{has_work, counts_of}
-use Rattle.ill_show.specs.Listing.{chosen_of}
+use Rattle.ill_list.specs.Finding.{Seeking}
+use Rattle.ill_list.specs.List.{has_work, counts_of}
+use Rattle.ill_list.specs.Listing.{chosen_of}
 use Rattle.ill_show.specs.Notes.{note_fields}
-use Rattle.ill_show.specs.News.{news_fields}
+use Rattle.ill_list.specs.News.{news_fields}
 use Rattle.ill_show.specs.Since.{AnnexRead}
-use Rattle.ill_show.specs.Objects.{full_row_fields, counts_fields, file_fields, status_fields, kept_fields}
+use Rattle.ill_show.specs.Objects.{status_fields, kept_fields}
+use Rattle.ill_list.specs.ListObjects.{full_row_fields, counts_fields, file_fields}
 use Rattle.ill_show.specs.Objects.{leaves_fields}
 
 -- ---- `list`

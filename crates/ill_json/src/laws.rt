@@ -19,14 +19,14 @@ ghost use Rattle.ill_text.specs.ApduObject.{apdu_fields, apdu_text, object_line}
 ghost use Rattle.ill_text.specs.Json as texts;
 ghost use Rattle.ill_text.specs.Json.{Field, flag, quoted};
 ghost use Rattle.ill_show.specs.declared.loan.LoanForm.TheVariants.{Object};
-ghost use Rattle.ill_show.specs.declared.wanted.Wanted.{Wanted};
-ghost use Rattle.ill_show.specs.Listing.{between, file_told, listed_desk};
-ghost use Rattle.ill_show.specs.Finding.{Seeking};
+ghost use Rattle.ill_list.specs.declared.wanted.Wanted.{Wanted};
+ghost use Rattle.ill_list.specs.Listing.{between, file_told, listed_desk};
+ghost use Rattle.ill_list.specs.Finding.{Seeking};
 ghost use Rattle.ill_show.specs.Diary.{history_of, messages_of, part_fields, part_object};
 ghost use Rattle.ill_show.specs.Loan.{loan_text};
 ghost use Rattle.ill_show.specs.Notes.{note_of};
 ghost use Rattle.ill_saved.specs.Side.{txn_of};
-ghost use Rattle.ill_show.specs.News.{last_of, news_of, news_text};
+ghost use Rattle.ill_list.specs.News.{last_of, news_of, news_text};
 ghost use Rattle.ill_show.specs.Objects.{message_object, status_of_desk};
 ghost use Rattle.ill_show.specs.Verify.{fault_fields, record_fields, record_text};
 ghost use Rattle.ill_json.specs.BadLines.{AreBadLines, IsBadLine, broken_texts};

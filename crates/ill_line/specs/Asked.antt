@@ -29,10 +29,10 @@ use Rattle.ill_text.specs.Diary.{Stamped, is_name, stamped}
 use Rattle.ill_text.specs.declared.form.Form.{Form}
 use Rattle.ill_text.specs.declared.form.Form.TheVariants as forms
 use Rattle.ill_night.specs.declared.dates.Dates.{Dates}
-use Rattle.ill_show.specs.declared.wanted.Which.{Which}
-use Rattle.ill_show.specs.declared.wanted.Which.TheVariants as loans
-use Rattle.ill_show.specs.declared.soon.TheConstants.{SOON}
-use Rattle.ill_show.specs.declared.wanted.Wanted.{Wanted}
+use Rattle.ill_list.specs.declared.wanted.Which.{Which}
+use Rattle.ill_list.specs.declared.wanted.Which.TheVariants as loans
+use Rattle.ill_list.specs.declared.soon.TheConstants.{SOON}
+use Rattle.ill_list.specs.declared.wanted.Wanted.{Wanted}
 use Rattle.ill_line.specs.declared.request.Refusal.{Refusal}
 use Rattle.ill_line.specs.declared.request.Refusal.TheVariants.{Usage, Fault}
 use Rattle.ill_line.specs.declared.request.Request.{Request}

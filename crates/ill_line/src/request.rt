@@ -9,7 +9,7 @@ ghost use Rattle.ill_line.specs.declared.request.Refusal.TheVariants.{Usage, Fau
 ghost use Rattle.ill_text.specs.declared.fault.ToolFault.TheVariants.{OutOfMemory};
 ghost use Rattle.ill_line.specs.declared.command_line.Name.TheVariants as names;
 ghost use Rattle.ill_text.specs.Diary.{stamped};
-ghost use Rattle.ill_line.specs.Asked.{dates_and_stamp_of, day_and_name_of, name_in, stamp_if, stamp_of, GivesId, ReadsValue, IsRefusal, asked_by, asked_in, asked_of, text_of, texts_of, role_of, loan_of, group_of, new_file_of, day_in, last_in, state_in, number_of_message, dates_of, outlet_of, is_set, which_of, form_of, wanted_of, wanted_on, ahead_in, due_in, day_or_days, days_on, day_given, span_of, asked, desk_at_stake, end_with_dashes, has_option, note_words_of, said_free, unless_option, deed_by, deed_of, key_of_outlet};
+ghost use Rattle.ill_line.specs.Asked.{dates_and_stamp_of, day_and_name_of, name_in, stamp_if, stamp_of, GivesId, ReadsValue, IsRefusal, asked_by, asked_in, asked_of, text_of, texts_of, role_of, loan_of, group_of, new_file_of, day_in, last_in, state_in, number_of_message, dates_of, outlet_of, is_set, which_of, form_of, wanted_of, wanted_on, ahead_in, due_in, day_or_days, days_on, day_given, span_of, asked, desk_at_stake, end_with_dashes, has_option, note_words_of, said_free, unless_option, deed_by, key_of_outlet};
 
 use crate::command_line::{Argument, Name, SHELF, command, is_option};
 use clap::error::ErrorKind;
@@ -19,13 +19,13 @@ use ill_desk::take::TakeForm;
 use ill_figures::figures::{FiguresView, Span};
 use ill_files::paths::is_beside;
 use ill_key::key::KeyDeed;
+use ill_list::soon::SOON;
+use ill_list::wanted::{Wanted, Which};
 use ill_night::dates::Dates;
 use ill_night::night::Night;
 use ill_saved::Role;
 use ill_show::loan::LoanForm;
 use ill_show::notes::{is_note, note_text};
-use ill_show::soon::SOON;
-use ill_show::wanted::{Wanted, Which};
 use ill_text::diary::{Stamp, is_name};
 use ill_text::fault::ToolFault;
 use ill_text::form::Form;

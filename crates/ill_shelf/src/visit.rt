@@ -2,19 +2,19 @@
 //! still visited.
 
 ghost use Rattle.std.specs.Prelude.{◌≡◌, map, string_bytes};
-ghost use Rattle.ill_show.specs.Listing.{heading};
+ghost use Rattle.ill_list.specs.Listing.{heading};
 ghost use Rattle.ill_text.specs.Output.{WritesText};
 ghost use Rattle.ill_shelf.specs.Shelf.{Headed, RunsVisit, VisitsAll, is_headed, is_lines};
 ghost use Rattle.ill_text.specs.Visits.{graver};
 
 use ill_commands::commands::status;
 use ill_files::machine::Machine;
+use ill_list::listed::{Listed, heading};
 use ill_mail::exchange::{exchange, inbox};
 use ill_mail::keyed::outbox_with;
 use ill_mail::mail::Incoming;
 use ill_night::night::Night;
 use ill_saved::LockFiles;
-use ill_show::listed::{Listed, heading};
 use ill_text::fault::{ToolFault, graver};
 use ill_text::form::Form;
 use ill_text::output::write_whole;

@@ -1,14 +1,11 @@
-pub mod CameSinceLemmas
 pub mod DiaryLaws
 pub mod DiaryLemmas
-pub mod FindingLemmas
-pub mod ListLemmas
 pub mod LoanLemmas
-pub mod NewsLemmas
+pub mod NewsWordsLemmas
 pub mod NotesLaws
 pub mod NotesLemmas
 pub mod ReadLemmas
-pub mod ReportLemmas
 pub mod SinceLaws
 pub mod StatusLemmas
+pub mod TextLemmas
 pub mod VerifyLemmas

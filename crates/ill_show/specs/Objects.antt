@@ -14,18 +14,12 @@ use Rattle.ill_saved.specs.SideVerbs.{turn_of}
 use Rattle.ill_saved.specs.Holdings.{DeskEntry}
 use Rattle.ill_text.specs.declared.form.Form.{Form}
 use Rattle.ill_text.specs.declared.form.Form.TheVariants.{Lines, Json}
-use Rattle.ill_show.specs.declared.counts.Counts.{Counts}
 use Rattle.ill_text.specs.Json.{Field, array, day, flag, object, optional, quoted}
 use Rattle.ill_show.specs.Status.{status_lines, marks_of}
 use Rattle.ill_core.specs.Words.{turn_name}
 use Rattle.ill_saved.specs.Roles.{role_name}
-use Rattle.ill_work.specs.declared.work.Work.{Work}
-use Rattle.ill_work.specs.Work.{work_words}
 use Rattle.ill_words.specs.Possible.{possible_on, request_of, item_asked}
 use Rattle.ill_text.specs.ApduObject.{object_line, apdu_fields}
-use Rattle.ill_show.specs.ListedNews.{listed_news_fields}
-use Rattle.ill_show.specs.Notes.{note_fields, note_of}
-use Rattle.ill_show.specs.Since.{AnnexRead, since_fields, since_of}
 
 -- ---- sides
 
@@ -111,53 +105,3 @@ loan_fields side released =
 -- Returns the fields of `loan` for a side and the messages `kept` that came.
 abbrev pub kept_fields : DeskEntry → (kept : List Apdu) → List Field
 kept_fields held kept = loan_fields held.side held.released ++ came_fields kept
-
--- ---- lists
-
--- Returns the field of the path of a desk, if there is a path.
-abbrev pub file_fields : Option (List ℕ) → List Field
-file_fields None = []
-file_fields (Some path) = (codes "file", quoted path) ∷ []
-
--- Returns the field that says that a line is of a loan, and the field of its work.
-abbrev pub kind_fields : Work → List Field
-kind_fields work = (codes "kind", quoted (codes "loan")) ∷ (codes "work", quoted (work_words work)) ∷ []
-
--- Returns the fields that say how a loan stands, with the actions `names`.
-abbrev pub listed_fields : Side → List (List ℕ) → List Field
-listed_fields side names =
-    (codes "state", quoted (state_name (state_of side)))
-    ∷ (codes "due", optional day (due_date_of side)) ∷ (codes "group", quoted (txn_of side).group)
-    ∷ (codes "transaction", quoted (txn_of side).transaction) ∷ (codes "now", array quoted names)
-    ∷ (codes "item", optional quoted (item_asked (request_of side))) ∷ []
-
--- Returns the fields of a listed loan with this work and the actions `names`.
-abbrev pub row_fields : Work → Side → List (List ℕ) → List Field
-row_fields work side names = kind_fields work ++ listed_fields side names
-
--- Returns the fields of a listed loan with this work and its note, with the actions of the day `today`.
-abbrev pub noted_fields : (notes : List (List ℕ)) → Option Date → Work → Side → List Field
-noted_fields notes today work side = row_fields work side (names_of today side) ++ note_fields (note_of notes (txn_of side))
-
--- Returns the fields of a listed loan with this work, its note and the day since which it stands so.
-abbrev pub dated_fields : AnnexRead → Option Date → Work → Side → List Field
-dated_fields annex today work side = noted_fields annex.notes today work side ++ since_fields (since_of annex side)
-
--- Returns these fields, and the field of the news of the loan.
-abbrev pub full_row_fields : AnnexRead → Option Date → Work → Side → List Field
-full_row_fields annex today work side = dated_fields annex today work side ++ listed_news_fields annex.news side
-
--- Returns the object of a listed loan with this work, with the actions of the day `today`.
-unfoldable pub row_object : Option (List ℕ) → AnnexRead → Option Date → Work → Side → List ℕ
-row_object file annex today work side = object_line (full_row_fields annex today work side ++ file_fields file)
-
--- Returns the fields of the counts of a desk.
-abbrev pub counts_fields : Counts → List Field
-counts_fields counts =
-    (codes "kind", quoted (codes "counts")) ∷ (codes "loans", decimal counts.loans)
-    ∷ (codes "open", decimal counts.open_loans) ∷ (codes "todo", decimal counts.to_do)
-    ∷ (codes "room", decimal counts.room) ∷ []
-
--- Returns the object of the counts of a desk.
-abbrev pub counts_object : Option (List ℕ) → Counts → List ℕ
-counts_object file counts = object_line (counts_fields counts ++ file_fields file)

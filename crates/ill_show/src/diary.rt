@@ -1,13 +1,12 @@
 //! The history of a loan: the lines of a diary that name a message which the record of the loan has.
 
 ghost use Rattle.std.specs.Prelude.{◌≡◌, ◌==◌, ◌++◌, ◌∷◌, [], bytes_eq, codes, filter, find, map, option_map, option_to_list, IfOk, OnOk};
-ghost use Rattle.std.specs.List.{flat_map, list_any};
+ghost use Rattle.std.specs.List.{flat_map};
 ghost use Rattle.std.specs.Fmt.{decimal};
 ghost use Rattle.ill_text.specs.Diary.{message_key};
 ghost use Rattle.ill_text.specs.Json.{array, joined, member, optional, quoted, value_text};
 ghost use Rattle.ill_show.specs.Diary.{at_space, body_verb, has_key, history_fields, history_lines, history_of, is_named, issued_named, messages_of, named, named_by, part_at, part_fields, part_line, part_object, part_said, person, request_taken, said, said_by, said_in, said_on, taken_named, told};
 ghost use Rattle.ill_show.specs.Heard.{is_heard};
-ghost use Rattle.ill_saved.specs.Side.{issued_of};
 
 use crate::heard::is_heard;
 use ill_core::Verb;
@@ -278,7 +277,7 @@ pub(crate) fn message_with<'a>(messages: &'a [Message], key: &[u8]) -> Option<&'
 }
 
 /// Returns true if one of `lines` names the message with the key `key`.
-pub(crate) fn is_named(key: &[u8], lines: &[Vec<u8>]) -> bool
+pub fn is_named(key: &[u8], lines: &[Vec<u8>]) -> bool
     ensures { result ≡ is_named key.now (map (λ line. line.items) lines.now) }
 {
     lines.iter().any(|line| has_key(key, line))

@@ -3,7 +3,7 @@
 ghost use Rattle.std.specs.Prelude.{◌≡◌, ◌++◌, option_copied, OnOk};
 ghost use Rattle.ill_text.specs.Output.{WritesText};
 ghost use Rattle.ill_show.specs.ItemLine.{item_line};
-ghost use Rattle.ill_show.specs.News.{item_of};
+ghost use Rattle.ill_show.specs.ItemLine.{item_of};
 ghost use Rattle.ill_words.specs.Possible.{item_asked, request_of};
 
 use ill_saved::Side;

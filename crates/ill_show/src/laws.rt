@@ -1,8 +1,7 @@
-//! States the laws of what came to a desk, of the notes on its loans and of its diary, as contracts of functions that do
+//! States the laws of the words of what came, of the notes on loans and of their diary, as contracts of functions that do
 //! nothing.
 
-ghost use Rattle.std.specs.Prelude.{◌≡◌, ◌<◌, ◌^◌, ◌++◌, ◌∷◌, ◌&&◌, ℕ, Bool, true, false, bytes_eq, find, List, [], Option, Some, None, IsUtf8};
-ghost use Rattle.std.specs.List.{list_any};
+ghost use Rattle.std.specs.Prelude.{◌≡◌, ◌<◌, ◌^◌, ◌++◌, ◌∷◌, ℕ, true, false, bytes_eq, find, List, [], Option, Some, None, IsUtf8};
 ghost use Rattle.ill_values.specs.Day.{Date, IsDate};
 ghost use Rattle.ill_values.specs.TxnId.{AreQualifiers, Qualifiers};
 ghost use Rattle.ill_values.specs.declared.apdu.Apdu.{Apdu};
@@ -10,56 +9,22 @@ ghost use Rattle.ill_values.specs.Body.{Body};
 ghost use Rattle.ill_values.specs.Bodies.{is_unsupplied};
 ghost use Rattle.ill_core.specs.declared.state.State.TheVariants.{NotSupplied};
 ghost use Rattle.ill_core.specs.Requester.{RequesterRecord};
-ghost use Rattle.ill_saved.specs.declared.side.Side.{Side};
 ghost use Rattle.ill_show.specs.BadNotes.{MisjudgesNote};
-ghost use Rattle.ill_show.specs.CameSince.{came_before, came_key, came_since, is_named_since};
 ghost use Rattle.ill_saved.specs.Holdings.{DeskEntry};
 ghost use Rattle.ill_saved.specs.Ranges.{Each};
 ghost use Rattle.ill_show.specs.Diary.{EndsWith, IsWord, Named, Said, history_lines, history_of, is_named, is_of_record, messages_of, part_of, said_by, says_of};
 ghost use Rattle.ill_text.specs.Diary.{message_key, name_or_dash, stamp_text};
-ghost use Rattle.ill_show.specs.Since.{AnnexRead, day_told, last_day, notes_alone};
+ghost use Rattle.ill_show.specs.Since.{day_told, last_day};
 ghost use Rattle.ill_show.specs.Heard.{requester_heard};
-ghost use Rattle.ill_show.specs.Listing.{listed_desk};
-ghost use Rattle.ill_show.specs.declared.wanted.Wanted.{Wanted};
 ghost use Rattle.ill_text.specs.declared.form.Form.TheVariants as forms;
 ghost use Rattle.ill_show.specs.Loan.{loan_text};
 ghost use Rattle.ill_show.specs.declared.loan.LoanForm.TheVariants.{Lines};
-ghost use Rattle.ill_show.specs.News.{heard_at, is_same, is_told, news_of};
 ghost use Rattle.ill_show.specs.NewsWords.{news_words, says_no};
 ghost use Rattle.ill_show.specs.Notes.{line_of, note_of};
 
-/// A message that came is told if the record of its loan shows that it was taken.
-#[tactic(auto, using(crate::proofs::NewsLemmas::taken_is_told))]
-pub fn what_was_taken_is_news()
-    ensures { (sides : List Side) (before after : List Apdu) (a : Apdu) →
-        heard_at sides a ≡ true → is_told (news_of sides (before ++ a ∷ after)) a ≡ true }
-{}
-
-/// Nothing else is told: what is told came, and the record of its loan shows that it was taken.
-#[tactic(auto, using(crate::proofs::NewsLemmas::told_was_taken))]
-pub fn nothing_else_is_news()
-    ensures { (sides : List Side) (came : List Apdu) (a : Apdu) → is_told (news_of sides came) a ≡ true →
-        list_any (λ b. is_same b a && heard_at sides b) came ≡ true }
-{}
-
-/// What came since a day is told: all after the last message that came before, or all if none did. A message came before if
-/// a line of the diary names it, and no line of the day or later does.
-#[tactic(auto, using(crate::proofs::CameSinceLemmas::all_told, crate::proofs::CameSinceLemmas::later_told, crate::proofs::CameSinceLemmas::unnamed_told, crate::proofs::CameSinceLemmas::named_told))]
-pub fn what_came_since_is_told()
-    ensures all { (day : Date) (lines : List (List ℕ)) (came : List Apdu) →
-        list_any (came_before day lines) came ≡ false → came_since (Some day) lines came ≡ came }
-    ensures later { (day : Date) (lines : List (List ℕ)) (came later : List Apdu) (a : Apdu) →
-        came_before day lines a ≡ true → list_any (came_before day lines) later ≡ false →
-        came_since (Some day) lines (came ++ a ∷ later) ≡ later }
-    ensures unnamed { (day : Date) (lines : List (List ℕ)) (a : Apdu) → is_named (came_key a) lines ≡ false →
-        came_before day lines a ≡ false }
-    ensures named { (day : Date) (lines : List (List ℕ)) (a : Apdu) → is_named_since day (came_key a) lines ≡ true →
-        came_before day lines a ≡ false }
-{}
-
 /// Words begin with `no: ` if, and only if, the message ends the request without the item. If the requester's record shows
 /// that it was taken, the requester is in NOT-SUPPLIED.
-#[tactic(auto, using(crate::proofs::NewsLemmas::no_is_unsupplied, crate::proofs::NewsLemmas::no_ends))]
+#[tactic(auto, using(crate::proofs::NewsWordsLemmas::no_is_unsupplied, crate::proofs::NewsWordsLemmas::no_ends))]
 pub fn a_no_ends_the_request()
     ensures words { (due : Option Date) (body : Body) → says_no (news_words due body) ≡ is_unsupplied body }
     ensures state { (x : RequesterRecord) (due : Option Date) (a : Apdu) → says_no (news_words due a.body) ≡ true →
@@ -166,13 +131,4 @@ pub fn an_entered_line_tells_its_day()
     ensures { (messages : List Named) (line : List ℕ) (says : Said) (message : Named) → said_by line ≡ Some says →
         find (λ other. bytes_eq other.key says.message) messages ≡ Some message →
         day_told messages line ≡ Some says.day }
-{}
-
-/// Lines of a list without days do not depend on the diary, nor on the messages that came, but for the news that are told.
-#[tactic(auto, using(crate::proofs::SinceLaws::no_list_depends))]
-pub fn no_list_without_days_depends_on_a_diary()
-    ensures { (is_headed : Bool) (wanted : Wanted) (find : Option (List ℕ)) (annex : AnnexRead) (path : List ℕ)
-        (sides : List Side) → wanted.has_since ≡ false →
-        listed_desk forms.Lines is_headed wanted (record { find = find; annex = annex }) path sides
-        ≡ listed_desk forms.Lines is_headed wanted (record { find = find; annex = notes_alone annex }) path sides }
 {}

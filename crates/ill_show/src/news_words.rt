@@ -8,11 +8,7 @@ use ill_values::{AnswerResult, Body, Day, OutOfMemory};
 use std::alloc::Global;
 
 /// Returns the words of a message with this body. `due` is the day on which the item of the loan is due.
-pub(crate) fn news_words(
-    alloc: Global,
-    due: Option<Day>,
-    body: &Body,
-) -> Result<Vec<u8>, OutOfMemory>
+pub fn news_words(alloc: Global, due: Option<Day>, body: &Body) -> Result<Vec<u8>, OutOfMemory>
     ensures { IfOk result (λ words. words.items ≡ news_words due body.now) }
 {
     match body {

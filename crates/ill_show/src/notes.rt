@@ -19,7 +19,7 @@ use std::alloc::Global;
 
 impl FileLines {
     /// Returns the note of the loan `txn`, if there is one.
-    pub(crate) fn note_of(&self, txn: &TxnId) -> Result<Option<&str>, OutOfMemory>
+    pub fn note_of(&self, txn: &TxnId) -> Result<Option<&str>, OutOfMemory>
         ensures { IfOk result (λ note. option_copied note ≡ note_of (lines_of self.now) txn.now) }
     {
         let begin = loan_key(self.allocator(), txn)?;
@@ -62,7 +62,7 @@ fn unless_empty(words: Option<&str>) -> Option<&str>
 }
 
 /// Appends the line of a note below that of its loan in a list, if there is a note.
-pub(crate) fn push_listed_note(lines: &mut Vec<u8>, note: Option<&str>) -> Result<(), OutOfMemory>
+pub fn push_listed_note(lines: &mut Vec<u8>, note: Option<&str>) -> Result<(), OutOfMemory>
     ensures { OnOk result (lines.new.items ≡ lines.old.items ++ listed_note (option_copied note.entry)) }
 {
     let Some(words) = note else {
@@ -95,7 +95,7 @@ fn push_shown_line(lines: &mut Vec<u8>, words: &str) -> Result<(), OutOfMemory>
 
 /// Appends the field of a note, which is `null` if there is none.
 #[tactic(auto, unfolding(ill_text::specs::Json::joined))]
-pub(crate) fn push_note_field(text: &mut Vec<u8>, note: Option<&str>) -> Result<(), OutOfMemory>
+pub fn push_note_field(text: &mut Vec<u8>, note: Option<&str>) -> Result<(), OutOfMemory>
     ensures { OnOk result (text.new.items ≡ text.old.items
         ++ joined member (codes ",") (note_fields (option_copied note.entry))) }
 {

@@ -16,11 +16,7 @@ use std::alloc::Global;
 
 /// Returns the day since which the loan of `side` stands as it does, if `annex` tells it.
 #[tactic(auto, unfolding(crate::specs::Since::since_of))]
-pub(crate) fn since_of(
-    alloc: Global,
-    annex: &Annex,
-    side: &Side,
-) -> Result<Option<Day>, OutOfMemory>
+pub fn since_of(alloc: Global, annex: &Annex, side: &Side) -> Result<Option<Day>, OutOfMemory>
     ensures { IfOk result (λ day. day ≡ since_of (annex_of annex.now) side.now) }
 {
     let kept = kept_of(alloc, side.txn(), &annex.came)?;
@@ -60,7 +56,7 @@ fn day_said(messages: &[Message], entry: &Entry<'_>) -> Option<Day>
 }
 
 /// Appends the line of the day `since` below that of its loan in a list, if it is known.
-pub(crate) fn push_since_line(lines: &mut Vec<u8>, since: Option<Day>) -> Result<(), OutOfMemory>
+pub fn push_since_line(lines: &mut Vec<u8>, since: Option<Day>) -> Result<(), OutOfMemory>
     ensures { OnOk result (lines.new.items ≡ lines.old.items ++ since_line since) }
 {
     match since {
@@ -71,7 +67,7 @@ pub(crate) fn push_since_line(lines: &mut Vec<u8>, since: Option<Day>) -> Result
 
 /// Appends the field of the day `since`, which is `null` if it is not known.
 #[tactic(auto, unfolding(ill_text::specs::Json::joined))]
-pub(crate) fn push_since_field(text: &mut Vec<u8>, since: Option<Day>) -> Result<(), OutOfMemory>
+pub fn push_since_field(text: &mut Vec<u8>, since: Option<Day>) -> Result<(), OutOfMemory>
     ensures { OnOk result (text.new.items ≡ text.old.items ++ joined member (codes ",") (since_fields since)) }
 {
     push_members(text, b",", &[("since", Value::day(since))])

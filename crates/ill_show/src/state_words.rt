@@ -8,7 +8,7 @@ use ill_core::{Requester, State};
 use ill_saved::Side;
 
 /// Returns the words for the state of `side`.
-pub(crate) fn words_of(side: &Side) -> &'static str
+pub fn words_of(side: &Side) -> &'static str
     ensures { result.now ≡ state_words side.now }
 {
     match side {

@@ -20,10 +20,10 @@ from ill.texts import words as command_line
 from ill.texts.words import HELP, LINE, MAN, body, find, named
 
 EXPLAIN = "crates/ill_explain/src"
-WORLD, WORDS, TEXT, SHOW, SLIP, COUNTED, DESK, NIGHT, FILES, KEY, COMMANDS, MAIL, SHELF, ROOM = (
+WORLD, WORDS, TEXT, SHOW, LIST, SLIP, COUNTED, DESK, NIGHT, FILES, KEY, COMMANDS, MAIL, SHELF, ROOM = (
     f"crates/ill_{room}/src"
-    for room in ("world", "words", "text", "show", "slip", "figures", "desk", "night", "files", "key", "commands", "mail",
-                 "shelf", "room"))
+    for room in ("world", "words", "text", "show", "list", "slip", "figures", "desk", "night", "files", "key", "commands",
+                 "mail", "shelf", "room"))
 FILE_KINDS = {"File", "NewFile", "Paths", "Folder"}
 KEY_KINDS = {"KeyFile", "Key", "NightKey"}
 FLAGS = {"Long", "Keep", "Picture", "Open", "Mine", "Actions", "Json", "Csv"}
@@ -164,7 +164,7 @@ def numbers_of():
         "zero": 0, "first": least, "second": least + 1, "third": least + 2, "last": 2 ** int(number) - 1,
         "loans": constant("SIDES_LIMIT", f"{saved}/sides.rt"), "messages": constant("MAX_APDUS", f"{TEXT}/input.rt"),
         "many": constant("MANY", f"{COMMANDS}/commands.rt"), "few": constant("FEW", f"{SHOW}/numbers.rt"),
-        "soon": constant("SOON", f"{SHOW}/soon.rt"),
+        "soon": constant("SOON", f"{LIST}/soon.rt"),
         "mails": constant("MAILS", f"{MAIL}/mail.rt"),
         "longer": constant("APDU_LIMIT", f"{der}/header.rt") + constant("LINE_END", f"{MAIL}/mail.rt") + 1,
         "longest": constant("APDU_LIMIT", f"{der}/header.rt"), "shortest": shortest,
@@ -177,7 +177,7 @@ def numbers_of():
         "first_year": int(years[1]), "last_year": int(years[2]),
         "first_day": int(years[1] + "0101"), "last_day": int(years[2] + "1231"),
         "days_digits": constant("DAYS_DIGITS", f"{WORDS}/words.rt"),
-        "ahead": constant("SOON", f"{SHOW}/soon.rt"),
+        "ahead": constant("SOON", f"{LIST}/soon.rt"),
         "number_digits": constant("NUMBER_DIGITS", f"{WORDS}/words.rt"),
         "status_lines": len(status_labels()), "side_fields": len(re.findall(r"\n    pub \w+:", shown)),
         "roles": len(roles), "desk_words": len(variants("DeskOutcome", f"{WORDS}/outcome.rt")) - 1,
@@ -264,7 +264,7 @@ def statuses():
 
 def source_of(command):
     """Returns the path of the source of a command: it stands in one of the crates of the program."""
-    crates = (TEXT, SHOW, SLIP, COUNTED, DESK, NIGHT, FILES, KEY, COMMANDS, MAIL, SHELF, "crates/ill_tool/src")
+    crates = (TEXT, SHOW, LIST, SLIP, COUNTED, DESK, NIGHT, FILES, KEY, COMMANDS, MAIL, SHELF, "crates/ill_tool/src")
     found = [path for path in (f"{crate}/{command}.rt" for crate in crates) if os.path.exists(repository.full(path))]
     if len(found) != 1:
         raise Unread(f"{command}.rt: it stands {len(found)} times in {', '.join(crates)}")
@@ -595,8 +595,8 @@ def compare_words(named_texts, words, arguments):
     messages = set(named("ApduType", read("crates/ill_values/src/apdu_type.rt")).values())
     verbs_known = {form.split()[0] for forms in actions().values() for form in forms}
     files = re.findall(r"^  \$ ill new (\w+)", read(HELP), re.M)
-    objects = "".join(map(read, (f"{TEXT}/apdu_object.rt", f"{SHOW}/objects.rt", f"{SHOW}/list_objects.rt",
-                                 f"{SHOW}/diary.rt", f"{SHOW}/since.rt", f"{SHOW}/news.rt", f"{SHOW}/listed_news.rt",
+    objects = "".join(map(read, (f"{TEXT}/apdu_object.rt", f"{SHOW}/objects.rt", f"{LIST}/list_objects.rt",
+                                 f"{SHOW}/diary.rt", f"{SHOW}/since.rt", f"{LIST}/news.rt", f"{LIST}/listed_news.rt",
                                  f"{SHOW}/verify.rt")))
     labels = set(re.findall(r'(?:\(|\(text, )"([\w-]+)"(?:, |\)\?;)', objects))
     counted = set(re.findall(r"(\w+) \{\1\}", read(f"{NIGHT}/tally.rt")))

@@ -2,7 +2,7 @@
 use Rattle.std.proofs.Common.{Option, inr, ap, subst, ◌∙◌}
 use Rattle.ill_saved.specs.declared.side.Side.{Side}
 use Rattle.ill_saved.specs.Sides.{SidesOf, side_with}
-use Rattle.ill_show.specs.News.{item_of}
+use Rattle.ill_show.specs.ItemLine.{item_of}
 use Rattle.ill_commands.specs.AtFile.{TellsItem}
 use Rattle.ill_commands.proofs.commands.act_at.Goals as goal
 use Rattle.ill_commands.proofs.commands.act_at.Goals.{then-is_ok, else-is_ok}

@@ -1,6 +1,6 @@
 -- Answers the contract of `note_text` (`src/notes.rt`).
 use Rattle.std.proofs.Common.{ℕ, List, [], ◌∷◌, Bor, ◌∙◌}
-use Rattle.ill_show.proofs.ListLemmas.{joined_as_texts}
+use Rattle.ill_show.proofs.TextLemmas.{joined_as_texts}
 use Rattle.ill_show.proofs.notes.note_text.Goals as goal
 
 -- Proves the contract of `note_text`. Joining references to words equals joining the words.

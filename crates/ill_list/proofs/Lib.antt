@@ -1,0 +1,6 @@
+pub mod CameSinceLemmas
+pub mod FindingLemmas
+pub mod ListLaws
+pub mod ListLemmas
+pub mod NewsLemmas
+pub mod ReportLemmas

@@ -1,0 +1,64 @@
+-- Proves that a list without days does not depend on a diary.
+use Rattle.std.proofs.Common.{◌≡◌, ℕ, Bool, false, List, [], ◌∷◌, ◌++◌, length, Option, refl, sym, ap, ap₂, ◌∙◌}
+use Rattle.std.specs.Prelude.{filter, find, if◌then◌else◌}
+use Rattle.std.specs.List.{flat_map}
+use Rattle.ill_list.specs.declared.row.Columns.{Columns}
+use Rattle.ill_list.specs.declared.wanted.Wanted.{Wanted}
+use Rattle.ill_list.specs.ListedNews.{listed_news}
+use Rattle.ill_list.specs.List.{columns_of, counts_line, counts_of, has_work}
+use Rattle.ill_list.specs.Listing.{chosen_of, heading, list_lines, listed_desk, noted_row, section, since_shown}
+use Rattle.ill_list.specs.Listing.{told_row, work_heading, work_lines}
+use Rattle.ill_show.specs.Since.{AnnexRead, notes_alone, since_line, since_of}
+use Rattle.ill_text.specs.declared.form.Form.TheVariants.{Lines}
+use Rattle.ill_saved.specs.declared.side.Side.{Side}
+use Rattle.ill_words.specs.Waiting.{most_urgent_first}
+use Rattle.ill_work.specs.declared.work.Work.{Work}
+use Rattle.ill_work.specs.Work.{all_work}
+
+-- Two functions with equal texts of each item have equal texts of all.
+same_texts : {X : Type 0} (one other : X → List ℕ) (items : List X) → ((item : X) → one item ≡ other item)
+    → flat_map one items ≡ flat_map other items
+same_texts one other [] same = refl
+same_texts one other (item ∷ items) same = ap₂ (λ first rest. first ++ rest) (same item) (same_texts one other items same)
+
+module _ (wanted : Wanted) (off : wanted.has_since ≡ false) where
+  -- No day is shown.
+  no_day : (annex : AnnexRead) (side : Side) → since_shown annex wanted side ≡ []
+  no_day annex side = ap (λ (b : Bool). if b then since_line (since_of annex side) else []) off
+
+  -- The lines of a loan are those by the notes alone.
+  row_stays : (columns : Columns) (annex : AnnexRead) (side : Side)
+      → told_row columns annex wanted side ≡ told_row columns (notes_alone annex) wanted side
+  row_stays columns annex side =
+      ap (λ (day : List ℕ). (noted_row columns annex.notes wanted side ++ day) ++ listed_news annex.news side)
+      (no_day annex side ∙ sym (no_day (notes_alone annex) side))
+
+  -- The lines of a kind of work are those by the notes alone.
+  work_stays : (columns : Columns) (annex : AnnexRead) (work : Work) (sides : List Side)
+      → work_lines columns annex wanted work sides ≡ work_lines columns (notes_alone annex) wanted work sides
+  work_stays columns annex work [] = refl
+  work_stays columns annex work (first ∷ others) =
+      ap (λ (rows : List ℕ). work_heading work (length (first ∷ others)) ++ rows)
+      (same_texts (told_row columns annex wanted) (told_row columns (notes_alone annex) wanted) (first ∷ others)
+      (row_stays columns annex))
+
+  -- The lines of a list are those by the notes alone.
+  list_stays : (find : Option (List ℕ)) (annex : AnnexRead) (sides : List Side)
+      → list_lines wanted (record { find = find; annex = annex }) sides
+      ≡ list_lines wanted (record { find = find; annex = notes_alone annex }) sides
+  list_stays find annex sides =
+      let ordered = most_urgent_first sides in
+      let chosen = chosen_of wanted (record { find = find; annex = annex }) ordered in
+      let columns = columns_of wanted chosen in
+      ap (λ (text : List ℕ). text ++ counts_line (counts_of wanted ordered))
+      (same_texts (section (work_lines columns annex) wanted chosen)
+      (section (work_lines columns (notes_alone annex)) wanted chosen) all_work
+      (λ work. work_stays columns annex work (filter (has_work wanted work) chosen)))
+
+-- The lines of a desk without days are those by the notes alone.
+pub no_list_depends : (is_headed : Bool) (wanted : Wanted) (find : Option (List ℕ)) (annex : AnnexRead) (path : List ℕ)
+    (sides : List Side) → wanted.has_since ≡ false
+    → listed_desk Lines is_headed wanted (record { find = find; annex = annex }) path sides
+    ≡ listed_desk Lines is_headed wanted (record { find = find; annex = notes_alone annex }) path sides
+no_list_depends is_headed wanted find annex path sides off =
+    ap (λ (text : List ℕ). heading is_headed path ++ text) (list_stays wanted off find annex sides)

@@ -1,0 +1,40 @@
+-- What came to a desk since a day, by its diary.
+use Rattle.std.specs.Prelude.{ℕ, Bool, false, not, ◌&&◌, List, bytes_eq, Option, None, Some, option_map}
+use Rattle.std.specs.List.{after_last, list_any}
+use Rattle.ill_values.specs.Day.{Date}
+use Rattle.ill_values.specs.Types.{type_name}
+use Rattle.ill_values.specs.declared.apdu.Apdu.{Apdu}
+use Rattle.ill_core.specs.Dates.{is_before}
+use Rattle.ill_saved.specs.declared.side.Side.{Side}
+use Rattle.ill_text.specs.Diary.{message_key}
+use Rattle.ill_show.specs.Diary.{Said, is_named, said_by}
+use Rattle.ill_list.specs.News.{news_of}
+use Rattle.ill_show.specs.Since.{AnnexRead}
+
+-- Returns the key by which a diary names a message that came.
+abbrev pub came_key : Apdu → List ℕ
+came_key a = message_key a.txn (type_name a.body) a.number
+
+-- Returns true if what a line says is of `day` or later, and names the message with this key.
+abbrev pub says_since : Date → (key : List ℕ) → Option Said → Bool
+says_since day key None = false
+says_since day key (Some line) = not (is_before line.day day) && bytes_eq line.message key
+
+-- Returns true if one of `lines`, of `day` or later, names the message with this key.
+abbrev pub is_named_since : Date → (key : List ℕ) → (lines : List (List ℕ)) → Bool
+is_named_since day key lines = list_any (λ line. says_since day key (said_by line)) lines
+
+-- Returns true if the lines of a diary name a message, and none of `day` or later does.
+abbrev pub came_before : Date → (lines : List (List ℕ)) → Apdu → Bool
+came_before day lines a = is_named (came_key a) lines && not (is_named_since day (came_key a) lines)
+
+-- Returns those of `came` that came on `day` or later: all after the last one that came before, by the lines of a diary.
+-- Without a day these are all. A message that no line names came when its neighbours did.
+abbrev pub came_since : Option Date → (lines : List (List ℕ)) → List Apdu → List Apdu
+came_since None lines came = came
+came_since (Some day) lines came = after_last (came_before day lines) came
+
+-- Returns the news of a desk since a day: the messages that its sides have taken since, by its annex. Without a day no news are
+-- told.
+abbrev pub news_since : Option Date → AnnexRead → List Side → Option (List Apdu)
+news_since since annex sides = option_map (λ day. news_of sides (came_since (Some day) annex.diary annex.came)) since

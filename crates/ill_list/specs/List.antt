@@ -1,0 +1,183 @@
+-- The loans in the output of `list`, their work, the line of each, and the line of the counts.
+use Rattle.std.specs.Prelude.{ℕ, ◌-◌, max, Bool, true, false, ◌&&◌, ◌||◌, ◌==◌, if◌then◌else◌, List, [], ◌∷◌, ◌++◌, length, fold}
+use Rattle.std.specs.Prelude.{count_by, filter, replicate, Option, Some, None, is_none, not, codes}
+use Rattle.std.specs.List.{join_by}
+use Rattle.std.specs.Fmt.{decimal}
+use Rattle.ill_values.specs.Day.{Date}
+use Rattle.ill_core.specs.declared.state.State.{State}
+use Rattle.ill_core.specs.State.{is_among, state_name}
+use Rattle.ill_core.specs.Verbs.{verb_name}
+use Rattle.ill_saved.specs.declared.side.Side.{Side}
+use Rattle.ill_saved.specs.Side.{txn_of, state_of, due_date_of}
+use Rattle.ill_saved.specs.Sides.{most_sides}
+use Rattle.ill_words.specs.Shown.{due_text}
+use Rattle.ill_list.specs.declared.wanted.Which.{Which}
+use Rattle.ill_list.specs.declared.wanted.Which.TheVariants.{All, Open, Mine}
+use Rattle.ill_list.specs.declared.wanted.Wanted.{Wanted}
+use Rattle.ill_list.specs.declared.counts.Counts.{Counts}
+use Rattle.ill_list.specs.declared.row.Columns.{Columns}
+use Rattle.ill_text.specs.Escape.{escaped}
+use Rattle.ill_words.specs.Possible.{possible_on, request_of, item_asked}
+use Rattle.ill_words.specs.Waiting.{is_sooner, waits_by_date}
+use Rattle.ill_work.specs.declared.work.Work.{Work}
+use Rattle.ill_work.specs.declared.work.Work.TheVariants.{Over}
+use Rattle.ill_work.specs.Work.{is_work_among, wants_a_hand}
+use Rattle.ill_work.specs.Table.{work_on}
+
+-- ---- the work with a loan
+
+-- Returns the kind of work with a loan on the day of the list. Without a day no date is past, and none is soon.
+abbrev pub work_of : Wanted → Side → Work
+work_of wanted side = work_on wanted.today wanted.ahead side
+
+-- Returns true if `work` is the kind of work with the loan.
+abbrev pub has_work : Wanted → Work → Side → Bool
+has_work wanted work side = is_work_among (work ∷ []) (work_of wanted side)
+
+-- Returns true if the loan wants a hand.
+abbrev pub is_to_do : Wanted → Side → Bool
+is_to_do wanted side = wants_a_hand (work_of wanted side)
+
+-- Returns true if loans with this work are listed. `Mine` lists the work that wants a hand, and `Open` all but `Over`.
+abbrev pub lists : Which → Work → Bool
+lists All work = true
+lists Open work = not (is_work_among (Over ∷ []) work)
+lists Mine work = wants_a_hand work
+
+-- Returns true if only the loans that want a hand are listed.
+abbrev pub is_mine : Which → Bool
+is_mine All = false
+is_mine Open = false
+is_mine Mine = true
+
+-- ---- the loans that are listed
+
+-- Returns true if the due date `due` is before the wanted day, or no day is wanted.
+abbrev pub is_due_before : Option Date → Option Date → Bool
+is_due_before None due = true
+is_due_before (Some day) due = is_sooner due (Some day)
+
+-- Returns true if `state` is the wanted state, or no state is wanted.
+abbrev pub is_in : Option State → State → Bool
+is_in None state = true
+is_in (Some wanted) state = is_among (wanted ∷ []) state
+
+-- Returns true if a loan meets the conditions on its due date and its state.
+abbrev pub is_wanted : Wanted → Side → Bool
+is_wanted wanted side =
+    is_due_before wanted.due_before (due_date_of side) && is_in wanted.state (state_of side)
+
+-- Returns true if a list has the loan: its work is listed, and it meets the other conditions.
+abbrev pub is_listed : Wanted → Side → Bool
+is_listed wanted side = lists wanted.which (work_of wanted side) && is_wanted wanted side
+
+-- Returns the loans that are listed, in the order of `sides`.
+abbrev pub listed_of : Wanted → List Side → List Side
+listed_of wanted sides = filter (is_listed wanted) sides
+
+-- ---- the item of a loan
+
+-- Returns an item for a screen, or a dash if there is none.
+abbrev pub title_text : Option (List ℕ) → List ℕ
+title_text None = codes "-"
+title_text (Some item) = escaped item
+
+-- ---- the line of a loan
+
+-- Returns a byte of a column. A space is an escape if it is at an edge of the text or after another one.
+abbrev pub column_byte : (is_edge : Bool) → ℕ → List ℕ
+column_byte is_edge byte = if is_edge && byte == 0x20 then codes "\\u{20}" else byte ∷ []
+
+-- Returns true if there is no further byte.
+abbrev pub is_end : List ℕ → Bool
+is_end [] = true
+is_end after = false
+
+-- Returns the rest of a column. `is_edge` says that nothing, or a space, is before it.
+unfoldable pub column_rest : (is_edge : Bool) → List ℕ → List ℕ
+column_rest is_edge [] = []
+column_rest is_edge (byte ∷ after) = column_byte (is_edge || is_end after) byte ++ column_rest (byte == 0x20) after
+
+-- Returns a qualifier for a column. No two spaces stand side by side in it, since two spaces end a column.
+abbrev pub column : List ℕ → List ℕ
+column text = column_rest true text
+
+-- Returns `text` with spaces after it, up to `width`.
+unfoldable pub padded : ℕ → List ℕ → List ℕ
+padded width text = text ++ replicate (width - length text) 32
+
+-- Returns `text` with spaces up to `width`, and two further ones before the next column.
+abbrev pub cell : ℕ → List ℕ → List ℕ
+cell width text = padded width text ++ codes "  "
+
+-- Returns the actions that the side may do on the day `today`, or on some day without one. A comma stands between two
+-- of them.
+abbrev pub verbs_text : Option Date → Side → List ℕ
+verbs_text today side = join_by verb_name (codes ",") (possible_on today side)
+
+-- Returns these actions, if the list has a column of them.
+abbrev pub actions_text : Bool → Option Date → Side → List ℕ
+actions_text false today side = []
+actions_text true today side = verbs_text today side
+
+-- Returns the column of these actions, if the list has one.
+abbrev pub actions_cell : Columns → Option Date → Side → List ℕ
+actions_cell columns today side =
+    if columns.has_actions then cell columns.actions (verbs_text today side) else []
+
+-- Returns columns without a width.
+abbrev pub no_columns : Bool → Columns
+no_columns has_actions = record { has_actions = has_actions; state = 0; group = 0; transaction = 0; actions = 0 }
+
+-- Returns `columns`, and each as wide as the text of `side` at least.
+abbrev pub widened : Option Date → Columns → Side → Columns
+widened today columns side = record {
+  has_actions = columns.has_actions;
+  state = max columns.state (length (state_name (state_of side)));
+  group = max columns.group (length (column (txn_of side).group));
+  transaction = max columns.transaction (length (column (txn_of side).transaction));
+  actions = max columns.actions (length (actions_text columns.has_actions today side));
+}
+
+-- Returns the columns of a list: each is as wide as its longest text.
+abbrev pub columns_of : Wanted → List Side → Columns
+columns_of wanted listed = fold (widened wanted.today) (no_columns wanted.has_actions) listed
+
+-- Returns the line of a loan, with its actions on the day `today` if the list has them.
+unfoldable pub row : Columns → Option Date → Side → List ℕ
+row columns today side =
+    codes "  " ++ cell columns.state (state_name (state_of side)) ++ cell 8 (due_text (due_date_of side))
+    ++ cell columns.group (column (txn_of side).group) ++ cell columns.transaction (column (txn_of side).transaction)
+    ++ actions_cell columns today side ++ title_text (item_asked (request_of side)) ++ codes "\n"
+
+-- ---- the loans that a list without a day leaves out
+
+-- Returns true if only the loans that want a hand are listed, and no day is given.
+abbrev pub lacks_day : Wanted → Bool
+lacks_day wanted = is_mine wanted.which && is_none wanted.today
+
+-- Returns true if the loan wants no hand without a day, and may want one by its date. It meets the other conditions.
+abbrev pub is_left_out : Wanted → Side → Bool
+is_left_out wanted side = not (is_to_do wanted side) && waits_by_date side && is_wanted wanted side
+
+-- Returns the number of loans that a list leaves out since no day is given.
+abbrev pub left_out : Wanted → List Side → ℕ
+left_out wanted sides = if lacks_day wanted then count_by (is_left_out wanted) sides else 0
+
+-- ---- counts
+
+-- Returns the counts of a desk: all loans, open loans, and loans that want a hand. The last count is the room for further
+-- loans.
+abbrev pub counts_of : Wanted → List Side → Counts
+counts_of wanted sides = record {
+  loans = length sides;
+  open_loans = length sides - count_by (has_work wanted Over) sides;
+  to_do = count_by (is_to_do wanted) sides;
+  room = most_sides - length sides;
+}
+
+-- Returns the line of the counts.
+unfoldable pub counts_line : Counts → List ℕ
+counts_line counts =
+    codes "loans " ++ decimal counts.loans ++ codes ", open " ++ decimal counts.open_loans
+    ++ codes ", to do " ++ decimal counts.to_do ++ codes ", room for " ++ decimal counts.room ++ codes "\n"

@@ -1,0 +1,148 @@
+-- The texts of `list`, in lines or in objects of JSON.
+use Rattle.std.specs.Prelude.{ℕ, Bool, true, false, if◌then◌else◌, nat_eq, List, [], ◌∷◌, ◌++◌, length, filter, Option, None}
+use Rattle.std.specs.Prelude.{Some}
+use Rattle.std.specs.Prelude.{option_map, codes}
+use Rattle.std.specs.List.{flat_map}
+use Rattle.std.specs.Fmt.{decimal}
+use Rattle.ill_saved.specs.declared.side.Side.{Side}
+use Rattle.ill_saved.specs.Side.{txn_of}
+use Rattle.ill_text.specs.declared.form.Form.{Form}
+use Rattle.ill_text.specs.declared.form.Form.TheVariants.{Lines, Json}
+use Rattle.ill_list.specs.declared.wanted.Wanted.{Wanted}
+use Rattle.ill_list.specs.declared.counts.Counts.{Counts}
+use Rattle.ill_list.specs.declared.row.Columns.{Columns}
+use Rattle.ill_list.specs.declared.list.Rows.{Rows}
+use Rattle.ill_list.specs.declared.list.Rows.TheVariants as rows
+use Rattle.ill_text.specs.Escape.{escaped}
+use Rattle.ill_words.specs.Waiting.{most_urgent_first}
+use Rattle.ill_work.specs.declared.work.Work.{Work}
+use Rattle.ill_work.specs.Work.{all_work, work_words}
+use Rattle.ill_list.specs.List.{columns_of, row, has_work, listed_of, counts_of, counts_line}
+use Rattle.ill_list.specs.ListObjects.{row_object, counts_object}
+use Rattle.ill_list.specs.Finding.{Seeking, found_of}
+use Rattle.ill_list.specs.ListedNews.{listed_news}
+use Rattle.ill_show.specs.Notes.{listed_note, note_of}
+use Rattle.ill_show.specs.Since.{AnnexRead, annex_of, since_line, since_of}
+
+-- ---- one kind of work
+
+-- Returns the heading of a kind of work with `count` listed loans.
+abbrev pub work_heading : Work → ℕ → List ℕ
+work_heading work count = work_words work ++ (codes " (" ++ (decimal count ++ codes "):\n"))
+
+-- Returns the line of the note of a loan, if the list has notes and there is one.
+abbrev pub note_shown : (notes : List (List ℕ)) → Wanted → Side → List ℕ
+note_shown notes wanted side = if wanted.has_notes then listed_note (note_of notes (txn_of side)) else []
+
+-- Returns the line of a loan, and the line of its note below it.
+abbrev pub noted_row : Columns → (notes : List (List ℕ)) → Wanted → Side → List ℕ
+noted_row columns notes wanted side = row columns wanted.today side ++ note_shown notes wanted side
+
+-- Returns the line of the day since which a loan stands as it does, if the list has such lines and the day is known.
+abbrev pub since_shown : AnnexRead → Wanted → Side → List ℕ
+since_shown annex wanted side = if wanted.has_since then since_line (since_of annex side) else []
+
+-- Returns the line of a loan, and those of its note and its day below it.
+abbrev pub dated_row : Columns → AnnexRead → Wanted → Side → List ℕ
+dated_row columns annex wanted side = noted_row columns annex.notes wanted side ++ since_shown annex wanted side
+
+-- Returns the line of a loan, those of its note and its day below it, and then those of its news.
+abbrev pub told_row : Columns → AnnexRead → Wanted → Side → List ℕ
+told_row columns annex wanted side = dated_row columns annex wanted side ++ listed_news annex.news side
+
+-- Returns the lines of the loans with this work: a heading, and those of each. Without a loan there is no line.
+abbrev pub work_lines : Columns → AnnexRead → Wanted → Work → List Side → List ℕ
+work_lines columns annex wanted work [] = []
+work_lines columns annex wanted work (first ∷ others) =
+    work_heading work (length (first ∷ others)) ++ flat_map (told_row columns annex wanted) (first ∷ others)
+
+-- Returns the objects of the loans with this work.
+abbrev pub work_objects : Option (List ℕ) → AnnexRead → Wanted → Work → List Side → List ℕ
+work_objects file annex wanted work sides = flat_map (row_object file annex wanted.today work) sides
+
+-- ---- one desk
+
+-- Returns the text of those of the listed loans that have this work, in their order.
+abbrev pub section : (Wanted → Work → List Side → List ℕ) → Wanted → List Side → Work → List ℕ
+section text wanted listed work = text wanted work (filter (has_work wanted work) listed)
+
+-- Returns the texts of the listed loans, kind by kind, the most pressing work first.
+abbrev pub sections : (Wanted → Work → List Side → List ℕ) → Wanted → List Side → List ℕ
+sections text wanted listed = flat_map (section text wanted listed) all_work
+
+-- Returns the loans of `sides` that are listed, and have the words that are sought.
+abbrev pub chosen_of : Wanted → Seeking → List Side → List Side
+chosen_of wanted seeking sides = found_of seeking (listed_of wanted sides)
+
+-- Returns the texts of the chosen loans, and then the counts of all loans. Loans with one kind of work are in the order of
+-- `sides`.
+abbrev pub listed : (Wanted → Work → List Side → List ℕ) → (Counts → List ℕ) → Wanted → Seeking → List Side → List ℕ
+listed text counts_text wanted seeking sides =
+    sections text wanted (chosen_of wanted seeking sides) ++ counts_text (counts_of wanted sides)
+
+-- Returns the text of the loans with one kind of work, in lines or in objects.
+abbrev pub work_text : Rows → Wanted → Work → List Side → List ℕ
+work_text (rows.Lines columns annex) = work_lines columns (annex_of annex.now)
+work_text (rows.Objects file annex) = work_objects (option_map (λ path. path.now) file) (annex_of annex.now)
+
+-- Returns the counts as a line or an object.
+abbrev pub counts_text : Rows → Counts → List ℕ
+counts_text (rows.Lines columns annex) = counts_line
+counts_text (rows.Objects file annex) = counts_object (option_map (λ path. path.now) file)
+
+-- Returns the lines of a list of `sides`. Its columns are wide enough for the chosen loans.
+abbrev pub ordered_lines : Wanted → Seeking → List Side → List ℕ
+ordered_lines wanted seeking sides =
+    listed (work_lines (columns_of wanted (chosen_of wanted seeking sides)) (seeking.annex)) counts_line
+    wanted seeking sides
+
+-- Returns the lines of a desk. Loans with one kind of work are in the order of their deadlines.
+abbrev pub list_lines : Wanted → Seeking → List Side → List ℕ
+list_lines wanted seeking sides = ordered_lines wanted seeking (most_urgent_first sides)
+
+-- Returns the objects of a desk, in the order of `list_lines`.
+abbrev pub list_objects : Option (List ℕ) → Wanted → Seeking → List Side → List ℕ
+list_objects file wanted seeking sides =
+    listed (work_objects file (seeking.annex)) (counts_object file) wanted seeking (most_urgent_first sides)
+
+-- ---- several desks
+
+-- Returns the empty line between two desks, or nothing before the first one.
+abbrev pub gap : Bool → List ℕ
+gap true = []
+gap false = codes "\n"
+
+-- Returns the line with the path of a desk, if several desks are listed.
+abbrev pub heading : Bool → List ℕ → List ℕ
+heading false path = []
+heading true path = escaped path ++ codes ":\n"
+
+-- Returns the path of a desk, if several desks are listed.
+abbrev pub file_told : Bool → List ℕ → Option (List ℕ)
+file_told false path = None
+file_told true path = Some path
+
+-- Returns the text of one listed desk.
+abbrev pub listed_desk : Form → Bool → Wanted → Seeking → List ℕ → List Side → List ℕ
+listed_desk Lines is_headed wanted seeking path sides = heading is_headed path ++ list_lines wanted seeking sides
+listed_desk Json is_headed wanted seeking path sides = list_objects (file_told is_headed path) wanted seeking sides
+
+-- Returns the text before a desk: in lines an empty line, if another desk is before it.
+abbrev pub between : Form → Bool → List ℕ
+between Lines is_first = gap is_first
+between Json is_first = []
+
+-- Returns the line that warns of the room left at a desk.
+abbrev pub room_line : List ℕ → ℕ → List ℕ
+room_line path room =
+    codes "ill: " ++ escaped path ++ (codes " has room for " ++ (decimal room ++ codes " more loans\n"))
+
+-- Returns the words of the line that tells what a list leaves out, after the number of loans.
+abbrev pub left_out_words : Bool → List ℕ
+left_out_words true = codes " more loan may want a hand by its date: give --today DAY\n"
+left_out_words false = codes " more loans may want a hand by their dates: give --today DAY\n"
+
+-- Returns the line that tells how many loans of a desk a list leaves out since no day is given.
+abbrev pub left_out_line : List ℕ → ℕ → List ℕ
+left_out_line path count =
+    codes "ill: " ++ escaped path ++ (codes ": " ++ (decimal count ++ left_out_words (nat_eq count 1)))

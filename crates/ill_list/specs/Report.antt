@@ -1,0 +1,187 @@
+-- The command `report`: a page of HTML of the loans of desks. Texts that people wrote go into it by
+-- `html_text`: the file, the item, the note and both qualifiers. All else is a constant of this program, a name, a
+-- number or a date.
+use Rattle.std.specs.Prelude.{ℕ, ◌-◌, Bool, true, ◌≡◌, ◌==◌, if◌then◌else◌, List, [], ◌++◌, length, filter, count_by, codes}
+use Rattle.std.specs.Prelude.{Option, Some, None, map, Result, Ok, Err}
+use Rattle.std.specs.List.{flat_map}
+use Rattle.std.specs.Fmt.{decimal}
+use Rattle.ill_values.specs.Day.{Date, iso_text}
+use Rattle.ill_core.specs.declared.verb.Verb.{Verb}
+use Rattle.ill_core.specs.Verbs.{verb_name}
+use Rattle.ill_core.specs.ResponderActions.{expiry_of}
+use Rattle.ill_saved.specs.declared.side.Side.{Side}
+use Rattle.ill_saved.specs.Side.{txn_of, due_date_of}
+use Rattle.ill_saved.specs.Sides.{most_sides}
+use Rattle.ill_text.specs.declared.fault.ToolFault.{ToolFault}
+use Rattle.ill_text.specs.Html.{html_escaped, html_text}
+use Rattle.ill_text.specs.Visits.{gravest_of}
+use Rattle.ill_words.specs.Possible.{possible_on, request_of, item_asked}
+use Rattle.ill_words.specs.Waiting.{most_urgent_first}
+use Rattle.ill_work.specs.declared.work.Work.{Work}
+use Rattle.ill_work.specs.declared.work.Work.TheVariants.{Over}
+use Rattle.ill_work.specs.Order.{count_of, has_work}
+use Rattle.ill_work.specs.Table.{kind_of_work}
+use Rattle.ill_work.specs.Work.{all_work, wants_a_hand, work_words}
+use Rattle.ill_list.specs.declared.report_parts.Field.{Field}
+use Rattle.ill_list.specs.declared.report_parts.Field.TheVariants as fields
+use Rattle.ill_list.specs.declared.report_parts.TheConstants.{PAGE, DESKS, END, DESK, TO_DO, OPEN, LOANS, ROOM, COUNTS_END}
+use Rattle.ill_list.specs.declared.report_parts.TheConstants.{DESK_END, TASK, HEADING, COUNT, TABLE, ROW, TABLE_END, UNREAD}
+use Rattle.ill_list.specs.declared.report_parts.TheConstants.{UNREAD_END, TIME_END, NOTE, NOTE_END, SINCE}
+use Rattle.ill_list.specs.declared.soon.TheConstants.{SOON}
+use Rattle.ill_list.specs.List.{title_text}
+use Rattle.ill_show.specs.Notes.{note_of}
+use Rattle.ill_show.specs.Since.{AnnexRead, since_of}
+use Rattle.ill_show.specs.StateWords.{state_words}
+
+-- ---- a loan
+
+-- Returns the words of a deadline: the due date, or else the expiry date of the request, if there is one.
+abbrev pub deadline_text : Option Date → Option Date → List ℕ
+deadline_text (Some due) expiry = codes "due <time>" ++ (iso_text due ++ TIME_END.now)
+deadline_text None (Some expiry) = codes "expires <time>" ++ (iso_text expiry ++ TIME_END.now)
+deadline_text None None = []
+
+-- Returns an action that this library may do.
+abbrev pub action_text : Verb → List ℕ
+action_text verb = codes "<code>" ++ (verb_name verb ++ codes "</code> ")
+
+-- Returns a note on a loan, if there is one.
+abbrev pub noted_text : Option (List ℕ) → List ℕ
+noted_text None = []
+noted_text (Some words) = NOTE.now ++ (html_text words ++ NOTE_END.now)
+
+-- Returns the day since which a loan stands as it does, if it is known.
+abbrev pub since_text : Option Date → List ℕ
+since_text None = []
+since_text (Some day) = SINCE.now ++ (iso_text day ++ TIME_END.now) ++ NOTE_END.now
+
+-- Returns the value of a field of a loan on the day `today`.
+abbrev pub value_text : Date → AnnexRead → Side → Field → List ℕ
+value_text today annex side fields.Title =
+    html_escaped (title_text (item_asked (request_of side))) ++ noted_text (note_of annex.notes (txn_of side))
+value_text today annex side fields.Group = html_text (txn_of side).group
+value_text today annex side fields.Transaction = html_text (txn_of side).transaction
+value_text today annex side fields.State = state_words side ++ since_text (since_of annex side)
+value_text today annex side fields.Deadline = deadline_text (due_date_of side) (expiry_of (request_of side))
+value_text today annex side fields.Actions = flat_map action_text (possible_on (Some today) side)
+
+-- Returns the text of the page before a field.
+abbrev pub before : Field → List ℕ
+before fields.Title = codes "<tr><th scope=\"row\" dir=\"auto\">"
+before fields.Group = codes "<td><bdi>"
+before fields.Transaction = codes "<bdi>"
+before other = codes "<td>"
+
+-- Returns the text of the page after a field.
+abbrev pub after : Field → List ℕ
+after fields.Title = codes "</th>"
+after fields.Group = codes "</bdi> "
+after fields.Transaction = codes "</bdi></td>"
+after fields.Actions = codes "</td></tr>\n"
+after other = codes "</td>"
+
+-- Returns a field of a loan, between the texts before and after it.
+abbrev pub field_text : Date → AnnexRead → Side → Field → List ℕ
+field_text today annex side field = before field ++ (value_text today annex side field ++ after field)
+
+-- Returns the row of a loan: its fields, one after another.
+abbrev pub row_text : Date → AnnexRead → Side → List ℕ
+row_text today annex side = flat_map (field_text today annex side) ROW
+
+-- ---- the loans of a desk
+
+-- Returns `words`, and then a number.
+unfoldable pub counted : List ℕ → ℕ → List ℕ
+counted words count = words ++ decimal count
+
+-- Returns true if the work with a loan wants a hand on the day `today`.
+abbrev pub is_to_do : Date → Side → Bool
+is_to_do today side = wants_a_hand (kind_of_work today SOON side)
+
+-- Returns the counts of a desk: loans that want a hand, open loans, all loans, and the room for further ones.
+unfoldable pub counts_text : Date → List Side → List ℕ
+counts_text today sides =
+    counted TO_DO.now (count_by (is_to_do today) sides)
+    ++ (counted OPEN.now (length sides - count_of today SOON Over sides)
+    ++ (counted LOANS.now (length sides)
+    ++ (counted ROOM.now (most_sides - length sides) ++ COUNTS_END.now)))
+
+-- Returns the text before the words of a kind of work. It marks work that wants a hand.
+abbrev pub heading : Work → List ℕ
+heading work = if wants_a_hand work then TASK.now else HEADING.now
+
+-- Returns the rows of the loans with this work.
+abbrev pub rows_text : Date → AnnexRead → Work → List Side → List ℕ
+rows_text today annex work sides = flat_map (row_text today annex) (filter (has_work today SOON work) sides)
+
+-- Returns the words for this work, the number of its loans, and the head of their table.
+unfoldable pub table_head : Work → ℕ → List ℕ
+table_head work count = heading work ++ (work_words work ++ (counted COUNT.now count ++ TABLE.now))
+
+-- Returns the table of the loans with this work: its head, and a row for each.
+unfoldable pub table_text : Date → AnnexRead → List Side → Work → List ℕ
+table_text today annex sides work =
+    table_head work (count_of today SOON work sides) ++ (rows_text today annex work sides ++ TABLE_END.now)
+
+-- Returns the table of the loans with this work, or nothing if there is no such loan.
+abbrev pub work_text : Date → AnnexRead → List Side → Work → List ℕ
+work_text today annex sides work =
+    if count_of today SOON work sides == 0 then [] else table_text today annex sides work
+
+-- Returns the loans of a desk: their counts, and a table for each kind of work that a loan has, the most pressing first.
+unfoldable pub loans_text : Date → AnnexRead → List Side → List ℕ
+loans_text today annex sides = counts_text today sides ++ flat_map (work_text today annex sides) all_work
+
+-- Returns the part of a page about a desk: its file, and its loans with what the annex tells of them. In each table the
+-- most urgent loan is first.
+unfoldable pub desk_text : Date → (file : List ℕ) → List Side → AnnexRead → List ℕ
+desk_text today file sides annex =
+    DESK.now ++ (html_text file ++ (loans_text today annex (most_urgent_first sides) ++ DESK_END.now))
+
+-- ---- a page
+
+-- Returns the part of a page about a desk that cannot be read: its file, and the text of the fault.
+unfoldable pub unread_text : List ℕ → List ℕ → List ℕ
+unread_text file words = DESK.now ++ (html_text file ++ (UNREAD.now ++ (html_text words ++ UNREAD_END.now)))
+
+-- A part of a page is about the desk in a file. It has the loans of the desk and its annex, or the fault with which it
+-- cannot be read and the text of the fault.
+abbrev pub Part : Type 0
+Part = List ℕ × Result (List Side × AnnexRead) (ToolFault × List ℕ)
+
+-- Returns the text of a part.
+abbrev pub part_text : Date → Part → List ℕ
+part_text today (file, Ok (sides, annex)) = desk_text today file sides annex
+part_text today (file, Err (fault, words)) = unread_text file words
+
+-- Returns true if the desk of a part was read, else its fault.
+abbrev pub part_answer : Part → Result Bool ToolFault
+part_answer (file, Ok loans) = Ok true
+part_answer (file, Err (fault, words)) = Err fault
+
+-- Returns the gravest of the faults of some parts, or true if they have none.
+abbrev pub gravest_part : List Part → Result Bool ToolFault
+gravest_part parts = gravest_of (map part_answer parts)
+
+-- Returns the text before the desks of a page.
+unfoldable pub page_head : Date → List ℕ
+page_head today = PAGE.now ++ (iso_text today ++ DESKS.now)
+
+-- The text that ends a page.
+abbrev pub page_end : List ℕ
+page_end = END.now
+
+-- Returns the page of these parts.
+abbrev pub report_page : Date → List Part → List ℕ
+report_page today parts = page_head today ++ flat_map (part_text today) parts ++ page_end
+
+-- The page `after` is `before`, and then a part about the desk in `file`. `answer` is true, or the fault in it.
+abbrev pub AddsPart : Date → List ℕ → List ℕ → List ℕ → Result Bool ToolFault → Type 0
+AddsPart today file before after answer =
+    (part : Part) × (part.0 ≡ file) × (after ≡ before ++ part_text today part) × (answer ≡ part_answer part)
+
+-- The page `after` is `before`, and then a part for each of `files`. `answer` is the gravest of their faults.
+abbrev pub AddsParts : Date → List (List ℕ) → List ℕ → List ℕ → Result Bool ToolFault → Type 0
+AddsParts today files before after answer =
+    (parts : List Part) × (map (λ part. part.0) parts ≡ files) × (after ≡ before ++ flat_map (part_text today) parts)
+    × (answer ≡ gravest_part parts)

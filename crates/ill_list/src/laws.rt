@@ -1,0 +1,53 @@
+//! States the laws of what came to a desk, and of lists without days, as contracts of functions that do nothing.
+
+ghost use Rattle.std.specs.Prelude.{◌≡◌, ◌++◌, ◌∷◌, ◌&&◌, ℕ, Bool, true, false, find, List, Option, Some};
+ghost use Rattle.std.specs.List.{list_any};
+ghost use Rattle.ill_values.specs.Day.{Date};
+ghost use Rattle.ill_values.specs.declared.apdu.Apdu.{Apdu};
+ghost use Rattle.ill_saved.specs.declared.side.Side.{Side};
+ghost use Rattle.ill_list.specs.CameSince.{came_before, came_key, came_since, is_named_since};
+ghost use Rattle.ill_show.specs.Diary.{is_named};
+ghost use Rattle.ill_show.specs.Since.{AnnexRead, notes_alone};
+ghost use Rattle.ill_list.specs.Listing.{listed_desk};
+ghost use Rattle.ill_list.specs.declared.wanted.Wanted.{Wanted};
+ghost use Rattle.ill_text.specs.declared.form.Form.TheVariants as forms;
+ghost use Rattle.ill_show.specs.declared.loan.LoanForm.TheVariants.{Lines};
+ghost use Rattle.ill_list.specs.News.{heard_at, is_same, is_told, news_of};
+
+/// A message that came is told if the record of its loan shows that it was taken.
+#[tactic(auto, using(crate::proofs::NewsLemmas::taken_is_told))]
+pub fn what_was_taken_is_news()
+    ensures { (sides : List Side) (before after : List Apdu) (a : Apdu) →
+        heard_at sides a ≡ true → is_told (news_of sides (before ++ a ∷ after)) a ≡ true }
+{}
+
+/// Nothing else is told: what is told came, and the record of its loan shows that it was taken.
+#[tactic(auto, using(crate::proofs::NewsLemmas::told_was_taken))]
+pub fn nothing_else_is_news()
+    ensures { (sides : List Side) (came : List Apdu) (a : Apdu) → is_told (news_of sides came) a ≡ true →
+        list_any (λ b. is_same b a && heard_at sides b) came ≡ true }
+{}
+
+/// What came since a day is told: all after the last message that came before, or all if none did. A message came before if
+/// a line of the diary names it, and no line of the day or later does.
+#[tactic(auto, using(crate::proofs::CameSinceLemmas::all_told, crate::proofs::CameSinceLemmas::later_told, crate::proofs::CameSinceLemmas::unnamed_told, crate::proofs::CameSinceLemmas::named_told))]
+pub fn what_came_since_is_told()
+    ensures all { (day : Date) (lines : List (List ℕ)) (came : List Apdu) →
+        list_any (came_before day lines) came ≡ false → came_since (Some day) lines came ≡ came }
+    ensures later { (day : Date) (lines : List (List ℕ)) (came later : List Apdu) (a : Apdu) →
+        came_before day lines a ≡ true → list_any (came_before day lines) later ≡ false →
+        came_since (Some day) lines (came ++ a ∷ later) ≡ later }
+    ensures unnamed { (day : Date) (lines : List (List ℕ)) (a : Apdu) → is_named (came_key a) lines ≡ false →
+        came_before day lines a ≡ false }
+    ensures named { (day : Date) (lines : List (List ℕ)) (a : Apdu) → is_named_since day (came_key a) lines ≡ true →
+        came_before day lines a ≡ false }
+{}
+
+/// Lines of a list without days do not depend on the diary, nor on the messages that came, but for the news that are told.
+#[tactic(auto, using(crate::proofs::ListLaws::no_list_depends))]
+pub fn no_list_without_days_depends_on_a_diary()
+    ensures { (is_headed : Bool) (wanted : Wanted) (find : Option (List ℕ)) (annex : AnnexRead) (path : List ℕ)
+        (sides : List Side) → wanted.has_since ≡ false →
+        listed_desk forms.Lines is_headed wanted (record { find = find; annex = annex }) path sides
+        ≡ listed_desk forms.Lines is_headed wanted (record { find = find; annex = notes_alone annex }) path sides }
+{}

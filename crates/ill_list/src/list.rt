@@ -1,0 +1,470 @@
+//! The command `list`.
+
+ghost use Rattle.std.specs.Prelude.{◌≡◌, ◌++◌, map, count_by, filter, option_map, IfOk, OnOk};
+ghost use Rattle.std.specs.List.{flat_map};
+ghost use Rattle.ill_saved.specs.ManySides.{sides_held};
+ghost use Rattle.ill_text.specs.Output.{WritesText};
+ghost use Rattle.ill_list.specs.List.{counts_line, counts_of, has_work, is_left_out, lacks_day, left_out};
+ghost use Rattle.ill_list.specs.Finding.{seeking_of};
+ghost use Rattle.ill_show.specs.FileLines.{lines_of};
+ghost use Rattle.ill_show.specs.Since.{annex_of};
+ghost use Rattle.ill_list.specs.Listing.{between, chosen_of, counts_text, dated_row, file_told, gap, heading, list_lines, list_objects, listed_desk, note_shown, noted_row, ordered_lines, section, sections, since_shown, told_row, work_heading, work_lines, work_objects, work_text};
+
+use crate::counts::Counts;
+use crate::finding::{Sought, found_of};
+use crate::list_objects::{push_counts_object, push_row_object};
+use crate::listed::{Listed, heading};
+use crate::listed_news::push_listed_news;
+use crate::row::{Columns, push_row};
+use crate::wanted::{Wanted, has_work, is_to_do, is_wanted, listed_of};
+use ill_saved::{Desk, Side, Sides, Store};
+use ill_show::annex::Annex;
+use ill_show::notes::{Notes, push_listed_note};
+use ill_show::since::{push_since_line, since_of};
+use ill_text::fault::ToolFault;
+use ill_text::form::Form;
+use ill_text::output::write_whole;
+use ill_values::OutOfMemory;
+use ill_words::sides::all_of;
+use ill_words::waiting::{most_urgent_first, waits_by_date};
+use ill_work::Work;
+use std::alloc::Global;
+use std::io::Write;
+
+/// The form of a list.
+#[derive(Clone, Copy)]
+pub(crate) enum Rows<'a> {
+    /// A line for each loan, of these columns, and those of its note, its day and its news if the list has them.
+    Lines(Columns, &'a Annex),
+    /// An object for each loan, with the path of its desk, if it is given.
+    Objects(Option<&'a str>, &'a Annex),
+}
+
+/// Writes a line or an object of JSON for each wanted loan of `desk`, and one that counts all of its loans. Lines stand
+/// after a heading with the path of the desk, if that is written; each object has it. The most pressing work comes first.
+/// In lines each kind of work has a heading. Within a kind the loans are in the order of their deadlines. A loan is left out if it has not the
+/// words that are sought.
+pub fn run_desk_list<S: Store, W: Write>(
+    alloc: Global,
+    desk: &Desk<S>,
+    listed: &Listed<'_>,
+    wanted: &Wanted,
+    sought: &Sought<'_>,
+    writer: &mut W,
+) -> Result<(), ToolFault>
+    ensures { WritesText (W.contents writer.old) (W.contents writer.new)
+        (between listed.now.form listed.now.is_first ++ listed_desk listed.now.form listed.now.is_headed wanted.now
+        (seeking_of sought.now) listed.now.path.now (sides_held desk.now.live).sides) result }
+{
+    match listed.form {
+        Form::Lines => write_lines(alloc, desk.sides(), listed, wanted, sought, writer),
+        Form::Json => write_objects(alloc, desk.sides(), listed, wanted, sought, writer),
+    }
+}
+
+/// Writes the heading and all lines of a list of `sides`.
+fn write_lines<W: Write>(
+    alloc: Global,
+    sides: &Sides,
+    listed: &Listed<'_>,
+    wanted: &Wanted,
+    sought: &Sought<'_>,
+    writer: &mut W,
+) -> Result<(), ToolFault>
+    ensures { WritesText (W.contents writer.old) (W.contents writer.new)
+        (gap listed.now.is_first ++ (heading listed.now.is_headed listed.now.path.now
+        ++ list_lines wanted.now (seeking_of sought.now) sides.now.sides)) result }
+{
+    let mut lines = heading(alloc, listed)?;
+    push_list(&mut lines, sides, wanted, sought)?;
+    write_whole(writer, &lines)
+}
+
+/// Writes all objects of a list of `sides`.
+fn write_objects<W: Write>(
+    alloc: Global,
+    sides: &Sides,
+    listed: &Listed<'_>,
+    wanted: &Wanted,
+    sought: &Sought<'_>,
+    writer: &mut W,
+) -> Result<(), ToolFault>
+    ensures { WritesText (W.contents writer.old) (W.contents writer.new)
+        (list_objects (file_told listed.now.is_headed listed.now.path.now) wanted.now (seeking_of sought.now) sides.now.sides) result }
+{
+    let mut text = Vec::new(alloc);
+    push_list_objects(&mut text, listed.told(), sides, wanted, sought)?;
+    write_whole(writer, &text)
+}
+
+/// Appends all lines of a list of `sides`.
+fn push_list(
+    lines: &mut Vec<u8>,
+    sides: &Sides,
+    wanted: &Wanted,
+    sought: &Sought<'_>,
+) -> Result<(), OutOfMemory>
+    ensures { OnOk result (lines.new.items ≡ lines.old.items ++ list_lines wanted.now (seeking_of sought.now) sides.now.sides) }
+{
+    let sides = most_urgent_first(*lines.allocator(), sides)?;
+    push_ordered(lines, &sides, wanted, sought)
+}
+
+/// Appends all lines of a list of `sides`, which are in the order of urgency.
+fn push_ordered(
+    lines: &mut Vec<u8>,
+    sides: &[&Side],
+    wanted: &Wanted,
+    sought: &Sought<'_>,
+) -> Result<(), OutOfMemory>
+    ensures { OnOk result (lines.new.items ≡ lines.old.items
+        ++ ordered_lines wanted.now (seeking_of sought.now) (map (λ side. side.now) sides.now)) }
+{
+    let alloc = *lines.allocator();
+    let chosen = chosen_of(alloc, sides, wanted, sought)?;
+    let columns = Columns::of(alloc, &chosen, wanted)?;
+    push_listed(
+        lines,
+        &Rows::Lines(columns, sought.annex),
+        wanted,
+        sides,
+        &chosen,
+    )
+}
+
+/// Appends all objects of a list of `sides`.
+fn push_list_objects(
+    text: &mut Vec<u8>,
+    file: Option<&str>,
+    sides: &Sides,
+    wanted: &Wanted,
+    sought: &Sought<'_>,
+) -> Result<(), OutOfMemory>
+    ensures { OnOk result (text.new.items ≡ text.old.items
+        ++ list_objects (option_map (λ path. path.now) file.entry) wanted.now (seeking_of sought.now) sides.now.sides) }
+{
+    let alloc = *text.allocator();
+    let sides = most_urgent_first(alloc, sides)?;
+    let chosen = chosen_of(alloc, &sides, wanted, sought)?;
+    push_listed(
+        text,
+        &Rows::Objects(file, sought.annex),
+        wanted,
+        &sides,
+        &chosen,
+    )
+}
+
+/// Returns the loans of `sides` that are listed, and have the words that are sought.
+fn chosen_of<'a>(
+    alloc: Global,
+    sides: &[&'a Side],
+    wanted: &Wanted,
+    sought: &Sought<'_>,
+) -> Result<Vec<&'a Side>, OutOfMemory>
+    ensures { IfOk result (λ chosen. map (λ side. side.now) chosen.items
+        ≡ chosen_of wanted.now (seeking_of sought.now) (map (λ side. side.now) sides.now)) }
+{
+    let listed = listed_of(alloc, sides, wanted)?;
+    found_of(alloc, &listed, sought)
+}
+
+/// Appends the `listed` loans, kind by kind, and the counts of all `sides`.
+fn push_listed(
+    text: &mut Vec<u8>,
+    rows: &Rows<'_>,
+    wanted: &Wanted,
+    sides: &[&Side],
+    listed: &[&Side],
+) -> Result<(), OutOfMemory>
+    ensures { OnOk result (text.new.items ≡ text.old.items
+        ++ (sections (work_text rows.now) wanted.now (map (λ side. side.now) listed.now)
+        ++ counts_text rows.now (counts_of wanted.now (map (λ side. side.now) sides.now)))) }
+{
+    push_sections(text, rows, wanted, listed)?;
+    push_counts(text, rows, &Counts::of(sides, wanted))
+}
+
+/// Appends the `listed` loans, kind by kind, the most pressing work first.
+fn push_sections(
+    text: &mut Vec<u8>,
+    rows: &Rows<'_>,
+    wanted: &Wanted,
+    listed: &[&Side],
+) -> Result<(), OutOfMemory>
+    ensures { OnOk result (text.new.items ≡ text.old.items
+        ++ sections (work_text rows.now) wanted.now (map (λ side. side.now) listed.now)) }
+{
+    let works = Work::all();
+    for work in works {
+        push_section(text, rows, wanted, listed, *work)?;
+    }
+    Ok(())
+}
+
+/// Appends those of the `listed` loans that have this work, in their order.
+fn push_section(
+    text: &mut Vec<u8>,
+    rows: &Rows<'_>,
+    wanted: &Wanted,
+    listed: &[&Side],
+    work: Work,
+) -> Result<(), OutOfMemory>
+    ensures { OnOk result (text.new.items ≡ text.old.items
+        ++ section (work_text rows.now) wanted.now (map (λ side. side.now) listed.now) work) }
+{
+    let sides = with_work(*text.allocator(), listed, wanted, work)?;
+    push_work(text, rows, wanted, work, &sides)
+}
+
+/// Returns those of the `listed` loans that have this work, in their order.
+fn with_work<'a>(
+    alloc: Global,
+    listed: &[&'a Side],
+    wanted: &Wanted,
+    work: Work,
+) -> Result<Vec<&'a Side>, OutOfMemory>
+    ensures { IfOk result (λ sides. map (λ side. side.now) sides.items
+        ≡ filter (has_work wanted.now work) (map (λ side. side.now) listed.now)) }
+{
+    Ok(kept_with_work(alloc, listed, wanted, work)?)
+}
+
+/// Returns the references to the loans of `listed` that have the work `work`, in their order.
+fn kept_with_work<'a>(
+    alloc: Global,
+    listed: &[&'a Side],
+    wanted: &Wanted,
+    work: Work,
+) -> Result<Vec<&'a Side>, OutOfMemory>
+    ensures { IfOk result (λ sides. sides.items ≡ filter (λ side. has_work wanted.now work side.now) listed.now) }
+{
+    Ok(
+        listed
+            .iter()
+            .copied()
+            .filter(|side| has_work(wanted, work, side))
+            .collect(alloc)?,
+    )
+}
+
+/// Appends the loans of `sides`, which have this work, as lines or as objects.
+fn push_work(
+    text: &mut Vec<u8>,
+    rows: &Rows<'_>,
+    wanted: &Wanted,
+    work: Work,
+    sides: &[&Side],
+) -> Result<(), OutOfMemory>
+    ensures { OnOk result (text.new.items ≡ text.old.items
+        ++ work_text rows.now wanted.now work (map (λ side. side.now) sides.now)) }
+{
+    match rows {
+        Rows::Lines(columns, annex) => push_work_lines(text, columns, annex, wanted, work, sides),
+        Rows::Objects(file, annex) => push_work_objects(text, *file, annex, wanted, work, sides),
+    }
+}
+
+/// Appends a heading of this work, and a line for each loan of `sides`. Without a loan it appends nothing.
+fn push_work_lines(
+    lines: &mut Vec<u8>,
+    columns: &Columns,
+    annex: &Annex,
+    wanted: &Wanted,
+    work: Work,
+    sides: &[&Side],
+) -> Result<(), OutOfMemory>
+    ensures { OnOk result (lines.new.items ≡ lines.old.items
+        ++ work_lines columns.now (annex_of annex.now) wanted.now work (map (λ side. side.now) sides.now)) }
+{
+    if sides.is_empty() {
+        return Ok(());
+    }
+    push_work_heading(lines, work, sides.len())?;
+    push_rows(lines, columns, annex, wanted, sides)
+}
+
+/// Appends the heading of a kind of work with `count` listed loans.
+fn push_work_heading(lines: &mut Vec<u8>, work: Work, count: usize) -> Result<(), OutOfMemory>
+    ensures { OnOk result (lines.new.items ≡ lines.old.items ++ work_heading work count) }
+{
+    let told = format!(in *lines.allocator(); " ({count}):\n")?;
+    lines.extend_from_slice(work.words().as_bytes())?;
+    lines.extend_from_slice(told.as_bytes())?;
+    Ok(())
+}
+
+/// Appends a line for each loan of `sides`, and those of its note, its day and its news if the list has them.
+fn push_rows(
+    lines: &mut Vec<u8>,
+    columns: &Columns,
+    annex: &Annex,
+    wanted: &Wanted,
+    sides: &[&Side],
+) -> Result<(), OutOfMemory>
+    ensures { OnOk result (lines.new.items ≡ lines.old.items
+        ++ flat_map (told_row columns.now (annex_of annex.now) wanted.now) (map (λ side. side.now) sides.now)) }
+{
+    for side in sides {
+        push_told_row(lines, columns, annex, wanted, side)?;
+    }
+    Ok(())
+}
+
+/// Appends the line of the loan of `side`, and those of its note, its day and its news if the list has them.
+fn push_told_row(
+    lines: &mut Vec<u8>,
+    columns: &Columns,
+    annex: &Annex,
+    wanted: &Wanted,
+    side: &Side,
+) -> Result<(), OutOfMemory>
+    ensures { OnOk result (lines.new.items ≡ lines.old.items
+        ++ told_row columns.now (annex_of annex.now) wanted.now side.now) }
+{
+    push_dated_row(lines, columns, annex, wanted, side)?;
+    push_listed_news(lines, annex, side)
+}
+
+/// Appends the line of the loan of `side`, and those of its note and its day if the list has them.
+fn push_dated_row(
+    lines: &mut Vec<u8>,
+    columns: &Columns,
+    annex: &Annex,
+    wanted: &Wanted,
+    side: &Side,
+) -> Result<(), OutOfMemory>
+    ensures { OnOk result (lines.new.items ≡ lines.old.items
+        ++ dated_row columns.now (annex_of annex.now) wanted.now side.now) }
+{
+    push_noted_row(lines, columns, &annex.notes, wanted, side)?;
+    push_since_shown(lines, annex, wanted, side)
+}
+
+/// Appends the line of the day since which the loan of `side` stands as it does, if the list has such lines and the day is
+/// known.
+fn push_since_shown(
+    lines: &mut Vec<u8>,
+    annex: &Annex,
+    wanted: &Wanted,
+    side: &Side,
+) -> Result<(), OutOfMemory>
+    ensures { OnOk result (lines.new.items ≡ lines.old.items ++ since_shown (annex_of annex.now) wanted.now side.now) }
+{
+    if wanted.has_since {
+        let since = since_of(*lines.allocator(), annex, side)?;
+        return push_since_line(lines, since);
+    }
+    Ok(())
+}
+
+/// Appends the line of the loan of `side`, and that of its note if the list has notes.
+fn push_noted_row(
+    lines: &mut Vec<u8>,
+    columns: &Columns,
+    notes: &Notes,
+    wanted: &Wanted,
+    side: &Side,
+) -> Result<(), OutOfMemory>
+    ensures { OnOk result (lines.new.items ≡ lines.old.items
+        ++ noted_row columns.now (lines_of notes.now) wanted.now side.now) }
+{
+    push_row(lines, columns, wanted.today, side)?;
+    push_note_shown(lines, notes, wanted, side)
+}
+
+/// Appends the line of the note of the loan of `side`, if the list has notes and there is one.
+fn push_note_shown(
+    lines: &mut Vec<u8>,
+    notes: &Notes,
+    wanted: &Wanted,
+    side: &Side,
+) -> Result<(), OutOfMemory>
+    ensures { OnOk result (lines.new.items ≡ lines.old.items ++ note_shown (lines_of notes.now) wanted.now side.now) }
+{
+    if wanted.has_notes {
+        return push_listed_note(lines, notes.note_of(side.txn())?);
+    }
+    Ok(())
+}
+
+/// Appends an object for each loan of `sides`, with this work.
+fn push_work_objects(
+    text: &mut Vec<u8>,
+    file: Option<&str>,
+    annex: &Annex,
+    wanted: &Wanted,
+    work: Work,
+    sides: &[&Side],
+) -> Result<(), OutOfMemory>
+    ensures { OnOk result (text.new.items ≡ text.old.items
+        ++ work_objects (option_map (λ path. path.now) file.entry) (annex_of annex.now) wanted.now work (map (λ side. side.now) sides.now)) }
+{
+    for side in sides {
+        push_row_object(text, file, annex, wanted.today, work, side)?;
+    }
+    Ok(())
+}
+
+/// Returns the number of loans that a list of `sides` leaves out since no day is given.
+pub fn count_left_out(alloc: Global, sides: &Sides, wanted: &Wanted) -> Result<usize, OutOfMemory>
+    ensures { IfOk result (λ count. count ≡ left_out wanted.now sides.now.sides) }
+{
+    if !lacks_day(wanted) {
+        return Ok(0);
+    }
+    let all = all_of(alloc, sides)?;
+    Ok(count_by_date(&all, wanted))
+}
+
+/// Returns the number of loans of `sides` that are not listed, and may want a hand by their dates.
+fn count_by_date(sides: &[&Side], wanted: &Wanted) -> usize
+    ensures { result ≡ count_by (is_left_out wanted.now) (map (λ side. side.now) sides.now) }
+{
+    sides
+        .iter()
+        .filter(|side| is_left_out(wanted, side))
+        .count()
+}
+
+/// Returns true if only the loans that want a hand are listed, and no day is given.
+fn lacks_day(wanted: &Wanted) -> bool
+    ensures { result ≡ lacks_day wanted.now }
+{
+    wanted.which.is_mine() && wanted.today.is_none()
+}
+
+/// Returns true if the loan of `side` wants no hand without a day, but may want one by its date.
+fn is_left_out(wanted: &Wanted, side: &Side) -> bool
+    ensures { result ≡ is_left_out wanted.now side.now }
+{
+    !is_to_do(wanted, side) && waits_by_date(side) && is_wanted(wanted, side)
+}
+
+/// Appends `counts`, as a line or as an object.
+fn push_counts(text: &mut Vec<u8>, rows: &Rows<'_>, counts: &Counts) -> Result<(), OutOfMemory>
+    ensures { OnOk result (text.new.items ≡ text.old.items ++ counts_text rows.now counts.now) }
+{
+    match rows {
+        Rows::Lines(_, _) => push_counts_line(text, counts),
+        Rows::Objects(file, _) => push_counts_object(text, *file, counts),
+    }
+}
+
+/// Appends the line of `counts`.
+#[tactic(auto, unfolding(crate::specs::List::counts_line))]
+fn push_counts_line(lines: &mut Vec<u8>, counts: &Counts) -> Result<(), OutOfMemory>
+    ensures { OnOk result (lines.new.items ≡ lines.old.items ++ counts_line counts.now) }
+{
+    let Counts {
+        loans,
+        open_loans,
+        to_do,
+        room,
+    } = *counts;
+    let line = format!(in *lines.allocator();
+        "loans {loans}, open {open_loans}, to do {to_do}, room for {room}\n"
+    )?;
+    lines.extend_from_slice(line.as_bytes())?;
+    Ok(())
+}

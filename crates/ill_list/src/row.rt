@@ -1,0 +1,215 @@
+//! The line of a loan in a list.
+
+ghost use Rattle.std.specs.Prelude.{◌≡◌, ◌++◌, ◌||◌, map, length, string_bytes, codes, IfOk, OnOk};
+ghost use Rattle.ill_core.specs.State.{state_name};
+ghost use Rattle.ill_saved.specs.Side.{state_of, due_date_of};
+ghost use Rattle.ill_words.specs.Shown.{due_text};
+ghost use Rattle.ill_words.specs.Possible.{request_of, item_asked};
+ghost use Rattle.ill_list.specs.List.{title_text, padded, cell, column, column_byte, columns_of, is_end, actions_cell, actions_text, no_columns, row, verbs_text, widened};
+
+use crate::wanted::Wanted;
+use ill_saved::Side;
+use ill_text::escape::push_escaped;
+use ill_values::{Day, OutOfMemory};
+use ill_words::names::names;
+use ill_words::possible::{item_asked, possible_on};
+use std::alloc::Global;
+
+/// The width of the column of a day.
+const DUE: usize = 8;
+
+/// The columns of a list: the widths of all but that of a day, and true if actions have a column.
+#[derive(Clone, Copy)]
+pub struct Columns {
+    pub has_actions: bool,
+    pub state: usize,
+    pub group: usize,
+    pub transaction: usize,
+    pub actions: usize,
+}
+
+impl Columns {
+    /// Returns the columns that are wide enough for each of the listed loans.
+    pub fn of(alloc: Global, listed: &[&Side], wanted: &Wanted) -> Result<Columns, OutOfMemory>
+        ensures { IfOk result (λ columns. columns ≡ columns_of wanted.now (map (λ side. side.now) listed.now)) }
+    {
+        let mut columns = Columns::empty(wanted.has_actions);
+        for side in listed {
+            columns = columns.widened(alloc, wanted.today, side)?;
+        }
+        Ok(columns)
+    }
+
+    /// Returns columns without a width.
+    fn empty(has_actions: bool) -> Columns
+        ensures { result ≡ no_columns has_actions }
+    {
+        Columns {
+            has_actions,
+            state: 0,
+            group: 0,
+            transaction: 0,
+            actions: 0,
+        }
+    }
+
+    /// Returns these columns, and each as wide as the text of `side` at least.
+    fn widened(self, alloc: Global, today: Option<Day>, side: &Side) -> Result<Columns, OutOfMemory>
+        ensures { IfOk result (λ columns. columns ≡ widened today self side.now) }
+    {
+        let group = column(alloc, side.txn().group())?.len();
+        let transaction = column(alloc, side.txn().transaction())?.len();
+        let actions = actions_width(alloc, self.has_actions, today, side)?;
+        Ok(Columns {
+            has_actions: self.has_actions,
+            state: self.state.max(side.state().name().len()),
+            group: self.group.max(group),
+            transaction: self.transaction.max(transaction),
+            actions: self.actions.max(actions),
+        })
+    }
+}
+
+/// Returns the width of the actions of `side`, if the list has a column of them.
+fn actions_width(
+    alloc: Global,
+    has_actions: bool,
+    today: Option<Day>,
+    side: &Side,
+) -> Result<usize, OutOfMemory>
+    ensures { IfOk result (λ width. width ≡ length (actions_text has_actions today side.now)) }
+{
+    if !has_actions {
+        return Ok(0);
+    }
+    let text = verbs_text(alloc, today, side)?;
+    Ok(text.len())
+}
+
+/// Appends the line of `side`, with its actions on the day `today` if the list has them.
+#[tactic(auto, unfolding(crate::specs::List::row))]
+pub fn push_row(
+    lines: &mut Vec<u8>,
+    columns: &Columns,
+    today: Option<Day>,
+    side: &Side,
+) -> Result<(), OutOfMemory>
+    ensures { OnOk result (lines.new.items ≡ lines.old.items ++ row columns.now today side.now) }
+{
+    push_standing(lines, columns.state, side)?;
+    let alloc = *lines.allocator();
+    push_cell(lines, columns.group, &column(alloc, side.txn().group())?)?;
+    push_cell(
+        lines,
+        columns.transaction,
+        &column(alloc, side.txn().transaction())?,
+    )?;
+    push_actions(lines, columns, today, side)?;
+    push_title(lines, side)?;
+    lines.push(b'\n')?;
+    Ok(())
+}
+
+/// Appends two spaces, the state in a column of this width, and the due date, or a dash for it.
+fn push_standing(lines: &mut Vec<u8>, width: usize, side: &Side) -> Result<(), OutOfMemory>
+    ensures { OnOk result (lines.new.items ≡ lines.old.items
+        ++ (codes "  " ++ cell width (state_name (state_of side.now)) ++ cell 8 (due_text (due_date_of side.now)))) }
+{
+    lines.extend_from_slice(b"  ")?;
+    push_cell(lines, width, side.state().name().as_bytes())?;
+    match side.due() {
+        None => push_cell(lines, DUE, b"-"),
+        Some(day) => push_cell(lines, DUE, &day.digits()),
+    }
+}
+
+/// Appends the actions that the side may do on the day `today`, if the list has this column.
+fn push_actions(
+    lines: &mut Vec<u8>,
+    columns: &Columns,
+    today: Option<Day>,
+    side: &Side,
+) -> Result<(), OutOfMemory>
+    ensures { OnOk result (lines.new.items ≡ lines.old.items ++ actions_cell columns.now today side.now) }
+{
+    if !columns.has_actions {
+        return Ok(());
+    }
+    let verbs = verbs_text(*lines.allocator(), today, side)?;
+    push_cell(lines, columns.actions, verbs.as_bytes())
+}
+
+/// Returns the actions that the side may do on the day `today`, with a comma between two.
+fn verbs_text(alloc: Global, today: Option<Day>, side: &Side) -> Result<String, OutOfMemory>
+    ensures { IfOk result (λ text. string_bytes text ≡ verbs_text today side.now) }
+{
+    let verbs = possible_on(alloc, today, side)?;
+    Ok(names(alloc, &verbs)?.join(alloc, ",")?)
+}
+
+/// Appends the item of the loan of `side`, or a dash if there is none.
+pub(crate) fn push_title(lines: &mut Vec<u8>, side: &Side) -> Result<(), OutOfMemory>
+    ensures { OnOk result (lines.new.items ≡ lines.old.items
+        ++ title_text (item_asked (request_of side.now))) }
+{
+    match item_asked(side) {
+        None => {
+            lines.push(b'-')?;
+            Ok(())
+        }
+        Some(item) => push_escaped(lines, item.text()),
+    }
+}
+
+/// Returns the qualifier `text` for a column. No two spaces stand side by side in it, since two spaces end a column.
+pub(crate) fn column(alloc: Global, text: &[u8]) -> Result<Vec<u8>, OutOfMemory>
+    ensures { IfOk result (λ shown. shown.items ≡ column text.now) }
+{
+    let mut shown = Vec::new(alloc);
+    let mut is_edge = true;
+    let mut rest = text;
+    while let Some((byte, after)) = rest.split_first() {
+        push_column_byte(&mut shown, is_at_edge(is_edge, after), *byte)?;
+        is_edge = *byte == b' ';
+        rest = after;
+    }
+    Ok(shown)
+}
+
+/// Returns true if nothing or a space is before a byte, as `is_edge` says, or if no byte is after it.
+fn is_at_edge(is_edge: bool, after: &[u8]) -> bool
+    ensures { result ≡ (is_edge || is_end after.now) }
+{
+    is_edge || after.is_empty()
+}
+
+/// Appends a byte of a column. A space is an escape if it is at an edge of the text or after another one.
+fn push_column_byte(shown: &mut Vec<u8>, is_edge: bool, byte: u8) -> Result<(), OutOfMemory>
+    ensures { OnOk result (shown.new.items ≡ shown.old.items ++ column_byte is_edge byte) }
+{
+    if is_edge && byte == b' ' {
+        return shown.extend_from_slice(b"\\u{20}");
+    }
+    shown.push(byte)?;
+    Ok(())
+}
+
+/// Appends `text`, spaces up to `width`, and two further ones.
+pub(crate) fn push_cell(lines: &mut Vec<u8>, width: usize, text: &[u8]) -> Result<(), OutOfMemory>
+    ensures { OnOk result (lines.new.items ≡ lines.old.items ++ cell width text.now) }
+{
+    push_padded(lines, width, text)?;
+    lines.extend_from_slice(b"  ")?;
+    Ok(())
+}
+
+/// Appends `text`, and spaces up to `width`.
+fn push_padded(lines: &mut Vec<u8>, width: usize, text: &[u8]) -> Result<(), OutOfMemory>
+    ensures { OnOk result (lines.new.items ≡ lines.old.items ++ padded width text.now) }
+{
+    lines.extend_from_slice(text)?;
+    for _ in text.len()..width {
+        lines.push(b' ')?;
+    }
+    Ok(())
+}

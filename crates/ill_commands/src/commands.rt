@@ -288,17 +288,11 @@ pub(crate) fn list_file<T: Files, W: Write, E: Write>(
     let news = news_since(machine.alloc, desk.sides(), &annex, wanted.since)?;
     annex.news = news;
     let sought = Sought {
+        wanted,
         find,
         annex: &annex,
     };
-    let answer = run_desk_list(
-        machine.alloc,
-        &desk,
-        listed,
-        wanted,
-        &sought,
-        &mut machine.writer,
-    );
+    let answer = run_desk_list(machine.alloc, &desk, listed, &sought, &mut machine.writer);
     tell_numbers(
         machine.alloc,
         listed.path,

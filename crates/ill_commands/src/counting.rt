@@ -4,7 +4,7 @@ ghost use Rattle.ill_commands.specs.AtFile.{CountsDesk, CountsPaths};
 
 use crate::commands::read_diary;
 use crate::visit::{Visit, visit_paths};
-use ill_figures::figures::{FiguresBeside, FiguresView, run_desk_figures};
+use ill_figures::figures::{FiguresSought, FiguresView, run_desk_figures};
 use ill_files::came::came_bytes;
 use ill_files::machine::Machine;
 use ill_files::open::{all_well, open};
@@ -45,18 +45,12 @@ pub(crate) fn count_file<T: Files, W: Write, E: Write>(
     let diary = read_diary(machine.rt, machine.alloc, listed.path, &mut machine.errors)?;
     let desk = open(machine.rt, machine.alloc, listed.path)?;
     let came = came_bytes(machine.rt, machine.alloc, listed.path)?;
-    let beside = FiguresBeside {
+    let sought = FiguresSought {
+        view: *view,
         diary: &diary,
         came: &came,
     };
-    let counted = run_desk_figures(
-        machine.alloc,
-        &desk,
-        listed,
-        view,
-        &beside,
-        &mut machine.writer,
-    );
+    let counted = run_desk_figures(machine.alloc, &desk, listed, &sought, &mut machine.writer);
     drop(desk);
     all_well(counted)
 }

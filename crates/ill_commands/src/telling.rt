@@ -61,15 +61,9 @@ pub(crate) fn tell_file<T: Files, W: Write, E: Write>(
         bytes: &bytes,
         diary: &diary,
         since,
-    };
-    let told = run_desk_news(
-        machine.alloc,
-        &desk,
-        listed,
         last,
-        &came,
-        &mut machine.writer,
-    );
+    };
+    let told = run_desk_news(machine.alloc, &desk, listed, &came, &mut machine.writer);
     drop(desk);
     all_well(told)
 }

@@ -52,33 +52,34 @@ pub(crate) struct Gathered {
     pub undated: usize,
 }
 
-/// What the files beside a desk have.
+/// What figures of a desk are asked for, and what the files beside it have.
 #[derive(Clone, Copy)]
-pub struct FiguresBeside<'a> {
+pub struct FiguresSought<'a> {
+    /// The span, and the form.
+    pub view: FiguresView,
     /// The diary.
     pub diary: &'a FileLines,
     /// The bytes of the messages that came.
     pub came: &'a [u8],
 }
 
-/// Writes the figures of `desk`: of the loans that were asked in the span of `view`, how many ended how, and how long they
+/// Writes the figures of `desk`: of the loans that were asked in the span of `sought`, how many ended how, and how long they
 /// took.
 ///
-/// The day of a message is that of the last line of the diary which names it. `beside` has the bytes of the messages that
+/// The day of a message is that of the last line of the diary which names it. `sought` has the bytes of the messages that
 /// `take --keep`, `inbox` and `exchange` have kept. A part that is no message, and all bytes after it, are ignored.
 pub fn run_desk_figures<S: Store, W: Write>(
     alloc: Global,
     desk: &Desk<S>,
     listed: &Listed<'_>,
-    view: &FiguresView,
-    beside: &FiguresBeside<'_>,
+    sought: &FiguresSought<'_>,
     writer: &mut W,
 ) -> Result<(), ToolFault>
-    ensures { WritesNews (λ came. figures_text view.now listed.now.is_headed listed.now.is_first listed.now.path.now
-        (figures_of view.now.span (lines_of beside.now.diary.now) (sides_held desk.now.live).sides came))
-        beside.now.came.now (W.contents writer.old) (W.contents writer.new) result }
+    ensures { WritesNews (λ came. figures_text sought.now.view listed.now.is_headed listed.now.is_first listed.now.path.now
+        (figures_of sought.now.view.span (lines_of sought.now.diary.now) (sides_held desk.now.live).sides came))
+        sought.now.came.now (W.contents writer.old) (W.contents writer.new) result }
 {
-    match text_of_figures(alloc, desk.sides(), listed, view, beside) {
+    match text_of_figures(alloc, desk.sides(), listed, sought) {
         Ok(text) => write_whole(writer, &text),
         Err(_) => Err(ToolFault::OutOfMemory),
     }
@@ -89,21 +90,20 @@ fn text_of_figures(
     alloc: Global,
     sides: &Sides,
     listed: &Listed<'_>,
-    view: &FiguresView,
-    beside: &FiguresBeside<'_>,
+    sought: &FiguresSought<'_>,
 ) -> Result<Vec<u8>, OutOfMemory>
-    ensures { IfOk result (λ text. IsTextOf (λ came. figures_text view.now listed.now.is_headed listed.now.is_first
-        listed.now.path.now (figures_of view.now.span (lines_of beside.now.diary.now) sides.now.sides came))
-        beside.now.came.now text.items) }
+    ensures { IfOk result (λ text. IsTextOf (λ came. figures_text sought.now.view listed.now.is_headed listed.now.is_first
+        listed.now.path.now (figures_of sought.now.view.span (lines_of sought.now.diary.now) sides.now.sides came))
+        sought.now.came.now text.items) }
 {
-    let came = apdus_in(alloc, beside.came)?;
-    let mentions = mentions_in(alloc, beside.diary.lines())?;
+    let came = apdus_in(alloc, sought.came)?;
+    let mentions = mentions_in(alloc, sought.diary.lines())?;
     let loans = loans_of(alloc, &mentions, &came, sides)?;
     let figures = Gathered {
-        asked: asked_in(alloc, &view.span, &loans)?,
+        asked: asked_in(alloc, &sought.view.span, &loans)?,
         undated: undated(&loans),
     };
-    desk_text(alloc, listed, view, &figures)
+    desk_text(alloc, listed, &sought.view, &figures)
 }
 
 /// Returns the text of `figures` of a desk.

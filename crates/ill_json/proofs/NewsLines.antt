@@ -13,7 +13,7 @@ use Rattle.ill_saved.specs.RecordsV2.{AreSides}
 use Rattle.ill_saved.specs.Sides.{SidesOf, found_by, side_with}
 use Rattle.ill_text.specs.declared.form.Form.TheVariants as forms
 use Rattle.ill_text.specs.ApduObject.{object_line}
-use Rattle.ill_list.specs.Listing.{file_told}
+use Rattle.ill_list.specs.Listing.{between, file_told}
 use Rattle.ill_list.specs.News.{heard_at, is_told, last_of, news_fields, news_of, news_objects, news_text, with_news, words_at}
 use Rattle.ill_list.specs.ListObjects.{file_fields}
 use Rattle.ill_json.specs.Lines.{fields_of_news}
@@ -84,7 +84,7 @@ objects_are file sides shown u each are = lines_each (fields_of_news file sides)
 -- The text of `news` is object lines, at the first desk and at others, with its path and without it.
 pub news_are : (is_first is_headed : Bool) (last : Option ℕ) (path : List ℕ) (held : SidesOf) (came : List Apdu) → IsUtf8 path
     → AreSides held → Each IsApdu came
-    → AreObjectLines (news_text forms.Json is_headed is_first last path held.sides came)
+    → AreObjectLines (between forms.Json is_first ++ news_text forms.Json is_headed last path held.sides came)
     (map (fields_of_news (file_told is_headed path) held.sides) (last_of last (news_of held.sides came)))
 unfolding Each
 news_are is_first false last path held came u are each =

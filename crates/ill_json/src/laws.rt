@@ -46,7 +46,7 @@ pub fn list_is_json()
 pub fn news_is_json()
     ensures { (is_first is_headed : Bool) (last : Option ℕ) (path : List ℕ) (held : SidesOf) (came : List Apdu) →
         IsUtf8 path → AreSides held → Each IsApdu came →
-        AreObjectLines (news_text forms.Json is_headed is_first last path held.sides came)
+        AreObjectLines (between forms.Json is_first ++ news_text forms.Json is_headed last path held.sides came)
         (map (fields_of_news (file_told is_headed path) held.sides) (last_of last (news_of held.sides came))) }
 {}
 

@@ -82,13 +82,13 @@ listed text counts_text wanted seeking sides =
 
 -- Returns the text of the loans with one kind of work, in lines or in objects.
 abbrev pub work_text : Rows → Wanted → Work → List Side → List ℕ
-work_text (rows.Lines columns annex) = work_lines columns (annex_of annex.now)
-work_text (rows.Objects file annex) = work_objects (option_map (λ path. path.now) file) (annex_of annex.now)
+work_text (rows.Lines lines) = work_lines lines.columns (annex_of lines.annex.now)
+work_text (rows.Objects objects) = work_objects (option_map (λ path. path.now) objects.file) (annex_of objects.annex.now)
 
 -- Returns the counts as a line or an object.
 abbrev pub counts_text : Rows → Counts → List ℕ
-counts_text (rows.Lines columns annex) = counts_line
-counts_text (rows.Objects file annex) = counts_object (option_map (λ path. path.now) file)
+counts_text (rows.Lines lines) = counts_line
+counts_text (rows.Objects objects) = counts_object (option_map (λ path. path.now) objects.file)
 
 -- Returns the lines of a list of `sides`. Its columns are wide enough for the chosen loans.
 abbrev pub ordered_lines : Wanted → Seeking → List Side → List ℕ

@@ -21,7 +21,7 @@ use Rattle.ill_text.specs.Output.{WritesText}
 use Rattle.ill_list.specs.declared.news.NewsColumns.{NewsColumns}
 use Rattle.ill_show.specs.Heard.{is_heard}
 use Rattle.ill_list.specs.List.{cell, column, title_text}
-use Rattle.ill_list.specs.Listing.{between, file_told, heading}
+use Rattle.ill_list.specs.Listing.{file_told, heading}
 use Rattle.ill_show.specs.NewsWords.{news_words}
 use Rattle.ill_list.specs.ListObjects.{file_fields}
 
@@ -134,11 +134,9 @@ abbrev pub news_desk : Form → (is_headed : Bool) → (last : Option ℕ) → (
 news_desk Lines is_headed last path sides news = heading is_headed path ++ news_lines sides news (last_of last news)
 news_desk Json is_headed last path sides news = news_objects (file_told is_headed path) sides (last_of last news)
 
--- Returns the text of a desk with `sides` to which `came` came, and the text before it.
-abbrev pub news_text : Form → (is_headed is_first : Bool) → (last : Option ℕ) → (path : List ℕ) → List Side → List Apdu →
-    List ℕ
-news_text form is_headed is_first last path sides came =
-    between form is_first ++ news_desk form is_headed last path sides (news_of sides came)
+-- Returns the text of a desk with `sides` to which `came` came.
+abbrev pub news_text : Form → (is_headed : Bool) → (last : Option ℕ) → (path : List ℕ) → List Side → List Apdu → List ℕ
+news_text form is_headed last path sides came = news_desk form is_headed last path sides (news_of sides came)
 
 -- `written` is the text of the messages in `bytes`.
 abbrev pub IsTextOf : (List Apdu → List ℕ) → List ℕ → List ℕ → Type 0

@@ -9,18 +9,20 @@ ghost use Rattle.ill_list.specs.CameSince.{came_before, came_key, is_named_since
 use ill_show::diary::{is_named, said_by};
 use ill_show::file_lines::FileLines;
 use ill_text::diary::message_key;
-use ill_values::{Apdu, Day, OutOfMemory};
+use ill_values::{Apdu, Day, Number, OutOfMemory};
 use std::alloc::Global;
 
-/// The messages that came to a desk, and the day from which on they are told.
+/// The messages that came to a desk, and which of them are told.
 #[derive(Clone, Copy)]
 pub struct Came<'a> {
     /// The bytes of the messages, one after another.
     pub bytes: &'a [u8],
     /// The lines of the diary.
     pub diary: &'a FileLines,
-    /// The day. Without one all messages are told.
+    /// The day from which on they are told. Without one all messages are told.
     pub since: Option<Day>,
+    /// The number of the last ones that are shown. Without one all that are told are shown.
+    pub last: Option<Number>,
 }
 
 impl Came<'_> {

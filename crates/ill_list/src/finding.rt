@@ -6,6 +6,7 @@ ghost use Rattle.ill_show.specs.FileLines.{lines_of};
 ghost use Rattle.ill_show.specs.Notes.{note_of};
 ghost use Rattle.ill_list.specs.Finding.{folded, found_of, has_part, has_words, loan_number, seeking_of, tells, tells_any};
 
+use crate::wanted::Wanted;
 use caseless::default_case_fold_str;
 use ill_saved::Side;
 use ill_show::annex::Annex;
@@ -14,10 +15,12 @@ use ill_values::{OutOfMemory, TxnId};
 use ill_words::possible::item_asked;
 use std::alloc::Global;
 
-/// The words that are sought in the loans of a desk, if there are any, and the annex of the desk.
+/// What a list of the loans of a desk is asked for, and the annex of the desk.
 #[derive(Clone, Copy)]
 pub struct Sought<'a> {
-    /// The words.
+    /// The conditions on the loans.
+    pub wanted: &'a Wanted,
+    /// The words that are sought in the loans, if there are any.
     pub find: Option<&'a str>,
     /// The annex.
     pub annex: &'a Annex,

@@ -12,7 +12,7 @@ ghost use Rattle.ill_list.specs.Listing.{between, chosen_of, counts_text, dated_
 
 use crate::counts::Counts;
 use crate::finding::{Sought, found_of};
-use crate::list_objects::{push_counts_object, push_row_object};
+use crate::list_objects::{RowObjects, push_counts_object, push_row_object};
 use crate::listed::{Listed, heading};
 use crate::listed_news::push_listed_news;
 use crate::row::{Columns, push_row};
@@ -34,10 +34,19 @@ use std::io::Write;
 /// The form of a list.
 #[derive(Clone, Copy)]
 pub(crate) enum Rows<'a> {
-    /// A line for each loan, of these columns, and those of its note, its day and its news if the list has them.
-    Lines(Columns, &'a Annex),
-    /// An object for each loan, with the path of its desk, if it is given.
-    Objects(Option<&'a str>, &'a Annex),
+    /// A line for each loan, and those of its note, its day and its news if the list has them.
+    Lines(RowLines<'a>),
+    /// An object for each loan.
+    Objects(RowObjects<'a>),
+}
+
+/// The columns of the lines of a list, and the annex of the desk.
+#[derive(Clone, Copy)]
+pub(crate) struct RowLines<'a> {
+    /// The columns.
+    pub columns: Columns,
+    /// The annex.
+    pub annex: &'a Annex,
 }
 
 /// Writes a line or an object of JSON for each wanted loan of `desk`, and one that counts all of its loans. Lines stand
@@ -48,17 +57,16 @@ pub fn run_desk_list<S: Store, W: Write>(
     alloc: Global,
     desk: &Desk<S>,
     listed: &Listed<'_>,
-    wanted: &Wanted,
     sought: &Sought<'_>,
     writer: &mut W,
 ) -> Result<(), ToolFault>
     ensures { WritesText (W.contents writer.old) (W.contents writer.new)
-        (between listed.now.form listed.now.is_first ++ listed_desk listed.now.form listed.now.is_headed wanted.now
+        (between listed.now.form listed.now.is_first ++ listed_desk listed.now.form listed.now.is_headed sought.now.wanted.now
         (seeking_of sought.now) listed.now.path.now (sides_held desk.now.live).sides) result }
 {
     match listed.form {
-        Form::Lines => write_lines(alloc, desk.sides(), listed, wanted, sought, writer),
-        Form::Json => write_objects(alloc, desk.sides(), listed, wanted, sought, writer),
+        Form::Lines => write_lines(alloc, desk.sides(), listed, sought, writer),
+        Form::Json => write_objects(alloc, desk.sides(), listed, sought, writer),
     }
 }
 
@@ -67,16 +75,15 @@ fn write_lines<W: Write>(
     alloc: Global,
     sides: &Sides,
     listed: &Listed<'_>,
-    wanted: &Wanted,
     sought: &Sought<'_>,
     writer: &mut W,
 ) -> Result<(), ToolFault>
     ensures { WritesText (W.contents writer.old) (W.contents writer.new)
         (gap listed.now.is_first ++ (heading listed.now.is_headed listed.now.path.now
-        ++ list_lines wanted.now (seeking_of sought.now) sides.now.sides)) result }
+        ++ list_lines sought.now.wanted.now (seeking_of sought.now) sides.now.sides)) result }
 {
     let mut lines = heading(alloc, listed)?;
-    push_list(&mut lines, sides, wanted, sought)?;
+    push_list(&mut lines, sides, sought)?;
     write_whole(writer, &lines)
 }
 
@@ -85,51 +92,41 @@ fn write_objects<W: Write>(
     alloc: Global,
     sides: &Sides,
     listed: &Listed<'_>,
-    wanted: &Wanted,
     sought: &Sought<'_>,
     writer: &mut W,
 ) -> Result<(), ToolFault>
     ensures { WritesText (W.contents writer.old) (W.contents writer.new)
-        (list_objects (file_told listed.now.is_headed listed.now.path.now) wanted.now (seeking_of sought.now) sides.now.sides) result }
+        (list_objects (file_told listed.now.is_headed listed.now.path.now) sought.now.wanted.now (seeking_of sought.now) sides.now.sides) result }
 {
     let mut text = Vec::new(alloc);
-    push_list_objects(&mut text, listed.told(), sides, wanted, sought)?;
+    push_list_objects(&mut text, listed.told(), sides, sought)?;
     write_whole(writer, &text)
 }
 
 /// Appends all lines of a list of `sides`.
-fn push_list(
-    lines: &mut Vec<u8>,
-    sides: &Sides,
-    wanted: &Wanted,
-    sought: &Sought<'_>,
-) -> Result<(), OutOfMemory>
-    ensures { OnOk result (lines.new.items ≡ lines.old.items ++ list_lines wanted.now (seeking_of sought.now) sides.now.sides) }
+fn push_list(lines: &mut Vec<u8>, sides: &Sides, sought: &Sought<'_>) -> Result<(), OutOfMemory>
+    ensures { OnOk result (lines.new.items ≡ lines.old.items ++ list_lines sought.now.wanted.now (seeking_of sought.now) sides.now.sides) }
 {
     let sides = most_urgent_first(*lines.allocator(), sides)?;
-    push_ordered(lines, &sides, wanted, sought)
+    push_ordered(lines, &sides, sought)
 }
 
 /// Appends all lines of a list of `sides`, which are in the order of urgency.
 fn push_ordered(
     lines: &mut Vec<u8>,
     sides: &[&Side],
-    wanted: &Wanted,
     sought: &Sought<'_>,
 ) -> Result<(), OutOfMemory>
     ensures { OnOk result (lines.new.items ≡ lines.old.items
-        ++ ordered_lines wanted.now (seeking_of sought.now) (map (λ side. side.now) sides.now)) }
+        ++ ordered_lines sought.now.wanted.now (seeking_of sought.now) (map (λ side. side.now) sides.now)) }
 {
     let alloc = *lines.allocator();
-    let chosen = chosen_of(alloc, sides, wanted, sought)?;
-    let columns = Columns::of(alloc, &chosen, wanted)?;
-    push_listed(
-        lines,
-        &Rows::Lines(columns, sought.annex),
-        wanted,
-        sides,
-        &chosen,
-    )
+    let chosen = chosen_of(alloc, sides, sought)?;
+    let rows = RowLines {
+        columns: Columns::of(alloc, &chosen, sought.wanted)?,
+        annex: sought.annex,
+    };
+    push_listed(lines, &Rows::Lines(rows), sought.wanted, sides, &chosen)
 }
 
 /// Appends all objects of a list of `sides`.
@@ -137,35 +134,31 @@ fn push_list_objects(
     text: &mut Vec<u8>,
     file: Option<&str>,
     sides: &Sides,
-    wanted: &Wanted,
     sought: &Sought<'_>,
 ) -> Result<(), OutOfMemory>
     ensures { OnOk result (text.new.items ≡ text.old.items
-        ++ list_objects (option_map (λ path. path.now) file.entry) wanted.now (seeking_of sought.now) sides.now.sides) }
+        ++ list_objects (option_map (λ path. path.now) file.entry) sought.now.wanted.now (seeking_of sought.now) sides.now.sides) }
 {
     let alloc = *text.allocator();
     let sides = most_urgent_first(alloc, sides)?;
-    let chosen = chosen_of(alloc, &sides, wanted, sought)?;
-    push_listed(
-        text,
-        &Rows::Objects(file, sought.annex),
-        wanted,
-        &sides,
-        &chosen,
-    )
+    let chosen = chosen_of(alloc, &sides, sought)?;
+    let rows = RowObjects {
+        file,
+        annex: sought.annex,
+    };
+    push_listed(text, &Rows::Objects(rows), sought.wanted, &sides, &chosen)
 }
 
 /// Returns the loans of `sides` that are listed, and have the words that are sought.
 fn chosen_of<'a>(
     alloc: Global,
     sides: &[&'a Side],
-    wanted: &Wanted,
     sought: &Sought<'_>,
 ) -> Result<Vec<&'a Side>, OutOfMemory>
     ensures { IfOk result (λ chosen. map (λ side. side.now) chosen.items
-        ≡ chosen_of wanted.now (seeking_of sought.now) (map (λ side. side.now) sides.now)) }
+        ≡ chosen_of sought.now.wanted.now (seeking_of sought.now) (map (λ side. side.now) sides.now)) }
 {
-    let listed = listed_of(alloc, sides, wanted)?;
+    let listed = listed_of(alloc, sides, sought.wanted)?;
     found_of(alloc, &listed, sought)
 }
 
@@ -260,28 +253,27 @@ fn push_work(
         ++ work_text rows.now wanted.now work (map (λ side. side.now) sides.now)) }
 {
     match rows {
-        Rows::Lines(columns, annex) => push_work_lines(text, columns, annex, wanted, work, sides),
-        Rows::Objects(file, annex) => push_work_objects(text, *file, annex, wanted, work, sides),
+        Rows::Lines(rows) => push_work_lines(text, rows, wanted, work, sides),
+        Rows::Objects(rows) => push_work_objects(text, rows, wanted, work, sides),
     }
 }
 
 /// Appends a heading of this work, and a line for each loan of `sides`. Without a loan it appends nothing.
 fn push_work_lines(
     lines: &mut Vec<u8>,
-    columns: &Columns,
-    annex: &Annex,
+    rows: &RowLines<'_>,
     wanted: &Wanted,
     work: Work,
     sides: &[&Side],
 ) -> Result<(), OutOfMemory>
     ensures { OnOk result (lines.new.items ≡ lines.old.items
-        ++ work_lines columns.now (annex_of annex.now) wanted.now work (map (λ side. side.now) sides.now)) }
+        ++ work_lines rows.now.columns (annex_of rows.now.annex.now) wanted.now work (map (λ side. side.now) sides.now)) }
 {
     if sides.is_empty() {
         return Ok(());
     }
     push_work_heading(lines, work, sides.len())?;
-    push_rows(lines, columns, annex, wanted, sides)
+    push_rows(lines, rows, wanted, sides)
 }
 
 /// Appends the heading of a kind of work with `count` listed loans.
@@ -297,16 +289,15 @@ fn push_work_heading(lines: &mut Vec<u8>, work: Work, count: usize) -> Result<()
 /// Appends a line for each loan of `sides`, and those of its note, its day and its news if the list has them.
 fn push_rows(
     lines: &mut Vec<u8>,
-    columns: &Columns,
-    annex: &Annex,
+    rows: &RowLines<'_>,
     wanted: &Wanted,
     sides: &[&Side],
 ) -> Result<(), OutOfMemory>
     ensures { OnOk result (lines.new.items ≡ lines.old.items
-        ++ flat_map (told_row columns.now (annex_of annex.now) wanted.now) (map (λ side. side.now) sides.now)) }
+        ++ flat_map (told_row rows.now.columns (annex_of rows.now.annex.now) wanted.now) (map (λ side. side.now) sides.now)) }
 {
     for side in sides {
-        push_told_row(lines, columns, annex, wanted, side)?;
+        push_told_row(lines, rows, wanted, side)?;
     }
     Ok(())
 }
@@ -314,31 +305,29 @@ fn push_rows(
 /// Appends the line of the loan of `side`, and those of its note, its day and its news if the list has them.
 fn push_told_row(
     lines: &mut Vec<u8>,
-    columns: &Columns,
-    annex: &Annex,
+    rows: &RowLines<'_>,
     wanted: &Wanted,
     side: &Side,
 ) -> Result<(), OutOfMemory>
     ensures { OnOk result (lines.new.items ≡ lines.old.items
-        ++ told_row columns.now (annex_of annex.now) wanted.now side.now) }
+        ++ told_row rows.now.columns (annex_of rows.now.annex.now) wanted.now side.now) }
 {
-    push_dated_row(lines, columns, annex, wanted, side)?;
-    push_listed_news(lines, annex, side)
+    push_dated_row(lines, rows, wanted, side)?;
+    push_listed_news(lines, rows.annex, side)
 }
 
 /// Appends the line of the loan of `side`, and those of its note and its day if the list has them.
 fn push_dated_row(
     lines: &mut Vec<u8>,
-    columns: &Columns,
-    annex: &Annex,
+    rows: &RowLines<'_>,
     wanted: &Wanted,
     side: &Side,
 ) -> Result<(), OutOfMemory>
     ensures { OnOk result (lines.new.items ≡ lines.old.items
-        ++ dated_row columns.now (annex_of annex.now) wanted.now side.now) }
+        ++ dated_row rows.now.columns (annex_of rows.now.annex.now) wanted.now side.now) }
 {
-    push_noted_row(lines, columns, &annex.notes, wanted, side)?;
-    push_since_shown(lines, annex, wanted, side)
+    push_noted_row(lines, &rows.columns, &rows.annex.notes, wanted, side)?;
+    push_since_shown(lines, rows.annex, wanted, side)
 }
 
 /// Appends the line of the day since which the loan of `side` stands as it does, if the list has such lines and the day is
@@ -391,17 +380,16 @@ fn push_note_shown(
 /// Appends an object for each loan of `sides`, with this work.
 fn push_work_objects(
     text: &mut Vec<u8>,
-    file: Option<&str>,
-    annex: &Annex,
+    rows: &RowObjects<'_>,
     wanted: &Wanted,
     work: Work,
     sides: &[&Side],
 ) -> Result<(), OutOfMemory>
     ensures { OnOk result (text.new.items ≡ text.old.items
-        ++ work_objects (option_map (λ path. path.now) file.entry) (annex_of annex.now) wanted.now work (map (λ side. side.now) sides.now)) }
+        ++ work_objects (option_map (λ path. path.now) rows.now.file) (annex_of rows.now.annex.now) wanted.now work (map (λ side. side.now) sides.now)) }
 {
     for side in sides {
-        push_row_object(text, file, annex, wanted.today, work, side)?;
+        push_row_object(text, rows, wanted.today, work, side)?;
     }
     Ok(())
 }
@@ -446,8 +434,8 @@ fn push_counts(text: &mut Vec<u8>, rows: &Rows<'_>, counts: &Counts) -> Result<(
     ensures { OnOk result (text.new.items ≡ text.old.items ++ counts_text rows.now counts.now) }
 {
     match rows {
-        Rows::Lines(_, _) => push_counts_line(text, counts),
-        Rows::Objects(file, _) => push_counts_object(text, *file, counts),
+        Rows::Lines(_) => push_counts_line(text, counts),
+        Rows::Objects(rows) => push_counts_object(text, rows.file, counts),
     }
 }
 

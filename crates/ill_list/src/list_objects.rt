@@ -20,39 +20,46 @@ use ill_words::names::names;
 use ill_words::possible::possible_on;
 use ill_work::Work;
 
+/// The path of the desk of a list, if its objects have it, and the annex of the desk.
+#[derive(Clone, Copy)]
+pub(crate) struct RowObjects<'a> {
+    /// The path.
+    pub file: Option<&'a str>,
+    /// The annex.
+    pub annex: &'a Annex,
+}
+
 /// Appends the object of the loan of `side` with this work on the day `today`, with its note, its day and its news,
-/// on a line. It has the path `file` of the desk, if it is given.
+/// on a line. It has the path of the desk, if it is given.
 #[tactic(auto, unfolding(crate::specs::ListObjects::row_object))]
 pub(crate) fn push_row_object(
     text: &mut Vec<u8>,
-    file: Option<&str>,
-    annex: &Annex,
+    rows: &RowObjects<'_>,
     today: Option<Day>,
     work: Work,
     side: &Side,
 ) -> Result<(), OutOfMemory>
     ensures { OnOk result (text.new.items ≡ text.old.items
-        ++ row_object (option_map (λ path. path.now) file.entry) (annex_of annex.now) today work side.now) }
+        ++ row_object (option_map (λ path. path.now) rows.now.file) (annex_of rows.now.annex.now) today work side.now) }
 {
     push_plain(text, "{")?;
-    push_row_and_file(text, file, annex, today, work, side)?;
+    push_row_and_file(text, rows, today, work, side)?;
     push_plain(text, "}\n")
 }
 
 /// Appends the fields of the loan of `side`, and the path of the desk.
 fn push_row_and_file(
     text: &mut Vec<u8>,
-    file: Option<&str>,
-    annex: &Annex,
+    rows: &RowObjects<'_>,
     today: Option<Day>,
     work: Work,
     side: &Side,
 ) -> Result<(), OutOfMemory>
     ensures { OnOk result (text.new.items ≡ text.old.items
-        ++ joined member [] (full_row_fields (annex_of annex.now) today work side.now ++ file_fields (option_map (λ path. path.now) file.entry))) }
+        ++ joined member [] (full_row_fields (annex_of rows.now.annex.now) today work side.now ++ file_fields (option_map (λ path. path.now) rows.now.file))) }
 {
-    push_full_row(text, annex, today, work, side)?;
-    push_file(text, file)
+    push_full_row(text, rows.annex, today, work, side)?;
+    push_file(text, rows.file)
 }
 
 /// Appends the fields of the loan of `side`, and those of its note, its day and its news.

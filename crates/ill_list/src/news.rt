@@ -47,7 +47,7 @@ pub(crate) struct NewsColumns {
 }
 
 /// Writes a line or an object of JSON for each message in `came` that a side of `desk` has taken. Each is written once,
-/// in the order in which they came. If `last` says how many, only the last ones are written. After lines it writes one
+/// in the order in which they came. If `came` says how many, only the last ones are written. After lines it writes one
 /// that counts the messages.
 ///
 /// `came` has the bytes that `take --keep`, `inbox` and `exchange` have kept. A part that is no message, and all bytes
@@ -57,16 +57,15 @@ pub fn run_desk_news<S: Store, W: Write>(
     alloc: Global,
     desk: &Desk<S>,
     listed: &Listed<'_>,
-    last: Option<Number>,
     came: &Came<'_>,
     writer: &mut W,
 ) -> Result<(), ToolFault>
-    ensures { WritesNews (λ apdus. news_text listed.now.form listed.now.is_headed listed.now.is_first last
-        listed.now.path.now (sides_held desk.now.live).sides
+    ensures { WritesNews (λ apdus. between listed.now.form listed.now.is_first
+        ++ news_text listed.now.form listed.now.is_headed came.now.last listed.now.path.now (sides_held desk.now.live).sides
         (came_since came.now.since (lines_of came.now.diary.now) apdus))
         came.now.bytes.now (W.contents writer.old) (W.contents writer.new) result }
 {
-    match text_of_news(alloc, desk.sides(), listed, last, came) {
+    match text_of_news(alloc, desk.sides(), listed, came) {
         Ok(text) => write_whole(writer, &text),
         Err(_) => Err(ToolFault::OutOfMemory),
     }
@@ -77,17 +76,17 @@ fn text_of_news(
     alloc: Global,
     sides: &Sides,
     listed: &Listed<'_>,
-    last: Option<Number>,
     came: &Came<'_>,
 ) -> Result<Vec<u8>, OutOfMemory>
-    ensures { IfOk result (λ text. IsTextOf (λ apdus. news_text listed.now.form listed.now.is_headed listed.now.is_first
-        last listed.now.path.now sides.now.sides (came_since came.now.since (lines_of came.now.diary.now) apdus))
+    ensures { IfOk result (λ text. IsTextOf (λ apdus. between listed.now.form listed.now.is_first
+        ++ news_text listed.now.form listed.now.is_headed came.now.last listed.now.path.now sides.now.sides
+        (came_since came.now.since (lines_of came.now.diary.now) apdus))
         came.now.bytes.now text.items) }
 {
     let apdus = apdus_in(alloc, came.bytes)?;
     let told = came.told(alloc, &apdus)?;
     let news = news_of(alloc, sides, told)?;
-    desk_text(alloc, sides, listed, last, &news)
+    desk_text(alloc, sides, listed, came.last, &news)
 }
 
 /// Returns the news of a desk with these sides since a day: the messages that they have taken since, by `annex`, each once.

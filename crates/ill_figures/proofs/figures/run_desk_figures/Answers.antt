@@ -13,14 +13,14 @@ use Rattle.ill_figures.proofs.figures.run_desk_figures.Goals as goal
 pub returns-in-Ok : goal.returns-in-Ok
 returns-in-Ok g c =
     let listed = c.args.listed.now in
-    let view = c.args.view.now in
-    let beside = c.args.beside.now in
+    let sought = c.args.sought.now in
     let before = g.W.Write.contents c.args.writer.now in
     let after = g.W.Write.contents c.write_whole.new.writer in
     let text = c.in-Ok.text.items in
-    let is = subst (λ (sides : SidesOf). IsTextOf (λ came. figures_text view listed.is_headed listed.is_first listed.path.now
-    (figures_of view.span (lines_of beside.diary.now) sides.sides came)) beside.came.now text) c.sides.ensures.value
+    let is = subst (λ (sides : SidesOf).
+    IsTextOf (λ came. figures_text sought.view listed.is_headed listed.is_first listed.path.now
+    (figures_of sought.view.span (lines_of sought.diary.now) sides.sides came)) sought.came.now text) c.sides.ensures.value
     c.in-Ok.ensures in
     let writes = subst (λ (t : List ℕ). WritesPrefix before after t c.write_whole.result) c.deref.ensures.value
     c.write_whole.ensures in
-    writes_news _ beside.came.now text before after c.write_whole.result is writes
+    writes_news _ sought.came.now text before after c.write_whole.result is writes

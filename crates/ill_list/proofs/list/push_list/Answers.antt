@@ -11,6 +11,6 @@ returns c =
     subst
     (λ (sides : List Side). OnOk c.push_ordered.result
     (c.push_ordered.new.lines.items
-    ≡ c.args.lines.now.items ++ ordered_lines c.args.wanted.now (seeking_of c.args.sought.now) sides))
+    ≡ c.args.lines.now.items ++ ordered_lines c.args.sought.now.wanted.now (seeking_of c.args.sought.now) sides))
     (ap (map (λ (side : Bor Side). side.now)) c.deref.ensures.value ∙ c.in_ok-sides.ensures)
     c.push_ordered.ensures

@@ -13,7 +13,7 @@ pub returns : goal.returns
 returns c =
     let sides = c.args.sides.now in
     let old = c.args.lines.now.items in
-    let text = told_row c.args.columns.now (annex_of c.args.annex.now) c.args.wanted.now in
+    let text = told_row c.args.rows.now.columns (annex_of c.args.rows.now.annex.now) c.args.wanted.now in
     c.loop-side.invariant.listed
     ∙ ap (λ (shown : _). old ++ flat_map (λ (side : Bor Side). text side.now) shown)
     (take_all c.loop-side.side-index sides c.loop-side-test.false)

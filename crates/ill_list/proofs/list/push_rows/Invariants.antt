@@ -10,5 +10,6 @@ use Rattle.ill_list.proofs.list.push_rows.Given as goal
 abbrev pub invariant-loop-side : goal.invariant-loop-side
 invariant-loop-side l = record {
   listed : l.lines.items ≡ l.initial.lines.items
-      ++ flat_map (λ (side : Bor Side). told_row l.columns (annex_of l.annex) l.wanted side.now) (take l.side-index l.sides);
+      ++ flat_map (λ (side : Bor Side). told_row l.rows.columns (annex_of l.rows.annex.now) l.wanted side.now)
+      (take l.side-index l.sides);
 }

@@ -13,8 +13,8 @@ pub returns : goal.returns
 returns c =
     let sides = c.args.sides.now in
     let old = c.args.text.now.items in
-    let text = row_object (option_map (λ path. path.now) c.args.file) (annex_of c.args.annex.now) c.args.wanted.now.today
-    c.args.work in
+    let text = row_object (option_map (λ path. path.now) c.args.rows.now.file) (annex_of c.args.rows.now.annex.now)
+    c.args.wanted.now.today c.args.work in
     c.loop-side.invariant.listed
     ∙ ap (λ (shown : _). old ++ flat_map (λ (side : Bor Side). text side.now) shown)
     (take_all c.loop-side.side-index sides c.loop-side-test.false)

@@ -11,6 +11,6 @@ abbrev pub invariant-loop-side : goal.invariant-loop-side
 invariant-loop-side l = record {
   listed : l.text.items ≡ l.initial.text.items
       ++ flat_map (λ (side : Bor Side).
-      row_object (option_map (λ path. path.now) l.file) (annex_of l.annex) l.wanted.today l.work side.now)
+      row_object (option_map (λ path. path.now) l.rows.file) (annex_of l.rows.annex.now) l.wanted.today l.work side.now)
       (take l.side-index l.sides);
 }

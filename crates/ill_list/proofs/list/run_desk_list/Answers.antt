@@ -12,7 +12,7 @@ use Rattle.ill_list.proofs.list.run_desk_list.Goals as goal
 pub returns-in-Lines : goal.returns-in-Lines
 returns-in-Lines g c =
     let listed = c.args.listed.now in
-    let wanted = c.args.wanted.now in
+    let wanted = c.args.sought.now.wanted.now in
     let seeking = seeking_of c.args.sought.now in
     let held = sides_held c.args.desk.now.live in
     let before = g.W.Write.contents c.args.writer.now in
@@ -29,7 +29,7 @@ returns-in-Lines g c =
 pub returns-in-Json : goal.returns-in-Json
 returns-in-Json g c =
     let listed = c.args.listed.now in
-    let wanted = c.args.wanted.now in
+    let wanted = c.args.sought.now.wanted.now in
     let seeking = seeking_of c.args.sought.now in
     let held = sides_held c.args.desk.now.live in
     let before = g.W.Write.contents c.args.writer.now in

@@ -10,7 +10,7 @@ use Rattle.ill_list.proofs.list.write_lines.Goals as goal
 pub returns : goal.returns
 returns g c =
     let listed = c.args.listed.now in
-    let lines = list_lines c.args.wanted.now (seeking_of c.args.sought.now) c.args.sides.now.sides in
+    let lines = list_lines c.args.sought.now.wanted.now (seeking_of c.args.sought.now) c.args.sides.now.sides in
     let before = g.W.Write.contents c.args.writer.now in
     let after = g.W.Write.contents c.write_whole.new.writer in
     let text = c.deref.ensures.value ∙ c.in_ok-push_list.ensures ∙ ap (λ heading. heading ++ lines) c.in_ok-lines.ensures

@@ -10,7 +10,7 @@ use Rattle.ill_list.proofs.list.write_objects.Goals as goal
 pub returns : goal.returns
 returns g c =
     let objects : Option (List ℕ) → List ℕ = λ file.
-    list_objects file c.args.wanted.now (seeking_of c.args.sought.now) c.args.sides.now.sides in
+    list_objects file c.args.sought.now.wanted.now (seeking_of c.args.sought.now) c.args.sides.now.sides in
     let before = g.W.Write.contents c.args.writer.now in
     let after = g.W.Write.contents c.write_whole.new.writer in
     let text = c.deref.ensures.value ∙ c.in_ok-push_list_objects.ensures

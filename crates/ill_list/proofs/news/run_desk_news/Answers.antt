@@ -1,7 +1,8 @@
 -- Answers the contract of `run_desk_news` (`src/news.rt`).
-use Rattle.std.proofs.Common.{ℕ, List, subst}
+use Rattle.std.proofs.Common.{ℕ, ◌++◌, List, subst}
 use Rattle.ill_saved.specs.Sides.{SidesOf}
 use Rattle.ill_text.specs.Output.{WritesPrefix}
+use Rattle.ill_list.specs.Listing.{between}
 use Rattle.ill_list.specs.News.{IsTextOf, news_text}
 use Rattle.ill_show.specs.FileLines.{lines_of}
 use Rattle.ill_list.specs.CameSince.{came_since}
@@ -16,8 +17,9 @@ returns-in-Ok g c =
     let after = g.W.Write.contents c.write_whole.new.writer in
     let text = c.in-Ok.text.items in
     let since = came_since c.args.came.now.since (lines_of c.args.came.now.diary.now) in
-    let is = subst (λ (sides : SidesOf). IsTextOf (λ apdus. news_text listed.form listed.is_headed listed.is_first c.args.last
-    listed.path.now sides.sides (since apdus)) c.args.came.now.bytes.now text) c.sides.ensures.value c.in-Ok.ensures in
+    let is = subst (λ (sides : SidesOf). IsTextOf (λ apdus. between listed.form listed.is_first
+    ++ news_text listed.form listed.is_headed c.args.came.now.last listed.path.now sides.sides (since apdus))
+    c.args.came.now.bytes.now text) c.sides.ensures.value c.in-Ok.ensures in
     let writes = subst (λ (t : List ℕ). WritesPrefix before after t c.write_whole.result) c.deref.ensures.value
     c.write_whole.ensures in
     writes_news _ c.args.came.now.bytes.now text before after c.write_whole.result is writes
